@@ -1,24 +1,19 @@
 ghost use Rattle.std.specs.Prelude.{◌≡◌, ◌≤◌, ◌<◌, ◌+◌, ◌++◌, [], ◌∷◌, length, if◌then◌else◌, IfSome, OnOk, Some};
-ghost use Rattle.std.specs.Str.Lines.{lines};
+ghost use Rattle.std.specs.Str.Lines.{strip_carriage_return};
+ghost use Rattle.workload.specs.Limits.{most_text, most_actors};
+ghost use Rattle.workload.specs.Lines.{lines_of};
 ghost use Rattle.workload.specs.Words.{first_word, behind_word};
 ghost use Rattle.workload.specs.Verbs.{first_of, Faults, Reads};
 ghost use Rattle.workload.specs.Reading.{is_declaration, actor_of, actor_faults, verb_faults, command_faults, command_of, line_of, fault_in, with_lines, empty, line_faults, with_line, with_actor, with_command, is_passed_over, first_fault, spelled};
 
 use crate::faults::{LineFault, Which};
+use crate::limits::{MOST_ACTORS, MOST_COMMANDS, MOST_LINE, MOST_TEXT};
 use crate::verbs::{Verb, command};
 use crate::words::{can_name, cut, number};
 use crate::work::{Actor, ActorList, Command, Line, Workload, place};
 use lists::Bytes;
 use std::alloc::Global;
 use std::str;
-
-const MOST_TEXT: usize = 16_777_216;
-
-const MOST_LINE: usize = 1_048_576;
-
-const MOST_ACTORS: usize = 256;
-
-const MOST_COMMANDS: usize = 10_000;
 
 /// Whether the text behind the word `actor` is one free name and one word.
 fn can_declare(actors: &ActorList, tail: &str) -> bool
@@ -86,7 +81,7 @@ fn order(alloc: Global, work: &Workload, line: u64, text: &str) -> Result<Comman
 
 /// The command line that a line of this number is.
 fn command_line(alloc: Global, work: &Workload, number: u64, line: &str) -> Result<Line, LineFault>
-    requires { length work.now.actors ≤ 256 }
+    requires { length work.now.actors ≤ most_actors }
     ensures { Reads (first_of (command_faults work.now number line.now)) (λ l. line_of work.now line.now ≡ Some l) result }
 {
     if MOST_COMMANDS <= work.lines.as_slice().len() {
@@ -125,7 +120,7 @@ fn add_actor(
     tail: &str,
 ) -> Result<(), LineFault>
     ensures read { Reads (first_of (actor_faults size work.old.actors number tail.now)) (λ _. work.new ≡ with_actor work.old tail.now) result }
-    ensures few { OnOk result (length work.new.actors ≤ 256) }
+    ensures few { OnOk result (length work.new.actors ≤ most_actors) }
 {
     let actor = actor(alloc, size, &work.actors, number, tail)?;
     work.actors.push(actor)?;
@@ -134,28 +129,29 @@ fn add_actor(
 
 /// Adds the command line that a line is.
 fn add_command(alloc: Global, work: &mut Workload, number: u64, line: &str) -> Result<(), LineFault>
-    requires { length work.old.actors ≤ 256 }
+    requires { length work.old.actors ≤ most_actors }
     ensures read { Reads (first_of (command_faults work.old number line.now)) (λ _. work.new ≡ with_command work.old line.now) result }
-    ensures few { OnOk result (length work.new.actors ≤ 256) }
+    ensures few { OnOk result (length work.new.actors ≤ most_actors) }
 {
     let line = command_line(alloc, work, number, line)?;
     work.lines.push(line)?;
     Ok(())
 }
 
-/// Adds what a line of this number spells.
+/// Adds what a line of this number spells, before whose newline so many bytes stand.
 fn add_line(
     alloc: Global,
     size: u32,
     work: &mut Workload,
     number: u64,
+    bytes: usize,
     line: &str,
 ) -> Result<(), LineFault>
-    requires { length work.old.actors ≤ 256 }
-    ensures read { Reads (first_of (line_faults size work.old number line.now)) (λ _. work.new ≡ with_line work.old line.now) result }
-    ensures few { OnOk result (length work.new.actors ≤ 256) }
+    requires { length work.old.actors ≤ most_actors }
+    ensures read { Reads (first_of (line_faults size work.old number (record { bytes = bytes; text = line.now }))) (λ _. work.new ≡ with_line work.old (record { bytes = bytes; text = line.now })) result }
+    ensures few { OnOk result (length work.new.actors ≤ most_actors) }
 {
-    if MOST_LINE < line.len() {
+    if MOST_LINE < bytes {
         return Err(LineFault::Limit {
             line: number,
             which: Which::Line,
@@ -173,21 +169,38 @@ fn add_line(
     }
 }
 
+/// The text of a line that a newline ends.
+fn without_return(piece: &str) -> &str
+    ensures { result.now ≡ strip_carriage_return piece.now }
+{
+    match piece.strip_suffix('\r') {
+        Some(line) => line,
+        None => piece,
+    }
+}
+
 /// The workload that the lines of a text spell.
 fn read_lines(alloc: Global, size: u32, text: &str) -> Result<Workload, LineFault>
-    requires { length text.now ≤ 16777216 }
-    ensures { Reads (fault_in size empty 1 (lines text.now)) (λ w. w ≡ with_lines empty (lines text.now)) result }
+    requires { length text.now ≤ most_text }
+    ensures { Reads (fault_in size empty 1 (lines_of text.now)) (λ w. w ≡ with_lines empty (lines_of text.now)) result }
 {
     let mut work = Workload::new(alloc);
-    let mut number = 0u64;
-    for line in text.lines() {
+    let mut number = 1u64;
+    let mut rest = text;
+    while let Some((piece, behind)) = rest.split_once('\n') {
+        let line = without_return(piece);
+        add_line(alloc, size, &mut work, number, piece.len(), line)?;
         number += 1;
-        add_line(alloc, size, &mut work, number, line)?;
+        rest = behind;
     }
+    add_line(alloc, size, &mut work, number, rest.len(), rest)?;
     Ok(work)
 }
 
-/// The workload that a text spells at this size.
+/// The workload that a text of at most 16 MiB of UTF-8 spells, for brokers numbered from 0 below `size`.
+///
+/// `TooLong` and `NotUtf8` are of the whole text. Else the first faulty line counts, and in it the first of this
+/// order: its length, too many actors or commands, an unknown actor, a malformed line, a number, any other limit.
 pub fn read(alloc: Global, text: &[u8], size: u32) -> Result<Workload, LineFault>
     requires { (1 ≤ size) × (size ≤ 32) }
     ensures { Reads (first_fault size text.now) (λ w. w ≡ spelled text.now) result }

@@ -3,6 +3,7 @@ ghost use Rattle.kvs_txn.specs.Keys.{components};
 ghost use Rattle.workload.specs.Verbs.{first_of, faults_of, verb_of, said, is_past_key, is_past_value, Reads};
 
 use crate::faults::{LineFault, Which};
+use crate::limits::MOST_VALUE;
 use crate::words::cut;
 use crate::work::{Command, Workload};
 use kvs_txn::{Path, PathFault};
@@ -34,8 +35,6 @@ impl Verb {
     }
 }
 
-const MOST_VALUE: usize = 65536;
-
 /// A key of the line of this number.
 fn key(alloc: Global, line: u64, word: &str) -> Result<Path, LineFault>
     ensures { Reads (first_of ((is_past_key word.now, LineFault.Limit line Which.Key) ∷ [])) (λ path. path ≡ components word.now) result }
@@ -64,6 +63,7 @@ fn value(alloc: Global, line: u64, text: &str) -> Result<Bytes, LineFault>
     Ok(bytes)
 }
 
+/// The command `put KEY TEXT`, of the text behind the verb.
 fn put(alloc: Global, work: &Workload, line: u64, tail: &str) -> Result<Command, LineFault>
     ensures { Reads (first_of (faults_of line (said work.now Verb.Put tail.now))) (λ c. c ≡ (said work.now Verb.Put tail.now).command) result }
 {
@@ -76,6 +76,7 @@ fn put(alloc: Global, work: &Workload, line: u64, tail: &str) -> Result<Command,
     Ok(Command::Put { path, bytes })
 }
 
+/// The command `commit`, behind which no word stands.
 fn commit(work: &Workload, line: u64, tail: &str) -> Result<Command, LineFault>
     ensures { Reads (first_of (faults_of line (said work.now Verb.Commit tail.now))) (λ c. c ≡ (said work.now Verb.Commit tail.now).command) result }
 {
@@ -86,6 +87,7 @@ fn commit(work: &Workload, line: u64, tail: &str) -> Result<Command, LineFault>
     Ok(Command::Commit)
 }
 
+/// The command `get KEY`, of the text behind the verb.
 fn get(alloc: Global, work: &Workload, line: u64, tail: &str) -> Result<Command, LineFault>
     ensures { Reads (first_of (faults_of line (said work.now Verb.Get tail.now))) (λ c. c ≡ (said work.now Verb.Get tail.now).command) result }
 {

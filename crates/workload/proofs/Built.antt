@@ -1,0 +1,61 @@
+-- What a text spells is built, with its keys and values within their limits.
+use Rattle.std.proofs.Common.{◌≡◌, ℕ, ◌≤◌, true, false, List, [], ◌∷◌, ◌++◌, length, refl, arith}
+use Rattle.std.specs.Prelude.{Option, Some, None, IfSome, All, is_none, unwrap_or, nat_le}
+use Rattle.std.specs.Option.{option_map, option_map_or, option_to_list}
+use Rattle.std.proofs.lemmas.Bool.Decides.{nat_tests}
+use Rattle.std.proofs.lemmas.List.{append-nil}
+use Rattle.std.proofs.lemmas.List.Elements.{All-nil, All-push}
+use Rattle.kvs_txn.specs.Keys.{components}
+use Rattle.workload.specs.Limits.{most_commands, most_value}
+use Rattle.workload.specs.Words.{first_word, behind_word}
+use Rattle.workload.specs.Actors.{place_of}
+use Rattle.workload.specs.Verbs.{first_of, faults_of, is_past_key, is_past_value, said, verb_of}
+use Rattle.workload.specs.Reading.{first_fault, spelled, with_command, command_faults, verb_faults}
+use Rattle.workload.specs.Laws.{IsBuilt, IsKeyPath}
+use Rattle.workload.proofs.Along.{none_applies, one_by_one, text_keeps}
+use Rattle.workload.specs.declared.work.Command.{Command}
+use Rattle.workload.specs.declared.work.Line.{Line}
+use Rattle.workload.specs.declared.work.Workload.{Workload}
+use Rattle.workload.specs.declared.faults.LineFault.TheVariants as line_fault
+use Rattle.workload.specs.declared.faults.Which.TheVariants as which
+use Rattle.workload.specs.declared.verbs.Verb.{Verb}
+use Rattle.workload.specs.declared.verbs.Verb.TheVariants as verb
+
+key_within : (key : List ℕ) → is_past_key key ≡ false → IsKeyPath (components key)
+key_within key h = record { key = key; short = grind (arith, nat_tests); spelled = refl; shallow = grind (arith, nat_tests) }
+
+value_within : (text : List ℕ) → is_past_value text ≡ false → length text ≤ most_value
+value_within text h = grind (arith, nat_tests)
+
+verb_built : (work : Workload) (number : ℕ) (tail : List ℕ) (v : Verb) → first_of (faults_of number (said work v tail)) ≡ None → IsBuilt (said work v tail).command
+verb_built work number tail verb.Put none =
+    let tests = none_applies (faults_of number (said work verb.Put tail)) none in
+    (key_within (first_word tail) tests.1.1.1.0, value_within (behind_word tail) tests.1.1.1.1.0)
+verb_built work number tail verb.Commit none = tt
+verb_built work number tail verb.Get none =
+    let tests = none_applies (faults_of number (said work verb.Get tail)) none in
+    key_within (first_word tail) tests.1.1.1.0
+
+said_built : (work : Workload) (number : ℕ) (tail : List ℕ) (o : Option Verb) → first_of (option_map_or (λ v. faults_of number (said work v tail)) o ((true, line_fault.BadCommand number) ∷ [])) ≡ None
+    → IfSome (option_map (λ v. (said work v tail).command) o) IsBuilt
+said_built work number tail None none = tt
+said_built work number tail (Some v) none = verb_built work number tail v none
+
+AreBuilt : List Line → Type 0
+AreBuilt lines = All (λ l. IsBuilt l.command) lines
+
+one_built : (lines : List Line) (actor : ℕ) (o : Option Command) → AreBuilt lines → IfSome o IsBuilt → AreBuilt (lines ++ option_to_list (option_map (λ c. record { actor = actor; command = c }) o))
+unfolding AreBuilt
+one_built lines actor None h built = rw (append-nil lines) h
+one_built lines actor (Some c) h built = All-push (λ l. IsBuilt l.command) lines (record { actor = actor; command = c }) h built
+
+command_built : (work : Workload) (number : ℕ) (line : List ℕ) → AreBuilt work.lines → first_of (command_faults work number line) ≡ None → AreBuilt (with_command work line).lines
+command_built work number line h none =
+    let known = one_by_one (nat_le most_commands (length work.lines)) (line_fault.Limit number which.Commands) ((is_none (place_of (first_word line) work.actors), line_fault.NoActor number) ∷ verb_faults work number (behind_word line)) none in
+    let spoken = one_by_one (is_none (place_of (first_word line) work.actors)) (line_fault.NoActor number) (verb_faults work number (behind_word line)) known.1 in
+    one_built work.lines (unwrap_or (place_of (first_word line) work.actors) 0) _ h
+    (said_built work number (behind_word (behind_word line)) (verb_of (first_word (behind_word line))) spoken.1)
+
+pub text_built : (size : ℕ) (text : List ℕ) → first_fault size text ≡ None → All (λ l. IsBuilt l.command) (spelled text).lines
+unfolding AreBuilt
+text_built size text none = text_keeps size (λ w. AreBuilt w.lines) (λ work number tail h _. h) command_built (All-nil _) text none

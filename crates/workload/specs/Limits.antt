@@ -1,0 +1,34 @@
+-- The limits of a workload's text.
+use Rattle.std.specs.Prelude.{ℕ}
+
+-- the most bytes of a text: 16 MiB
+abbrev pub most_text : ℕ
+most_text = 16777216
+
+-- the most bytes of a line before its newline: 1 MiB
+abbrev pub most_line : ℕ
+most_line = 1048576
+
+-- the most actors
+abbrev pub most_actors : ℕ
+most_actors = 256
+
+-- the most command lines
+abbrev pub most_commands : ℕ
+most_commands = 10000
+
+-- the most characters of a name
+abbrev pub most_name : ℕ
+most_name = 64
+
+-- the most bytes of a key
+abbrev pub most_key : ℕ
+most_key = 255
+
+-- the most components of a key
+abbrev pub most_components : ℕ
+most_components = 32
+
+-- the most bytes of a value
+abbrev pub most_value : ℕ
+most_value = 65536

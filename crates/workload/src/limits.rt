@@ -1,0 +1,19 @@
+// The limits of a workload's text.
+
+/// The most bytes of a text: 16 MiB.
+pub const MOST_TEXT: usize = 16_777_216;
+
+/// The most bytes of a line before its newline: 1 MiB.
+pub const MOST_LINE: usize = 1_048_576;
+
+/// The most actors.
+pub const MOST_ACTORS: usize = 256;
+
+/// The most command lines.
+pub const MOST_COMMANDS: usize = 10_000;
+
+/// The most characters of a name.
+pub const MOST_NAME: usize = 64;
+
+/// The most bytes of a value.
+pub const MOST_VALUE: usize = 65_536;
