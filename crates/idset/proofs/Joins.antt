@@ -1,6 +1,5 @@
 -- Sorted ranges, joined one after another.
-use Rattle.std.proofs.Common.{◌≡◌, ℕ, suc, zero, ◌+◌, ◌-◌, ◌<◌, ◌≤◌, max, Bool, true, false, cond, not, ◌&&◌, ◌||◌, eqb, leb, ltb, List, [], ◌∷◌, ◌++◌, length, get_or, All, refl, sym, ap, ◌∙◌, append_assoc, arith, rules}
-use Rattle.std.specs.List.{list_any}
+use Rattle.std.proofs.Common.{◌≡◌, ℕ, suc, ◌+◌, ◌<◌, ◌≤◌, max, Bool, true, false, cond, ◌&&◌, ◌||◌, leb, List, [], ◌∷◌, ◌++◌, length, get_or, All, refl, ap, ◌∙◌, append_assoc, arith}
 use Rattle.std.proofs.lemmas.Bool.Decides.{nat_tests}
 use Rattle.std.specs.List.Sorted.{IsNonDecreasingBy}
 use Rattle.std.proofs.lemmas.List.Elements.{All-tail, All-head}
@@ -34,18 +33,20 @@ joined-apart (r ∷ rs) n lead h i s =
     let small = s.1.small in
     let some_here = i.some in
     let small_here = i.small in
-    elim (leb r.first (lead.last + 1)) as (λ b. leb r.first (lead.last + 1) ≡ b → AreApart n (cond b (joined_onto (record { first = lead.first; last = max lead.last r.last }) rs) (lead ∷ joined_onto r rs)))
-    [ true ↦ λ e. joined-apart rs n (record { first = lead.first; last = max lead.last r.last }) h (record { some = omega arith; small = omega arith }) (AreSorted-earlier lead.first r.first rs s.0 s.2)
-    | false ↦ λ e. let far : lead.last + 2 ≤ r.first = grind (arith, nat_tests) in (h, i, joined-apart rs (lead.last + 2) r far s.1 s.2) ] refl
+    elim (leb r.first (lead.last + 1)) as (λ b. leb r.first (lead.last + 1) ≡ b → AreApart n (cond b (joined_onto (record { first = lead.first; last = max lead.last r.last }) rs) (lead ∷ joined_onto r rs))) [
+      | true ↦ λ e. joined-apart rs n (record { first = lead.first; last = max lead.last r.last }) h (record { some = omega arith; small = omega arith }) (AreSorted-earlier lead.first r.first rs s.0 s.2)
+      | false ↦ λ e. let far : lead.last + 2 ≤ r.first = grind (arith, nat_tests) in (h, i, joined-apart rs (lead.last + 2) r far s.1 s.2)
+    ] refl
 
 pub joined-same : (rs : List IdRange) (lead : IdRange) (id : ℕ) → IsRange lead → AreSorted lead.first rs → are_in (joined_onto lead rs) id ≡ (is_in lead id || are_in rs id)
 joined-same [] lead id i s = refl
 joined-same (r ∷ rs) lead id i s =
     let some = s.1.some in
     let some_here = i.some in
-    elim (leb r.first (lead.last + 1)) as (λ b. leb r.first (lead.last + 1) ≡ b → are_in (cond b (joined_onto (record { first = lead.first; last = max lead.last r.last }) rs) (lead ∷ joined_onto r rs)) id ≡ (is_in lead id || are_in (r ∷ rs) id))
-    [ true ↦ λ e. joined-same rs (record { first = lead.first; last = max lead.last r.last }) id (record { some = omega arith; small = max_small _ _ i.small s.1.small }) (AreSorted-earlier lead.first r.first rs s.0 s.2) ∙ spread lead.first lead.last r.first r.last id (are_in rs id) s.0 (grind (arith, nat_tests)) some_here some
-    | false ↦ λ e. ap (λ b. is_in lead id || b) (joined-same rs r id s.1 s.2) ] refl
+    elim (leb r.first (lead.last + 1)) as (λ b. leb r.first (lead.last + 1) ≡ b → are_in (cond b (joined_onto (record { first = lead.first; last = max lead.last r.last }) rs) (lead ∷ joined_onto r rs)) id ≡ (is_in lead id || are_in (r ∷ rs) id)) [
+      | true ↦ λ e. joined-same rs (record { first = lead.first; last = max lead.last r.last }) id (record { some = omega arith; small = max_small _ _ i.small s.1.small }) (AreSorted-earlier lead.first r.first rs s.0 s.2) ∙ spread lead.first lead.last r.first r.last id (are_in rs id) s.0 (grind (arith, nat_tests)) some_here some
+      | false ↦ λ e. ap (λ b. is_in lead id || b) (joined-same rs r id s.1 s.2)
+    ] refl
 
 -- what a walk over sorted ranges has so far, with the range that leads and those that are left
 pub record IsJoining (first : IdRange) (all done : List IdRange) (lead : IdRange) (left : List IdRange) : Type 0 where
@@ -80,6 +81,8 @@ joining_same first all done lead id s j = rw j.whole (joined-same all first id s
 -- ranges that a sort has left in the order of their first ids
 pub sorted_from : (rs : List IdRange) (n : ℕ) → (0 < length rs → n ≤ (get_or rs 0 no_range).first) → IsNonDecreasingBy (λ r. r.first) rs → All IsRange rs → AreSorted n rs
 sorted_from [] n h up all = tt
-sorted_from (r ∷ rs) n h up all =
-    (h (omega arith), All-head IsRange r rs all,
-     sorted_from rs r.first (λ some. up 0 1 no_range (omega arith) (omega arith)) (λ i j d le lt. up (suc i) (suc j) d (omega arith) (omega arith)) (All-tail IsRange r rs all))
+sorted_from (r ∷ rs) n h up all = (
+  h (omega arith),
+  All-head IsRange r rs all,
+  sorted_from rs r.first (λ some. up 0 1 no_range (omega arith) (omega arith)) (λ i j d le lt. up (suc i) (suc j) d (omega arith) (omega arith)) (All-tail IsRange r rs all),
+)

@@ -1,6 +1,6 @@
 -- The ids that pass a test, and what a set made so keeps.
-use Rattle.std.proofs.Common.{◌≡◌, ◌≢◌, ℕ, suc, zero, ◌+◌, ◌-◌, ◌<◌, ◌≤◌, Bool, true, false, cond, not, ◌&&◌, ◌||◌, eqb, leb, ltb, List, [], ◌∷◌, ◌++◌, length, get_or, filter, All, refl, sym, ap, ◌∙◌, arith, rules}
-use Rattle.std.specs.List.{list_any, range_with_len}
+use Rattle.std.proofs.Common.{◌≡◌, ◌≢◌, ℕ, suc, zero, ◌+◌, ◌<◌, ◌≤◌, Bool, true, false, cond, ◌&&◌, ◌||◌, eqb, leb, ltb, List, [], ◌∷◌, get_or, filter, All, refl, ap, ◌∙◌, arith, rules}
+use Rattle.std.specs.List.{range_with_len}
 use Rattle.std.specs.List.Sorted.{IsStrictlyIncreasing}
 use Rattle.std.proofs.lemmas.Bool.Decides.{nat_tests}
 use Rattle.std.proofs.lemmas.List.Kept.{IsStrictlyIncreasing-filter}
@@ -44,9 +44,10 @@ past_it true false n m id h = refl
 past_it false false n m id h = refl
 
 step : (p : ℕ → Bool) (n m id : ℕ) → ((p n && eqb n id) || (p id && leb (n + 1) id && ltb id (n + 1 + m))) ≡ (p id && leb n id && ltb id (n + suc m))
-step p n m id = elim (eqb n id) as (λ b. eqb n id ≡ b → ((p n && b) || (p id && leb (n + 1) id && ltb id (n + 1 + m))) ≡ (p id && leb n id && ltb id (n + suc m)))
-    [ true ↦ λ e. let same : n ≡ id = grind (arith, nat_tests) in let there : p n ≡ p id = ap p same in at_it (p n) (p id) n m id there same
-    | false ↦ λ e. let other : n ≢ id = grind (arith, nat_tests) in past_it (p n) (p id) n m id other ] refl
+step p n m id = elim (eqb n id) as (λ b. eqb n id ≡ b → ((p n && b) || (p id && leb (n + 1) id && ltb id (n + 1 + m))) ≡ (p id && leb n id && ltb id (n + suc m))) [
+  | true ↦ λ e. let same : n ≡ id = grind (arith, nat_tests) in let there : p n ≡ p id = ap p same in at_it (p n) (p id) n m id there same
+  | false ↦ λ e. let other : n ≢ id = grind (arith, nat_tests) in past_it (p n) (p id) n m id other
+] refl
 
 pub has-filter : (p : ℕ → Bool) (n m id : ℕ) → has (filter p (range_with_len n m)) id ≡ (p id && leb n id && ltb id (n + m))
 has-filter p n zero id = grind (arith, nat_tests)

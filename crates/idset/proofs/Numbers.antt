@@ -1,7 +1,7 @@
 -- Places, digits and the numbers that they write.
-use Rattle.std.proofs.Common.{◌≡◌, ◌≢◌, ℕ, suc, zero, ◌+◌, ◌-◌, ◌*◌, ◌^◌, ◌<◌, ◌≤◌, Bool, true, false, cond, not, ◌&&◌, ◌||◌, eqb, leb, ltb, List, [], ◌∷◌, ◌++◌, length, get_or, take, drop, All, refl, sym, ap, ◌∙◌, arith, rules}
+use Rattle.std.proofs.Common.{◌≡◌, ◌≢◌, ℕ, suc, zero, ◌+◌, ◌-◌, ◌*◌, ◌^◌, ◌<◌, ◌≤◌, Bool, true, false, cond, not, eqb, ltb, List, [], ◌∷◌, length, get_or, take, refl, ap, ◌∙◌, arith}
 use Rattle.std.specs.Prelude.{Option, Some, None, unwrap_or}
-use Rattle.std.specs.List.{position_or_len, slice_split, before_first, after_first}
+use Rattle.std.specs.List.{position_or_len, slice_split, before_first}
 use Rattle.std.specs.Char.{digit_value, is_ascii_digit}
 use Rattle.std.specs.Str.Parse.{digits_value, digits_value_after, AllDigits}
 use Rattle.std.specs.Ordering.{is_lt, nat_cmp, ordering_then}
@@ -9,7 +9,7 @@ use Rattle.std.specs.declared.cmp.Ordering.TheVariants.{Less, Equal, Greater}
 use Rattle.std.specs.Cmp.Lexicographic.{slice_cmp}
 use Rattle.std.proofs.lemmas.Bool.Decides.{nat_tests}
 use Rattle.std.proofs.lemmas.List.Sums.{prefix_len-le-length, fails_before_first}
-use Rattle.std.proofs.lemmas.List.Splits.{slice_split_none, slice_split_first}
+use Rattle.std.proofs.lemmas.List.Splits.{slice_split_none}
 use Rattle.std.proofs.lemmas.Int.Digits.{digits_value-lt}
 use Rattle.std.proofs.lemmas.Str.Parse.{digit_from_value}
 use Rattle.std.proofs.Math.Nat.{pow-suc, pow-le-pow_right, mul-le-mul_left}
@@ -61,11 +61,11 @@ lead-behind_zeros [] h = tt
 lead-behind_zeros (d ∷ ds) h = elim (eqb d 48) as (λ b. eqb d 48 ≡ b → HasLead (cond b (behind_zeros ds) (d ∷ ds)))
     [ true ↦ λ e. lead-behind_zeros ds h.1 | false ↦ λ e. nonzero d h.0 e ] refl
   where
-  nonzero : (d : ℕ) → digit_value d < 10 → eqb d 48 ≡ false → 0 < digit_value d
-  nonzero d h e =
-    let is = digit_is d h in
-    let other : d ≢ 48 = grind (arith, nat_tests) in
-    omega (arith, is.0, is.2)
+    nonzero : (d : ℕ) → digit_value d < 10 → eqb d 48 ≡ false → 0 < digit_value d
+    nonzero d h e =
+        let is = digit_is d h in
+        let other : d ≢ 48 = grind (arith, nat_tests) in
+        omega (arith, is.0, is.2)
 
 after_ge : (n : ℕ) (ds : List ℕ) → n * 10 ^ length ds ≤ digits_value_after 10 n ds
 after_ge n [] = omega arith
@@ -74,8 +74,8 @@ after_ge n (d ∷ ds) =
     let power : 10 ^ suc (length ds) ≡ 10 ^ length ds * 10 = pow-suc 10 (length ds) in
     rw power (least n (digit_value d) (10 ^ length ds) _ more)
   where
-  least : (n d p v : ℕ) → (n * 10 + d) * p ≤ v → n * (p * 10) ≤ v
-  least n d p v h = omega (arith, mul-le-mul_left p (let k : n * 10 ≤ n * 10 + d = omega arith in k))
+    least : (n d p v : ℕ) → (n * 10 + d) * p ≤ v → n * (p * 10) ≤ v
+    least n d p v h = omega (arith, mul-le-mul_left p (let k : n * 10 ≤ n * 10 + d = omega arith in k))
 
 pub value_of_longer : (xs ys : List ℕ) → AllDigits 10 xs → HasLead ys → length xs < length ys → digits_value 10 xs < digits_value 10 ys
 value_of_longer xs [] a l h = absurd (omega arith)
@@ -86,8 +86,8 @@ value_of_longer xs (y ∷ ys) a l h =
     let more : 10 ^ length ys ≤ digits_value 10 (y ∷ ys) = least (digit_value y) (10 ^ length ys) _ l above in
     omega arith
   where
-  least : (d p v : ℕ) → 0 < d → (0 * 10 + d) * p ≤ v → p ≤ v
-  least d p v some h = omega (arith, mul-le-mul_left p some)
+    least : (d p v : ℕ) → 0 < d → (0 * 10 + d) * p ≤ v → p ≤ v
+    least d p v some h = omega (arith, mul-le-mul_left p some)
 
 -- of two texts of one length the first digit that differs decides
 apart : (m n : ℕ) (xs ys : List ℕ) → AllDigits 10 xs → m < n → length xs ≡ length ys → digits_value_after 10 m xs < digits_value_after 10 n ys
@@ -110,20 +110,22 @@ text_order n [] [] a b e = grind (arith, nat_tests)
 text_order n [] (y ∷ ys) a b e = absurd (omega arith)
 text_order n (x ∷ xs) [] a b e = absurd (omega arith)
 text_order n (x ∷ xs) (y ∷ ys) a b e =
-    elim (ltb x y) as (λ t. ltb x y ≡ t → is_lt (ordering_then (cond t Less (cond (eqb x y) Equal Greater)) (slice_cmp nat_cmp xs ys)) ≡ ltb (digits_value_after 10 (n * 10 + digit_value x) xs) (digits_value_after 10 (n * 10 + digit_value y) ys))
-    [ true ↦ λ h.
-        let before : x < y = grind (arith, nat_tests) in
-        let less : digits_value_after 10 (n * 10 + digit_value x) xs < digits_value_after 10 (n * 10 + digit_value y) ys = apart (n * 10 + digit_value x) (n * 10 + digit_value y) xs ys a.1 (further n x y a.0 b.0 before) (omega arith) in
-        grind (arith, nat_tests)
-    | false ↦ λ h. elim (eqb x y) as (λ t. eqb x y ≡ t → is_lt (ordering_then (cond t Equal Greater) (slice_cmp nat_cmp xs ys)) ≡ ltb (digits_value_after 10 (n * 10 + digit_value x) xs) (digits_value_after 10 (n * 10 + digit_value y) ys))
-        [ true ↦ λ i. let same : x ≡ y = grind (arith, nat_tests) in text_order (n * 10 + digit_value x) xs ys a.1 b.1 (omega arith) ∙ ap (λ z. ltb (digits_value_after 10 (n * 10 + digit_value x) xs) (digits_value_after 10 (n * 10 + digit_value z) ys)) same
+    elim (ltb x y) as (λ t. ltb x y ≡ t → is_lt (ordering_then (cond t Less (cond (eqb x y) Equal Greater)) (slice_cmp nat_cmp xs ys)) ≡ ltb (digits_value_after 10 (n * 10 + digit_value x) xs) (digits_value_after 10 (n * 10 + digit_value y) ys)) [
+      | true ↦ λ h.
+          let before : x < y = grind (arith, nat_tests) in
+          let less : digits_value_after 10 (n * 10 + digit_value x) xs < digits_value_after 10 (n * 10 + digit_value y) ys = apart (n * 10 + digit_value x) (n * 10 + digit_value y) xs ys a.1 (further n x y a.0 b.0 before) (omega arith) in
+          grind (arith, nat_tests)
+      | false ↦ λ h. elim (eqb x y) as (λ t. eqb x y ≡ t → is_lt (ordering_then (cond t Equal Greater) (slice_cmp nat_cmp xs ys)) ≡ ltb (digits_value_after 10 (n * 10 + digit_value x) xs) (digits_value_after 10 (n * 10 + digit_value y) ys)) [
+        | true ↦ λ i. let same : x ≡ y = grind (arith, nat_tests) in text_order (n * 10 + digit_value x) xs ys a.1 b.1 (omega arith) ∙ ap (λ z. ltb (digits_value_after 10 (n * 10 + digit_value x) xs) (digits_value_after 10 (n * 10 + digit_value z) ys)) same
         | false ↦ λ i.
             let behind : y < x = grind (arith, nat_tests) in
             let more : digits_value_after 10 (n * 10 + digit_value y) ys < digits_value_after 10 (n * 10 + digit_value x) xs = apart (n * 10 + digit_value y) (n * 10 + digit_value x) ys xs b.1 (further n y x b.0 a.0 behind) (omega arith) in
-            grind (arith, nat_tests) ] refl ] refl
+            grind (arith, nat_tests)
+      ] refl
+    ] refl
   where
-  further : (n x y : ℕ) → digit_value x < 10 → digit_value y < 10 → x < y → n * 10 + digit_value x < n * 10 + digit_value y
-  further n x y a b h =
-      let p = digit_is x a in
-      let q = digit_is y b in
-      omega (arith, p.0, p.2, q.0, q.2)
+    further : (n x y : ℕ) → digit_value x < 10 → digit_value y < 10 → x < y → n * 10 + digit_value x < n * 10 + digit_value y
+    further n x y a b h =
+        let p = digit_is x a in
+        let q = digit_is y b in
+        omega (arith, p.0, p.2, q.0, q.2)

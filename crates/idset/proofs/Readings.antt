@@ -1,10 +1,7 @@
 -- Answers of readers.
-use Rattle.std.proofs.Common.{◌≡◌, ℕ, ◌+◌, ◌-◌, ◌<◌, ◌≤◌, ◌++◌, List, [], ◌∷◌, length, map, All, subst, ap, sym, refl, ◌∙◌, append_assoc, arith, rules}
-use Rattle.std.specs.Prelude.{Option, Some, None, Result, Ok, Err, IsErrAnd}
-use Rattle.std.specs.List.{slice_split}
-use Rattle.idset.specs.Ranges.{IsRange}
-use Rattle.idset.specs.Text.{is_comma, item_faults, range_of, faults_in, first_of, or_else, Faults, Reads}
-use Rattle.idset.specs.declared.ranges.IdRange.{IdRange}
+use Rattle.std.proofs.Common.{◌≡◌, ℕ, ◌+◌, List, [], ◌∷◌, length, subst, ap, sym, ◌∙◌}
+use Rattle.std.specs.Prelude.{Option, None, Result, Ok, Err, IsErrAnd}
+use Rattle.idset.specs.Text.{item_faults, faults_in, first_of, or_else, Faults, Reads}
 use Rattle.idset.specs.declared.faults.IdFault.{IdFault}
 use Rattle.idset.specs.declared.faults.IdFault.TheVariants as fault
 

@@ -1,10 +1,10 @@
 -- What is printed is read again.
-use Rattle.std.proofs.Common.{◌≡◌, ℕ, suc, zero, ◌+◌, ◌-◌, ◌^◌, ◌<◌, ◌≤◌, Bool, true, false, cond, not, ◌&&◌, ◌||◌, eqb, leb, ltb, List, [], ◌∷◌, ◌++◌, length, get_or, take, drop, map, All, refl, sym, ap, subst, ◌∙◌, append-nil, append_assoc, arith, rules}
-use Rattle.std.specs.Prelude.{Option, Some, None}
+use Rattle.std.proofs.Common.{◌≡◌, ℕ, suc, ◌+◌, ◌<◌, ◌≤◌, true, false, cond, eqb, leb, ltb, List, [], ◌∷◌, ◌++◌, length, get_or, take, drop, map, All, refl, sym, ap, subst, ◌∙◌, append-nil, append_assoc, arith, rules}
+use Rattle.std.specs.Prelude.{Option, None}
 use Rattle.std.specs.List.{position_or_len, slice_split, join_with_byte}
-use Rattle.std.specs.Char.{digit_value, is_ascii_digit}
+use Rattle.std.specs.Char.{digit_value}
 use Rattle.std.specs.Fmt.{decimal}
-use Rattle.std.specs.Str.Parse.{digits_value, AllDigits}
+use Rattle.std.specs.Str.Parse.{AllDigits}
 use Rattle.std.proofs.lemmas.Bool.Decides.{nat_tests}
 use Rattle.std.proofs.lemmas.Fmt.{decimal_is_IsNumeral}
 use Rattle.std.proofs.lemmas.List.{take_more, length-take-le, length-map, map-append}
@@ -13,7 +13,7 @@ use Rattle.std.proofs.lemmas.List.Splits.{slice_split_none, slice_split_at}
 use Rattle.std.proofs.Math.Seq.{take-append_seam, drop-append_seam}
 use Rattle.idset.specs.Ranges.{IsRange, AreApart, ids_in}
 use Rattle.idset.specs.Runs.{range_text}
-use Rattle.idset.specs.Text.{is_comma, is_no_digit, is_empty, leading_digits, behind_digits, number_value, range_behind, range_of, body, is_bracketed, body_place, items, spelled, first_of, item_faults, behind_faults, pair_faults, or_else, faults_in, end_faults, first_fault}
+use Rattle.idset.specs.Text.{is_comma, is_no_digit, is_empty, leading_digits, behind_digits, number_value, range_of, body, is_bracketed, items, spelled, first_of, item_faults, behind_faults, or_else, faults_in, first_fault}
 use Rattle.idset.specs.declared.ranges.IdRange.{IdRange}
 use Rattle.idset.specs.declared.faults.IdFault.{IdFault}
 use Rattle.idset.specs.declared.faults.IdFault.TheVariants as fault
@@ -100,17 +100,19 @@ range_read : (r : IdRange) → IsRange r → range_of (range_text r) ≡ r
 range_read r i =
     let some = i.some in
     let small = i.small in
-    elim (eqb r.first r.last) as (λ b. eqb r.first r.last ≡ b → range_of (cond b (decimal r.first) (decimal r.first ++ 45 ∷ decimal r.last)) ≡ r)
-    [ true ↦ λ e. let same : r.first ≡ r.last = grind (arith, nat_tests) in one_read (decimal r.first) r.first (writes_id r.first (omega arith)) ∙ ap (λ (v : ℕ). let q : IdRange = record { first = r.first; last = v } in q) same
-    | false ↦ λ e. pair_read (decimal r.first) (decimal r.last) r.first r.last (writes_id r.first (omega arith)) (writes_id r.last small) ] refl
+    elim (eqb r.first r.last) as (λ b. eqb r.first r.last ≡ b → range_of (cond b (decimal r.first) (decimal r.first ++ 45 ∷ decimal r.last)) ≡ r) [
+      | true ↦ λ e. let same : r.first ≡ r.last = grind (arith, nat_tests) in one_read (decimal r.first) r.first (writes_id r.first (omega arith)) ∙ ap (λ (v : ℕ). let q : IdRange = record { first = r.first; last = v } in q) same
+      | false ↦ λ e. pair_read (decimal r.first) (decimal r.last) r.first r.last (writes_id r.first (omega arith)) (writes_id r.last small)
+    ] refl
 
 range_sound : (place : ℕ) (r : IdRange) → IsRange r → first_of (item_faults place (range_text r)) ≡ None
 range_sound place r i =
     let some = i.some in
     let small = i.small in
-    elim (eqb r.first r.last) as (λ b. first_of (item_faults place (cond b (decimal r.first) (decimal r.first ++ 45 ∷ decimal r.last))) ≡ None)
-    [ true ↦ one_sound place (decimal r.first) r.first (writes_id r.first (omega arith)) (omega arith)
-    | false ↦ pair_sound place (decimal r.first) (decimal r.last) r.first r.last (writes_id r.first (omega arith)) (writes_id r.last small) some small ]
+    elim (eqb r.first r.last) as (λ b. first_of (item_faults place (cond b (decimal r.first) (decimal r.first ++ 45 ∷ decimal r.last))) ≡ None) [
+      | true ↦ one_sound place (decimal r.first) r.first (writes_id r.first (omega arith)) (omega arith)
+      | false ↦ pair_sound place (decimal r.first) (decimal r.last) r.first r.last (writes_id r.first (omega arith)) (writes_id r.last small) some small
+    ]
 
 -- no comma stands in a range's text
 digits_whole : (ds : List ℕ) → AllDigits 10 ds → All (λ b. is_comma b ≡ false) ds
@@ -122,9 +124,10 @@ range_whole r i =
     let some = i.some in
     let small = i.small in
     let first = digits_whole (decimal r.first) (writes_id r.first (omega arith)).digits in
-    elim (eqb r.first r.last) as (λ b. All (λ x. is_comma x ≡ false) (cond b (decimal r.first) (decimal r.first ++ 45 ∷ decimal r.last)))
-    [ true ↦ first
-    | false ↦ All-append (λ x. is_comma x ≡ false) (decimal r.first) (45 ∷ decimal r.last) first (All-cons (λ x. is_comma x ≡ false) 45 (decimal r.last) refl (digits_whole (decimal r.last) (writes_id r.last small).digits)) ]
+    elim (eqb r.first r.last) as (λ b. All (λ x. is_comma x ≡ false) (cond b (decimal r.first) (decimal r.first ++ 45 ∷ decimal r.last))) [
+      | true ↦ first
+      | false ↦ All-append (λ x. is_comma x ≡ false) (decimal r.first) (45 ∷ decimal r.last) first (All-cons (λ x. is_comma x ≡ false) 45 (decimal r.last) refl (digits_whole (decimal r.last) (writes_id r.last small).digits))
+    ]
 
 abbrev joined_text : List IdRange → List ℕ
 joined_text rs = join_with_byte 44 (map range_text rs)
@@ -145,9 +148,10 @@ range_begins r rest i =
     let some = i.some in
     let small = i.small in
     let w = writes_id r.first (omega arith) in
-    elim (eqb r.first r.last) as (λ b. (is_bracketed (cond b (decimal r.first) (decimal r.first ++ 45 ∷ decimal r.last) ++ rest) ≡ false) × (0 < length (cond b (decimal r.first) (decimal r.first ++ 45 ∷ decimal r.last) ++ rest)))
-    [ true ↦ begins (decimal r.first) rest w.some w.digits
-    | false ↦ let P : List ℕ → Type 0 = λ t. (is_bracketed t ≡ false) × (0 < length t) in subst P (sym (append_assoc (decimal r.first) (45 ∷ decimal r.last) rest)) (begins (decimal r.first) ((45 ∷ decimal r.last) ++ rest) w.some w.digits) ]
+    elim (eqb r.first r.last) as (λ b. (is_bracketed (cond b (decimal r.first) (decimal r.first ++ 45 ∷ decimal r.last) ++ rest) ≡ false) × (0 < length (cond b (decimal r.first) (decimal r.first ++ 45 ∷ decimal r.last) ++ rest))) [
+      | true ↦ begins (decimal r.first) rest w.some w.digits
+      | false ↦ let P : List ℕ → Type 0 = λ t. (is_bracketed t ≡ false) × (0 < length t) in subst P (sym (append_assoc (decimal r.first) (45 ∷ decimal r.last) rest)) (begins (decimal r.first) ((45 ∷ decimal r.last) ++ rest) w.some w.digits)
+    ]
 
 text_begins : (r : IdRange) (rs : List IdRange) → IsRange r → (is_bracketed (joined_text (r ∷ rs)) ≡ false) × (0 < length (joined_text (r ∷ rs)))
 text_begins r [] i = let P : List ℕ → Type 0 = λ t. (is_bracketed t ≡ false) × (0 < length t) in subst P (append-nil (range_text r)) (range_begins r [] i)

@@ -1,10 +1,10 @@
 -- Sets of ids by their ranges.
-use Rattle.std.proofs.Common.{◌≡◌, ℕ, suc, zero, ◌+◌, ◌-◌, ◌<◌, ◌≤◌, Bool, true, false, cond, not, ◌&&◌, ◌||◌, eqb, leb, ltb, List, [], ◌∷◌, ◌++◌, length, get_or, map, All, refl, sym, ap, subst, ◌∙◌, append-nil, arith, rules}
-use Rattle.std.specs.Prelude.{Option, Some, None, slice_get}
-use Rattle.std.specs.List.{list_any, range_with_len}
+use Rattle.std.proofs.Common.{◌≡◌, ℕ, suc, ◌+◌, ◌-◌, ◌<◌, ◌≤◌, Bool, true, false, not, ◌&&◌, ◌||◌, eqb, leb, ltb, List, [], ◌∷◌, ◌++◌, map, All, refl, ap, subst, ◌∙◌, append-nil, arith, rules}
+use Rattle.std.specs.Prelude.{Some, None, slice_get}
+use Rattle.std.specs.List.{range_with_len}
 use Rattle.std.proofs.lemmas.Bool.Decides.{nat_tests}
 use Rattle.std.proofs.lemmas.List.Folds.{list_any-append}
-use Rattle.std.proofs.lemmas.List.Elements.{All-cons, All-append}
+use Rattle.std.proofs.lemmas.List.Elements.{All-cons}
 use Rattle.idset.specs.Ids.{has, ids_where, ids_from, list_of, union_of, minus_of, IsIdSet}
 use Rattle.idset.specs.Ranges.{IsRange, AreApart, is_in, are_in, ids_in, single}
 use Rattle.idset.specs.Runs.{runs}
@@ -26,12 +26,13 @@ pub runs_in : (rs : List IdRange) → AreApart 0 rs → runs (ids_in rs) ≡ rs
 runs_in rs a = ap runs (ids_in-spans rs a) ∙ runs-spans rs 0 a
 
 pub has-ids_in : (rs : List IdRange) (id : ℕ) → AreApart 0 rs → has (ids_in rs) id ≡ are_in rs id
-has-ids_in rs id a = elim (ltb id 65536) as (λ b. ltb id 65536 ≡ b → has (ids_in rs) id ≡ are_in rs id)
-    [ true ↦ λ e. has_small (are_in rs) id (grind (arith, nat_tests))
-    | false ↦ λ e. has-ids_where (are_in rs) id ∙ none id (are_in rs id) (not_large 0 rs id a (grind (arith, nat_tests))) ] refl
+has-ids_in rs id a = elim (ltb id 65536) as (λ b. ltb id 65536 ≡ b → has (ids_in rs) id ≡ are_in rs id) [
+  | true ↦ λ e. has_small (are_in rs) id (grind (arith, nat_tests))
+  | false ↦ λ e. has-ids_where (are_in rs) id ∙ none id (are_in rs id) (not_large 0 rs id a (grind (arith, nat_tests)))
+] refl
   where
-  none : (id : ℕ) (b : Bool) → b ≡ false → (b && ltb id 65536) ≡ b
-  none id b e = rw e refl
+    none : (id : ℕ) (b : Bool) → b ≡ false → (b && ltb id 65536) ≡ b
+    none id b e = rw e refl
 
 pub all_ranges : (rs : List IdRange) (n : ℕ) → AreApart n rs → All IsRange rs
 all_ranges [] n a = search rules
@@ -67,8 +68,8 @@ are_in-singles : (ids : List ℕ) (id : ℕ) → are_in (map single ids) id ≡ 
 are_in-singles [] id = refl
 are_in-singles (i ∷ ids) id = rw (are_in-singles ids id) (one i id (has ids id))
   where
-  one : (i id : ℕ) (b : Bool) → ((leb i id && leb id i) || b) ≡ (eqb i id || b)
-  one i id b = grind (arith, nat_tests)
+    one : (i id : ℕ) (b : Bool) → ((leb i id && leb id i) || b) ≡ (eqb i id || b)
+    one i id b = grind (arith, nat_tests)
 
 pub ids_in-singles : (ids : List ℕ) → ids_in (map single ids) ≡ list_of ids
 ids_in-singles ids = same_ids (are_in (map single ids)) (has ids) (λ id small. are_in-singles ids id)

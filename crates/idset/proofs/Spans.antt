@@ -1,10 +1,10 @@
 -- The ids of ranges that are apart, range by range.
-use Rattle.std.proofs.Common.{◌≡◌, ℕ, suc, zero, ◌+◌, ◌-◌, ◌<◌, ◌≤◌, Bool, true, false, cond, not, ◌&&◌, ◌||◌, eqb, leb, ltb, List, [], ◌∷◌, ◌++◌, length, get_or, filter, refl, sym, ap, subst, zero-add, add-zero, ◌∙◌, arith, rules}
-use Rattle.std.specs.List.{list_any, range_with_len, flat_map}
+use Rattle.std.proofs.Common.{◌≡◌, ℕ, suc, zero, ◌+◌, ◌-◌, ◌<◌, ◌≤◌, Bool, true, false, eqb, List, [], ◌∷◌, ◌++◌, filter, refl, ap, subst, zero-add, add-zero, ◌∙◌, arith}
+use Rattle.std.specs.List.{range_with_len, flat_map}
 use Rattle.std.proofs.lemmas.Bool.Decides.{nat_tests}
 use Rattle.std.proofs.lemmas.List.Elements.{filter-append}
 use Rattle.idset.specs.Ids.{ids_where, ids_from}
-use Rattle.idset.specs.Ranges.{IsRange, AreApart, is_in, are_in, ids_in}
+use Rattle.idset.specs.Ranges.{AreApart, is_in, are_in, ids_in}
 use Rattle.idset.specs.Runs.{runs, onto_runs}
 use Rattle.idset.specs.declared.ranges.IdRange.{IdRange}
 use Rattle.idset.proofs.Members.{filter-alike, filter-no, filter-yes}

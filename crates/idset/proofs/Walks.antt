@@ -1,12 +1,11 @@
 -- Walks over ranges that are apart.
-use Rattle.std.proofs.Common.{◌≡◌, ℕ, suc, zero, ◌+◌, ◌-◌, ◌<◌, ◌≤◌, Bool, true, false, cond, not, ◌&&◌, ◌||◌, eqb, leb, ltb, List, [], ◌∷◌, ◌++◌, length, get_or, drop, refl, sym, ap, ◌∙◌, append_assoc, length-append, arith, rules}
-use Rattle.std.specs.List.{list_any, range_with_len}
+use Rattle.std.proofs.Common.{◌≡◌, ℕ, suc, zero, ◌+◌, ◌-◌, ◌<◌, ◌≤◌, false, ◌&&◌, ◌||◌, leb, List, [], ◌∷◌, ◌++◌, length, get_or, refl, ap, ◌∙◌, append_assoc, length-append, arith}
 use Rattle.std.proofs.lemmas.Bool.Decides.{nat_tests}
 use Rattle.std.proofs.lemmas.List.FromFn.{length-range_with_len}
 use Rattle.idset.specs.Ids.{ids_from}
-use Rattle.idset.specs.Ranges.{IsRange, AreApart, is_in, are_in}
+use Rattle.idset.specs.Ranges.{AreApart, is_in, are_in}
 use Rattle.idset.specs.declared.ranges.IdRange.{IdRange}
-use Rattle.idset.proofs.Spans.{spans, AreApart-earlier, not_before}
+use Rattle.idset.proofs.Spans.{spans, not_before}
 
 -- how many ids are counted so far, with the ranges that are left
 pub record IsCounting (all : List IdRange) (count : ℕ) (left : List IdRange) : Type 0 where
@@ -47,8 +46,8 @@ found_at (r ∷ rs) n zero id d a h b e =
     let rest : are_in rs id ≡ false = not_before (r.last + 2) rs id a.2 (omega arith) in
     rw rest (one r.first r.last id e)
   where
-  one : (first last id : ℕ) → id ≤ last → ((leb first id && leb id last) || false) ≡ leb first id
-  one first last id h = grind (arith, nat_tests)
+    one : (first last id : ℕ) → id ≤ last → ((leb first id && leb id last) || false) ≡ leb first id
+    one first last id h = grind (arith, nat_tests)
 found_at (r ∷ rs) n (suc place) id d a h b e =
     let past : r.last < id = b 0 (omega arith) in
     let here : is_in r id ≡ false = grind (arith, nat_tests) in
@@ -66,9 +65,9 @@ lasts_rise [] n i j d a h k = elim k [ ]
 lasts_rise (r ∷ rs) n zero zero d a h k = omega arith
 lasts_rise (r ∷ rs) n zero (suc j) d a h k = omega (arith, past rs (r.last + 2) j d a.2 (omega arith))
   where
-  past : (rs : List IdRange) (n : ℕ) (j : ℕ) (d : IdRange) → AreApart n rs → j < length rs → n ≤ (get_or rs j d).last
-  past [] n j d a h = elim h [ ]
-  past (r ∷ rs) n zero d a h = let some = a.1.some in omega arith
-  past (r ∷ rs) n (suc j) d a h = let some = a.1.some in omega (arith, past rs (r.last + 2) j d a.2 (omega arith))
+    past : (rs : List IdRange) (n : ℕ) (j : ℕ) (d : IdRange) → AreApart n rs → j < length rs → n ≤ (get_or rs j d).last
+    past [] n j d a h = elim h [ ]
+    past (r ∷ rs) n zero d a h = let some = a.1.some in omega arith
+    past (r ∷ rs) n (suc j) d a h = let some = a.1.some in omega (arith, past rs (r.last + 2) j d a.2 (omega arith))
 lasts_rise (r ∷ rs) n (suc i) zero d a h k = absurd (omega arith)
 lasts_rise (r ∷ rs) n (suc i) (suc j) d a h k = lasts_rise rs (r.last + 2) i j d a.2 (omega arith) (omega arith)

@@ -15,9 +15,7 @@ fn count_before(text: &[u8], byte: u8) -> usize
     ensures count { result ≡ position_or_len (λ b. b == byte) text.now }
     ensures within { result ≤ length text.now }
 {
-    text.iter()
-        .position(|b| *b == byte)
-        .unwrap_or(text.len())
+    text.iter().position(|b| *b == byte).unwrap_or(text.len())
 }
 
 /// How many digits a text begins with.

@@ -1,4 +1,4 @@
-use Rattle.std.proofs.Common.{◌≡◌, ◌≢◌, ℕ, ◌+◌, ◌<◌, Bool, true, false, cond, eqb, List, [], ◌∷◌, ◌++◌, length, get_or, take, map, sym, ap, refl, ◌∙◌, append_assoc, lit<, arith, rules}
+use Rattle.std.proofs.Common.{◌≡◌, ◌≢◌, ℕ, ◌+◌, ◌<◌, true, false, eqb, List, [], ◌∷◌, ◌++◌, length, get_or, take, map, sym, ap, refl, ◌∙◌, append_assoc, lit<, arith}
 use Rattle.std.specs.Prelude.{string_bytes}
 use Rattle.std.specs.List.{join_with_byte}
 use Rattle.std.proofs.lemmas.Bool.Decides.{nat_tests}
@@ -26,5 +26,6 @@ loop-place-preserved c =
     let rs = c.args.ranges.now in
     let added = c.in_ok-add.ensures in
     elim c.if-place-ne0.branch [
-      then-place-ne0+in_ok-push w ↦ later rs c.loop-place.place _ _ c.loop-place-test.true w.if-place-ne0.true c.loop-place.invariant (added ∙ ap (λ t. t ++ range_text (get_or rs c.loop-place.place no_range)) (ap string_bytes w.text-is ∙ w.in_ok-push.ensures.bytes ∙ ap (λ t. string_bytes c.loop-place.text ++ t) (w.in_ok-push.ensures.ascii (lit< tt))))
-    | else-place-ne0 w ↦ begun rs c.loop-place.place _ _ c.loop-place-test.true w.if-place-ne0.false c.loop-place.invariant (added ∙ ap (λ s. string_bytes s ++ range_text (get_or rs c.loop-place.place no_range)) w.text-is) ]
+      | then-place-ne0+in_ok-push w ↦ later rs c.loop-place.place _ _ c.loop-place-test.true w.if-place-ne0.true c.loop-place.invariant (added ∙ ap (λ t. t ++ range_text (get_or rs c.loop-place.place no_range)) (ap string_bytes w.text-is ∙ w.in_ok-push.ensures.bytes ∙ ap (λ t. string_bytes c.loop-place.text ++ t) (w.in_ok-push.ensures.ascii (lit< tt))))
+      | else-place-ne0 w ↦ begun rs c.loop-place.place _ _ c.loop-place-test.true w.if-place-ne0.false c.loop-place.invariant (added ∙ ap (λ s. string_bytes s ++ range_text (get_or rs c.loop-place.place no_range)) w.text-is)
+    ]

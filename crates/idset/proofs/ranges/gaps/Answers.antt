@@ -1,7 +1,7 @@
-use Rattle.std.proofs.Common.{◌≡◌, ℕ, Bool, ◌&&◌, leb, ◌+◌, ◌≤◌, ◌++◌, List, [], length, get_or, drop, ◌∙◌, arith, rules}
+use Rattle.std.proofs.Common.{◌≡◌, ℕ, Bool, ◌&&◌, leb, ◌+◌, ◌≤◌, ◌++◌, List, length, get_or, drop, ◌∙◌, arith}
 use Rattle.std.proofs.Math.ListN.{drop_of_length-le}
 use Rattle.std.proofs.lemmas.Bool.Decides.{nat_tests}
-use Rattle.idset.specs.Ranges.{AreApart, gap, are_in}
+use Rattle.idset.specs.Ranges.{gap}
 use Rattle.idset.specs.declared.ranges.IdRange.{IdRange}
 use Rattle.idset.proofs.Gaps.{IsFilling, filling_begun, filling_more, drop_next, no_range, gaps-apart, gaps-others, gaps_from}
 use Rattle.idset.proofs.ranges.gaps.Goals as goal

@@ -1,4 +1,4 @@
-use Rattle.std.proofs.Common.{◌≡◌, ℕ, ◌<◌, ◌≤◌, Bool, true, false, ltb, leb, List, length, get_or, ap, sym, ◌∙◌, arith, rules}
+use Rattle.std.proofs.Common.{◌≡◌, ℕ, ◌<◌, ◌≤◌, true, false, ltb, leb, List, length, get_or, ap, sym, ◌∙◌, arith, rules}
 use Rattle.std.specs.List.Sorted.{IsPartitionPoint}
 use Rattle.std.proofs.lemmas.Bool.Decides.{nat_tests}
 use Rattle.std.proofs.lemmas.List.Sorted.{IsPartitionPoint-from_clause, IsPartitionedBy-ltb}
@@ -32,11 +32,11 @@ returns-in-Some c =
     let rs = c.args.ranges.now in
     let look = c.in-Some.ensures.lookup in
     there rs c.args.id c.partition_point-place.result c.in-Some.range.now c.requires look.0 look.1
-      (IsPartitionPoint-from_clause (λ r. ltb r.last c.args.id) rs c.partition_point-place.result c.partition_point-place.ensures.partitioned (IsPartitionedBy-ltb (λ r. r.last) rs c.args.id (λ i j d h k. lasts_rise rs 0 i j d c.requires h k)) (λ a r q k. search rules))
+    (IsPartitionPoint-from_clause (λ r. ltb r.last c.args.id) rs c.partition_point-place.result c.partition_point-place.ensures.partitioned (IsPartitionedBy-ltb (λ r. r.last) rs c.args.id (λ i j d h k. lasts_rise rs 0 i j d c.requires h k)) (λ a r q k. search rules))
 
 pub returns-in-None : goal.returns-in-None
 returns-in-None c =
     let rs = c.args.ranges.now in
     let look = c.in-None.ensures.lookup in
     nowhere rs c.args.id c.partition_point-place.result look.0
-      (IsPartitionPoint-from_clause (λ r. ltb r.last c.args.id) rs c.partition_point-place.result c.partition_point-place.ensures.partitioned (IsPartitionedBy-ltb (λ r. r.last) rs c.args.id (λ i j d h k. lasts_rise rs 0 i j d c.requires h k)) (λ a r q k. search rules))
+    (IsPartitionPoint-from_clause (λ r. ltb r.last c.args.id) rs c.partition_point-place.result c.partition_point-place.ensures.partitioned (IsPartitionedBy-ltb (λ r. r.last) rs c.args.id (λ i j d h k. lasts_rise rs 0 i j d c.requires h k)) (λ a r q k. search rules))

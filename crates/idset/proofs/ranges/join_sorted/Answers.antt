@@ -1,9 +1,8 @@
-use Rattle.std.proofs.Common.{◌≡◌, ℕ, ◌+◌, ◌<◌, ◌≤◌, List, [], ◌∷◌, ◌++◌, length, get_or, drop, subst, sym, arith, rules}
+use Rattle.std.proofs.Common.{ℕ, ◌+◌, ◌<◌, ◌≤◌, List, [], ◌∷◌, length, get_or, drop}
 use Rattle.std.proofs.Math.ListN.{drop_of_length-le}
-use Rattle.idset.specs.Ranges.{AreApart, AreSorted, are_in}
 use Rattle.idset.specs.declared.ranges.IdRange.{IdRange}
 use Rattle.idset.proofs.Gaps.{drop_next, no_range}
-use Rattle.idset.proofs.Joins.{IsJoining, joining_begun, joining_near, joining_far, joining_apart, joining_same}
+use Rattle.idset.proofs.Joins.{IsJoining, joining_near, joining_far, joining_apart, joining_same}
 use Rattle.idset.proofs.ranges.join_sorted.Goals.{then-range-lead, else-range-lead+in_ok-push}
 use Rattle.idset.proofs.ranges.join_sorted.Goals as goal
 
@@ -18,8 +17,9 @@ pub loop-range-preserved : goal.loop-range-preserved
 loop-range-preserved c =
     let j = reached _ _ _ _ _ c.loop-range-test.true c.loop-range.invariant in
     elim c.if-range-lead.branch [
-      then-range-lead w ↦ rw (w.done-is, w.lead-is, w.max.ensures) (joining_near _ _ _ _ _ _ j w.if-range-lead.true)
-    | else-range-lead+in_ok-push w ↦ rw (w.done-is, w.lead-is, w.in_ok-push.ensures.items) (joining_far _ _ _ _ _ _ j w.if-range-lead.false) ]
+      | then-range-lead w ↦ rw (w.done-is, w.lead-is, w.max.ensures) (joining_near _ _ _ _ _ _ j w.if-range-lead.true)
+      | else-range-lead+in_ok-push w ↦ rw (w.done-is, w.lead-is, w.in_ok-push.ensures.items) (joining_far _ _ _ _ _ _ j w.if-range-lead.false)
+    ]
 
 pub returns-clause-apart : goal.returns-clause-apart
 returns-clause-apart c =

@@ -1,6 +1,5 @@
-use Rattle.std.proofs.Common.{◌≡◌, ℕ, ◌+◌, ◌<◌, ◌≤◌, ◌++◌, List, [], ◌∷◌, length, get_or, drop, sym, ap, ◌∙◌, append-nil, arith, rules}
+use Rattle.std.proofs.Common.{◌≡◌, ℕ, ◌+◌, ◌<◌, ◌≤◌, ◌++◌, List, [], ◌∷◌, length, get_or, drop, sym, ◌∙◌, append-nil}
 use Rattle.std.proofs.Math.ListN.{drop_of_length-le}
-use Rattle.idset.specs.Ranges.{IsRange, AreApart, ids_in}
 use Rattle.idset.specs.declared.ranges.IdRange.{IdRange}
 use Rattle.idset.proofs.Spans.{spans, ids_in-spans}
 use Rattle.idset.proofs.Gaps.{drop_next, no_range}

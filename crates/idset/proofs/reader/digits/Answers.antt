@@ -1,4 +1,4 @@
-use Rattle.std.proofs.Common.{◌≡◌, ◌∙◌, ap, take, drop}
+use Rattle.std.proofs.Common.{◌∙◌, ap, take, drop}
 use Rattle.idset.specs.Text.{leading_digits, behind_digits}
 use Rattle.idset.proofs.Numbers.{all_digits}
 use Rattle.idset.proofs.reader.digits.Goals as goal

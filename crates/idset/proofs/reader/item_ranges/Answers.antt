@@ -1,9 +1,7 @@
-use Rattle.std.proofs.Common.{◌≡◌, ℕ, ◌<◌, ◌-◌, List, [], ◌∷◌, length, map, All, refl, sym, ap, arith, rules}
-use Rattle.std.specs.Prelude.{Result, None}
+use Rattle.std.proofs.Common.{◌≡◌, ℕ, ◌<◌, List, [], ◌∷◌, length, refl, sym, arith}
 use Rattle.std.specs.List.{slice_split}
 use Rattle.std.proofs.lemmas.Bool.Decides.{nat_tests}
-use Rattle.idset.specs.Ranges.{IsRange}
-use Rattle.idset.specs.Text.{is_comma, items, range_of, faults_in, Reads}
+use Rattle.idset.specs.Text.{is_comma, items}
 use Rattle.idset.proofs.reader.item_ranges.Goals as goal
 
 some_items : (text : List ℕ) → 0 < length text → slice_split is_comma text ≡ items text

@@ -1,4 +1,4 @@
-use Rattle.std.proofs.Common.{◌∙◌, sym, ap}
+use Rattle.std.proofs.Common.{◌∙◌, ap}
 use Rattle.idset.specs.Ranges.{ids_in}
 use Rattle.idset.proofs.Sets.{ids_in-singles, singles}
 use Rattle.idset.proofs.set.IdSet.of_ids.Goals as goal

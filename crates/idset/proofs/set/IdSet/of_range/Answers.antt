@@ -1,4 +1,4 @@
-use Rattle.std.proofs.Common.{◌∙◌, ◌++◌, ◌∷◌, [], sym, ap}
+use Rattle.std.proofs.Common.{◌∙◌, ◌++◌, ◌∷◌, [], ap}
 use Rattle.idset.proofs.Sets.{one_range}
 use Rattle.idset.proofs.set.IdSet.of_range.Goals as goal
 

@@ -1,9 +1,7 @@
 use Rattle.std.proofs.Common.{◌≡◌, ◌∙◌, sym, ap, List, ℕ, map}
-use Rattle.std.specs.Prelude.{None}
 use Rattle.std.specs.List.{join_with_byte}
 use Rattle.idset.specs.Ranges.{AreApart, ids_in}
 use Rattle.idset.specs.Runs.{runs, range_text, printed}
-use Rattle.idset.specs.Text.{first_fault, spelled}
 use Rattle.idset.specs.declared.ranges.IdRange.{IdRange}
 use Rattle.idset.proofs.Sets.{runs_in}
 use Rattle.idset.proofs.Rereads.{sound_again, read_again}

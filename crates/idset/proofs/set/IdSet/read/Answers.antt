@@ -1,7 +1,7 @@
-use Rattle.std.proofs.Common.{◌≡◌, ℕ, ◌+◌, ◌-◌, ◌∙◌, List, length, map, All, ap, sym, subst, arith, rules}
-use Rattle.std.specs.Prelude.{Option, None, Some}
+use Rattle.std.proofs.Common.{◌≡◌, ℕ, ◌+◌, ◌-◌, ◌∙◌, List, length, map, ap, sym, subst, arith}
+use Rattle.std.specs.Prelude.{None}
 use Rattle.idset.specs.Ranges.{ids_in}
-use Rattle.idset.specs.Text.{first_fault, spelled, body, body_place, items, range_of, faults_in, end_faults, first_of, or_else, Faults, Reads}
+use Rattle.idset.specs.Text.{first_fault, spelled, body, body_place, items, range_of, faults_in, end_faults, first_of, or_else, Faults}
 use Rattle.idset.specs.declared.faults.IdFault.{IdFault}
 use Rattle.idset.specs.declared.faults.IdFault.TheVariants as fault
 use Rattle.idset.proofs.Readings.{err_reads}
@@ -44,6 +44,7 @@ returns-in_err-close c =
 
 pub returns : goal.returns
 returns c =
-    let text = c.args.text.now in
-    (no_fault text (sym (item_faults_are text c.inside-end.result.0.now c.inside-end.result.1 c.inside-end.ensures.body c.inside-end.ensures.end) ∙ c.in_ok-ranges.ensures.0) c.in_ok-close.ensures.0,
-     c.in_ok-set.ensures ∙ ap ids_in c.in_ok-ranges.ensures.1.0 ∙ is_spelled text c.inside-end.result.0.now c.inside-end.ensures.body)
+    let text = c.args.text.now in (
+      no_fault text (sym (item_faults_are text c.inside-end.result.0.now c.inside-end.result.1 c.inside-end.ensures.body c.inside-end.ensures.end) ∙ c.in_ok-ranges.ensures.0) c.in_ok-close.ensures.0,
+      c.in_ok-set.ensures ∙ ap ids_in c.in_ok-ranges.ensures.1.0 ∙ is_spelled text c.inside-end.result.0.now c.inside-end.ensures.body,
+    )

@@ -1,4 +1,4 @@
-use Rattle.std.proofs.Common.{◌≡◌, ◌∙◌, ◌++◌, List, All, subst, sym, ap}
+use Rattle.std.proofs.Common.{◌≡◌, ◌∙◌, ◌++◌, List, ap}
 use Rattle.std.proofs.lemmas.List.Elements.{All-append}
 use Rattle.idset.specs.Ids.{union_of}
 use Rattle.idset.specs.Ranges.{IsRange, ids_in}
