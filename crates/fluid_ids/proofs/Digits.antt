@@ -1,15 +1,15 @@
 -- Digits of a base and the numbers that they write.
-use Rattle.std.proofs.Common.{◌≡◌, ◌≢◌, ℕ, suc, zero, ◌+◌, ◌-◌, ◌*◌, ◌/◌, ◌%◌, ◌^◌, ◌<◌, ◌≤◌, Bool, true, false, cond, not, ◌&&◌, ◌||◌, eqb, leb, ltb, List, [], ◌∷◌, ◌++◌, length, get_or, take, drop, map, reverse, refl, sym, ap, subst, ◌∙◌, append_assoc, arith, rules}
+use Rattle.std.proofs.Common.{◌≡◌, ◌≢◌, ℕ, suc, zero, ◌+◌, ◌*◌, ◌/◌, ◌%◌, ◌^◌, ◌<◌, ◌≤◌, Bool, true, false, cond, not, ◌&&◌, eqb, ltb, List, [], ◌∷◌, ◌++◌, length, get_or, take, drop, map, reverse, refl, sym, ap, subst, ◌∙◌, append_assoc, arith}
 use Rattle.std.specs.Prelude.{Option, Some, None, unwrap_or, Result, Ok, Err, slice_index}
-use Rattle.std.specs.List.{position_or_len, list_all, list_any, range_with_len}
-use Rattle.std.specs.Int.Digits.{digits_of, number_from_digits, number_from_digits_after, AllBelowBase}
+use Rattle.std.specs.List.{position_or_len, list_all}
+use Rattle.std.specs.Int.Digits.{digits_of, number_from_digits, number_from_digits_after}
 use Rattle.std.proofs.lemmas.Bool.Decides.{nat_tests}
 use Rattle.std.proofs.lemmas.List.{take-append-drop, map-append, length-map, reverse-append}
 use Rattle.std.proofs.lemmas.List.Sums.{prefix_len-le-length}
-use Rattle.std.proofs.lemmas.Int.Digits.{number_more, number_after_append, number_after_ge, digits_of_step, number_digits_of, all_below_base_digits_of}
+use Rattle.std.proofs.lemmas.Int.Digits.{number_more, number_after_append, number_after_ge, digits_of_step}
 use Rattle.fluid_ids.specs.declared.faults.FluidFault.{FluidFault}
 use Rattle.fluid_ids.specs.declared.faults.FluidFault.TheVariants.{BadText, TooLarge}
-use Rattle.fluid_ids.specs.Texts.{base_58, base_10, base_16, value_in, is_digit_in, number_in, read_in, digits_in}
+use Rattle.fluid_ids.specs.Texts.{value_in, is_digit_in, number_in, read_in, digits_in}
 
 -- the first place, or the length where `position` finds none
 pub place_is : (p : ℕ → Bool) (xs : List ℕ) (r : Option ℕ) → r ≡ cond (ltb (position_or_len p xs) (length xs)) (Some (position_or_len p xs)) None → unwrap_or r (length xs) ≡ position_or_len p xs

@@ -1,5 +1,5 @@
 -- The three texts of a FLUID (Flux RFC 19).
-use Rattle.std.specs.Prelude.{ℕ, ◌+◌, ◌/◌, ◌%◌, ◌^◌, ◌==◌, nat_lt, List, [], ◌∷◌, ◌++◌, Bool, true, false, not, ◌&&◌, ◌||◌, Option, Some, None, Result, Ok, Err, length, map, codes, slice_index, if◌then◌else◌}
+use Rattle.std.specs.Prelude.{ℕ, ◌/◌, ◌%◌, ◌^◌, ◌==◌, nat_lt, List, [], ◌∷◌, ◌++◌, Bool, not, ◌&&◌, Option, Some, None, Result, Ok, Err, length, map, codes, slice_index, if◌then◌else◌}
 use Rattle.std.specs.List.{position_or_len, list_any, list_all}
 use Rattle.std.specs.Option.{option_map_or}
 use Rattle.std.specs.Int.Digits.{digits_of, number_from_digits}

@@ -27,7 +27,7 @@ const TEXTS: [(&str, Result<u64, FluidFault>); 28] = [
     ("ƒNH", Ok(1234)),
     ("ƒ1", Ok(0)),
     ("f1111NH", Ok(1234)),
-    ("ƒuzzybunny", Ok(6_731_191_091_817_518)),
+    ("ƒuZZybuNNy", Ok(6_731_191_091_817_518)),
     ("18446744073709551615", Ok(u64::MAX)),
     ("0042", Ok(42)),
     ("f", Err(FluidFault::BadText)),

@@ -1,5 +1,4 @@
-use Rattle.std.proofs.Common.{◌≡◌, ◌∙◌, ◌++◌, ◌∷◌, [], sym, ap}
-use Rattle.fluid_ids.specs.Texts.{base_16, group_text}
+use Rattle.fluid_ids.specs.Texts.{base_16}
 use Rattle.fluid_ids.proofs.Digits.{four}
 use Rattle.fluid_ids.proofs.printer.add_group.Goals as goal
 

@@ -1,5 +1,5 @@
-use Rattle.std.proofs.Common.{◌≡◌, ◌∙◌, List, ℕ, reverse, sym, ap}
-use Rattle.fluid_ids.specs.Texts.{base_10, digits_in, printed}
+use Rattle.std.proofs.Common.{◌∙◌}
+use Rattle.fluid_ids.specs.Texts.{base_10, printed}
 use Rattle.fluid_ids.proofs.printer.decimal.Goals as goal
 
 pub returns : goal.returns

@@ -1,5 +1,5 @@
-use Rattle.std.proofs.Common.{◌≡◌, ℕ, ◌∙◌, ◌++◌, ◌∷◌, [], List, refl, sym, ap, append_assoc}
-use Rattle.fluid_ids.specs.Texts.{base_16, group_text, printed}
+use Rattle.std.proofs.Common.{◌≡◌, ℕ, ◌∙◌, ◌++◌, ◌∷◌, [], List, ap, append_assoc}
+use Rattle.fluid_ids.specs.Texts.{printed}
 use Rattle.fluid_ids.proofs.printer.dothex.Goals as goal
 
 -- what is added one after another to nothing

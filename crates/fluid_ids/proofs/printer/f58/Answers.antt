@@ -1,4 +1,4 @@
-use Rattle.std.proofs.Common.{◌≡◌, ◌∙◌, ◌++◌, ◌∷◌, [], List, ℕ, reverse, sym, ap}
+use Rattle.std.proofs.Common.{◌≡◌, ◌∙◌, ◌++◌, ◌∷◌, [], List, ℕ, reverse, ap}
 use Rattle.std.proofs.lemmas.List.{reverse-append}
 use Rattle.fluid_ids.specs.Texts.{base_58, digits_in, printed}
 use Rattle.fluid_ids.proofs.printer.f58.Goals as goal

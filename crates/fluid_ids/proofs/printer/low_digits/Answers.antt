@@ -1,6 +1,5 @@
-use Rattle.std.proofs.Common.{◌≡◌, ℕ, ◌<◌, ◌%◌, ◌/◌, List, [], ◌∷◌, ◌++◌, length, map, reverse, slice_index, sym, ap, ◌∙◌, refl, arith, rules}
+use Rattle.std.proofs.Common.{◌<◌, ◌/◌, ◌++◌, length, map, reverse, slice_index, sym, ap, ◌∙◌, arith}
 use Rattle.std.specs.Int.Digits.{digits_of}
-use Rattle.fluid_ids.specs.Texts.{digits_in}
 use Rattle.fluid_ids.proofs.Digits.{digits_more, digits_all, digits_zero}
 use Rattle.fluid_ids.proofs.printer.low_digits.Goals as goal
 

@@ -1,5 +1,5 @@
-use Rattle.std.proofs.Common.{◌≡◌, ◌∙◌, ℕ, ◌<◌, ◌^◌, List, sym, ap, arith}
-use Rattle.fluid_ids.specs.Texts.{meaning, printed}
+use Rattle.std.proofs.Common.{◌∙◌, ◌<◌, ◌^◌, ap, arith}
+use Rattle.fluid_ids.specs.Texts.{meaning}
 use Rattle.fluid_ids.specs.declared.forms.Form.TheVariants.{F58, Dothex, Decimal}
 use Rattle.fluid_ids.proofs.Rereads.{printed_again}
 use Rattle.fluid_ids.proofs.printer.print.Goals.{in-F58+in_ok-text-in-F58, in-Dothex+in_ok-text-in-Dothex, in-Decimal+in_ok-text-in-Decimal}

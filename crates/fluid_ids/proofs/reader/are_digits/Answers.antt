@@ -1,4 +1,4 @@
-use Rattle.std.proofs.Common.{◌≡◌, Bool, true, ◌&&◌, get_or, take, refl, sym, ap, ◌∙◌, arith, rules}
+use Rattle.std.proofs.Common.{get_or, refl, sym, ◌∙◌}
 use Rattle.std.proofs.lemmas.List.Folds.{list_all_more}
 use Rattle.fluid_ids.specs.Texts.{is_digit_in}
 use Rattle.fluid_ids.proofs.Digits.{not_all, no_digit, a_digit}

@@ -1,4 +1,4 @@
-use Rattle.fluid_ids.specs.Texts.{base_16, groups}
+use Rattle.fluid_ids.specs.Texts.{base_16}
 use Rattle.fluid_ids.proofs.reader.dotted.Goals as goal
 
 pub returns : goal.returns

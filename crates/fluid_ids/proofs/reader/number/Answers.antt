@@ -1,8 +1,8 @@
-use Rattle.std.proofs.Common.{◌≡◌, ℕ, ◌+◌, ◌*◌, ◌^◌, ◌<◌, ◌≤◌, true, false, List, length, get_or, take, Ok, sym, ap, ◌∙◌, arith, rules}
+use Rattle.std.proofs.Common.{◌≡◌, ℕ, ◌+◌, ◌*◌, ◌^◌, ◌<◌, ◌≤◌, true, false, List, length, get_or, take, Ok, sym, ap, ◌∙◌, arith}
 use Rattle.std.specs.List.{list_all}
 use Rattle.std.proofs.lemmas.Bool.Decides.{nat_tests}
 use Rattle.std.proofs.lemmas.List.{take_all}
-use Rattle.fluid_ids.specs.Texts.{is_digit_in, value_in, number_in, read_in}
+use Rattle.fluid_ids.specs.Texts.{is_digit_in, value_in, number_in}
 use Rattle.fluid_ids.proofs.Digits.{number_next, number_prefix, number_none, reads_ok, reads_large, reads_nothing, reads_bad}
 use Rattle.fluid_ids.proofs.reader.number.Goals as goal
 

@@ -1,5 +1,5 @@
 use Rattle.std.proofs.Common.{◌≡◌, ◌∙◌, List, ℕ, sym, ap}
-use Rattle.std.specs.Prelude.{Option, Some, None}
+use Rattle.std.specs.Prelude.{Some, None}
 use Rattle.std.specs.Option.{option_map_or}
 use Rattle.fluid_ids.specs.Texts.{plain, after_mark, read_in, base_58, base_10}
 use Rattle.fluid_ids.proofs.reader.plain.Goals as goal
