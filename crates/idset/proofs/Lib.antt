@@ -1,0 +1,9 @@
+pub mod Members
+pub mod Spans
+pub mod Joins
+pub mod Gaps
+pub mod Walks
+pub mod Numbers
+pub mod Readings
+pub mod Sets
+pub mod Rereads

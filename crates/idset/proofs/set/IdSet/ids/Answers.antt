@@ -1,0 +1,5 @@
+use Rattle.idset.proofs.Sets.{is_set}
+use Rattle.idset.proofs.set.IdSet.ids.Goals as goal
+
+pub returns-clause-set : goal.returns-clause-set
+returns-clause-set c = is_set c.self.inside.ranges.items _ c.self.view_is

@@ -1,0 +1,4 @@
+pub mod Ids
+pub mod Ranges
+pub mod Runs
+pub mod Text
