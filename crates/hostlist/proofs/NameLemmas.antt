@@ -1,6 +1,6 @@
 -- Names of hosts, and those that a part has.
-use Rattle.std.proofs.Common.{◌≡◌, ℕ, ◌+◌, ◌-◌, ◌^◌, ◌<◌, ◌≤◌, suc, zero, Bool, true, false, cond, eqb, not, ◌&&◌, ◌||◌, List, [], ◌∷◌, ◌++◌, length, map, replicate, refl, ap, ap₂, sym, ◌∙◌, arith, length-append}
-use Rattle.std.specs.Prelude.{Option, Some, None, IfSome}
+use Rattle.std.proofs.Common.{◌≡◌, ℕ, ◌+◌, ◌-◌, ◌^◌, ◌<◌, ◌≤◌, suc, zero, Bool, true, false, cond, eqb, not, ◌&&◌, List, [], ◌∷◌, ◌++◌, length, map, replicate, refl, ap, ap₂, arith}
+use Rattle.std.specs.Prelude.{Some, None, IfSome}
 use Rattle.std.specs.Option.{option_map_or}
 use Rattle.std.specs.List.{list_all, range_with_len}
 use Rattle.std.specs.Str.{all_ascii_digits}
@@ -10,7 +10,6 @@ use Rattle.std.proofs.lemmas.Bool.Decides.{nat_tests}
 use Rattle.std.proofs.lemmas.Fmt.{digits_decimal}
 use Rattle.hostlist.specs.Names.{is_name_byte, is_host_name, IsHostName, AreHostNames, padded}
 use Rattle.hostlist.specs.Parts.{part_hosts, part_bracket}
-use Rattle.hostlist.specs.declared.parts.Range.{Range}
 use Rattle.hostlist.specs.declared.parts.Part.{Part}
 use Rattle.hostlist.proofs.Numbers.{own}
 

@@ -1,5 +1,5 @@
 -- Numbers that follow one another, in padded digits.
-use Rattle.std.proofs.Common.{◌≡◌, ◌≢◌, ℕ, ◌+◌, ◌-◌, ◌*◌, ◌^◌, ◌<◌, ◌≤◌, suc, zero, Bool, true, false, eqb, List, [], ◌∷◌, ◌++◌, length, replicate, get_or, refl, ap, ap₂, sym, ◌∙◌, subst, arith, length-append, lit<}
+use Rattle.std.proofs.Common.{◌≡◌, ◌≢◌, ℕ, ◌+◌, ◌-◌, ◌^◌, ◌<◌, ◌≤◌, suc, zero, true, false, eqb, List, [], ◌∷◌, ◌++◌, length, replicate, get_or, refl, ap, ap₂, sym, ◌∙◌, subst, arith, length-append}
 use Rattle.std.specs.Str.{all_ascii_digits}
 use Rattle.std.specs.Str.Parse.{digits_value}
 use Rattle.std.specs.Char.{is_ascii_digit}
@@ -10,7 +10,7 @@ use Rattle.std.proofs.lemmas.Fmt.{digits_decimal, digits_value-decimal, decimal-
 use Rattle.std.proofs.lemmas.List.{length-replicate}
 use Rattle.hostlist.specs.Names.{padded, value_of}
 use Rattle.hostlist.proofs.Numbers.{own, value_small}
-use Rattle.hostlist.proofs.NameLemmas.{and_left, and_right}
+use Rattle.hostlist.proofs.NameLemmas.{and_right}
 
 -- the digits of a host's number
 pub record IsNumber (digits : List ℕ) : Type 0 where

@@ -1,6 +1,6 @@
 -- One piece more of a text.
-use Rattle.std.proofs.Common.{◌≡◌, ℕ, ◌+◌, ◌-◌, ◌^◌, ◌<◌, ◌≤◌, suc, Bool, true, false, cond, eqb, ltb, not, min, List, [], ◌∷◌, ◌++◌, length, take, drop, get_or, refl, ap, ap₂, sym, ◌∙◌, subst, arith, add-one, drop-cons}
-use Rattle.std.specs.Prelude.{Option, Some, None, is_some, IfSome}
+use Rattle.std.proofs.Common.{◌≡◌, ℕ, ◌+◌, ◌-◌, ◌^◌, ◌<◌, ◌≤◌, suc, true, false, cond, eqb, ltb, not, min, List, [], ◌∷◌, ◌++◌, length, take, drop, refl, ap, sym, ◌∙◌, arith}
+use Rattle.std.specs.Prelude.{Option, Some, None, IfSome}
 use Rattle.std.specs.List.{slice_split, onto_first, position_or_len}
 use Rattle.std.proofs.lemmas.Bool.Decides.{nat_tests}
 use Rattle.std.proofs.lemmas.List.{length-drop, drop-drop, take_all}
@@ -9,7 +9,7 @@ use Rattle.std.specs.Option.{option_map_or}
 use Rattle.hostlist.specs.Reading.{Faults, fault_in, hosts_in, piece_fault, piece_hosts, bracket_behind, pieces, text_fault, spelled, first_fault, or_else}
 use Rattle.hostlist.specs.Parts.{left}
 use Rattle.hostlist.specs.declared.faults.HostFault.{HostFault}
-use Rattle.hostlist.specs.declared.faults.HostFault.TheVariants.{BadText, Backwards, TooMany, NoMemory}
+use Rattle.hostlist.specs.declared.faults.HostFault.TheVariants.{TooMany, NoMemory}
 
 -- the first fault of what is left of a text of this size
 abbrev pub left_fault : ℕ → Option (List ℕ) → Option (List ℕ) → Option HostFault

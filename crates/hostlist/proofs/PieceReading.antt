@@ -1,23 +1,14 @@
 -- Texts that are read through, piece by piece.
-use Rattle.std.proofs.Common.{◌≡◌, ℕ, ◌+◌, ◌-◌, ◌<◌, ◌≤◌, suc, zero, Bool, true, false, cond, not, eqb, ltb, ◌&&◌, List, [], ◌∷◌, ◌++◌, length, map, take, drop, get_or, refl, ap, ap₂, sym, ◌∙◌, subst, append_assoc, arith}
-use Rattle.std.specs.Prelude.{Option, Some, None, is_some, unwrap_or}
-use Rattle.std.specs.Option.{option_map_or}
-use Rattle.std.specs.List.{slice_split, onto_first, list_all, prefix_len, take_while, join_with_byte, flat_map, range_with_len}
-use Rattle.std.specs.Char.{is_ascii_digit}
+use Rattle.std.proofs.Common.{◌≡◌, ℕ, ◌+◌, ◌<◌, Bool, true, false, cond, not, eqb, List, [], ◌∷◌, ◌++◌, length, refl, ap, ap₂, sym, ◌∙◌, subst, append_assoc, arith}
+use Rattle.std.specs.Prelude.{Option, Some, None, is_some}
+use Rattle.std.specs.List.{slice_split, onto_first, list_all}
 use Rattle.std.specs.Str.{all_ascii_digits}
 use Rattle.std.proofs.lemmas.Bool.Decides.{nat_tests}
-use Rattle.std.proofs.lemmas.List.{append-nil, take_at, drop_at}
-use Rattle.hostlist.specs.Names.{is_name_byte, is_host_name, IsHostName, AreHostNames, padded, value_of, number_digits, number_prefix, shares_prefix, follows}
-use Rattle.hostlist.specs.Reading.{behind, digits_at, behind_digits, last_number, range_end, range_hosts, range_fault, number_fault, end_fault, first_of, or_else, prefix_of, range_of, piece_fault, piece_hosts, bracket_behind, hosts_in, fault_in, pieces, spelled, text_fault}
-use Rattle.hostlist.specs.Printing.{chunks_by, run_text, group_text, canonical}
-use Rattle.hostlist.specs.declared.faults.HostFault.{HostFault}
-use Rattle.hostlist.specs.declared.faults.HostFault.TheVariants.{BadText, Backwards}
-use Rattle.hostlist.proofs.Numbers.{all_digits_is}
-use Rattle.hostlist.proofs.NameLemmas.{and_true, and_left, and_right, list_all-append, digits_named}
-use Rattle.hostlist.proofs.ReadingLemmas.{length-take_while, no_name, plain, ranged_item, ranged_inside}
-use Rattle.hostlist.proofs.ChunkLemmas.{run_one, run_more, group_one, group_more}
-use Rattle.hostlist.proofs.PaddedLemmas.{IsNumber}
-use Rattle.hostlist.proofs.RunLemmas.{Each, Linked, joined, joined-chunks_by, IsPart, parts_of, IsMember, members, first_member, name_is, IsRun, run_of}
+use Rattle.std.proofs.lemmas.List.{append-nil}
+use Rattle.hostlist.specs.Names.{is_name_byte}
+use Rattle.hostlist.specs.Reading.{or_else, piece_fault, piece_hosts, bracket_behind, hosts_in, fault_in}
+use Rattle.hostlist.specs.declared.faults.HostFault.TheVariants.{BadText}
+use Rattle.hostlist.proofs.NameLemmas.{and_true, and_left, and_right, digits_named}
 
 -- pieces are read through, from this bracket to that one
 abbrev pub Clean : Option (List ℕ) → List (List ℕ) → Type 0

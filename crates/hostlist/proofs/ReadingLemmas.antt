@@ -1,20 +1,18 @@
 -- Numbers and names at a text's start.
-use Rattle.std.proofs.Common.{◌≡◌, ℕ, ◌+◌, ◌-◌, ◌<◌, ◌≤◌, Bool, true, false, cond, eqb, ◌&&◌, List, [], ◌∷◌, ◌++◌, length, take, drop, refl, ap, ap₂, sym, ◌∙◌, subst, rules, arith}
+use Rattle.std.proofs.Common.{◌≡◌, ℕ, ◌+◌, ◌-◌, ◌<◌, Bool, true, false, cond, eqb, ◌&&◌, List, [], ◌∷◌, length, drop, refl, ap, ap₂, sym, ◌∙◌, subst, arith}
 use Rattle.std.specs.List.{list_all, prefix_len, take_while}
 use Rattle.std.specs.Str.{all_ascii_digits}
 use Rattle.std.specs.Char.{is_ascii_digit}
-use Rattle.std.specs.Prelude.{Option, Some, None, Result, Ok, Err, is_some, IsErrAnd, not, ◌==◌, nat_lt, if◌then◌else◌}
-use Rattle.std.specs.Option.{option_map_or}
+use Rattle.std.specs.Prelude.{Option, Some, None, Result, Ok, Err, IsErrAnd, not, ◌==◌, nat_lt, if◌then◌else◌}
 use Rattle.std.proofs.lemmas.Bool.Decides.{nat_tests}
 use Rattle.std.proofs.lemmas.List.{length-take-le, length-drop}
 use Rattle.hostlist.proofs.Numbers.{all_digits_is}
-use Rattle.hostlist.specs.Names.{is_name_byte, is_host_name, IsHostName}
-use Rattle.hostlist.specs.Reading.{Reads, Faults, behind, range_hosts, range_end, range_fault, range_of, prefix_of, name_fault, piece_fault, piece_hosts, bracket_behind, or_else}
+use Rattle.hostlist.specs.Names.{is_name_byte, IsHostName}
+use Rattle.hostlist.specs.Reading.{Reads, Faults, behind, range_hosts, range_end, range_fault, prefix_of, name_fault, piece_fault, piece_hosts, bracket_behind}
 use Rattle.hostlist.specs.Parts.{IsRange, part_hosts, part_bracket}
 use Rattle.hostlist.specs.declared.parts.Range.{Range}
-use Rattle.hostlist.specs.declared.parts.Part.{Part}
 use Rattle.hostlist.specs.declared.faults.HostFault.{HostFault}
-use Rattle.hostlist.specs.declared.faults.HostFault.TheVariants.{BadText, Backwards, TooMany, NoMemory}
+use Rattle.hostlist.specs.declared.faults.HostFault.TheVariants.{BadText}
 use denote.Ref.{Bor}
 use Rattle.std.proofs.lemmas.List.Sums.{prefix_len-le-length, take_while-cons}
 

@@ -1,23 +1,22 @@
 -- The canonical text of a list of hosts spells that list.
-use Rattle.std.proofs.Common.{◌≡◌, ℕ, ◌+◌, ◌-◌, ◌<◌, ◌≤◌, suc, zero, Bool, true, false, cond, not, eqb, ltb, ◌&&◌, List, [], ◌∷◌, ◌++◌, length, map, take, drop, get_or, refl, ap, ap₂, sym, ◌∙◌, subst, append_assoc, length-append, arith}
+use Rattle.std.proofs.Common.{◌≡◌, ℕ, ◌+◌, ◌-◌, ◌<◌, ◌≤◌, suc, Bool, true, false, cond, not, eqb, ltb, List, [], ◌∷◌, ◌++◌, length, map, take, drop, get_or, refl, ap, ap₂, sym, ◌∙◌, subst, append_assoc, length-append, arith}
 use Rattle.std.specs.Prelude.{Option, Some, None, unwrap_or}
 use Rattle.std.specs.List.{list_all, prefix_len, take_while, join_with_byte, range_with_len}
 use Rattle.std.specs.Char.{is_ascii_digit}
-use Rattle.std.specs.Str.{all_ascii_digits}
 use Rattle.std.proofs.lemmas.Bool.Decides.{nat_tests}
 use Rattle.std.proofs.lemmas.List.{append-nil, take_at, drop_at}
 use Rattle.hostlist.specs.Names.{is_name_byte, is_host_name, IsHostName, AreHostNames, padded, value_of, number_digits, number_prefix, shares_prefix, follows}
-use Rattle.hostlist.specs.Reading.{behind, digits_at, behind_digits, last_number, range_end, range_hosts, range_fault, number_fault, end_fault, first_of, or_else, prefix_of, hosts_in, fault_in, pieces, spelled, text_fault, first_fault, piece_fault}
+use Rattle.hostlist.specs.Reading.{behind, digits_at, behind_digits, last_number, range_end, range_hosts, range_fault, number_fault, end_fault, first_of, or_else, prefix_of, pieces, spelled, text_fault, first_fault}
 use Rattle.hostlist.specs.Printing.{chunks_by, run_text, group_text, canonical}
 use Rattle.hostlist.specs.declared.faults.HostFault.{HostFault}
-use Rattle.hostlist.specs.declared.faults.HostFault.TheVariants.{BadText, Backwards, TooMany}
+use Rattle.hostlist.specs.declared.faults.HostFault.TheVariants.{Backwards, TooMany}
 use Rattle.hostlist.proofs.Numbers.{all_digits_is}
 use Rattle.hostlist.proofs.NameLemmas.{and_true, and_left, and_right, list_all-append}
-use Rattle.hostlist.proofs.ReadingLemmas.{length-take_while, no_name, plain, ranged_item, ranged_inside}
+use Rattle.hostlist.proofs.ReadingLemmas.{no_name, plain, ranged_item, ranged_inside}
 use Rattle.hostlist.proofs.ChunkLemmas.{run_one, run_more, group_one, group_more}
 use Rattle.hostlist.proofs.PaddedLemmas.{IsNumber}
-use Rattle.hostlist.proofs.RunLemmas.{Each, Linked, joined, joined-chunks_by, IsPart, parts_of, IsMember, members, first_member, name_is, prefix_some, IsRun, run_of}
-use Rattle.hostlist.proofs.PieceReading.{Clean, Spells, comma_pieces, clean_fault, spells_on, spells_piece, is_other, names_other, digits_other}
+use Rattle.hostlist.proofs.RunLemmas.{Each, joined, joined-chunks_by, IsPart, parts_of, IsMember, members, first_member, name_is, prefix_some, IsRun, run_of}
+use Rattle.hostlist.proofs.PieceReading.{Spells, comma_pieces, clean_fault, spells_on, spells_piece, is_other, names_other, digits_other}
 
 -- the first element, if there is one, fails
 abbrev Stops : (ℕ → Bool) → List ℕ → Type 0

@@ -1,6 +1,6 @@
 -- The hosts that a text spells, and the first fault of a text that spells none (Flux RFC 29).
 -- A text is cut at its commas. A piece stands in a bracket, behind its prefix, or outside of one.
-use Rattle.std.specs.Prelude.{ℕ, ◌≡◌, ◌+◌, ◌-◌, ◌==◌, nat_lt, List, [], ◌∷◌, ◌++◌, map, Bool, Option, Some, None, is_some, Result, Ok, Err, length, drop, unwrap_or, if◌then◌else◌}
+use Rattle.std.specs.Prelude.{ℕ, ◌≡◌, ◌+◌, ◌-◌, ◌==◌, nat_lt, List, [], ◌∷◌, ◌++◌, map, Option, Some, None, is_some, Result, Ok, Err, length, drop, unwrap_or, if◌then◌else◌}
 use Rattle.std.specs.Option.{option_map_or}
 use Rattle.std.specs.List.{slice_split, take_while, prefix_len, range_with_len}
 use Rattle.std.specs.Char.{is_ascii_digit}

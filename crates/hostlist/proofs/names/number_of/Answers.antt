@@ -1,4 +1,4 @@
-use Rattle.std.proofs.Common.{◌≡◌, ap, ◌∙◌, sym, length, arith}
+use Rattle.std.proofs.Common.{ap, ◌∙◌, length, arith}
 use Rattle.std.specs.Str.{all_ascii_digits}
 use Rattle.hostlist.proofs.Numbers.{number_digits_pass, length-number_digits}
 use Rattle.hostlist.proofs.names.number_of.Goals as goal

@@ -1,4 +1,4 @@
-use Rattle.std.proofs.Common.{◌≡◌, ◌+◌, ◌-◌, ◌≤◌, ◌++◌, map}
+use Rattle.std.proofs.Common.{◌≡◌, ◌-◌, ◌++◌, map}
 use Rattle.std.specs.List.{range_with_len}
 use Rattle.hostlist.specs.Names.{padded}
 use Rattle.hostlist.proofs.parts.add_range.Given as goal

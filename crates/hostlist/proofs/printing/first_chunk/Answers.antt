@@ -1,4 +1,4 @@
-use Rattle.std.proofs.Common.{◌≡◌, ℕ, ◌+◌, ◌-◌, ◌<◌, suc, true, false, length, take, drop, get_or, ap, ap₂, ◌∷◌, [], ◌∙◌, sym, add-one, arith}
+use Rattle.std.proofs.Common.{◌≡◌, ◌-◌, ◌<◌, suc, false, length, take, drop, get_or, ap, ap₂, ◌∷◌, [], ◌∙◌, sym, add-one, arith}
 use Rattle.std.proofs.lemmas.List.{get_or_read}
 use Rattle.hostlist.specs.Ties.{goes}
 use Rattle.hostlist.specs.Printing.{chunks_by}

@@ -1,8 +1,8 @@
-use Rattle.std.proofs.Common.{◌≡◌, ◌+◌, ◌-◌, ◌<◌, ◌++◌, ◌∷◌, [], ap, ap₂, length, map, get_or, append_assoc, ◌∙◌, sym, arith}
+use Rattle.std.proofs.Common.{◌≡◌, ◌<◌, ◌++◌, ◌∷◌, [], ap, length, map, get_or, append_assoc, ◌∙◌, sym, arith}
 use Rattle.std.specs.List.{join_with_byte}
 use Rattle.std.proofs.lemmas.List.{get_or_read}
 use Rattle.hostlist.specs.Names.{number_prefix, follows}
-use Rattle.hostlist.specs.Printing.{chunks_by, run_text, group_text}
+use Rattle.hostlist.specs.Printing.{chunks_by, run_text}
 use Rattle.hostlist.proofs.ChunkLemmas.{group_one, group_more}
 use Rattle.hostlist.proofs.printing.print_group.Goals as goal
 

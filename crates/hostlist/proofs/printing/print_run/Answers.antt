@@ -1,7 +1,6 @@
-use Rattle.std.proofs.Common.{◌≡◌, ◌+◌, ◌-◌, ◌<◌, ◌++◌, ◌∷◌, [], ap, ap₂, length, get_or, append_assoc, ◌∙◌, sym, arith}
+use Rattle.std.proofs.Common.{◌≡◌, ◌-◌, ◌<◌, ◌++◌, ◌∷◌, [], ap, ap₂, length, get_or, append_assoc, ◌∙◌, sym, arith}
 use Rattle.std.proofs.lemmas.List.{get_or_read}
 use Rattle.hostlist.specs.Names.{number_digits}
-use Rattle.hostlist.specs.Printing.{run_text}
 use Rattle.hostlist.proofs.ChunkLemmas.{run_one, run_more}
 use Rattle.hostlist.proofs.printing.print_run.Goals as goal
 

@@ -1,6 +1,5 @@
-use Rattle.std.proofs.Common.{◌≡◌, ◌+◌, ◌-◌, ◌^◌, ◌≤◌, ap, min, length, arith, refl}
+use Rattle.std.proofs.Common.{◌≡◌, ap, length, arith}
 use Rattle.std.specs.Prelude.{option_copied}
-use Rattle.std.specs.Option.{option_map_or}
 use Rattle.hostlist.specs.Reading.{hosts_in, spelled, pieces}
 use Rattle.hostlist.specs.Parts.{left}
 use Rattle.std.specs.Prelude.{None}

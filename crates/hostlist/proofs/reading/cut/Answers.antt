@@ -1,5 +1,5 @@
-use Rattle.std.proofs.Common.{◌≡◌, ◌∷◌, ◌≤◌, ◌-◌, eqb, length, take, drop, ap, sym, ◌∙◌, arith, []}
-use Rattle.std.specs.List.{slice_split, position_or_len}
+use Rattle.std.proofs.Common.{◌∷◌, ◌≤◌, ◌-◌, eqb, length, take, drop, ap, sym, ◌∙◌, arith, []}
+use Rattle.std.specs.List.{slice_split}
 use Rattle.std.proofs.lemmas.List.{take_all}
 use Rattle.hostlist.proofs.PieceLemmas.{uncut_is, cut_is}
 use Rattle.hostlist.proofs.reading.cut.Goals as goal

@@ -1,4 +1,4 @@
-use Rattle.std.proofs.Common.{◌≡◌, ap, arith, ◌∙◌, length, sym}
+use Rattle.std.proofs.Common.{◌≡◌, ap, arith, ◌∙◌}
 use Rattle.std.specs.Str.{all_ascii_digits}
 use Rattle.std.specs.Char.{is_ascii_digit}
 use Rattle.std.specs.List.{take_while}

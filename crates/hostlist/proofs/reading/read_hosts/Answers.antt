@@ -1,11 +1,11 @@
-use Rattle.std.proofs.Common.{◌≡◌, ◌+◌, ◌++◌, ap, ap₂, ◌∙◌, append_assoc, sym, length, arith, rules, subst, refl}
+use Rattle.std.proofs.Common.{◌≡◌, ◌++◌, ap, ap₂, ◌∙◌, sym, arith, rules, subst}
 use Rattle.std.proofs.lemmas.Grind.{common_steps}
 use Rattle.std.specs.Prelude.{option_copied, None, IfSome}
 use Rattle.std.specs.List.{list_all}
 use Rattle.hostlist.specs.Names.{is_host_name, IsHostName}
 use Rattle.hostlist.specs.Reading.{hosts_in, spelled}
-use Rattle.hostlist.specs.Parts.{left, part_hosts}
-use Rattle.hostlist.proofs.PieceLemmas.{fault_begins, rest_within, fault_more, hosts_more, left_within}
+use Rattle.hostlist.specs.Parts.{part_hosts}
+use Rattle.hostlist.proofs.PieceLemmas.{fault_begins, rest_within}
 use Rattle.hostlist.proofs.NameLemmas.{part_named, part_inside, list_all-append}
 use Rattle.hostlist.proofs.reading.read_hosts.Goals as goal
 

@@ -1,4 +1,4 @@
-use Rattle.std.proofs.Common.{◌≡◌, ◌+◌, ◌-◌, ◌<◌, ap, arith, ◌∙◌, length, sym, subst, take, drop, [], ◌∷◌, ◌==◌, if◌then◌else◌}
+use Rattle.std.proofs.Common.{◌≡◌, ◌+◌, ◌<◌, ap, arith, ◌∙◌, length, sym, subst, take, drop, [], ◌∷◌, ◌==◌, if◌then◌else◌}
 use Rattle.std.specs.Prelude.{Some, None}
 use Rattle.std.specs.List.{take_while, prefix_len}
 use Rattle.std.proofs.lemmas.List.{nil_from_length}

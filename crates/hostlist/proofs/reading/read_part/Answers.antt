@@ -1,7 +1,6 @@
 use Rattle.std.proofs.Common.{◌≡◌, ap, ◌∙◌, sym, subst}
-use Rattle.std.specs.Prelude.{Some, None, option_copied}
-use Rattle.hostlist.specs.Reading.{Faults, Reads, piece_fault, piece_hosts, bracket_behind}
-use Rattle.hostlist.specs.Parts.{part_hosts, part_bracket}
+use Rattle.std.specs.Prelude.{Some, option_copied}
+use Rattle.hostlist.specs.Reading.{Faults, piece_fault, piece_hosts, bracket_behind}
 use Rattle.hostlist.proofs.ReadingLemmas.{ranged_inside, kept_hosts, kept_bracket, err_reads}
 use Rattle.hostlist.proofs.reading.read_part.Goals as goal
 

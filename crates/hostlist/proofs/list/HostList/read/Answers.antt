@@ -1,4 +1,3 @@
-use Rattle.std.proofs.Common.{◌∙◌}
 use Rattle.hostlist.proofs.PieceLemmas.{first_fault_here, many_hosts, few_hosts}
 use Rattle.hostlist.proofs.ReadingLemmas.{err_reads}
 use Rattle.hostlist.proofs.list.HostList.read.Goals as goal

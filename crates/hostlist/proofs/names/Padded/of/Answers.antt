@@ -1,4 +1,4 @@
-use Rattle.std.proofs.Common.{◌≡◌, ◌-◌, ◌+◌, min, ap, ◌∙◌, sym, rules, arith, drop, set}
+use Rattle.std.proofs.Common.{◌+◌, ap, ◌∙◌, arith, drop, set}
 use Rattle.hostlist.proofs.Numbers.{digits_begin, digits_room, digits_more, digits_end}
 use Rattle.hostlist.proofs.names.Padded.of.Goals as goal
 

@@ -1,7 +1,6 @@
-use Rattle.std.proofs.Common.{◌≡◌, ◌+◌, ◌-◌, ap, arith, ◌∙◌, length, sym}
+use Rattle.std.proofs.Common.{arith}
 use Rattle.std.proofs.lemmas.List.FromFn.{length-map-range_with_len}
 use Rattle.hostlist.specs.Parts.{part_hosts}
-use Rattle.hostlist.specs.Names.{padded}
 use Rattle.hostlist.proofs.parts.Part.count.Goals as goal
 
 pub returns-in-Some : goal.returns-in-Some
