@@ -1,0 +1,9 @@
+pub mod Numbers
+pub mod ReadingLemmas
+pub mod PieceLemmas
+pub mod NameLemmas
+pub mod ChunkLemmas
+pub mod PaddedLemmas
+pub mod RunLemmas
+pub mod PieceReading
+pub mod RoundTrip
