@@ -1,0 +1,21 @@
+use Rattle.std.proofs.Common.{◌≡◌, ◌∙◌, ap, sym, subst}
+use Rattle.std.specs.Prelude.{Some, None}
+use Rattle.std.specs.Str.{IsUtf8}
+use Rattle.serde_json.specs.Read.{read}
+use Rattle.serde_json.specs.View.{view}
+use Rattle.fl_json.specs.Reading.{json_value}
+use Rattle.fl_json.proofs.Gifts.{err_gives, bad_reading, good_reading, value_of_text, no_value_of_text}
+use Rattle.fl_json.proofs.reading.read.Goals as goal
+
+pub returns-in_err-text-clause-value : goal.returns-in_err-text-clause-value
+returns-in_err-text-clause-value c = err_gives _ c.from_residual.result c.in_err-text.field-0.0 _ c.from_residual.ensures.1 (bad_reading c.args.text.now _ c.in_err-text.ensures)
+
+pub returns-in-Ok-clause-value : goal.returns-in-Ok-clause-value
+returns-in-Ok-clause-value c =
+    good_reading c.args.text.now c.in_ok-text.text.items (Some (view c.in-Ok.value)) c.in_ok-text.ensures
+    (ap json_value (sym c.deref.ensures.value) ∙ value_of_text c.deref.result.now _ c.in-Ok.ensures.ok.0 c.in-Ok.ensures.ok.1)
+
+pub returns-clause-value : goal.returns-clause-value
+returns-clause-value c =
+    good_reading c.args.text.now c.in_ok-text.text.items None c.in_ok-text.ensures
+    (ap json_value (sym c.deref.ensures.value) ∙ no_value_of_text c.deref.result.now (λ u. c.in-Err.ensures.err (λ m. c.if-is_memory.ensures.1 m) u))
