@@ -47,3 +47,8 @@ value_of_text t found h e = rw (is_utf8-from_IsUtf8 t h) e
 
 pub no_value_of_text : (t : List ℕ) → (IsUtf8 t → read t ≡ None) → json_value t ≡ None
 no_value_of_text t h = elim (cases_Bool (is_utf8 t)) [ inl is ↦ value_of_text t None (IsUtf8-from_is_utf8 t is) (h (IsUtf8-from_is_utf8 t is)) | inr is ↦ rw is refl ]
+
+-- where numbers are whole none is bad
+pub no_bad : (o : Option ℕ) (r t : List ℕ) → unless_bad o (Ok r) ≡ Ok t → (o ≡ None) × (r ≡ t)
+no_bad None r t h = (refl, cc)
+no_bad (Some place) r t h = cc

@@ -1,3 +1,6 @@
 pub mod Bytes
 pub mod Cuts
 pub mod Gifts
+pub mod Lexing
+pub mod Values
+pub mod WholeTexts
