@@ -67,11 +67,11 @@ punctuated after_key (colon ∷ ls) h = punctuated fresh ls h
 -- ---- the bytes of number tokens
 
 -- what a test says of each small number
-holds_below : (ℕ → Bool) → ℕ → Bool
+unfoldable pub holds_below : (ℕ → Bool) → ℕ → Bool
 holds_below p zero = true
 holds_below p (suc n) = p n && holds_below p n
 
-below_holds : (p : ℕ → Bool) (n : ℕ) → holds_below p n ≡ true → (x : ℕ) → x < n → p x ≡ true
+pub below_holds : (p : ℕ → Bool) (n : ℕ) → holds_below p n ≡ true → (x : ℕ) → x < n → p x ≡ true
 unfolding holds_below
 below_holds p zero h x l = absurd (omega arith)
 below_holds p (suc n) h x l = last (cases_lt x n) (λ s. below_holds p n (and_parts (p n) (holds_below p n) h).1 x s)

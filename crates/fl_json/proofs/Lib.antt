@@ -1,4 +1,5 @@
 pub mod Bytes
+pub mod Canonical
 pub mod Cuts
 pub mod Gifts
 pub mod Lexing

@@ -208,11 +208,11 @@ lost_none place piece more h = go (kept piece) refl
     go None e = let wrong : Some place ≡ None = sym (lost_here place piece more e) ∙ h in absurd (cc)
     go (Some part) e = (part, e)
 
-kept_other : (piece : List ℕ) → begins_number (head piece) ≡ false → kept piece ≡ Some piece
+pub kept_other : (piece : List ℕ) → begins_number (head piece) ≡ false → kept piece ≡ Some piece
 unfolding kept
 kept_other piece e = rw e refl
 
-kept_as_number : (piece : List ℕ) → begins_number (head piece) ≡ true → kept piece ≡ kept_number piece
+pub kept_as_number : (piece : List ℕ) → begins_number (head piece) ≡ true → kept piece ≡ kept_number piece
 unfolding kept
 kept_as_number piece e = rw e refl
 
@@ -222,7 +222,7 @@ record Part (part : List ℕ) : Type 0 where
   begins : begins_number (head part) ≡ true
   whole : is_number part ≡ true → is_whole part ≡ true
 
-number_of_whole : (t : List ℕ) → is_whole t ≡ true → is_number t ≡ true
+pub number_of_whole : (t : List ℕ) → is_whole t ≡ true → is_number t ≡ true
 unfolding is_whole
 number_of_whole t h = (and_parts (is_number t) _ h).0
 
