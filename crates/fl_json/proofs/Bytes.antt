@@ -53,6 +53,7 @@ run_passes p f (x ∷ xs) = go (run_passes p f xs) (p x) refl
   where
     longer : 1 + prefix_len p xs ≡ suc (prefix_len p xs)
     longer = omega arith
+
     go : AreOfNumber (take (prefix_len p xs) xs) → (b : Bool) → p x ≡ b → AreOfNumber (take (cond b (1 + prefix_len p xs) 0) (x ∷ xs))
     go more false e = refl
     go more true e = ap (λ k. list_all continues_number (take k (x ∷ xs))) longer ∙ ap (λ d. d && list_all continues_number (take (prefix_len p xs) xs)) (f x e) ∙ more
@@ -74,6 +75,7 @@ behind_sign t = go ((head t == 45) || (head t == 43)) (λ e. either (or_cases _ 
     either : ((head t == 45) ≡ true) ⊎ ((head t == 43) ≡ true) → Behind t (Some (drop 1 t))
     either (inl e) = behind_one 45 t refl (no_space 45 (lit≤ tt)) e
     either (inr e) = behind_one 43 t refl (no_space 43 (lit≤ tt)) e
+
     go : (b : Bool) → (b ≡ true → Behind t (Some (drop 1 t))) → Behind t (Some (cond b (drop 1 t) t))
     go true f = f refl
     go false f = behind_none t
@@ -90,6 +92,7 @@ behind_exponent t = behind_test ((head t == 101) || (head t == 69)) t _ (Some t)
   where
     digits_of : Behind t (Some (drop 1 t)) → Behind t (after_digits (after_sign (drop 1 t)))
     digits_of h = behind_then t (Some (after_sign (drop 1 t))) after_digits (behind_then t (Some (drop 1 t)) (λ u. Some (after_sign u)) h behind_sign) behind_digits
+
     marked : ((head t == 101) ≡ true) ⊎ ((head t == 69) ≡ true) → Behind t (after_digits (after_sign (drop 1 t)))
     marked (inl e) = digits_of (behind_one 101 t refl (no_space 101 (lit≤ tt)) e)
     marked (inr e) = digits_of (behind_one 69 t refl (no_space 69 (lit≤ tt)) e)

@@ -46,7 +46,7 @@ stays_front : (piece rest : List ℕ) → piece_len (piece ++ rest) ≡ length p
 stays_front piece rest len some k s =
     let long : 0 < length (piece ++ rest) = omega (arith, length-append piece rest) in
     let e : pieces (piece ++ rest) ≡ piece ∷ pieces rest = pieces-next (piece ++ rest) long ∙ ap (λ n. take n (piece ++ rest) ∷ pieces (drop n (piece ++ rest))) len
-        ∙ ap₂ (λ p r. p ∷ pieces r) (front_taken piece rest) (front_dropped piece rest) in
+    ∙ ap₂ (λ p r. p ∷ pieces r) (front_taken piece rest) (front_dropped piece rest) in
     record {
       none = λ place. ap (first_lost place) e ∙ lost_later place piece piece (pieces rest) k ∙ s.none (place + length piece);
       same = ap all_kept e ∙ kept_first piece piece (pieces rest) k ∙ ap (λ l. piece ++ l) s.same;
@@ -94,6 +94,7 @@ escaped_len x t = go (nat_lt 0 (escape_letter x)) (nat_lt x 32) refl refl
   where
     six : List ℕ
     six = 92 ∷ 117 ∷ 48 ∷ 48 ∷ digit_char (x / 16) ∷ digit_char (x % 16) ∷ []
+
     go : (a b : Bool) → nat_lt 0 (escape_letter x) ≡ a → nat_lt x 32 ≡ b
         → string_len false (cond a (92 ∷ escape_letter x ∷ []) (cond b (92 ∷ 117 ∷ 48 ∷ 48 ∷ digit_char (x / 16) ∷ digit_char (x % 16) ∷ []) (x ∷ [])) ++ t) ≡ length (cond a (92 ∷ escape_letter x ∷ []) (cond b (92 ∷ 117 ∷ 48 ∷ 48 ∷ digit_char (x / 16) ∷ digit_char (x % 16) ∷ []) (x ∷ []))) + string_len false t
     go true b i j = omega arith
@@ -150,7 +151,7 @@ number_stays s rest w p stop k = go s w p (number_first s (ap is_some (number_re
     go [] w p b h = absurd (false≢true b)
     go (c ∷ cs) w p b h =
         let len : piece_len (c ∷ (cs ++ rest)) ≡ suc (length cs) = ap (λ z. cond z (suc (string_len false (cs ++ rest))) (cond (begins_number c) (suc (prefix_len continues_number (cs ++ rest))) 1)) (begun_no_quote c b)
-            ∙ ap (λ z. cond z (suc (prefix_len continues_number (cs ++ rest))) 1) b ∙ ap suc (run_stops cs rest (and_parts (continues_number c) _ h).1 stop) in
+        ∙ ap (λ z. cond z (suc (prefix_len continues_number (cs ++ rest))) 1) b ∙ ap suc (run_stops cs rest (and_parts (continues_number c) _ h).1 stop) in
         stays_front (c ∷ cs) rest len (omega arith) (kept_as_number (c ∷ cs) b ∙ kept_whole (c ∷ cs) w p) k
 
 own : IsNumeralModel (λ ds. all_ascii_digits ds ≡ true) (digits_value 10)
@@ -250,7 +251,7 @@ mutual
       let more = value_stays d (members_text true ms ++ rest) v.1 (members_stop ms rest) (members_stays true ms rest v.2 k) in
       let named = string_stays key (58 ∷ (compact_text d ++ (members_text true ms ++ rest))) (byte_stays 58 _ refl refl more) in
       subst Stays (sym (append_assoc (comma_if later) (quoted key ++ 58 ∷ (compact_text d ++ members_text true ms)) rest
-          ∙ ap (λ l. comma_if later ++ l) (append_assoc (quoted key) (58 ∷ (compact_text d ++ members_text true ms)) rest ∙ ap (λ l. quoted key ++ 58 ∷ l) (append_assoc (compact_text d) (members_text true ms) rest)))) (comma_stays later _ named)
+      ∙ ap (λ l. comma_if later ++ l) (append_assoc (quoted key) (58 ∷ (compact_text d ++ members_text true ms)) rest ∙ ap (λ l. quoted key ++ 58 ∷ l) (append_assoc (compact_text d) (members_text true ms) rest)))) (comma_stays later _ named)
 
 -- a valid value has no float
 float_free : (n : Num) → IsWhole n → has_float (number n) ≡ false

@@ -98,9 +98,11 @@ whole_value s h = go (head s == 45) refl (and_parts (is_number s) _ h).1
     plain : (o : Option ℕ) → (head s == 45) ≡ false → natural s ≡ o → is_some o ≡ true → Whole s
     plain None e q m = absurd (false≢true m)
     plain (Some n) e q m = whole_plain s n (sym (head_is s) ∙ e) q
+
     signed : (o : Option ℕ) → (head s == 45) ≡ true → natural (drop 1 s) ≡ o → option_map_or is_magnitude o false ≡ true → Whole s
     signed None e q m = absurd (false≢true m)
     signed (Some n) e q m = whole_signed s n (sym (head_is s) ∙ e) q m
+
     go : (b : Bool) → (head s == 45) ≡ b → cond (head s == 45) (option_map_or is_magnitude (natural (after_minus s)) false) (is_some (natural (after_minus s))) ≡ true → Whole s
     go true e m = signed (natural (drop 1 s)) e refl (sym (ap (λ b. option_map_or is_magnitude (natural (cond b (drop 1 s) s)) false) e) ∙ sym (ap (λ b. cond b (option_map_or is_magnitude (natural (after_minus s)) false) (is_some (natural (after_minus s)))) e) ∙ m)
     go false e m = plain (natural s) e refl (sym (ap (λ b. is_some (natural (cond b (drop 1 s) s))) e) ∙ sym (ap (λ b. cond b (option_map_or is_magnitude (natural (after_minus s)) false) (is_some (natural (after_minus s)))) e) ∙ m)

@@ -20,7 +20,6 @@ use Rattle.fl_json.proofs.Bytes.{AreOfNumber, Behind, behind_number, token_run, 
 use Rattle.fl_json.proofs.Cuts.{piece_len-some, pieces-next, pieces-nil, kept_first, kept-nil, lost_here, lost_later}
 use Rattle.fl_json.proofs.Values.{WholeToken, WholeTokens}
 
-
 -- ---- a string
 
 abbrev in_mode : Bool → Mode
@@ -43,6 +42,7 @@ string_passed false (b ∷ bs) t h = go (b == 34) (b == 92) (is_operator b) (is_
         ∙ ap (λ z. cond q quote (cond z backslash (cond (is_operator b) operator (cond (is_space b) space other)))) j
         ∙ ap (λ z. cond q quote (cond s backslash (cond z operator (cond (is_space b) space other)))) k
         ∙ ap (λ z. cond q quote (cond s backslash (cond o operator (cond z space other)))) l)
+
     go : (q s o p : Bool) → (b == 34) ≡ q → (b == 92) ≡ s → is_operator b ≡ o → is_space b ≡ p
         → ((drop (string_len (b == 92) bs) bs ≡ [] → t ≡ []) → lex (in_mode (b == 92)) (take (string_len (b == 92) bs) bs ++ t) ≡ lex between t)
         → lex in_string (take (cond (b == 34) 1 (suc (string_len (b == 92) bs))) (b ∷ bs) ++ t) ≡ lex between t
@@ -237,14 +237,17 @@ kept_part piece part passes begins e = go (is_whole (whole_part piece)) (is_no_f
   where
     some_is : (x y : List ℕ) → Some x ≡ Some y → x ≡ y
     some_is x y e = cc
+
     taken : is_whole (whole_part piece) ≡ true → whole_part piece ≡ part → Part part
     taken i same = subst Part same (record {
       passes = passes_taken (point_at piece) piece passes;
       begins = number_first (whole_part piece) (ap is_some (number_rest (whole_part piece) (number_of_whole (whole_part piece) i)));
       whole = λ _. i;
     })
+
     left : is_number piece ≡ false → piece ≡ part → Part part
     left k same = subst Part same (record { passes = passes; begins = begins; whole = λ n. absurd (true≢false (sym n ∙ k)) })
+
     go : (a b c : Bool) → is_whole (whole_part piece) ≡ a → is_no_fraction (fraction piece) ≡ b → is_number piece ≡ c
         → cond (is_whole (whole_part piece) && is_no_fraction (fraction piece)) (Some (whole_part piece)) (cond (is_number piece) None (Some piece)) ≡ Some part → Part part
     go true true c i j k e = taken i (some_is _ _ (sym (ap₂ (λ a b. cond (a && b) (Some (whole_part piece)) (cond (is_number piece) None (Some piece))) i j) ∙ e))
@@ -259,6 +262,7 @@ stops (x ∷ xs) = go (continues_number x) refl (stops xs)
   where
     longer : 1 + prefix_len continues_number xs ≡ suc (prefix_len continues_number xs)
     longer = omega arith
+
     go : (b : Bool) → continues_number x ≡ b → continues_number (head (drop (prefix_len continues_number xs) xs)) ≡ false → continues_number (head (drop (cond b (1 + prefix_len continues_number xs) 0) (x ∷ xs))) ≡ false
     go true e h = ap (λ k. continues_number (head (drop k (x ∷ xs)))) longer ∙ h
     go false e h = e
@@ -297,8 +301,10 @@ kept_next b bs part n is e k = go (b == 34) (begins_number b) refl refl
   where
     some_is : (x y : List ℕ) → Some x ≡ Some y → x ≡ y
     some_is x y e = cc
+
     len_of : (q d : Bool) → (b == 34) ≡ q → begins_number b ≡ d → n ≡ cond q (suc (string_len false bs)) (cond d (suc (prefix_len continues_number bs)) 1)
     len_of q d i j = is ∙ ap (λ z. cond z (suc (string_len false bs)) (cond (begins_number b) (suc (prefix_len continues_number bs)) 1)) i ∙ ap (λ z. cond q (suc (string_len false bs)) (cond z (suc (prefix_len continues_number bs)) 1)) j
+
     quoted : (b ≡ 34) → n ≡ suc (string_len false bs) → Known (part ++ kept_text (drop n (b ∷ bs)))
     quoted b_is len =
         let piece : take n (b ∷ bs) ≡ 34 ∷ take (string_len false bs) bs = ap₂ (λ m x. take m (x ∷ bs)) len b_is in
@@ -306,6 +312,7 @@ kept_next b bs part n is e k = go (b == 34) (begins_number b) refl refl
         let same : part ≡ 34 ∷ take (string_len false bs) bs = some_is _ _ (sym e ∙ ap kept piece ∙ kept_other (34 ∷ take (string_len false bs) bs) refl) in
         subst (λ p. Known (p ++ kept_text (drop n (b ∷ bs)))) (sym same)
         (string_known bs (kept_text (drop n (b ∷ bs))) (λ none. ap kept_text (rest ∙ none) ∙ kept_empty) k)
+
     numbered : begins_number b ≡ true → n ≡ suc (prefix_len continues_number bs) → Known (part ++ kept_text (drop n (b ∷ bs)))
     numbered begins len =
         let front = take (prefix_len continues_number bs) bs in
@@ -320,11 +327,13 @@ kept_next b bs part n is e k = go (b == 34) (begins_number b) refl refl
         known_part : (part : List ℕ) → Part part → (t : List ℕ) → continues_number (head t) ≡ false → Known t → Known (part ++ t)
         known_part [] p t stop k = absurd (false≢true p.begins)
         known_part (c ∷ cs) p t stop k = number_known c cs t p.passes p.begins p.whole stop k
+
     single : (b == 34) ≡ false → begins_number b ≡ false → n ≡ 1 → Known (part ++ kept_text (drop n (b ∷ bs)))
     single no_quote no_digit len =
         let piece : take n (b ∷ bs) ≡ b ∷ [] = ap (λ m. take m (b ∷ bs)) len in
         let same : part ≡ b ∷ [] = some_is _ _ (sym e ∙ ap kept piece ∙ kept_other (b ∷ []) no_digit) in
         subst (λ p. Known (p ++ kept_text (drop n (b ∷ bs)))) (sym same) (other_known b (kept_text (drop n (b ∷ bs))) no_quote no_digit k)
+
     go : (q d : Bool) → (b == 34) ≡ q → begins_number b ≡ d → Known (part ++ kept_text (drop n (b ∷ bs)))
     go true d i j = quoted (eqb-true b 34 i) (len_of true d i j)
     go false true i j = numbered j (len_of false true i j)

@@ -80,3 +80,41 @@ fn texts_are_read_as_the_rule_says(rt: HostRuntime) -> Result<(), Fail> {
     }
     Ok(())
 }
+
+/// What a field is, in the words of the table below.
+fn told_field(rt: &HostRuntime, value: &Value, key: &str) -> Result<String, Fail> {
+    let of = match field(value, key) {
+        Ok(found) => text(rt.alloc(), found)?,
+        Err(fault) => Vec::from_slice(rt.alloc(), format!(in rt.alloc(); "{fault}")?.as_bytes())?,
+    };
+    let of = std::str::from_utf8(&of).ok().unwrap_or("not UTF-8");
+    let number = number(value, key).ok();
+    let word = word(value, key).ok();
+    let list = list(value, key).ok().map(|items| items.len());
+    Ok(format!(in rt.alloc(); "{of} {number:?} {word:?} {list:?}")?)
+}
+
+#[test]
+fn fields_are_found_by_kind(rt: HostRuntime) -> Result<(), Fail> {
+    let object = read(
+        rt.alloc(),
+        b"{\"n\":5.0,\"m\":-5,\"w\":\"a b\",\"l\":[1,[]],\"o\":{},\"z\":null}",
+    )?;
+    for (key, wanted) in [
+        ("n", "5 Some(5) None None"),
+        ("m", "-5 None None None"),
+        ("w", "\"a b\" None Some(\"a b\") None"),
+        ("l", "[1,[]] None None Some(2)"),
+        ("o", "{} None None None"),
+        ("z", "null None None None"),
+        ("N", "the field is missing None None None"),
+    ] {
+        assert_eq!(rt; told_field(&rt, &object, key)?.as_str(), wanted, "{key}");
+    }
+    let list = read(rt.alloc(), b"[1]")?;
+    assert_eq!(rt; field(&list, "n").err(), Some(JsonFault::WrongKind));
+    assert_eq!(rt; number(&object, "w").err(), Some(JsonFault::WrongKind));
+    assert_eq!(rt; word(&object, "n").err(), Some(JsonFault::WrongKind));
+    assert_eq!(rt; super::list(&object, "N").err(), Some(JsonFault::Missing));
+    Ok(())
+}
