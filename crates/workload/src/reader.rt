@@ -1,0 +1,202 @@
+ghost use Rattle.std.specs.Prelude.{◌≡◌, ◌≤◌, ◌<◌, ◌+◌, ◌++◌, [], ◌∷◌, length, if◌then◌else◌, IfSome, OnOk, Some};
+ghost use Rattle.std.specs.Str.Lines.{lines};
+ghost use Rattle.workload.specs.Words.{first_word, behind_word};
+ghost use Rattle.workload.specs.Verbs.{first_of, Faults, Reads};
+ghost use Rattle.workload.specs.Reading.{is_declaration, actor_of, actor_faults, verb_faults, command_faults, command_of, line_of, fault_in, with_lines, empty, line_faults, with_line, with_actor, with_command, is_passed_over, first_fault, spelled};
+
+use crate::faults::{LineFault, Which};
+use crate::verbs::{Verb, command};
+use crate::words::{can_name, cut, number};
+use crate::work::{Actor, ActorList, Command, Line, Workload, place};
+use lists::Bytes;
+use std::alloc::Global;
+use std::str;
+
+const MOST_TEXT: usize = 16_777_216;
+
+const MOST_LINE: usize = 1_048_576;
+
+const MOST_ACTORS: usize = 256;
+
+const MOST_COMMANDS: usize = 10_000;
+
+/// Whether the text behind the word `actor` is one free name and one word.
+fn can_declare(actors: &ActorList, tail: &str) -> bool
+    ensures { result ≡ is_declaration actors.now tail.now }
+{
+    let (name, rest) = cut(tail);
+    let (rank, rest) = cut(rest);
+    let (more, _) = cut(rest);
+    can_name(name)
+        && name != "actor"
+        && name != "grant"
+        && place(actors, name).is_none()
+        && !rank.is_empty()
+        && more.is_empty()
+}
+
+/// The actor that the text behind the word `actor` declares, in the line of this number.
+fn actor(
+    alloc: Global,
+    size: u32,
+    actors: &ActorList,
+    line: u64,
+    tail: &str,
+) -> Result<Actor, LineFault>
+    ensures { Reads (first_of (actor_faults size actors.now line tail.now)) (λ a. a ≡ actor_of tail.now) result }
+{
+    if MOST_ACTORS <= actors.as_slice().len() {
+        return Err(LineFault::Limit {
+            line,
+            which: Which::Actors,
+        });
+    }
+    if !can_declare(actors, tail) {
+        return Err(LineFault::BadCommand { line });
+    }
+    let (name, rest) = cut(tail);
+    let (rank, _) = cut(rest);
+    let Some(rank) = number(rank) else {
+        return Err(LineFault::BadNumber { line });
+    };
+    if u64::from(size) <= rank {
+        return Err(LineFault::Limit {
+            line,
+            which: Which::Rank,
+        });
+    }
+    let name = Bytes::of(alloc, name.as_bytes())?;
+    Ok(Actor {
+        name,
+        rank,
+        of: None,
+    })
+}
+
+/// The command that a text spells, in the line of this number.
+fn order(alloc: Global, work: &Workload, line: u64, text: &str) -> Result<Command, LineFault>
+    ensures { Reads (first_of (verb_faults work.now line text.now)) (λ c. command_of work.now text.now ≡ Some c) result }
+{
+    let (word, tail) = cut(text);
+    let Some(verb) = Verb::of(word) else {
+        return Err(LineFault::BadCommand { line });
+    };
+    command(alloc, work, verb, line, tail)
+}
+
+/// The command line that a line of this number is.
+fn command_line(alloc: Global, work: &Workload, number: u64, line: &str) -> Result<Line, LineFault>
+    requires { length work.now.actors ≤ 256 }
+    ensures { Reads (first_of (command_faults work.now number line.now)) (λ l. line_of work.now line.now ≡ Some l) result }
+{
+    if MOST_COMMANDS <= work.lines.as_slice().len() {
+        return Err(LineFault::Limit {
+            line: number,
+            which: Which::Commands,
+        });
+    }
+    let (name, text) = cut(line);
+    let Some(actor) = place(&work.actors, name) else {
+        return Err(LineFault::NoActor { line: number });
+    };
+    let command = order(alloc, work, number, text)?;
+    Ok(Line {
+        actor: actor as u32,
+        command,
+    })
+}
+
+/// Whether a line with this first word is passed over.
+fn passes_over(word: &str) -> bool
+    ensures { result ≡ is_passed_over word.now }
+{
+    match word.as_bytes() {
+        [] => true,
+        [first, ..] => *first == b'#',
+    }
+}
+
+/// Adds the actor that the text behind the word `actor` declares.
+fn add_actor(
+    alloc: Global,
+    size: u32,
+    work: &mut Workload,
+    number: u64,
+    tail: &str,
+) -> Result<(), LineFault>
+    ensures read { Reads (first_of (actor_faults size work.old.actors number tail.now)) (λ _. work.new ≡ with_actor work.old tail.now) result }
+    ensures few { OnOk result (length work.new.actors ≤ 256) }
+{
+    let actor = actor(alloc, size, &work.actors, number, tail)?;
+    work.actors.push(actor)?;
+    Ok(())
+}
+
+/// Adds the command line that a line is.
+fn add_command(alloc: Global, work: &mut Workload, number: u64, line: &str) -> Result<(), LineFault>
+    requires { length work.old.actors ≤ 256 }
+    ensures read { Reads (first_of (command_faults work.old number line.now)) (λ _. work.new ≡ with_command work.old line.now) result }
+    ensures few { OnOk result (length work.new.actors ≤ 256) }
+{
+    let line = command_line(alloc, work, number, line)?;
+    work.lines.push(line)?;
+    Ok(())
+}
+
+/// Adds what a line of this number spells.
+fn add_line(
+    alloc: Global,
+    size: u32,
+    work: &mut Workload,
+    number: u64,
+    line: &str,
+) -> Result<(), LineFault>
+    requires { length work.old.actors ≤ 256 }
+    ensures read { Reads (first_of (line_faults size work.old number line.now)) (λ _. work.new ≡ with_line work.old line.now) result }
+    ensures few { OnOk result (length work.new.actors ≤ 256) }
+{
+    if MOST_LINE < line.len() {
+        return Err(LineFault::Limit {
+            line: number,
+            which: Which::Line,
+        });
+    }
+    let (word, tail) = cut(line);
+    if passes_over(word) {
+        Ok(())
+    } else if word == "actor" {
+        add_actor(alloc, size, work, number, tail)
+    } else if word == "grant" {
+        Err(LineFault::BadCommand { line: number })
+    } else {
+        add_command(alloc, work, number, line)
+    }
+}
+
+/// The workload that the lines of a text spell.
+fn read_lines(alloc: Global, size: u32, text: &str) -> Result<Workload, LineFault>
+    requires { length text.now ≤ 16777216 }
+    ensures { Reads (fault_in size empty 1 (lines text.now)) (λ w. w ≡ with_lines empty (lines text.now)) result }
+{
+    let mut work = Workload::new(alloc);
+    let mut number = 0u64;
+    for line in text.lines() {
+        number += 1;
+        add_line(alloc, size, &mut work, number, line)?;
+    }
+    Ok(work)
+}
+
+/// The workload that a text spells at this size.
+pub fn read(alloc: Global, text: &[u8], size: u32) -> Result<Workload, LineFault>
+    requires { (1 ≤ size) × (size ≤ 32) }
+    ensures { Reads (first_fault size text.now) (λ w. w ≡ spelled text.now) result }
+{
+    if MOST_TEXT < text.len() {
+        return Err(LineFault::TooLong);
+    }
+    let Ok(text) = str::from_utf8(text) else {
+        return Err(LineFault::NotUtf8);
+    };
+    read_lines(alloc, size, text)
+}

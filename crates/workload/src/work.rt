@@ -1,0 +1,85 @@
+// The types of a workload.
+ghost use Rattle.std.specs.Prelude.{◌≡◌, ◌<◌, length, IfSome};
+ghost use Rattle.workload.specs.Actors.{place_of};
+ghost use Rattle.workload.specs.Reading.{empty};
+
+use fl_digest::BlobRef;
+use kvs_txn::Path;
+use lists::{Bytes, ListOf};
+use std::alloc::Global;
+
+/// What an actor asks for.
+#[derive(Drop)]
+pub enum Command {
+    Put { path: Path, bytes: Bytes },
+    Append { path: Path, bytes: Bytes },
+    Unlink { path: Path },
+    Mkdir { path: Path },
+    Symlink { path: Path, target: Path },
+    Commit,
+    Fence { name: Bytes, count: u32 },
+    Get { path: Path },
+    Ls { path: Path },
+    Readlink { path: Path },
+    Getroot,
+    Wait { number: u64 },
+    Tell { actor: u32 },
+    NsCreate { name: Bytes },
+    NsRemove { name: Bytes },
+    NsUse { name: Bytes },
+    ContentStore { bytes: Bytes },
+    ContentLoad { reference: BlobRef },
+    ContentFlush,
+    ContentDrop,
+}
+
+/// An actor: its name, its broker, and the label of the job in whose child instance it stands, if it stands in one.
+#[derive(Drop)]
+pub struct Actor {
+    pub name: Bytes,
+    pub rank: u64,
+    pub of: Option<Bytes>,
+}
+
+/// Actors, numbered from 0.
+pub type ActorList = ListOf<Actor>;
+
+/// The place of the actor of this name.
+pub fn place(actors: &ActorList, name: &str) -> Option<usize>
+    ensures value { result ≡ place_of name.now actors.now }
+    ensures below { IfSome result (λ i. i < length actors.now) }
+{
+    actors
+        .as_slice()
+        .iter()
+        .position(|a| a.name.as_slice() == name.as_bytes())
+}
+
+/// A command line.
+#[derive(Drop)]
+pub struct Line {
+    pub actor: u32,
+    pub command: Command,
+}
+
+/// Command lines, in the order of the text.
+pub type LineList = ListOf<Line>;
+
+/// What a run is asked to do.
+#[derive(Drop)]
+pub struct Workload {
+    pub actors: ActorList,
+    pub lines: LineList,
+}
+
+impl Workload {
+    /// A workload without actors and commands.
+    pub fn new(alloc: Global) -> Workload
+        ensures { result ≡ empty }
+    {
+        Workload {
+            actors: ListOf::new(alloc),
+            lines: ListOf::new(alloc),
+        }
+    }
+}
