@@ -293,3 +293,7 @@ written_back items (Err e) d text utf8 back = tt
 written_back items (Ok t) d text utf8 back = λ v deep.
     let e : items t ≡ compact_text d = text (no_float d v) in
     ap reading e ∙ canonical_reading d v (subst IsUtf8 e utf8) (sym (ap read e) ∙ back deep)
+
+pub canonical : {T E : Type 0} (items : T → List ℕ) (r : Result T E) (d : Data) → IfOk r (λ t. has_float d ≡ false → items t ≡ compact_text d) → IfOk r (λ t. IsValid d → items t ≡ compact_text d)
+canonical items (Err e) d text = tt
+canonical items (Ok t) d text = λ v. text (no_float d v)

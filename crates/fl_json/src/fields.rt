@@ -1,13 +1,18 @@
+ghost use Rattle.std.specs.Prelude.{◌<◌, IfOk};
+ghost use Rattle.serde_json.specs.Data.{depth, items_depth};
 ghost use Rattle.serde_json.specs.Find.{as_str, as_array};
 ghost use Rattle.serde_json.specs.View.{view, items_view};
 ghost use Rattle.fl_json.specs.Reading.{Finds, field_as, as_any, as_natural};
+ghost use Rattle.fl_json.specs.Valid.{IsValid, AreValid};
 
 use crate::faults::JsonFault;
 use serde_json::Value;
 
 /// What an object has under a key. `Missing` where it has nothing there, `WrongKind` where the value is no object.
 pub fn field<'a>(value: &'a Value, key: &str) -> Result<&'a Value, JsonFault>
-    ensures { Finds (λ v. view v.now) result (field_as as_any key.now (view value.now)) }
+    ensures value { Finds (λ v. view v.now) result (field_as as_any key.now (view value.now)) }
+    ensures valid { IsValid (view value.now) → IfOk result (λ v. IsValid (view v.now)) }
+    ensures inside { IfOk result (λ v. depth (view v.now) < depth (view value.now)) }
 {
     match value.get(key) {
         Some(found) => Ok(found),
@@ -32,7 +37,9 @@ pub fn word<'a>(value: &'a Value, key: &str) -> Result<&'a str, JsonFault>
 
 /// The list that an object has under a key; `WrongKind` where it is something else.
 pub fn list<'a>(value: &'a Value, key: &str) -> Result<&'a [Value], JsonFault>
-    ensures { Finds (λ vs. items_view vs.now) result (field_as as_array key.now (view value.now)) }
+    ensures value { Finds (λ vs. items_view vs.now) result (field_as as_array key.now (view value.now)) }
+    ensures valid { IsValid (view value.now) → IfOk result (λ vs. AreValid (items_view vs.now)) }
+    ensures inside { IfOk result (λ vs. items_depth (items_view vs.now) < depth (view value.now)) }
 {
     match field(value, key)?.as_array() {
         Some(items) => Ok(items.as_slice()),

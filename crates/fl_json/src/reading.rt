@@ -29,6 +29,7 @@ pub fn read(alloc: Global, text: &[u8]) -> Result<Value, JsonFault>
 /// The canonical text of a value with whole numbers: compact, with keys sorted by their bytes.
 pub fn text(alloc: Global, value: &Value) -> Result<Vec<u8>, AllocError>
     ensures compact { IfOk result (λ t. has_float (view value.now) ≡ false → t.items ≡ compact_text (view value.now)) }
+    ensures canonical { IfOk result (λ t. IsValid (view value.now) → t.items ≡ compact_text (view value.now)) }
     // What is written of a valid value is read again as that value.
     ensures reads_back { IfOk result (λ t. IsValid (view value.now) → depth (view value.now) ≤ max_depth
         → reading t.items ≡ Ok (view value.now)) }
