@@ -2,16 +2,15 @@
 use Rattle.std.proofs.Common.{◌≡◌, ℕ, zero, suc, ◌+◌, ◌-◌, ◌/◌, ◌%◌, ◌^◌, ◌<◌, ◌≤◌, ℤ, pos, negsuc, Bool, true, false, ◌&&◌, ◌||◌, ◌==◌, cond, List, [], ◌∷◌, ◌++◌, length, take, drop, Option, Some, None, is_some, decimal, refl, sym, ap, ap₂, ◌∙◌, subst, arith, append_assoc, length-append, lt-ltb, le-leb, ne_eqb, inl, inr, ◌⊎◌}
 use Rattle.std.specs.Prelude.{not, nat_lt, Result, Ok, Err, IfOk}
 use Rattle.std.specs.Char.{digit_char, is_ascii_digit}
-use Rattle.std.specs.List.{prefix_len, list_all}
-use Rattle.std.specs.Fmt.{signed_decimal}
+use Rattle.std.specs.List.{prefix_len}
 use Rattle.std.specs.Str.{all_ascii_digits, IsUtf8}
 use Rattle.std.specs.Str.Parse.{digits_value}
-use Rattle.std.proofs.lemmas.Bool.{true≢false, false≢true, and_parts, cases_Bool, eqb-true}
+use Rattle.std.proofs.lemmas.Bool.{true≢false, false≢true, and_parts, eqb-true}
 use Rattle.std.proofs.lemmas.Bool.Decides.{nat_tests}
 use Rattle.std.proofs.lemmas.Fmt.{decimal_nonempty, digits_decimal, digits_value-decimal}
 use Rattle.std.proofs.lemmas.Str.Parse.{IsNumeralModel, numerals_by_value, tells_all_ascii_digits}
 use Rattle.json.specs.Print.{escape_letter, escape_byte, escape, quoted}
-use Rattle.json.specs.Word.{head, after_minus, after_number}
+use Rattle.json.specs.Word.{head, after_number}
 use Rattle.json.proofs.Printed.Decimals.{IsNumber-decimal}
 use Rattle.serde_json.specs.Data.{Num, unsigned, negative, float, Data, null, boolean, number, string, array, object, Items, no_items, item, Members, no_members, member}
 use Rattle.serde_json.specs.Data.{depth}
@@ -23,7 +22,7 @@ use Rattle.fl_json.specs.Valid.{IsWhole, IsValid, AreValid, HaveValid}
 use Rattle.fl_json.proofs.Bytes.{AreOfNumber, number_bytes, number_rest, is_number-from_rest}
 use Rattle.fl_json.proofs.Cuts.{pieces-next, pieces-nil, lost_later, kept_first, lost-nil, kept-nil, not_bad}
 use Rattle.fl_json.proofs.Gifts.{good_reading, value_of_text}
-use Rattle.fl_json.proofs.Lexing.{holds_below, below_holds, begins_continues, number_first}
+use Rattle.fl_json.proofs.Lexing.{holds_below, below_holds, number_first}
 use Rattle.fl_json.proofs.WholeTexts.{kept_as_number, kept_other, number_of_whole}
 
 -- all of a text is kept

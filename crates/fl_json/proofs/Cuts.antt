@@ -1,8 +1,7 @@
 -- A text cut into pieces, from one piece to the next.
-use Rattle.std.proofs.Common.{◌≡◌, ℕ, zero, suc, ◌+◌, ◌-◌, ◌<◌, ◌≤◌, Bool, true, false, ◌==◌, cond, List, [], ◌∷◌, ◌++◌, length, get_or, take, drop, Option, Some, None, refl, sym, ap, ap₂, ◌∙◌, arith, add-one, drop-cons}
+use Rattle.std.proofs.Common.{◌≡◌, ℕ, zero, suc, ◌+◌, ◌-◌, ◌<◌, Bool, true, false, ◌==◌, cond, List, [], ◌∷◌, ◌++◌, length, get_or, take, drop, Option, Some, None, refl, ap, ◌∙◌, arith, add-one, drop-cons}
 use Rattle.std.specs.List.{prefix_len}
-use Rattle.std.specs.Prelude.{Result, Ok, Err}
-use Rattle.std.proofs.lemmas.List.Sums.{prefix_len-le-length}
+use Rattle.std.specs.Prelude.{Result, Err}
 use Rattle.fl_json.specs.Numbers.{begins_number, continues_number, string_len, piece_len, pieces_behind, pieces, kept, first_lost, all_kept}
 use Rattle.fl_json.specs.Reading.{unless_bad}
 use Rattle.fl_json.specs.declared.faults.JsonFault.{JsonFault}

@@ -1,14 +1,10 @@
 -- What stands under a key of a value.
-use Rattle.std.proofs.Common.{◌≡◌, ℕ, suc, max, ◌<◌, ◌≤◌, List, Option, Some, None, Ordering, Less, Equal, Greater, nat_cmp, refl, sym, ap, ◌∙◌, subst, arith}
-use Rattle.std.specs.Prelude.{Result, Ok, Err, MatchResult, IfOk, is_some, if◌then◌else◌}
+use Rattle.std.proofs.Common.{◌≡◌, ℕ, max, ◌<◌, ◌≤◌, List, Some, None, Ordering, Less, Equal, Greater, nat_cmp, ap, subst, arith}
 use Rattle.std.specs.Ordering.{match_ordering}
 use Rattle.std.specs.Cmp.Lexicographic.{slice_cmp}
 use Rattle.serde_json.specs.Data.{Data, null, boolean, number, string, array, object, Items, Members, no_members, member, depth, items_depth, members_depth}
-use Rattle.serde_json.specs.Find.{get, get_member, as_array, as_object}
-use Rattle.fl_json.specs.Reading.{Finds, field_as, of_kind, as_any}
+use Rattle.serde_json.specs.Find.{get, get_member, as_array}
 use Rattle.fl_json.specs.Valid.{IsValid, AreValid, HaveValid}
-use Rattle.fl_json.specs.declared.faults.JsonFault.{JsonFault}
-use Rattle.fl_json.specs.declared.faults.JsonFault.TheVariants.{Missing, WrongKind}
 
 none_some : {A P : Type 0} (a : A) → None ≡ Some a → P
 none_some a e = absurd (cc)

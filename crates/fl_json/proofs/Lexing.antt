@@ -1,22 +1,15 @@
 -- The tokens of a text from which nothing of a number was lost.
-use Rattle.std.proofs.Common.{◌≡◌, ℕ, zero, suc, ◌+◌, ◌-◌, ◌<◌, ◌≤◌, Bool, true, false, ◌&&◌, ◌||◌, ◌==◌, cond, List, [], ◌∷◌, ◌++◌, length, take, drop, get_or, Option, Some, None, is_some, option_and_then, inl, inr, ◌⊎◌, refl, sym, ap, ap₂, ◌∙◌, subst, arith, append_assoc, append-nil, length-append, ne_eqb}
-use Rattle.std.specs.Prelude.{not, is_none, nat_eq, unwrap_or, ⊤}
+use Rattle.std.proofs.Common.{◌≡◌, ℕ, zero, suc, ◌+◌, ◌<◌, ◌≤◌, Bool, true, false, ◌&&◌, ◌||◌, ◌==◌, cond, List, [], ◌∷◌, ◌++◌, drop, Option, Some, None, is_some, option_and_then, inl, inr, ◌⊎◌, refl, sym, ap, ap₂, ◌∙◌, arith}
+use Rattle.std.specs.Prelude.{not, ⊤}
 use Rattle.std.specs.Char.{is_ascii_digit}
-use Rattle.std.specs.List.{list_all, prefix_len, starts_with}
-use Rattle.std.proofs.lemmas.Bool.{true≢false, false≢true, eqb-true, and_parts, or_cases, cases_Bool, cases_lt}
+use Rattle.std.specs.List.{prefix_len}
+use Rattle.std.proofs.lemmas.Bool.{true≢false, false≢true, eqb-true, and_parts, cases_Bool, cases_lt}
 use Rattle.std.proofs.lemmas.Bool.Decides.{nat_tests}
-use Rattle.std.proofs.lemmas.List.{take-append-drop, length-take-le}
-use Rattle.std.proofs.lemmas.List.Sums.{prefix_len_stops, prefix_len-le-length}
-use Rattle.std.proofs.lemmas.Slice.Eq.{bytes_eq-Decides}
 use Rattle.json.specs.Token.{Token}
-use Rattle.json.specs.Text.{content, plain}
-use Rattle.json.specs.Word.{is_operator, is_space, head, ends_word, after_digits, after_minus, after_whole, after_fraction, after_exponent, after_number, number_before, literal, word}
-use Rattle.json.specs.Lex.{Lexeme, token, comma, colon, Class, quote, backslash, operator, space, other, class, operator_lexeme, string_token, Mode, between, in_word, in_string, in_escape, lex, lex_byte, Place, fresh, after_value, after_comma, after_key, begins_colon, may_begin, may_close, if_allowed, place_token, punctuate, tokens}
-use Rattle.json.specs.Print.{IsNumber}
-use Rattle.json.proofs.Printed.Numbers.{in_word-ended, number_alone}
-use Rattle.fl_json.specs.Numbers.{begins_number, continues_number, string_len, piece_len, pieces, is_number, is_whole, whole_part, fraction, is_no_fraction, point_at, kept_number, kept, first_lost, all_kept}
-use Rattle.fl_json.proofs.Bytes.{AreOfNumber, Behind, behind_number, token_run, number_rest, is_number-from_rest, of_number_is_ascii}
-use Rattle.fl_json.proofs.Cuts.{pieces-next, pieces-nil, kept_first, kept-nil, lost_here, lost_later}
+use Rattle.json.specs.Word.{is_operator, is_space, head, ends_word, after_digits, after_whole, after_fraction, after_exponent, after_number}
+use Rattle.json.specs.Lex.{Lexeme, token, comma, colon, Class, quote, backslash, operator, space, other, class, between, in_word, lex, lex_byte, Place, fresh, after_value, after_comma, after_key, begins_colon, if_allowed, place_token, punctuate}
+use Rattle.fl_json.specs.Numbers.{begins_number, continues_number}
+use Rattle.fl_json.proofs.Bytes.{AreOfNumber}
 use Rattle.fl_json.proofs.Values.{WholeToken, WholeTokens}
 
 -- ---- commas and colons

@@ -1,22 +1,22 @@
 -- From the numbers of a text to its value.
 use Rattle.std.proofs.Common.{◌≡◌, ℕ, zero, suc, ◌+◌, ◌-◌, ◌^◌, ◌<◌, ◌≤◌, ℤ, pos, negsuc, neg_ℤ, Bool, true, false, ◌&&◌, ◌==◌, cond, List, [], ◌∷◌, ◌++◌, length, get_or, drop, Option, Some, None, is_some, option_map, option_and_then, Ordering, Less, Equal, Greater, nat_cmp, inl, inr, ◌⊎◌, refl, sym, ap, ◌∙◌, subst, arith, append-nil, lt-ltb, le-leb, ne_eqb}
-use Rattle.std.specs.Prelude.{not, nat_lt, nat_le, ⊤}
+use Rattle.std.specs.Prelude.{not, nat_lt, ⊤}
 use Rattle.std.specs.Ordering.{match_ordering, ordering_reverse, is_lt}
 use Rattle.std.specs.Cmp.Lexicographic.{slice_cmp}
 use Rattle.std.specs.Char.{is_ascii_digit, digit_value}
 use Rattle.std.specs.Option.{option_map_or}
 use Rattle.std.specs.Str.{all_ascii_digits}
 use Rattle.std.specs.Str.Parse.{AllDigits, digits_value}
-use Rattle.std.proofs.lemmas.Bool.{true≢false, false≢true, eqb-true, leb-true, and_parts, cases_Bool}
+use Rattle.std.proofs.lemmas.Bool.{false≢true, and_parts}
 use Rattle.std.proofs.lemmas.Bool.Decides.{nat_tests}
 use Rattle.std.proofs.lemmas.Cmp.{nat_list_cmp_total}
-use Rattle.std.specs.Float.Numeral.{Parts, scan_numeral as scan, text_of, IsWellFormed}
+use Rattle.std.specs.Float.Numeral.{Parts, scan_numeral as scan, IsWellFormed}
 use Rattle.std.proofs.lemmas.Float.Parse.{scan_numeral-text_of as scan-text_of}
 use Rattle.json.specs.Token.{Token}
 use Rattle.json.specs.Json as json
 use Rattle.json.specs.Tree.{json_tokens, items_tokens, members_tokens}
 use Rattle.json.specs.Word.{head, after_minus}
-use Rattle.serde_json.specs.Data.{Num, unsigned, negative, float, Data, number, array, object, Items, item, no_items, Members, no_members, member, put}
+use Rattle.serde_json.specs.Data.{Num, unsigned, negative, Data, number, array, object, Items, item, no_items, Members, no_members, member, put}
 use Rattle.serde_json.specs.Read.{number_of, number_from, is_integer, of_json, of_items, of_members}
 use Rattle.fl_json.specs.Numbers.{is_whole, is_number, natural, is_magnitude}
 use Rattle.fl_json.specs.Valid.{IsWhole, IsBelowZero, IsBefore, IsValid, AreValid, HaveValid}

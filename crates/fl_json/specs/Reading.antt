@@ -3,7 +3,7 @@ use Rattle.std.specs.Prelude.{◌≡◌, ℕ, List, Option, Some, None, option_a
 use Rattle.std.specs.Option.{ok_or}
 use Rattle.std.specs.Str.{is_utf8}
 use Rattle.serde_json.specs.Data.{Data}
-use Rattle.serde_json.specs.Find.{get, as_object, as_number, as_u64, as_str, as_array}
+use Rattle.serde_json.specs.Find.{get, as_object, as_number, as_u64}
 use Rattle.serde_json.specs.Read.{read}
 use Rattle.fl_json.specs.Numbers.{first_bad_number, rewritten}
 use Rattle.fl_json.specs.declared.faults.JsonFault.{JsonFault}

@@ -1,6 +1,5 @@
-use Rattle.std.proofs.Common.{◌≡◌, ◌<◌, length, arith}
+use Rattle.std.proofs.Common.{◌<◌, length, arith}
 use Rattle.std.proofs.lemmas.Bool.Decides.{nat_tests}
-use Rattle.fl_json.specs.Numbers.{string_len}
 use Rattle.fl_json.proofs.Cuts.{string_len-drop}
 use Rattle.fl_json.proofs.numbers.string_end.Goals as goal
 use Rattle.fl_json.proofs.numbers.string_end.Goals.{then-escaped, else-escaped+else-byte-eq34}

@@ -1,7 +1,7 @@
-use Rattle.std.proofs.Common.{◌≡◌, ◌<◌, ◌≤◌, ◌+◌, ◌-◌, ℕ, suc, List, [], ◌∷◌, ◌++◌, length, take, drop, ap, ap₂, sym, ◌∙◌, refl, arith, append_assoc, append-nil}
+use Rattle.std.proofs.Common.{◌≡◌, ◌<◌, ◌≤◌, ◌+◌, ◌-◌, ℕ, List, [], ◌∷◌, ◌++◌, length, take, drop, ap, ap₂, sym, ◌∙◌, refl, arith, append_assoc, append-nil}
 use Rattle.std.specs.Prelude.{Some, None}
 use Rattle.std.proofs.lemmas.Bool.Decides.{nat_tests}
-use Rattle.fl_json.specs.Numbers.{pieces, piece_len, kept, first_lost, all_kept, first_bad_number, rewritten}
+use Rattle.fl_json.specs.Numbers.{pieces, piece_len, kept, first_lost, all_kept, rewritten}
 use Rattle.fl_json.proofs.Cuts.{pieces-next, pieces-nil, lost_here, lost_later, kept_first, lost-nil, kept-nil, bad_at, not_bad}
 use Rattle.fl_json.proofs.numbers.with_whole_numbers.Goals as goal
 

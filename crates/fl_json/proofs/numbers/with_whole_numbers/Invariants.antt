@@ -1,4 +1,4 @@
-use Rattle.std.proofs.Common.{◌≡◌, ◌-◌, ◌≤◌, ◌++◌, drop, length}
+use Rattle.std.proofs.Common.{◌≡◌, ◌-◌, ◌≤◌, ◌++◌, length}
 use Rattle.fl_json.specs.Numbers.{pieces, first_lost, first_bad_number, all_kept, rewritten}
 use Rattle.fl_json.proofs.numbers.with_whole_numbers.Given as goal
 

@@ -1,8 +1,6 @@
 use Rattle.std.specs.Bool.{IsTrue}
 use Rattle.std.proofs.Common.{◌≡◌, false, rules, ◌∙◌, ap, sym, subst}
 use Rattle.std.specs.Prelude.{Some, None}
-use Rattle.std.specs.Str.{IsUtf8}
-use Rattle.serde_json.specs.Read.{read}
 use Rattle.serde_json.specs.View.{view}
 use Rattle.fl_json.specs.Reading.{json_value}
 use Rattle.json.specs.Lex.{tokens}
