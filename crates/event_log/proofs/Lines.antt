@@ -170,26 +170,26 @@ lines_are rest first e = go (cases_lt (first_len rest) (length rest))
 pub rest_bad : (front : List Event) (line : ℕ) (rest first : List ℕ) (fault : JsonFault) → 0 < length rest → first ≡ take (first_len rest) rest → told first ≡ Err fault
     → with_front front (events_from line (parts rest)) ≡ Err (BadLine line fault)
 rest_bad front line rest first fault some e h = elim (lines_are rest first e) [
-  inl s ↦ ap (λ ps. with_front front (events_from line ps)) s.1.1.1.1 ∙ line_bad front line first s.1.0 s.1.1.0 fault h
+  | inl s ↦ ap (λ ps. with_front front (events_from line ps)) s.1.1.1.1 ∙ line_bad front line first s.1.0 s.1.1.0 fault h
   | inr s ↦ let long : 0 < length first = subst (λ t. 0 < length t) (sym s.1) some in ap (λ ps. with_front front (events_from line ps)) s.2 ∙ last_bad front line first fault long h
-  ]
+]
 
 -- a first line that tells an event, without a newline
 pub rest_cut : (front : List Event) (line : ℕ) (rest first behind : List ℕ) (event : Event) → 0 < length rest → first ≡ take (first_len rest) rest → behind ≡ drop (first_len rest) rest → length behind ≡ 0 → told first ≡ Ok event
     → with_front front (events_from line (parts rest)) ≡ Err NoNewline
 rest_cut front line rest first behind event some e b none h = elim (lines_are rest first e) [
-  inl s ↦ let l : first_len rest < length rest = s.0 in let k : length (drop (first_len rest) rest) ≡ 0 = sym (ap length b) ∙ none in absurd (omega (arith, length_left (first_len rest) rest))
+  | inl s ↦ let l : first_len rest < length rest = s.0 in let k : length (drop (first_len rest) rest) ≡ 0 = sym (ap length b) ∙ none in absurd (omega (arith, length_left (first_len rest) rest))
   | inr s ↦ let long : 0 < length first = subst (λ t. 0 < length t) (sym s.1) some in ap (λ ps. with_front front (events_from line ps)) s.2 ∙ last_told front line first event long h
-  ]
+]
 
 -- a first line that tells an event, and a newline
 pub rest_told : (front : List Event) (line : ℕ) (rest first behind : List ℕ) (event : Event) → first ≡ take (first_len rest) rest → behind ≡ drop (first_len rest) rest → 0 < length behind → told first ≡ Ok event
     → with_front front (events_from line (parts rest)) ≡ with_front (front ++ event ∷ []) (events_from (line + 1) (parts (drop 1 behind)))
 rest_told front line rest first behind event e b some h = elim (lines_are rest first e) [
-  inl s ↦ ap (λ ps. with_front front (events_from line ps)) s.1.1.1.1 ∙ line_told front line first s.1.0 s.1.1.0 event h
+  | inl s ↦ ap (λ ps. with_front front (events_from line ps)) s.1.1.1.1 ∙ line_told front line first s.1.0 s.1.1.0 event h
       ∙ ap (λ ps. with_front (front ++ event ∷ []) (events_from (line + 1) ps)) (sym s.1.1.1.0 ∙ ap (λ k. parts (drop k rest)) (add-one (first_len rest)) ∙ ap parts (sym (drop_suc (first_len rest) rest)) ∙ ap (λ t. parts (drop 1 t)) (sym b))
   | inr s ↦ let g : length rest ≤ first_len rest = s.0 in let k : length behind ≡ length (drop (first_len rest) rest) = ap length b in absurd (omega (arith, length_left (first_len rest) rest))
-  ]
+]
 
 -- all of what stands behind the first byte
 pub all_behind : (behind : List ℕ) → take (length behind - 1) (drop 1 behind) ≡ drop 1 behind
