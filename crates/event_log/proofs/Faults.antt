@@ -9,7 +9,8 @@ use Rattle.serde_json.specs.Written.{compact_text}
 use Rattle.fl_json.specs.Reading.{Gives, Fails}
 use Rattle.fl_json.specs.declared.faults.JsonFault.{JsonFault}
 use Rattle.fl_json.specs.declared.faults.JsonFault.TheVariants.{NoMemory, BadNumber, NotJson, Missing, WrongKind}
-use Rattle.event_log.specs.Events.{◌>>=◌, object_text, if_there}
+use Rattle.fl_json.specs.Valid.{IsValid}
+use Rattle.event_log.specs.Events.{◌>>=◌, object_text, if_there, IsObjectText}
 
 -- a fault that is found
 pub fails_from : {T : Type 0} (e : JsonFault) (found : Result T JsonFault) → found ≡ Err e → Fails e found
@@ -48,3 +49,12 @@ no_object_text (json.number n) h = refl
 no_object_text (json.string s) h = refl
 no_object_text (json.array ds) h = refl
 no_object_text (json.object ms) h = cc
+
+-- the text of a valid object
+pub is_object_text : (d : Data) (t : List ℕ) → is_some (as_object d) ≡ true → IsValid d → t ≡ compact_text d → IsObjectText t
+is_object_text json.null t h v e = cc
+is_object_text (json.boolean b) t h v e = cc
+is_object_text (json.number n) t h v e = cc
+is_object_text (json.string s) t h v e = cc
+is_object_text (json.array ds) t h v e = cc
+is_object_text (json.object ms) t h v e = record { members = ms; valid = v; is = e }

@@ -1,10 +1,10 @@
-ghost use Rattle.std.specs.Prelude.{◌≡◌, ◌≤◌, IfOk, Ok, length, not, string_bytes, ◌==◌};
+ghost use Rattle.std.specs.Prelude.{◌≡◌, ◌≤◌, ◌<◌, IfOk, IfSome, All, Ok, length, not, string_bytes, ◌==◌};
 ghost use Rattle.std.specs.List.{list_all, prefix_len};
 ghost use Rattle.std.specs.BTreeMap.{keys};
 ghost use Rattle.serde_json.specs.View.{view};
 ghost use Rattle.fl_json.specs.Reading.{Gives as GivesJson, Finds};
 ghost use Rattle.fl_json.specs.Valid.{IsValid};
-ghost use Rattle.event_log.specs.Events.{IsEvent, event_of, told, name_of, context_of, has_event_keys, is_event_key};
+ghost use Rattle.event_log.specs.Events.{IsEvent, IsObjectText, event_of, told, name_of, context_of, has_event_keys, is_event_key};
 ghost use Rattle.event_log.specs.Logs.{Gives, log_reading, line_fault};
 
 use crate::event::{Event, LogFault};
@@ -15,7 +15,8 @@ use std::alloc::Global;
 
 /// The name in an event's value.
 fn name_in(value: &Value) -> Result<&str, JsonFault>
-    ensures { Finds (λ s. s.now) result (name_of (view value.now)) }
+    ensures found { Finds (λ s. s.now) result (name_of (view value.now)) }
+    ensures some { IfOk result (λ s. 0 < length s.now) }
 {
     let name = word(value, "name")?;
     if name.is_empty() {
@@ -27,7 +28,8 @@ fn name_in(value: &Value) -> Result<&str, JsonFault>
 /// The canonical text of the context in an event's value.
 fn context_in(alloc: Global, value: &Value) -> Result<Option<Bytes>, JsonFault>
     requires { IsValid (view value.now) }
-    ensures { GivesJson (λ c. c) result (context_of (view value.now)) }
+    ensures found { GivesJson (λ c. c) result (context_of (view value.now)) }
+    ensures object { IfOk result (λ c. IfSome c IsObjectText) }
 {
     match field(value, "context") {
         Ok(context) if context.is_object() => Ok(Some(Bytes::from_vec(text(alloc, context)?))),
@@ -65,7 +67,8 @@ fn has_known_keys(value: &Value) -> bool
 #[tactic(auto, unfolding(crate::specs::Events::event_of))]
 fn event_in(alloc: Global, value: &Value) -> Result<Event, JsonFault>
     requires { IsValid (view value.now) }
-    ensures { GivesJson (λ e. e) result (event_of (view value.now)) }
+    ensures found { GivesJson (λ e. e) result (event_of (view value.now)) }
+    ensures valid { IfOk result IsEvent }
 {
     let timestamp = number(value, "timestamp")?;
     let name = name_in(value)?;
@@ -83,7 +86,8 @@ fn event_in(alloc: Global, value: &Value) -> Result<Event, JsonFault>
 
 /// The event that a line tells, without its newline.
 fn event_at(alloc: Global, line: &[u8]) -> Result<Event, JsonFault>
-    ensures { GivesJson (λ e. e) result (told line.now) }
+    ensures found { GivesJson (λ e. e) result (told line.now) }
+    ensures valid { IfOk result IsEvent }
 {
     let value = fl_json::read(alloc, line)?;
     event_in(alloc, &value)
@@ -114,7 +118,8 @@ fn fault_at(line: u64, fault: JsonFault) -> LogFault
 
 /// The events of a log. `BadLine` at the first line that tells none, and else `NoNewline` where the last line has none.
 pub fn read(alloc: Global, text: &[u8]) -> Result<Vec<Event>, LogFault>
-    ensures { Gives (λ v. v.items) result (log_reading text.now) }
+    ensures log { Gives (λ v. v.items) result (log_reading text.now) }
+    ensures valid { IfOk result (λ v. All IsEvent v.items) }
 {
     let mut events = Vec::new(alloc);
     let mut rest = text;
