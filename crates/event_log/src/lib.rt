@@ -9,4 +9,4 @@ pub mod writing;
 
 pub use event::{Event, LogFault};
 pub use reading::read;
-pub use writing::line;
+pub use writing::{a_line_adds_an_event, line};

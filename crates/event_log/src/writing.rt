@@ -2,7 +2,10 @@ ghost use Rattle.std.specs.Prelude.{◌≡◌, ◌++◌, ◌∷◌, [], IfOk, On
 ghost use Rattle.std.specs.Prelude.{◌<◌};
 ghost use Rattle.std.specs.Char.{digit_char};
 ghost use Rattle.json.specs.Print.{escape_letter, escape_byte, escape, quoted};
+ghost use Rattle.std.specs.Prelude.{List};
 ghost use Rattle.event_log.specs.Events.{context_text, line_text};
+ghost use Rattle.event_log.specs.Logs.{log_text};
+ghost use Rattle.event_log.specs.declared.event.Event.{Event};
 
 use crate::event::Event;
 use lists::Bytes;
@@ -102,3 +105,9 @@ pub fn line(alloc: Global, event: &Event) -> Result<Vec<u8>, AllocError>
     out.extend_from_slice(b"}\n")?;
     Ok(out)
 }
+
+/// The line of an event behind a log is the log of one event more.
+pub fn a_line_adds_an_event()
+    ensures { (events : List Event) (event : Event)
+        → log_text (events ++ event ∷ []) ≡ log_text events ++ line_text event }
+{}
