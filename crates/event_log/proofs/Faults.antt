@@ -1,7 +1,6 @@
 -- Faults that are handed on.
-use Rattle.std.proofs.Common.{◌≡◌, ℕ, List, Option, Some, None, Bool, true, false, refl, sym, ap, ◌∙◌, subst}
+use Rattle.std.proofs.Common.{◌≡◌, ℕ, List, true, false, refl, sym, ap, subst}
 use Rattle.std.specs.Prelude.{Result, Ok, Err, IsErrAnd, is_some}
-use Rattle.std.specs.List.{list_all}
 use Rattle.serde_json.specs.Data.{Data}
 use Rattle.serde_json.specs.Data as json
 use Rattle.serde_json.specs.Find.{as_object}
@@ -10,7 +9,7 @@ use Rattle.fl_json.specs.Reading.{Gives, Fails}
 use Rattle.fl_json.specs.declared.faults.JsonFault.{JsonFault}
 use Rattle.fl_json.specs.declared.faults.JsonFault.TheVariants.{NoMemory, BadNumber, NotJson, Missing, WrongKind}
 use Rattle.fl_json.specs.Valid.{IsValid}
-use Rattle.event_log.specs.Events.{◌>>=◌, object_text, if_there, IsObjectText}
+use Rattle.event_log.specs.Events.{◌>>=◌, object_text, IsObjectText}
 
 -- a fault that is found
 pub fails_from : {T : Type 0} (e : JsonFault) (found : Result T JsonFault) → found ≡ Err e → Fails e found

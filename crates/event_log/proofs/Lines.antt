@@ -15,7 +15,7 @@ use Rattle.fl_json.specs.declared.faults.JsonFault.{JsonFault}
 use Rattle.fl_json.specs.declared.faults.JsonFault.TheVariants as json_fault
 use Rattle.event_log.specs.declared.event.Event.{Event}
 use Rattle.event_log.specs.declared.event.LogFault.{LogFault}
-use Rattle.event_log.specs.declared.event.LogFault.TheVariants.{NoMemory, NoNewline, BadLine}
+use Rattle.event_log.specs.declared.event.LogFault.TheVariants.{NoNewline, BadLine}
 use Rattle.event_log.specs.Events.{◌>>=◌, told, is_event_key, keys_of, has_event_keys}
 use Rattle.event_log.specs.Logs.{at_line, events_from, log_reading, line_fault, Fails}
 

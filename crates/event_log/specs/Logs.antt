@@ -1,5 +1,5 @@
 -- The events that a text tells, line by line.
-use Rattle.std.specs.Prelude.{◌≡◌, ◌+◌, ◌==◌, ℕ, List, [], ◌∷◌, Option, Result, Ok, Err, length, if◌then◌else◌, flat_map}
+use Rattle.std.specs.Prelude.{◌≡◌, ◌+◌, ◌==◌, ℕ, List, [], ◌∷◌, Result, Ok, Err, length, if◌then◌else◌, flat_map}
 use Rattle.std.specs.List.{slice_split}
 use Rattle.fl_json.specs.declared.faults.JsonFault.{JsonFault}
 use Rattle.fl_json.specs.declared.faults.JsonFault.TheVariants as json
