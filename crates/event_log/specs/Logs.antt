@@ -1,0 +1,49 @@
+-- The events that a text tells, line by line.
+use Rattle.std.specs.Prelude.{◌≡◌, ◌+◌, ◌==◌, ℕ, List, [], ◌∷◌, Result, Ok, Err, length, if◌then◌else◌, flat_map}
+use Rattle.std.specs.List.{slice_split}
+use Rattle.fl_json.specs.declared.faults.JsonFault.{JsonFault}
+use Rattle.fl_json.specs.declared.faults.JsonFault.TheVariants as json
+use Rattle.event_log.specs.declared.event.Event.{Event}
+use Rattle.event_log.specs.declared.event.LogFault.{LogFault}
+use Rattle.event_log.specs.declared.event.LogFault.TheVariants.{NoMemory, NoNewline, BadLine}
+use Rattle.event_log.specs.Events.{◌>>=◌, told, line_text}
+
+-- the event of the line of this number
+abbrev pub at_line : {A : Type 0} → ℕ → Result A JsonFault → Result A LogFault
+at_line line (Ok x) = Ok x
+at_line line (Err fault) = Err (BadLine line fault)
+
+-- the events of the lines from this number on, which stand between newlines; nothing stands behind the last newline
+abbrev pub events_from : ℕ → List (List ℕ) → Result (List Event) LogFault
+events_from line [] = Ok []
+events_from line (last ∷ []) = if length last == 0 then Ok [] else (at_line line (told last) >>= λ event. Err NoNewline)
+events_from line (first ∷ next ∷ more) = do
+  event ← at_line line (told first)
+  events ← events_from (line + 1) (next ∷ more)
+  Ok (event ∷ events)
+
+-- the events of a log, or its first fault
+unfoldable pub log_reading : List ℕ → Result (List Event) LogFault
+log_reading text = events_from 1 (slice_split (λ b. b == 10) text)
+
+-- the text of a log: the lines of its events, one after another
+abbrev pub log_text : List Event → List ℕ
+log_text events = flat_map line_text events
+
+-- a call that may want memory and that otherwise finds this
+abbrev pub Fails : {T : Type 0} → LogFault → Result T LogFault → Type 0
+Fails NoMemory found = Unit {0}
+Fails NoNewline found = found ≡ Err NoNewline
+Fails (BadLine line fault) found = found ≡ Err (BadLine line fault)
+
+abbrev pub Gives : {X Y : Type 0} → (X → Y) → Result X LogFault → Result Y LogFault → Type 0
+Gives seen (Ok x) found = found ≡ Ok (seen x)
+Gives seen (Err e) found = Fails e found
+
+-- the fault of a log of which a line has this fault
+abbrev pub line_fault : ℕ → JsonFault → LogFault
+line_fault line json.NoMemory = NoMemory
+line_fault line (json.BadNumber place) = BadLine line (json.BadNumber place)
+line_fault line json.NotJson = BadLine line json.NotJson
+line_fault line json.Missing = BadLine line json.Missing
+line_fault line json.WrongKind = BadLine line json.WrongKind

@@ -1,0 +1,12 @@
+//! Event logs (Flux RFC 18): their lines, and the events that they tell.
+#![tactic(auto)]
+
+pub mod event;
+pub mod reading;
+#[cfg(test)]
+mod tests;
+pub mod writing;
+
+pub use event::{Event, LogFault};
+pub use reading::read;
+pub use writing::{a_line_adds_an_event, line};
