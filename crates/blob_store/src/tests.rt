@@ -11,16 +11,19 @@ fn one_content_under_each_reference(rt: HostRuntime) -> Result<(), Fail> {
         let reference = BlobRef::of(hash, text.as_bytes());
         assert!(rt; store.get(&reference).is_none());
         for _ in 0..2 {
-            assert!(rt; store.put(reference, Bytes::of(alloc, text.as_bytes())?).is_ok());
+            let bytes = Bytes::of(alloc, text.as_bytes())?;
+            let put = store.put(reference, bytes);
+            assert!(rt; put.is_ok());
         }
-        match store.put(reference, Bytes::of(alloc, b"xyz")?) {
-            Err(PutFault::Clash(back)) => assert!(rt; back.as_slice() == b"xyz".as_slice()),
-            _ => assert!(rt; false),
-        }
-        match store.get(&reference) {
-            Some(kept) => assert!(rt; kept.as_slice() == text.as_bytes()),
-            None => assert!(rt; false),
-        }
+        let other = Bytes::of(alloc, b"xyz".as_slice())?;
+        let clashes = match store.put(reference, other) {
+            Ok(()) => false,
+            Err(PutFault::NoMemory(_back)) => false,
+            Err(PutFault::Clash(back)) => back.as_slice() == b"xyz".as_slice(),
+        };
+        assert!(rt; clashes);
+        let kept = store.get(&reference);
+        assert!(rt; kept.is_some_and(|kept| kept.as_slice() == text.as_bytes()));
     }
     Ok(())
 }
