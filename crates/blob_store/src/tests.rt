@@ -1,0 +1,29 @@
+use crate::{BlobStore, PutFault};
+use fl_digest::{BlobRef, Hash};
+use lists::Bytes;
+use std::test::Fail;
+
+#[test]
+fn one_content_under_each_reference(rt: HostRuntime) -> Result<(), Fail> {
+    let alloc = rt.alloc();
+    let mut store = BlobStore::new(alloc);
+    for (hash, text) in [(Hash::Sha1, "abc"), (Hash::Sha256, "abc"), (Hash::Sha1, "")] {
+        let reference = BlobRef::of(hash, text.as_bytes());
+        assert!(rt; store.get(&reference).is_none());
+        for _ in 0..2 {
+            let bytes = Bytes::of(alloc, text.as_bytes())?;
+            let put = store.put(reference, bytes);
+            assert!(rt; put.is_ok());
+        }
+        let other = Bytes::of(alloc, b"xyz".as_slice())?;
+        let clashes = match store.put(reference, other) {
+            Ok(()) => false,
+            Err(PutFault::NoMemory(_back)) => false,
+            Err(PutFault::Clash(back)) => back.as_slice() == b"xyz".as_slice(),
+        };
+        assert!(rt; clashes);
+        let kept = store.get(&reference);
+        assert!(rt; kept.is_some_and(|kept| kept.as_slice() == text.as_bytes()));
+    }
+    Ok(())
+}
