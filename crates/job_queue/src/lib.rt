@@ -1,0 +1,11 @@
+//! The queue of waiting jobs in order of their priorities, and the dependencies that hold jobs back (Flux RFC 26).
+#![tactic(auto)]
+
+pub mod dependencies;
+pub mod queue;
+mod ranks;
+#[cfg(test)]
+mod tests;
+
+pub use dependencies::{Open, Outcome, Scheme, Settled};
+pub use queue::Queue;
