@@ -1,0 +1,12 @@
+pub mod Announced
+pub mod Finding
+pub mod Later
+pub mod Heads
+pub mod Tables
+pub mod Replaying
+pub mod Serving
+pub mod Landing
+pub mod Delivering
+pub mod Moving
+pub mod Resting
+pub mod Stepping

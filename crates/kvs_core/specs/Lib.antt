@@ -1,0 +1,10 @@
+pub mod Value
+pub mod Steps
+pub mod Links
+pub mod Order
+pub mod Rows
+pub mod Sound
+pub mod Agrees
+pub mod Requests
+pub mod Told
+pub mod View
