@@ -1,0 +1,40 @@
+-- What a run promises.
+use Rattle.std.specs.Prelude.{◌≡◌, ℕ, List, [], ◌∷◌, Option, None, true, false, codes}
+use Rattle.std.specs.Io.KnownBytes.{Consumes, IsAtEnd}
+use Rattle.fl_digest.specs.declared.Hash.TheVariants as hash
+use Rattle.workload.specs.declared.work.Workload.{Workload}
+use Rattle.workload.specs.Reading.{first_fault, spelled}
+use Rattle.answers.specs.declared.chronicle.Entry.{Entry}
+use Rattle.answers.specs.declared.steps.Step.{Step}
+use Rattle.answers.specs.Chronicle.{Setup}
+use Rattle.answers.specs.Headline.{IsTrueRun}
+use Rattle.answers.specs.Stretches.{AreStretches}
+use Rattle.world.specs.Grant.{default_grant}
+
+-- the words of the one command
+abbrev pub AreWords : List (List ℕ) → Type 0
+AreWords words = words ≡ codes "run" ∷ []
+
+-- the brokers of a run
+abbrev pub brokers : ℕ
+brokers = 4
+
+-- what a run of the workload is given: four brokers, two of them below one, and the grant of a run that is given none
+abbrev pub setup_of : Workload → Setup
+setup_of work = record { size = brokers; fanout = 2; hash = hash.Sha1; grant = default_grant brokers; work = work }
+
+-- the source was read to its end, and the text that was read is the workload's
+pub record IsSpelled (before after : Option (List ℕ)) (work : Workload) : Type 0 where
+  pub text : List ℕ
+  pub read : Consumes before after text
+  pub ended : IsAtEnd after
+  pub sound : first_fault brokers text ≡ None
+  pub means : work ≡ spelled text
+
+-- the source was read to its end, its text is a workload's, the chronicle of that workload is legal, whole and settled,
+-- the output prints it, and the steps made tell the whole of it
+pub record HasRun (before after : Option (List ℕ)) (chronicle : List Entry) (steps : List Step) (ends output : List ℕ) : Type 0 where
+  pub work : Workload
+  pub spelled_so : IsSpelled before after work
+  pub true_run : IsTrueRun (setup_of work) true false chronicle output
+  pub stretches : AreStretches work steps ends chronicle

@@ -1,0 +1,136 @@
+//! The call that `main` makes.
+ghost use Rattle.std.specs.Prelude.{◌≡◌, ◌≤◌, ◌↔◌, ◌⊎◌, ℕ, map, string_bytes, IsTrue, List};
+ghost use Rattle.outside.specs.Causes.{Rose};
+ghost use Rattle.std.specs.Io.KnownBytes.{Appends};
+ghost use Rattle.flux.specs.Runs.{AreWords, HasRun};
+ghost use Rattle.flux.specs.Faults.{status_of, HasReadCause, IsTaken};
+
+use crate::playing::{Played, play};
+use crate::reading::read_work;
+use answers::{Chronicle, Step};
+use lists::ListOf;
+use outside::{Sink, Source, write_all};
+use std::alloc::Global;
+use workload::LineFault;
+
+/// Why a run wrote nothing or not all.
+#[derive(Drop)]
+pub enum Fault {
+    Nothing,
+    /// The words are no command's.
+    Words,
+    /// The text is no workload's.
+    Line(LineFault),
+    /// The source failed.
+    Read,
+    /// There was no memory.
+    Memory,
+    /// The sink failed, and had taken so many bytes.
+    Write { written: u64 },
+}
+
+/// What a run comes to: its status and fault, the steps made, where each ended in the chronicle, and the chronicle.
+#[derive(Drop)]
+pub struct Run {
+    pub status: u8,
+    pub fault: Fault,
+    pub steps: Vec<Step>,
+    pub ends: Vec<u64>,
+    pub chronicle: Chronicle,
+}
+
+impl Run {
+    /// A run that wrote nothing.
+    fn failed(alloc: Global, fault: Fault) -> Run
+        ensures status { result.status ≡ status_of fault }
+        ensures fault { result.fault ≡ fault }
+    {
+        Run {
+            status: status(&fault),
+            fault,
+            steps: Vec::new(alloc),
+            ends: Vec::new(alloc),
+            chronicle: ListOf::new(alloc),
+        }
+    }
+}
+
+/// The status that a run with this fault ends with.
+fn status(fault: &Fault) -> u8
+    ensures { result ≡ status_of fault.now }
+{
+    match fault {
+        Fault::Nothing => 0,
+        Fault::Line(_) => 1,
+        Fault::Words => 2,
+        Fault::Read => 3,
+        Fault::Memory => 4,
+        Fault::Write { .. } => 5,
+    }
+}
+
+/// Whether the words are the one command's.
+fn is_run(words: &[String]) -> bool
+    ensures { IsTrue result ↔ AreWords (map string_bytes words.now) }
+{
+    match words {
+        [word] => word.as_str() == "run",
+        _ => false,
+    }
+}
+
+/// Writes the output, and says what the sink took of it.
+fn tell<K: Sink>(sink: &mut K, output: &[u8]) -> Fault
+    ensures { IsTaken (K.held sink.old) (K.held sink.new) (K.faults sink.old) (K.faults sink.new) output.now result }
+{
+    match write_all(sink, output) {
+        Ok(()) => Fault::Nothing,
+        Err(fault) => Fault::Write {
+            written: fault.written as u64,
+        },
+    }
+}
+
+/// Reads a workload from the source, runs it, and writes its answers to the sink: one line for each command, in the
+/// workload's order. The whole output is made before the first byte is written.
+///
+/// The status is 0 where all went well; 1 exactly where the text is no workload's; 2 exactly where the words are no
+/// command's, and then nothing was read; 3 where the source failed; 4 for want of memory; 5 where the sink failed.
+pub fn flux<S: Source, K: Sink>(
+    alloc: Global,
+    words: &[String],
+    source: &mut S,
+    sink: &mut K,
+) -> Run
+    ensures status { result.status ≡ status_of result.fault }
+    // the headline: what was written prints the one chronicle, which is legal, whole and settled
+    ensures true_run { result.status ≡ 0 → (output : List ℕ) × HasRun (S.left source.old) (S.left source.new) result.chronicle result.steps.items result.ends.items output × Appends (K.held sink.old) (K.held sink.new) output }
+    // a sink that failed took a part of such an output
+    ensures cut { result.status ≡ 5 → (output : List ℕ) × HasRun (S.left source.old) (S.left source.new) result.chronicle result.steps.items result.ends.items output × IsTaken (K.held sink.old) (K.held sink.new) (K.faults sink.old) (K.faults sink.new) output result.fault }
+    ensures words { (result.status ≡ 2) ↔ ¬ AreWords (map string_bytes words.now) }
+    ensures unread { result.status ≡ 2 → source.new ≡ source.old }
+    ensures refused { result.status ≡ 1 → HasReadCause (S.left source.old) (S.left source.new) (S.faults source.old) (S.faults source.new) result.fault }
+    ensures read { result.status ≡ 3 → Rose (S.faults source.old) (S.faults source.new) }
+    ensures unwritten { (1 ≤ result.status) → (result.status ≤ 4) → sink.new ≡ sink.old }
+    // completeness: only a refused text, a fault of the source or the sink, or want of memory keep a command from status 0
+    ensures complete { AreWords (map string_bytes words.now) → (Rose (S.faults source.old) (S.faults source.new) → ⊥) → (Rose (K.faults sink.old) (K.faults sink.new) → ⊥) → (result.status ≡ 0) ⊎ (result.status ≡ 1) ⊎ (result.status ≡ 4) }
+{
+    if !is_run(words) {
+        return Run::failed(alloc, Fault::Words);
+    }
+    let work = match read_work(alloc, source) {
+        Ok(work) => work,
+        Err(fault) => return Run::failed(alloc, fault),
+    };
+    let Ok(Played { text, ended }) = play(alloc, work) else {
+        return Run::failed(alloc, Fault::Memory);
+    };
+    let fault = tell(sink, &text);
+    Run {
+        status: status(&fault),
+        fault,
+        steps: ended.steps,
+        ends: ended.ends,
+        chronicle: ended.chronicle,
+    }
+}

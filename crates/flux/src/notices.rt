@@ -1,0 +1,16 @@
+//! What the program says of a fault.
+
+use crate::call::Fault;
+use std::alloc::{AllocError, Global};
+
+/// The notice of a fault, for standard error.
+pub fn notice(alloc: Global, fault: &Fault) -> Result<String, AllocError> {
+    match fault {
+        Fault::Nothing => format!(in alloc; "done"),
+        Fault::Words => format!(in alloc; "usage: flux_cli run"),
+        Fault::Line(fault) => format!(in alloc; "{fault}"),
+        Fault::Read => format!(in alloc; "read fault"),
+        Fault::Memory => format!(in alloc; "no memory"),
+        Fault::Write { .. } => format!(in alloc; "write fault"),
+    }
+}

@@ -1,0 +1,171 @@
+ghost use Rattle.std.specs.Prelude.{◌≤◌};
+
+use crate::call::{Run, flux};
+use crate::notices::notice;
+use outside::{MemSink, MemSource};
+use std::alloc::Global;
+use std::test::Fail;
+
+/// An input with its words, and the status, the output and the notice that it is to come to.
+struct Case {
+    word: &'static str,
+    input: &'static str,
+    status: u8,
+    output: &'static str,
+    notice: &'static str,
+}
+
+const CASES: [Case; 14] = [
+    Case {
+        word: "run",
+        input: "",
+        status: 0,
+        output: "",
+        notice: "done",
+    },
+    Case {
+        word: "run",
+        input: "actor a 0\na put k hello\na commit\na get k\n",
+        status: 0,
+        output: "staged\ncommitted 1\nvalue 1 hello\n",
+        notice: "done",
+    },
+    Case {
+        word: "run",
+        input: "actor a 1\nactor b 3\na put k x\na commit\nb get k\n",
+        status: 0,
+        output: "staged\ncommitted 1\nvalue 1 x\n",
+        notice: "done",
+    },
+    Case {
+        word: "run",
+        input: "actor a 0\na put a.b 1\na put a.b.c 2\na commit\na get a.b\na get a.b.c\na get a.b.c.d\n",
+        status: 0,
+        output: "staged\nstaged\ncommitted 1\nIsDir 1\nvalue 1 2\nNotDir 1\n",
+        notice: "done",
+    },
+    Case {
+        word: "run",
+        input: "actor a 0\na put .a..b. x\na put . x\na commit\na get a.b\na put .a..b. x\na commit\na get a.b\n",
+        status: 0,
+        output: "staged\nstaged\nrefused 2 RootOp\nNotFound 0\nstaged\ncommitted 1\nvalue 1 x\n",
+        notice: "done",
+    },
+    Case {
+        word: "run",
+        input: "actor a 3\na put job.x y\na commit\na get job.x\n",
+        status: 0,
+        output: "staged\nrefused 1 Reserved\nNotFound 0\n",
+        notice: "done",
+    },
+    Case {
+        word: "run",
+        input: "actor a 0\na get resource.R\n",
+        status: 0,
+        output: "value 0 {\"execution\":{\"R_lite\":[{\"children\":{\"core\":\"0-3\"},\"rank\":\"0-3\"}],\"expiration\":0,\"nodelist\":[\"node[0-3]\"],\"starttime\":0},\"version\":1}\n",
+        notice: "done",
+    },
+    Case {
+        word: "run",
+        input: "actor a 0\na put k he",
+        status: 0,
+        output: "staged\n",
+        notice: "done",
+    },
+    Case {
+        word: "run",
+        input: "actor a 0\na put k a\\b\na commit\na get k\n",
+        status: 0,
+        output: "staged\ncommitted 1\nvalue 1 a\\\\b\n",
+        notice: "done",
+    },
+    Case {
+        word: "run",
+        input: "b put k v\n",
+        status: 1,
+        output: "",
+        notice: "line 1: NoActor",
+    },
+    Case {
+        word: "run",
+        input: "actor a 9\n",
+        status: 1,
+        output: "",
+        notice: "line 1: Limit",
+    },
+    Case {
+        word: "run",
+        input: "actor a 0\n# a comment\na dance\n",
+        status: 1,
+        output: "",
+        notice: "line 3: BadCommand",
+    },
+    Case {
+        word: "dance",
+        input: "actor a 0\n",
+        status: 2,
+        output: "",
+        notice: "usage: flux_cli run",
+    },
+    Case {
+        word: "",
+        input: "",
+        status: 2,
+        output: "",
+        notice: "usage: flux_cli run",
+    },
+];
+
+/// A run with one word, over a source and a sink in memory that fail at these calls.
+fn run(
+    alloc: Global,
+    word: &str,
+    input: &str,
+    most: usize,
+    source_fails: &[u64],
+    sink: &mut MemSink,
+) -> Result<Run, Fail>
+    requires { 1 ≤ most }
+{
+    let mut words = Vec::new(alloc);
+    words.push(String::from_str(alloc, word)?)?;
+    let bytes = Vec::from_slice(alloc, input.as_bytes())?;
+    let fails = Vec::from_slice(alloc, source_fails)?;
+    let mut source = MemSource::new(bytes, most, fails);
+    Ok(flux(alloc, &words, &mut source, sink))
+}
+
+#[test]
+fn runs_and_refusals(rt: HostRuntime) -> Result<(), Fail> {
+    let alloc = rt.alloc();
+    for case in &CASES {
+        let mut sink = MemSink::new(alloc, 4096, 4096, Vec::new(alloc))?;
+        let run = run(alloc, case.word, case.input, 4096, &[], &mut sink)?;
+        assert_eq!(rt; run.status, case.status, "{}", case.input);
+        assert_eq!(rt; sink.taken(), case.output.as_bytes(), "{}", case.input);
+        assert_eq!(rt;
+            notice(alloc, &run.fault)?.as_str(),
+            case.notice,
+            "{}",
+            case.input
+        );
+    }
+    Ok(())
+}
+
+#[test]
+fn a_source_and_a_sink_that_fail(rt: HostRuntime) -> Result<(), Fail> {
+    let alloc = rt.alloc();
+    let input = "actor a 0\na put k hello\na commit\na get k\n";
+    let mut sink = MemSink::new(alloc, 4096, 4096, Vec::new(alloc))?;
+    let failed = run(alloc, "run", input, 10, &[1], &mut sink)?;
+    assert_eq!(rt; failed.status, 3);
+    assert_eq!(rt; sink.taken(), b"".as_slice());
+    assert_eq!(rt; notice(alloc, &failed.fault)?.as_str(), "read fault");
+    let mut sink = MemSink::new(alloc, 4096, 5, Vec::from_slice(alloc, &[2])?)?;
+    let failed = run(alloc, "run", input, 4096, &[], &mut sink)?;
+    assert_eq!(rt; failed.status, 5);
+    assert_eq!(rt; sink.taken(), b"staged\ncom".as_slice());
+    assert_eq!(rt; notice(alloc, &failed.fault)?.as_str(), "write fault");
+    Ok(())
+}
