@@ -37,7 +37,7 @@ fn settle(world: &mut World) -> Result<(), CoreFault>
     ensures settled { OnOk result (IsSettled world.new.set world.new.chronicle) }
 {
     for _ in 0..u64::MAX {
-        match world.next() {
+        match world.next(0) {
             Some(step) => world.turn(step)?,
             None => return Ok(()),
         }

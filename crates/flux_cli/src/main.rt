@@ -5,15 +5,19 @@ use flux::{flux, notice};
 use outside::{StdSink, StdSource};
 use std::alloc::AllocError;
 use std::env;
+use std::io::ErrorKind;
 use std::process::ExitCode;
 
-/// The words behind the program's name.
+/// The words behind the program's name. Words that aren't UTF-8 are no command's, and there are none then.
 fn words(rt: &HostRuntime) -> Result<Vec<String>, AllocError> {
     let mut words = Vec::new(rt.alloc());
-    if let Ok(args) = env::args(rt) {
-        for word in args.skip(1) {
-            words.push(word)?;
-        }
+    let args = match env::args(rt) {
+        Ok(args) => args,
+        Err(fault) if fault.kind() == ErrorKind::OutOfMemory => return Err(AllocError),
+        Err(_) => return Ok(words),
+    };
+    for word in args.skip(1) {
+        words.push(word)?;
     }
     Ok(words)
 }
