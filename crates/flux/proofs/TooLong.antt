@@ -1,6 +1,5 @@
 -- A text that goes on past the limit.
-use Rattle.std.proofs.Common.{◌≡◌, ℕ, ◌+◌, ◌<◌, List, length, refl, ap, subst, arith, Some, true, cond, not}
-use Rattle.std.specs.Prelude.{nat_lt}
+use Rattle.std.proofs.Common.{◌≡◌, ℕ, ◌+◌, List, length, ap, arith, Some, cond, not}
 use Rattle.std.proofs.lemmas.Bool.{lt-ltb}
 use Rattle.workload.specs.Limits.{most_text}
 use Rattle.std.specs.Str.{is_utf8}

@@ -1,16 +1,18 @@
 -- What the faults of a run mean.
-use Rattle.std.specs.Prelude.{◌≡◌, ℕ, ◌<◌, List, Option, Some, length, take}
+use Rattle.std.specs.Prelude.{◌≡◌, ℕ, ◌<◌, List, Option, Some, Err, length, take}
 use Rattle.std.specs.Io.KnownBytes.{Consumes, Appends}
 use Rattle.outside.specs.Causes.{Rose}
 use Rattle.workload.specs.Reading.{first_fault}
 use Rattle.flux.specs.declared.call.Fault.{Fault}
 use Rattle.flux.specs.declared.call.Fault.TheVariants as fault
-use Rattle.flux.specs.Runs.{brokers}
+use Rattle.flux.specs.Runs.{AreRunWords, brokers}
+use Rattle.flux_tools.specs.Tools.{answer_to}
 
 -- the status that a run with this fault ends with
 abbrev pub status_of : Fault → ℕ
 status_of fault.Nothing = 0
 status_of (fault.Line f) = 1
+status_of (fault.Tool f) = 1
 status_of fault.Words = 2
 status_of fault.Read = 3
 status_of fault.Memory = 4
@@ -28,3 +30,13 @@ abbrev pub IsTaken : Option (List ℕ) → Option (List ℕ) → ℕ → ℕ →
 IsTaken held later old new output fault.Nothing = Appends held later output
 IsTaken held later old new output (fault.Write n) = (n < length output) × Appends held later (take n output) × Rose old new
 IsTaken held later old new output _ = ⊥
+
+-- a tool refuses the text of its words
+abbrev pub IsToolFault : List (List ℕ) → Fault → Type 0
+IsToolFault words (fault.Tool f) = answer_to words ≡ Some (Err f)
+IsToolFault words _ = ⊥
+
+-- why a command was refused: the text that a run read is no workload's, or a tool refuses the text of its words
+abbrev pub IsRefused : List (List ℕ) → Option (List ℕ) → Option (List ℕ) → Fault → Type 0
+IsRefused words before after (fault.Line f) = AreRunWords words × (text : List ℕ) × Consumes before after text × (first_fault brokers text ≡ Some f)
+IsRefused words before after fault = IsToolFault words fault

@@ -1,5 +1,5 @@
 -- What a run promises.
-use Rattle.std.specs.Prelude.{◌≡◌, ℕ, List, [], ◌∷◌, Option, None, true, false, codes}
+use Rattle.std.specs.Prelude.{◌≡◌, ◌⊎◌, ℕ, List, [], ◌∷◌, Option, Some, None, Ok, true, false, codes}
 use Rattle.std.specs.Io.KnownBytes.{Consumes, IsAtEnd}
 use Rattle.fl_digest.specs.declared.Hash.TheVariants as hash
 use Rattle.workload.specs.declared.work.Workload.{Workload}
@@ -9,11 +9,16 @@ use Rattle.answers.specs.declared.steps.Step.{Step}
 use Rattle.answers.specs.Chronicle.{Setup}
 use Rattle.answers.specs.Headline.{IsTrueRun}
 use Rattle.answers.specs.Stretches.{AreStretches}
+use Rattle.flux_tools.specs.Tools.{AreToolWords, answer_to}
 use Rattle.world.specs.Grant.{default_grant}
 
--- the words of the one command
+-- the words of a run of a workload
+abbrev pub AreRunWords : List (List ℕ) → Type 0
+AreRunWords words = words ≡ codes "run" ∷ []
+
+-- the words of a command: of a run, or of a tool
 abbrev pub AreWords : List (List ℕ) → Type 0
-AreWords words = words ≡ codes "run" ∷ []
+AreWords words = AreRunWords words ⊎ AreToolWords words
 
 -- the brokers of a run
 abbrev pub brokers : ℕ
@@ -38,3 +43,8 @@ pub record HasRun (before after : Option (List ℕ)) (chronicle : List Entry) (s
   pub spelled_so : IsSpelled before after work
   pub true_run : IsTrueRun (setup_of work) true false chronicle output
   pub stretches : AreStretches work steps ends chronicle
+
+-- what a command writes: a run the answers of its one chronicle, a tool the text that it prints
+pub record IsOutput (words : List (List ℕ)) (before after : Option (List ℕ)) (chronicle : List Entry) (steps : List Step) (ends output : List ℕ) : Type 0 where
+  pub run : AreRunWords words → HasRun before after chronicle steps ends output
+  pub tool : AreToolWords words → answer_to words ≡ Some (Ok output)

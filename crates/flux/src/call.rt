@@ -1,13 +1,15 @@
 //! The call that `main` makes.
-ghost use Rattle.std.specs.Prelude.{◌≡◌, ◌≤◌, ◌↔◌, ◌⊎◌, ℕ, map, string_bytes, IsTrue, List};
+ghost use Rattle.std.specs.Prelude.{◌≡◌, ◌≢◌, ◌≤◌, ◌↔◌, ◌⊎◌, ℕ, map, string_bytes, IsTrue, List, Ok, Some};
 ghost use Rattle.outside.specs.Causes.{Rose};
 ghost use Rattle.std.specs.Io.KnownBytes.{Appends};
-ghost use Rattle.flux.specs.Runs.{AreWords, HasRun};
-ghost use Rattle.flux.specs.Faults.{status_of, HasReadCause, IsTaken};
+ghost use Rattle.flux_tools.specs.Tools.{AreToolWords, answer_to};
+ghost use Rattle.flux.specs.Runs.{AreRunWords, AreWords, HasRun, IsOutput};
+ghost use Rattle.flux.specs.Faults.{status_of, HasReadCause, IsRefused, IsTaken, IsToolFault};
 
 use crate::playing::{Played, play};
 use crate::reading::read_work;
 use answers::{Chronicle, Step};
+use flux_tools::{ToolFault, is_tool, tool};
 use lists::ListOf;
 use outside::{Sink, Source, write_all};
 use std::alloc::Global;
@@ -21,6 +23,8 @@ pub enum Fault {
     Words,
     /// The text is no workload's.
     Line(LineFault),
+    /// A tool refuses the text of its words.
+    Tool(ToolFault),
     /// The source failed.
     Read,
     /// There was no memory.
@@ -40,8 +44,8 @@ pub struct Run {
 }
 
 impl Run {
-    /// A run that wrote nothing.
-    fn failed(alloc: Global, fault: Fault) -> Run
+    /// A run that made no step.
+    fn without_steps(alloc: Global, fault: Fault) -> Run
         ensures status { result.status ≡ status_of fault }
         ensures fault { result.fault ≡ fault }
     {
@@ -61,7 +65,7 @@ fn status(fault: &Fault) -> u8
 {
     match fault {
         Fault::Nothing => 0,
-        Fault::Line(_) => 1,
+        Fault::Line(_) | Fault::Tool(_) => 1,
         Fault::Words => 2,
         Fault::Read => 3,
         Fault::Memory => 4,
@@ -69,9 +73,9 @@ fn status(fault: &Fault) -> u8
     }
 }
 
-/// Whether the words are the one command's.
+/// Whether the words are a run's.
 fn is_run(words: &[String]) -> bool
-    ensures { IsTrue result ↔ AreWords (map string_bytes words.now) }
+    ensures { IsTrue result ↔ AreRunWords (map string_bytes words.now) }
 {
     match words {
         [word] => word.as_str() == "run",
@@ -91,39 +95,23 @@ fn tell<K: Sink>(sink: &mut K, output: &[u8]) -> Fault
     }
 }
 
-/// Reads a workload from the source, runs it, and writes its answers to the sink: one line for each command, in the
-/// workload's order. The whole output is made before the first byte is written.
-///
-/// The status is 0 where all went well; 1 exactly where the text is no workload's; 2 exactly where the words are no
-/// command's, and then nothing was read; 3 where the source failed; 4 for want of memory; 5 where the sink failed.
-pub fn flux<S: Source, K: Sink>(
-    alloc: Global,
-    words: &[String],
-    source: &mut S,
-    sink: &mut K,
-) -> Run
+/// Runs the workload that the source spells, and writes its answers.
+fn run_workload<S: Source, K: Sink>(alloc: Global, source: &mut S, sink: &mut K) -> Run
     ensures status { result.status ≡ status_of result.fault }
-    // the headline: what was written prints the one chronicle, which is legal, whole and settled
-    ensures true_run { result.status ≡ 0 → (output : List ℕ) × HasRun (S.left source.old) (S.left source.new) result.chronicle result.steps.items result.ends.items output × Appends (K.held sink.old) (K.held sink.new) output }
-    // a sink that failed took a part of such an output
+    ensures known { result.status ≢ 2 }
+    ensures done { result.status ≡ 0 → (output : List ℕ) × HasRun (S.left source.old) (S.left source.new) result.chronicle result.steps.items result.ends.items output × Appends (K.held sink.old) (K.held sink.new) output }
     ensures cut { result.status ≡ 5 → (output : List ℕ) × HasRun (S.left source.old) (S.left source.new) result.chronicle result.steps.items result.ends.items output × IsTaken (K.held sink.old) (K.held sink.new) (K.faults sink.old) (K.faults sink.new) output result.fault }
-    ensures words { (result.status ≡ 2) ↔ ¬ AreWords (map string_bytes words.now) }
-    ensures unread { result.status ≡ 2 → source.new ≡ source.old }
     ensures refused { result.status ≡ 1 → HasReadCause (S.left source.old) (S.left source.new) (S.faults source.old) (S.faults source.new) result.fault }
     ensures read { result.status ≡ 3 → Rose (S.faults source.old) (S.faults source.new) }
     ensures unwritten { (1 ≤ result.status) → (result.status ≤ 4) → sink.new ≡ sink.old }
-    // completeness: only a refused text, a fault of the source or the sink, or want of memory keep a command from status 0
-    ensures complete { AreWords (map string_bytes words.now) → (Rose (S.faults source.old) (S.faults source.new) → ⊥) → (Rose (K.faults sink.old) (K.faults sink.new) → ⊥) → (result.status ≡ 0) ⊎ (result.status ≡ 1) ⊎ (result.status ≡ 4) }
+    ensures complete { (Rose (S.faults source.old) (S.faults source.new) → ⊥) → (Rose (K.faults sink.old) (K.faults sink.new) → ⊥) → (result.status ≡ 0) ⊎ (result.status ≡ 1) ⊎ (result.status ≡ 4) }
 {
-    if !is_run(words) {
-        return Run::failed(alloc, Fault::Words);
-    }
     let work = match read_work(alloc, source) {
         Ok(work) => work,
-        Err(fault) => return Run::failed(alloc, fault),
+        Err(fault) => return Run::without_steps(alloc, fault),
     };
     let Ok(Played { text, ended }) = play(alloc, work) else {
-        return Run::failed(alloc, Fault::Memory);
+        return Run::without_steps(alloc, Fault::Memory);
     };
     let fault = tell(sink, &text);
     Run {
@@ -133,4 +121,58 @@ pub fn flux<S: Source, K: Sink>(
         ends: ended.ends,
         chronicle: ended.chronicle,
     }
+}
+
+/// Writes what a tool prints of the text of its words.
+fn run_tool<K: Sink>(alloc: Global, words: &[String], sink: &mut K) -> Run
+    requires { AreToolWords (map string_bytes words.now) }
+    ensures status { result.status ≡ status_of result.fault }
+    ensures known { (result.status ≢ 2) × (result.status ≢ 3) }
+    ensures done { result.status ≡ 0 → (output : List ℕ) × (answer_to (map string_bytes words.now) ≡ Some (Ok output)) × Appends (K.held sink.old) (K.held sink.new) output }
+    ensures cut { result.status ≡ 5 → (output : List ℕ) × (answer_to (map string_bytes words.now) ≡ Some (Ok output)) × IsTaken (K.held sink.old) (K.held sink.new) (K.faults sink.old) (K.faults sink.new) output result.fault }
+    ensures refused { result.status ≡ 1 → IsToolFault (map string_bytes words.now) result.fault }
+    ensures unwritten { (1 ≤ result.status) → (result.status ≤ 4) → sink.new ≡ sink.old }
+    ensures complete { (Rose (K.faults sink.old) (K.faults sink.new) → ⊥) → (result.status ≡ 0) ⊎ (result.status ≡ 1) ⊎ (result.status ≡ 4) }
+{
+    let line = match tool(alloc, words) {
+        Ok(line) => line,
+        Err(ToolFault::NoMemory) => return Run::without_steps(alloc, Fault::Memory),
+        Err(fault) => return Run::without_steps(alloc, Fault::Tool(fault)),
+    };
+    Run::without_steps(alloc, tell(sink, &line))
+}
+
+/// Carries out the command of the words. `run` reads a workload from the source, runs it, and writes its answers to the
+/// sink: one line for each command, in the workload's order. A tool (`idset`, `hostlist`, `fluid`) writes one line, what
+/// it prints of the text in the words, and the source isn't read. The whole output is made before the first byte is
+/// written.
+///
+/// The status is 0 where all went well; 1 exactly where the text is refused; 2 exactly where the words are no
+/// command's, and then nothing was read; 3 where the source failed; 4 for want of memory; 5 where the sink failed.
+pub fn flux<S: Source, K: Sink>(
+    alloc: Global,
+    words: &[String],
+    source: &mut S,
+    sink: &mut K,
+) -> Run
+    ensures status { result.status ≡ status_of result.fault }
+    // the headline: what was written prints the one chronicle, which is legal, whole and settled, or is a tool's line
+    ensures true_run { result.status ≡ 0 → (output : List ℕ) × IsOutput (map string_bytes words.now) (S.left source.old) (S.left source.new) result.chronicle result.steps.items result.ends.items output × Appends (K.held sink.old) (K.held sink.new) output }
+    // a sink that failed took a part of such an output
+    ensures cut { result.status ≡ 5 → (output : List ℕ) × IsOutput (map string_bytes words.now) (S.left source.old) (S.left source.new) result.chronicle result.steps.items result.ends.items output × IsTaken (K.held sink.old) (K.held sink.new) (K.faults sink.old) (K.faults sink.new) output result.fault }
+    ensures words { (result.status ≡ 2) ↔ ¬ AreWords (map string_bytes words.now) }
+    ensures unread { ¬ AreRunWords (map string_bytes words.now) → source.new ≡ source.old }
+    ensures refused { result.status ≡ 1 → IsRefused (map string_bytes words.now) (S.left source.old) (S.left source.new) result.fault }
+    ensures read { result.status ≡ 3 → Rose (S.faults source.old) (S.faults source.new) }
+    ensures unwritten { (1 ≤ result.status) → (result.status ≤ 4) → sink.new ≡ sink.old }
+    // completeness: only a refused text, a fault of the source or the sink, or want of memory keep a command from status 0
+    ensures complete { AreWords (map string_bytes words.now) → (Rose (S.faults source.old) (S.faults source.new) → ⊥) → (Rose (K.faults sink.old) (K.faults sink.new) → ⊥) → (result.status ≡ 0) ⊎ (result.status ≡ 1) ⊎ (result.status ≡ 4) }
+{
+    if is_run(words) {
+        return run_workload(alloc, source, sink);
+    }
+    if is_tool(words) {
+        return run_tool(alloc, words, sink);
+    }
+    Run::without_steps(alloc, Fault::Words)
 }

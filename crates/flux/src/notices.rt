@@ -7,8 +7,9 @@ use std::alloc::{AllocError, Global};
 pub fn notice(alloc: Global, fault: &Fault) -> Result<String, AllocError> {
     match fault {
         Fault::Nothing => format!(in alloc; "done"),
-        Fault::Words => format!(in alloc; "usage: flux_cli run"),
+        Fault::Words => format!(in alloc; "usage: flux_cli run|idset|hostlist|fluid"),
         Fault::Line(fault) => format!(in alloc; "{fault}"),
+        Fault::Tool(fault) => format!(in alloc; "{fault}"),
         Fault::Read => format!(in alloc; "read fault"),
         Fault::Memory => format!(in alloc; "no memory"),
         Fault::Write { .. } => format!(in alloc; "write fault"),

@@ -8,118 +8,181 @@ use std::test::Fail;
 
 /// An input with its words, and the status, the output and the notice that it is to come to.
 struct Case {
-    word: &'static str,
+    words: &'static [&'static str],
     input: &'static str,
     status: u8,
     output: &'static str,
     notice: &'static str,
 }
 
-const CASES: [Case; 14] = [
+const CASES: [Case; 23] = [
     Case {
-        word: "run",
+        words: &["run"],
         input: "",
         status: 0,
         output: "",
         notice: "done",
     },
     Case {
-        word: "run",
+        words: &["run"],
         input: "actor a 0\na put k hello\na commit\na get k\n",
         status: 0,
         output: "staged\ncommitted 1\nvalue 1 hello\n",
         notice: "done",
     },
     Case {
-        word: "run",
+        words: &["run"],
         input: "actor a 1\nactor b 3\na put k x\na commit\nb get k\n",
         status: 0,
         output: "staged\ncommitted 1\nvalue 1 x\n",
         notice: "done",
     },
     Case {
-        word: "run",
+        words: &["run"],
         input: "actor a 0\na put a.b 1\na put a.b.c 2\na commit\na get a.b\na get a.b.c\na get a.b.c.d\n",
         status: 0,
         output: "staged\nstaged\ncommitted 1\nIsDir 1\nvalue 1 2\nNotDir 1\n",
         notice: "done",
     },
     Case {
-        word: "run",
+        words: &["run"],
         input: "actor a 0\na put .a..b. x\na put . x\na commit\na get a.b\na put .a..b. x\na commit\na get a.b\n",
         status: 0,
         output: "staged\nstaged\nrefused 2 RootOp\nNotFound 0\nstaged\ncommitted 1\nvalue 1 x\n",
         notice: "done",
     },
     Case {
-        word: "run",
+        words: &["run"],
         input: "actor a 3\na put job.x y\na commit\na get job.x\n",
         status: 0,
         output: "staged\nrefused 1 Reserved\nNotFound 0\n",
         notice: "done",
     },
     Case {
-        word: "run",
+        words: &["run"],
         input: "actor a 0\na get resource.R\n",
         status: 0,
         output: "value 0 {\"execution\":{\"R_lite\":[{\"children\":{\"core\":\"0-3\"},\"rank\":\"0-3\"}],\"expiration\":0,\"nodelist\":[\"node[0-3]\"],\"starttime\":0},\"version\":1}\n",
         notice: "done",
     },
     Case {
-        word: "run",
+        words: &["run"],
         input: "actor a 0\na put k he",
         status: 0,
         output: "staged\n",
         notice: "done",
     },
     Case {
-        word: "run",
+        words: &["run"],
         input: "actor a 0\na put k a\\b\na commit\na get k\n",
         status: 0,
         output: "staged\ncommitted 1\nvalue 1 a\\\\b\n",
         notice: "done",
     },
     Case {
-        word: "run",
+        words: &["run"],
         input: "b put k v\n",
         status: 1,
         output: "",
         notice: "line 1: NoActor",
     },
     Case {
-        word: "run",
+        words: &["run"],
         input: "actor a 9\n",
         status: 1,
         output: "",
         notice: "line 1: Limit",
     },
     Case {
-        word: "run",
+        words: &["run"],
         input: "actor a 0\n# a comment\na dance\n",
         status: 1,
         output: "",
         notice: "line 3: BadCommand",
     },
     Case {
-        word: "dance",
+        words: &["dance"],
         input: "actor a 0\n",
         status: 2,
         output: "",
-        notice: "usage: flux_cli run",
+        notice: "usage: flux_cli run|idset|hostlist|fluid",
     },
     Case {
-        word: "",
+        words: &[""],
         input: "",
         status: 2,
         output: "",
-        notice: "usage: flux_cli run",
+        notice: "usage: flux_cli run|idset|hostlist|fluid",
+    },
+    Case {
+        words: &[],
+        input: "",
+        status: 2,
+        output: "",
+        notice: "usage: flux_cli run|idset|hostlist|fluid",
+    },
+    Case {
+        words: &["idset", "1", "2"],
+        input: "",
+        status: 2,
+        output: "",
+        notice: "usage: flux_cli run|idset|hostlist|fluid",
+    },
+    Case {
+        words: &["idset", "[7,1-3,2]"],
+        input: "not read",
+        status: 0,
+        output: "1-3,7\n",
+        notice: "done",
+    },
+    Case {
+        words: &["idset", ""],
+        input: "",
+        status: 0,
+        output: "\n",
+        notice: "done",
+    },
+    Case {
+        words: &["idset", "5-1"],
+        input: "",
+        status: 1,
+        output: "",
+        notice: "Backwards at 0",
+    },
+    Case {
+        words: &["hostlist", "n9,n10"],
+        input: "",
+        status: 0,
+        output: "n[9-10]\n",
+        notice: "done",
+    },
+    Case {
+        words: &["hostlist", "n[1-2]b"],
+        input: "",
+        status: 1,
+        output: "",
+        notice: "BadText at 6",
+    },
+    Case {
+        words: &["fluid", "\u{192}NH"],
+        input: "",
+        status: 0,
+        output: "fNH 0000.0000.0000.04d2 1234\n",
+        notice: "done",
+    },
+    Case {
+        words: &["fluid", "18446744073709551616"],
+        input: "",
+        status: 1,
+        output: "",
+        notice: "TooLarge",
     },
 ];
 
-/// A run with one word, over a source and a sink in memory that fail at these calls.
+/// A run with these words, over a source and a sink in memory that fail at these calls.
 fn run(
     alloc: Global,
-    word: &str,
+    words: &[&str],
     input: &str,
     most: usize,
     source_fails: &[u64],
@@ -127,12 +190,14 @@ fn run(
 ) -> Result<Run, Fail>
     requires { 1 ≤ most }
 {
-    let mut words = Vec::new(alloc);
-    words.push(String::from_str(alloc, word)?)?;
+    let mut strings = Vec::new(alloc);
+    for word in words {
+        strings.push(String::from_str(alloc, word)?)?;
+    }
     let bytes = Vec::from_slice(alloc, input.as_bytes())?;
     let fails = Vec::from_slice(alloc, source_fails)?;
     let mut source = MemSource::new(bytes, most, fails);
-    Ok(flux(alloc, &words, &mut source, sink))
+    Ok(flux(alloc, &strings, &mut source, sink))
 }
 
 #[test]
@@ -140,7 +205,7 @@ fn runs_and_refusals(rt: HostRuntime) -> Result<(), Fail> {
     let alloc = rt.alloc();
     for case in &CASES {
         let mut sink = MemSink::new(alloc, 4096, 4096, Vec::new(alloc))?;
-        let run = run(alloc, case.word, case.input, 4096, &[], &mut sink)?;
+        let run = run(alloc, case.words, case.input, 4096, &[], &mut sink)?;
         assert_eq!(rt; run.status, case.status, "{}", case.input);
         assert_eq!(rt; sink.taken(), case.output.as_bytes(), "{}", case.input);
         assert_eq!(rt;
@@ -158,12 +223,12 @@ fn a_source_and_a_sink_that_fail(rt: HostRuntime) -> Result<(), Fail> {
     let alloc = rt.alloc();
     let input = "actor a 0\na put k hello\na commit\na get k\n";
     let mut sink = MemSink::new(alloc, 4096, 4096, Vec::new(alloc))?;
-    let failed = run(alloc, "run", input, 10, &[1], &mut sink)?;
+    let failed = run(alloc, &["run"], input, 10, &[1], &mut sink)?;
     assert_eq!(rt; failed.status, 3);
     assert_eq!(rt; sink.taken(), b"".as_slice());
     assert_eq!(rt; notice(alloc, &failed.fault)?.as_str(), "read fault");
     let mut sink = MemSink::new(alloc, 4096, 5, Vec::from_slice(alloc, &[2])?)?;
-    let failed = run(alloc, "run", input, 4096, &[], &mut sink)?;
+    let failed = run(alloc, &["run"], input, 4096, &[], &mut sink)?;
     assert_eq!(rt; failed.status, 5);
     assert_eq!(rt; sink.taken(), b"staged\ncom".as_slice());
     assert_eq!(rt; notice(alloc, &failed.fault)?.as_str(), "write fault");

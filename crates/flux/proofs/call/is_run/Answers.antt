@@ -1,4 +1,4 @@
-use Rattle.std.proofs.Common.{◌≡◌, ℕ, List, [], ◌∷◌, ◌↔◌, length, map, get_or, refl, ap, codes, string_bytes, rules, arith, suc, zero, IsTrue, ◌∙◌, sym}
+use Rattle.std.proofs.Common.{◌≡◌, ℕ, List, [], ◌∷◌, ◌↔◌, length, map, get_or, ap, codes, string_bytes, rules, arith, IsTrue, ◌∙◌, sym}
 use Rattle.flux.proofs.call.is_run.Goals as goal
 
 one : {X : Type 0} (f : X → List ℕ) (xs : List X) (x : X) (t : List ℕ) → length xs ≡ 1 → x ≡ get_or xs 0 x → (map f xs ≡ t ∷ []) ↔ (f x ≡ t)
