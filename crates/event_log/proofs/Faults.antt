@@ -1,7 +1,9 @@
 -- Faults that are handed on.
-use Rattle.std.proofs.Common.{◌≡◌, ℕ, List, true, false, refl, sym, ap, subst}
+use Rattle.std.proofs.Common.{◌≡◌, ◌<◌, ℕ, List, true, false, refl, sym, ap, subst}
 use Rattle.std.specs.Prelude.{Result, Ok, Err, IsErrAnd, is_some}
-use Rattle.serde_json.specs.Data.{Data}
+use Rattle.std.specs.Str.{IsUtf8}
+use Rattle.serde_json.specs.Data.{Data, depth}
+use Rattle.serde_json.specs.Read.{max_depth}
 use Rattle.serde_json.specs.Data as json
 use Rattle.serde_json.specs.Find.{as_object}
 use Rattle.serde_json.specs.Written.{compact_text}
@@ -50,10 +52,10 @@ no_object_text (json.array ds) h = refl
 no_object_text (json.object ms) h = cc
 
 -- the text of a valid object
-pub is_object_text : (d : Data) (t : List ℕ) → is_some (as_object d) ≡ true → IsValid d → t ≡ compact_text d → IsObjectText t
-is_object_text json.null t h v e = cc
-is_object_text (json.boolean b) t h v e = cc
-is_object_text (json.number n) t h v e = cc
-is_object_text (json.string s) t h v e = cc
-is_object_text (json.array ds) t h v e = cc
-is_object_text (json.object ms) t h v e = record { members = ms; valid = v; is = e }
+pub is_object_text : (d : Data) (t : List ℕ) → is_some (as_object d) ≡ true → IsValid d → t ≡ compact_text d → IsUtf8 t → depth d < max_depth → IsObjectText t
+is_object_text json.null t h v e u n = cc
+is_object_text (json.boolean b) t h v e u n = cc
+is_object_text (json.number k) t h v e u n = cc
+is_object_text (json.string s) t h v e u n = cc
+is_object_text (json.array ds) t h v e u n = cc
+is_object_text (json.object ms) t h v e u n = record { members = ms; valid = v; is = e; utf8 = u; nests = n }

@@ -1,2 +1,4 @@
 pub mod Faults
+pub mod JsonTexts
 pub mod Lines
+pub mod ReadAgain

@@ -1,11 +1,12 @@
 -- The event that a JSON value tells, and the text of an event (Flux RFC 18).
-use Rattle.std.specs.Prelude.{◌≡◌, ◌||◌, ◌==◌, ◌<◌, ℕ, List, [], ◌∷◌, ◌++◌, Bool, true, not, Option, Some, None, Result, Ok, Err, codes, decimal, length, if◌then◌else◌, IfSome}
+use Rattle.std.specs.Prelude.{◌≡◌, ◌||◌, ◌==◌, ◌<◌, ◌^◌, ℕ, List, [], ◌∷◌, ◌++◌, Bool, true, not, Option, Some, None, Result, Ok, Err, codes, decimal, length, if◌then◌else◌, IfSome}
 use Rattle.std.specs.List.{list_all}
-use Rattle.std.specs.Str.{bytes_eq}
+use Rattle.std.specs.Str.{bytes_eq, IsUtf8}
 use Rattle.json.specs.Print.{quoted}
-use Rattle.serde_json.specs.Data.{Data, Members}
+use Rattle.serde_json.specs.Data.{Data, Members, depth}
 use Rattle.serde_json.specs.Data as json
 use Rattle.serde_json.specs.Find.{as_str}
+use Rattle.serde_json.specs.Read.{max_depth}
 use Rattle.serde_json.specs.Written.{compact_text}
 use Rattle.fl_json.specs.Reading.{reading, field_as, as_any, as_natural}
 use Rattle.fl_json.specs.Valid.{HaveValid}
@@ -90,13 +91,17 @@ context_text (Some context) = codes "\"context\":" ++ context ++ codes ","
 abbrev pub line_text : Event → List ℕ
 line_text event = codes "{" ++ context_text event.context ++ codes "\"name\":" ++ quoted event.name ++ codes ",\"timestamp\":" ++ decimal event.timestamp ++ (codes "}" ++ 10 ∷ [])
 
--- the canonical text of an object
+-- the canonical text of an object, which nests less deep than what is read
 pub record IsObjectText (text : List ℕ) : Type 0 where
   pub members : Members
   pub valid : HaveValid members
   pub is : text ≡ compact_text (json.object members)
+  pub utf8 : IsUtf8 text
+  pub nests : depth (json.object members) < max_depth
 
 -- an event that a log can tell
 pub record IsEvent (event : Event) : Type 0 where
+  pub timed : event.timestamp < 2 ^ 64
   pub named : 0 < length event.name
+  pub utf8 : IsUtf8 event.name
   pub context : IfSome event.context IsObjectText

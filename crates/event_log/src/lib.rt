@@ -9,4 +9,4 @@ pub mod writing;
 
 pub use event::{Event, LogFault};
 pub use reading::read;
-pub use writing::{a_line_adds_an_event, line};
+pub use writing::{a_line_adds_an_event, a_log_is_read_again, line};

@@ -1,6 +1,8 @@
-ghost use Rattle.std.specs.Prelude.{◌≡◌, ◌≤◌, ◌<◌, IfOk, IfSome, All, Ok, length, not, string_bytes, ◌==◌};
+ghost use Rattle.std.specs.Prelude.{◌≡◌, ◌≤◌, ◌<◌, IfOk, IfSome, All, Ok, length, not, string_bytes, ◌==◌, IsUtf8};
 ghost use Rattle.std.specs.List.{list_all, prefix_len};
 ghost use Rattle.std.specs.BTreeMap.{keys};
+ghost use Rattle.serde_json.specs.Data.{depth};
+ghost use Rattle.serde_json.specs.Read.{max_depth};
 ghost use Rattle.serde_json.specs.View.{view};
 ghost use Rattle.fl_json.specs.Reading.{Gives as GivesJson, Finds};
 ghost use Rattle.fl_json.specs.Valid.{IsValid};
@@ -8,7 +10,7 @@ ghost use Rattle.event_log.specs.Events.{IsEvent, IsObjectText, event_of, told, 
 ghost use Rattle.event_log.specs.Logs.{Gives, log_reading, line_fault};
 
 use crate::event::{Event, LogFault};
-use fl_json::{JsonFault, Value, field, number, text, word};
+use fl_json::{JsonFault, Value, field, number, word};
 use lists::Bytes;
 use serde_json::Map;
 use std::alloc::Global;
@@ -17,6 +19,7 @@ use std::alloc::Global;
 fn name_in(value: &Value) -> Result<&str, JsonFault>
     ensures found { Finds (λ s. s.now) result (name_of (view value.now)) }
     ensures some { IfOk result (λ s. 0 < length s.now) }
+    ensures utf8 { IfOk result (λ s. IsUtf8 s.now) }
 {
     let name = word(value, "name")?;
     if name.is_empty() {
@@ -27,12 +30,13 @@ fn name_in(value: &Value) -> Result<&str, JsonFault>
 
 /// The canonical text of the context in an event's value.
 fn context_in(alloc: Global, value: &Value) -> Result<Option<Bytes>, JsonFault>
-    requires { IsValid (view value.now) }
+    requires valid { IsValid (view value.now) }
+    requires nests { depth (view value.now) ≤ max_depth }
     ensures found { GivesJson (λ c. c) result (context_of (view value.now)) }
     ensures object { IfOk result (λ c. IfSome c IsObjectText) }
 {
     match field(value, "context") {
-        Ok(context) if context.is_object() => Ok(Some(Bytes::from_vec(text(alloc, context)?))),
+        Ok(context) if context.is_object() => Ok(Some(Bytes::from_vec(context.to_vec(alloc)?))),
         Ok(_) => Err(JsonFault::WrongKind),
         Err(JsonFault::Missing) => Ok(None),
         Err(fault) => Err(fault),
@@ -66,7 +70,8 @@ fn has_known_keys(value: &Value) -> bool
 /// The event that a value tells.
 #[tactic(auto, unfolding(crate::specs::Events::event_of))]
 fn event_in(alloc: Global, value: &Value) -> Result<Event, JsonFault>
-    requires { IsValid (view value.now) }
+    requires valid { IsValid (view value.now) }
+    requires nests { depth (view value.now) ≤ max_depth }
     ensures found { GivesJson (λ e. e) result (event_of (view value.now)) }
     ensures valid { IfOk result IsEvent }
 {

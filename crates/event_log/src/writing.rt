@@ -1,10 +1,9 @@
-ghost use Rattle.std.specs.Prelude.{◌≡◌, ◌++◌, ◌∷◌, [], IfOk, OnOk, codes};
-ghost use Rattle.std.specs.Prelude.{◌<◌};
+ghost use Rattle.std.specs.Prelude.{◌≡◌, ◌<◌, ◌++◌, ◌∷◌, [], All, IfOk, OnOk, Ok, codes};
 ghost use Rattle.std.specs.Char.{digit_char};
 ghost use Rattle.json.specs.Print.{escape_letter, escape_byte, escape, quoted};
 ghost use Rattle.std.specs.Prelude.{List};
-ghost use Rattle.event_log.specs.Events.{context_text, line_text};
-ghost use Rattle.event_log.specs.Logs.{log_text};
+ghost use Rattle.event_log.specs.Events.{IsEvent, context_text, line_text};
+ghost use Rattle.event_log.specs.Logs.{log_reading, log_text};
 ghost use Rattle.event_log.specs.declared.event.Event.{Event};
 
 use crate::event::Event;
@@ -93,7 +92,9 @@ fn add_context(out: &mut Vec<u8>, context: &Option<Bytes>) -> Result<(), AllocEr
 
 /// The line of an event, with its newline: compact JSON with the keys in their order.
 pub fn line(alloc: Global, event: &Event) -> Result<Vec<u8>, AllocError>
-    ensures { IfOk result (λ t. t.items ≡ line_text event.now) }
+    ensures text { IfOk result (λ t. t.items ≡ line_text event.now) }
+    // What is written of an event of a log is read again as that event.
+    ensures reads_back { IfOk result (λ t. IsEvent event.now → log_reading t.items ≡ Ok (event.now ∷ [])) }
 {
     let mut out = Vec::new(alloc);
     out.extend_from_slice(b"{")?;
@@ -110,4 +111,9 @@ pub fn line(alloc: Global, event: &Event) -> Result<Vec<u8>, AllocError>
 pub fn a_line_adds_an_event()
     ensures { (events : List Event) (event : Event)
         → log_text (events ++ event ∷ []) ≡ log_text events ++ line_text event }
+{}
+
+/// The text of a log is read again as its events.
+pub fn a_log_is_read_again()
+    ensures { (events : List Event) → All IsEvent events → log_reading (log_text events) ≡ Ok events }
 {}
