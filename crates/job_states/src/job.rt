@@ -1,0 +1,101 @@
+ghost use Rattle.std.specs.Prelude.{◌≡◌};
+ghost use Rattle.job_states.specs.declared.job.ReplayFault.TheVariants.{NoMemory};
+
+use lists::{Bytes, ListOf};
+use std::alloc::AllocError;
+use std::fmt;
+use thiserror::Error;
+
+/// The states of a job, in their usual order.
+#[derive(Clone, Copy, Debug, PartialEq, Eq)]
+pub enum State {
+    New,
+    Depend,
+    Priority,
+    Sched,
+    Run,
+    Cleanup,
+    Inactive,
+}
+
+impl fmt::Display for State {
+    ghost use Rattle.std.specs.Prelude.{Some};
+    ghost use Rattle.job_states.specs.Names.{state_name};
+
+    ghost output = { λ s. Some (state_name s) };
+
+    fn fmt<W: fmt::Write>(&self, f: &mut fmt::Formatter<W>) -> fmt::Result {
+        f.write_str(match self {
+            State::New => "NEW",
+            State::Depend => "DEPEND",
+            State::Priority => "PRIORITY",
+            State::Sched => "SCHED",
+            State::Run => "RUN",
+            State::Cleanup => "CLEANUP",
+            State::Inactive => "INACTIVE",
+        })
+    }
+}
+
+/// The descriptions of dependencies.
+pub type DependList = ListOf<Bytes>;
+
+/// What the log of a job says of it.
+#[derive(Drop)]
+pub struct Job {
+    pub state: State,
+    pub userid: u32,
+    /// From 0 to 31.
+    pub urgency: u32,
+    pub priority: Option<u32>,
+    /// The wait status of its command.
+    pub status: Option<u64>,
+    /// Whether there was an exception of severity 0.
+    pub severe: bool,
+    pub allocated: bool,
+    pub started: bool,
+    /// Whether all its resources are released.
+    pub released: bool,
+    pub freed: bool,
+    /// The dependencies that were added, and those that were removed.
+    pub added: DependList,
+    pub removed: DependList,
+}
+
+/// An event with those parts of its context that it needs.
+#[derive(Drop)]
+pub enum Change {
+    Submit { userid: u32, urgency: u32 },
+    Validate,
+    AddDependency(Bytes),
+    RemoveDependency(Bytes),
+    Depend,
+    Prioritize(u32),
+    Urge(u32),
+    Alloc,
+    Restart,
+    Start,
+    Finish(u64),
+    Except(u32),
+    Release { last: bool },
+    Free,
+    Clean,
+}
+
+/// Why a log tells no job.
+#[derive(Clone, Copy, Debug, PartialEq, Eq, Error)]
+pub enum ReplayFault {
+    #[error("out of memory")]
+    NoMemory,
+    /// The event at this place, counted from 0, may not stand in this state; before the first event there is none.
+    #[error("event {index} is not allowed in {state:?}")]
+    NotAllowed { index: u64, state: Option<State> },
+}
+
+impl From<AllocError> for ReplayFault {
+    ghost from_gives = { λ _ e. e ≡ NoMemory };
+
+    fn from(_: AllocError) -> Self {
+        ReplayFault::NoMemory
+    }
+}
