@@ -1,0 +1,8 @@
+pub mod Fields
+pub mod Numbers
+pub mod Resources
+pub mod Works
+pub mod Limits
+pub mod Specs
+pub mod Sound
+pub mod Seen

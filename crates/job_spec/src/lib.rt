@@ -1,0 +1,16 @@
+//! Jobspecs, version 1 (Flux RFC 14 and 25): what a job asks for, and its text.
+#![tactic(auto)]
+
+pub mod faults;
+mod fields;
+mod limits;
+pub mod reading;
+mod resources;
+pub mod spec;
+#[cfg(test)]
+mod tests;
+mod works;
+
+pub use faults::{Place, SpecFault};
+pub use reading::read;
+pub use spec::{Depend, JobSpec, Needs, Scheme, Tasks, WordList};
