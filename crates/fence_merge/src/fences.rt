@@ -26,11 +26,11 @@ struct OpenFence {
 type Table = IndexMap<Vec<u8>, OpenFence>;
 
 /// Forgets the oldest fence.
-fn forget_oldest(open: &mut Table)
-    ensures rest { open.new.entries ≡ drop 1 open.old.entries }
-    ensures apart { IsDistinct (λ a b. bytes_eq a.items b.items) (keys open.new) }
+fn forget_oldest(table: &mut Table)
+    ensures rest { table.new.entries ≡ drop 1 table.old.entries }
+    ensures apart { IsDistinct (λ a b. bytes_eq a.items b.items) (keys table.new) }
 {
-    open.shift_remove_index(0);
+    table.shift_remove_index(0);
 }
 
 /// The open fences with their names, which contracts see as a list of pairs, the oldest first.
