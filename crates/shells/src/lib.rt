@@ -1,0 +1,10 @@
+//! Simulated commands: when and how the command of a started job ends.
+#![tactic(auto)]
+
+pub mod commands;
+pub mod ends;
+#[cfg(test)]
+mod tests;
+
+pub use commands::ending;
+pub use ends::Ending;
