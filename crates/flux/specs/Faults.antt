@@ -6,7 +6,7 @@ use Rattle.workload.specs.Reading.{first_fault}
 use Rattle.flux.specs.declared.call.Fault.{Fault}
 use Rattle.flux.specs.declared.call.Fault.TheVariants as fault
 use Rattle.flux.specs.Runs.{AreRunWords, brokers}
-use Rattle.flux_tools.specs.Tools.{answer_to}
+use Rattle.flux_tools.specs.Tools.{IsRefused as RefusesTool}
 
 -- the status that a run with this fault ends with
 abbrev pub status_of : Fault → ℕ
@@ -31,12 +31,12 @@ IsTaken held later old new output fault.Nothing = Appends held later output
 IsTaken held later old new output (fault.Write n) = (n < length output) × Appends held later (take n output) × Rose old new
 IsTaken held later old new output _ = ⊥
 
--- a tool refuses the text of its words
-abbrev pub IsToolFault : List (List ℕ) → Fault → Type 0
-IsToolFault words (fault.Tool f) = answer_to words ≡ Some (Err f)
-IsToolFault words _ = ⊥
+-- a tool refuses the text that it is given
+abbrev pub IsToolFault : List (List ℕ) → Option (List ℕ) → Option (List ℕ) → Fault → Type 0
+IsToolFault words before after (fault.Tool f) = RefusesTool words before after f
+IsToolFault words before after _ = ⊥
 
--- why a command was refused: the text that a run read is no workload's, or a tool refuses the text of its words
+-- why a command was refused: the text that a run read is no workload's, or a tool refuses the text that it is given
 abbrev pub IsRefused : List (List ℕ) → Option (List ℕ) → Option (List ℕ) → Fault → Type 0
 IsRefused words before after (fault.Line f) = AreRunWords words × (text : List ℕ) × Consumes before after text × (first_fault brokers text ≡ Some f)
-IsRefused words before after fault = IsToolFault words fault
+IsRefused words before after fault = IsToolFault words before after fault

@@ -9,7 +9,7 @@ use Rattle.answers.specs.declared.steps.Step.{Step}
 use Rattle.answers.specs.Chronicle.{Setup}
 use Rattle.answers.specs.Headline.{IsTrueRun}
 use Rattle.answers.specs.Stretches.{AreStretches}
-use Rattle.flux_tools.specs.Tools.{AreToolWords, answer_to}
+use Rattle.flux_tools.specs.Tools.{AreToolWords, HasAnswer}
 use Rattle.world.specs.Grant.{default_grant}
 
 -- the words of a run of a workload
@@ -47,4 +47,4 @@ pub record HasRun (before after : Option (List ℕ)) (chronicle : List Entry) (s
 -- what a command writes: a run the answers of its one chronicle, a tool the text that it prints
 pub record IsOutput (words : List (List ℕ)) (before after : Option (List ℕ)) (chronicle : List Entry) (steps : List Step) (ends output : List ℕ) : Type 0 where
   pub run : AreRunWords words → HasRun before after chronicle steps ends output
-  pub tool : AreToolWords words → answer_to words ≡ Some (Ok output)
+  pub tool : AreToolWords words → HasAnswer words before after (Ok output)

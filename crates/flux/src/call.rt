@@ -2,7 +2,7 @@
 ghost use Rattle.std.specs.Prelude.{◌≡◌, ◌≢◌, ◌≤◌, ◌↔◌, ◌⊎◌, ℕ, map, string_bytes, IsTrue, List, Ok, Some};
 ghost use Rattle.outside.specs.Causes.{Rose};
 ghost use Rattle.std.specs.Io.KnownBytes.{Appends};
-ghost use Rattle.flux_tools.specs.Tools.{AreToolWords, answer_to};
+ghost use Rattle.flux_tools.specs.Tools.{AreReaderWords, AreToolWords, HasAnswer};
 ghost use Rattle.flux.specs.Runs.{AreRunWords, AreWords, HasRun, IsOutput};
 ghost use Rattle.flux.specs.Faults.{status_of, HasReadCause, IsRefused, IsTaken, IsToolFault};
 
@@ -11,7 +11,7 @@ use crate::reading::read_work;
 use answers::{Chronicle, Step};
 use flux_tools::{ToolFault, is_tool, tool};
 use lists::ListOf;
-use outside::{Sink, Source, write_all};
+use outside::{ReadFault, Sink, Source, write_all};
 use std::alloc::Global;
 use workload::LineFault;
 
@@ -23,7 +23,7 @@ pub enum Fault {
     Words,
     /// The text is no workload's.
     Line(LineFault),
-    /// A tool refuses the text of its words.
+    /// A tool refuses the text that it is given.
     Tool(ToolFault),
     /// The source failed.
     Read,
@@ -123,29 +123,37 @@ fn run_workload<S: Source, K: Sink>(alloc: Global, source: &mut S, sink: &mut K)
     }
 }
 
-/// Writes what a tool prints of the text of its words.
-fn run_tool<K: Sink>(alloc: Global, words: &[String], sink: &mut K) -> Run
+/// Writes what a tool prints of the text that it is given.
+fn run_tool<S: Source, K: Sink>(
+    alloc: Global,
+    words: &[String],
+    source: &mut S,
+    sink: &mut K,
+) -> Run
     requires { AreToolWords (map string_bytes words.now) }
     ensures status { result.status ≡ status_of result.fault }
-    ensures known { (result.status ≢ 2) × (result.status ≢ 3) }
-    ensures done { result.status ≡ 0 → (output : List ℕ) × (answer_to (map string_bytes words.now) ≡ Some (Ok output)) × Appends (K.held sink.old) (K.held sink.new) output }
-    ensures cut { result.status ≡ 5 → (output : List ℕ) × (answer_to (map string_bytes words.now) ≡ Some (Ok output)) × IsTaken (K.held sink.old) (K.held sink.new) (K.faults sink.old) (K.faults sink.new) output result.fault }
-    ensures refused { result.status ≡ 1 → IsToolFault (map string_bytes words.now) result.fault }
+    ensures known { result.status ≢ 2 }
+    ensures done { result.status ≡ 0 → (output : List ℕ) × HasAnswer (map string_bytes words.now) (S.left source.old) (S.left source.new) (Ok output) × Appends (K.held sink.old) (K.held sink.new) output }
+    ensures cut { result.status ≡ 5 → (output : List ℕ) × HasAnswer (map string_bytes words.now) (S.left source.old) (S.left source.new) (Ok output) × IsTaken (K.held sink.old) (K.held sink.new) (K.faults sink.old) (K.faults sink.new) output result.fault }
+    ensures unread { ¬ AreReaderWords (map string_bytes words.now) → source.new ≡ source.old }
+    ensures refused { result.status ≡ 1 → IsToolFault (map string_bytes words.now) (S.left source.old) (S.left source.new) result.fault }
+    ensures read { result.status ≡ 3 → Rose (S.faults source.old) (S.faults source.new) }
     ensures unwritten { (1 ≤ result.status) → (result.status ≤ 4) → sink.new ≡ sink.old }
-    ensures complete { (Rose (K.faults sink.old) (K.faults sink.new) → ⊥) → (result.status ≡ 0) ⊎ (result.status ≡ 1) ⊎ (result.status ≡ 4) }
+    ensures complete { (Rose (S.faults source.old) (S.faults source.new) → ⊥) → (Rose (K.faults sink.old) (K.faults sink.new) → ⊥) → (result.status ≡ 0) ⊎ (result.status ≡ 1) ⊎ (result.status ≡ 4) }
 {
-    let line = match tool(alloc, words) {
+    let line = match tool(alloc, words, source) {
         Ok(line) => line,
         Err(ToolFault::NoMemory) => return Run::without_steps(alloc, Fault::Memory),
+        Err(ToolFault::Read(ReadFault::Failed)) => return Run::without_steps(alloc, Fault::Read),
         Err(fault) => return Run::without_steps(alloc, Fault::Tool(fault)),
     };
     Run::without_steps(alloc, tell(sink, &line))
 }
 
 /// Carries out the command of the words. `run` reads a workload from the source, runs it, and writes its answers to the
-/// sink: one line for each command, in the workload's order. A tool (`idset`, `hostlist`, `fluid`) writes one line, what
-/// it prints of the text in the words, and the source isn't read. The whole output is made before the first byte is
-/// written.
+/// sink: one line for each command, in the workload's order. A tool writes one line: `idset`, `hostlist` and `fluid` of
+/// the text in the words, `R` and `replay` of the text that the source has. The whole output is made before the first
+/// byte is written.
 ///
 /// The status is 0 where all went well; 1 exactly where the text is refused; 2 exactly where the words are no
 /// command's, and then nothing was read; 3 where the source failed; 4 for want of memory; 5 where the sink failed.
@@ -161,7 +169,7 @@ pub fn flux<S: Source, K: Sink>(
     // a sink that failed took a part of such an output
     ensures cut { result.status ≡ 5 → (output : List ℕ) × IsOutput (map string_bytes words.now) (S.left source.old) (S.left source.new) result.chronicle result.steps.items result.ends.items output × IsTaken (K.held sink.old) (K.held sink.new) (K.faults sink.old) (K.faults sink.new) output result.fault }
     ensures words { (result.status ≡ 2) ↔ ¬ AreWords (map string_bytes words.now) }
-    ensures unread { ¬ AreRunWords (map string_bytes words.now) → source.new ≡ source.old }
+    ensures unread { ¬ AreRunWords (map string_bytes words.now) → ¬ AreReaderWords (map string_bytes words.now) → source.new ≡ source.old }
     ensures refused { result.status ≡ 1 → IsRefused (map string_bytes words.now) (S.left source.old) (S.left source.new) result.fault }
     ensures read { result.status ≡ 3 → Rose (S.faults source.old) (S.faults source.new) }
     ensures unwritten { (1 ≤ result.status) → (result.status ≤ 4) → sink.new ≡ sink.old }
@@ -172,7 +180,7 @@ pub fn flux<S: Source, K: Sink>(
         return run_workload(alloc, source, sink);
     }
     if is_tool(words) {
-        return run_tool(alloc, words, sink);
+        return run_tool(alloc, words, source, sink);
     }
     Run::without_steps(alloc, Fault::Words)
 }

@@ -7,7 +7,7 @@ use std::alloc::{AllocError, Global};
 pub fn notice(alloc: Global, fault: &Fault) -> Result<String, AllocError> {
     match fault {
         Fault::Nothing => format!(in alloc; "done"),
-        Fault::Words => format!(in alloc; "usage: flux_cli run|idset|hostlist|fluid"),
+        Fault::Words => format!(in alloc; "usage: flux_cli run|idset|hostlist|fluid|R|replay"),
         Fault::Line(fault) => format!(in alloc; "{fault}"),
         Fault::Tool(fault) => format!(in alloc; "{fault}"),
         Fault::Read => format!(in alloc; "read fault"),

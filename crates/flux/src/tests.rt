@@ -15,7 +15,7 @@ struct Case {
     notice: &'static str,
 }
 
-const CASES: [Case; 23] = [
+const CASES: [Case; 27] = [
     Case {
         words: &["run"],
         input: "",
@@ -105,28 +105,28 @@ const CASES: [Case; 23] = [
         input: "actor a 0\n",
         status: 2,
         output: "",
-        notice: "usage: flux_cli run|idset|hostlist|fluid",
+        notice: "usage: flux_cli run|idset|hostlist|fluid|R|replay",
     },
     Case {
         words: &[""],
         input: "",
         status: 2,
         output: "",
-        notice: "usage: flux_cli run|idset|hostlist|fluid",
+        notice: "usage: flux_cli run|idset|hostlist|fluid|R|replay",
     },
     Case {
         words: &[],
         input: "",
         status: 2,
         output: "",
-        notice: "usage: flux_cli run|idset|hostlist|fluid",
+        notice: "usage: flux_cli run|idset|hostlist|fluid|R|replay",
     },
     Case {
         words: &["idset", "1", "2"],
         input: "",
         status: 2,
         output: "",
-        notice: "usage: flux_cli run|idset|hostlist|fluid",
+        notice: "usage: flux_cli run|idset|hostlist|fluid|R|replay",
     },
     Case {
         words: &["idset", "[7,1-3,2]"],
@@ -176,6 +176,34 @@ const CASES: [Case; 23] = [
         status: 1,
         output: "",
         notice: "TooLarge",
+    },
+    Case {
+        words: &["R"],
+        input: "{\"version\": 1, \"execution\": {\"R_lite\": [{\"rank\": \"0-1\", \"children\": {\"core\": \"0-3\"}}], \"starttime\": 0.0, \"expiration\": 0.0, \"nodelist\": [\"node[0-1]\"]}}",
+        status: 0,
+        output: "{\"execution\":{\"R_lite\":[{\"children\":{\"core\":\"0-3\"},\"rank\":\"0-1\"}],\"expiration\":0,\"nodelist\":[\"node[0-1]\"],\"starttime\":0},\"version\":1}\n",
+        notice: "done",
+    },
+    Case {
+        words: &["R"],
+        input: "{\"version\":2}",
+        status: 1,
+        output: "",
+        notice: "BadVersion",
+    },
+    Case {
+        words: &["replay"],
+        input: "{\"context\":{\"flags\":0,\"urgency\":16,\"userid\":0,\"version\":1},\"name\":\"submit\",\"timestamp\":0}\n{\"name\":\"validate\",\"timestamp\":0}\n",
+        status: 0,
+        output: "DEPEND\n",
+        notice: "done",
+    },
+    Case {
+        words: &["replay"],
+        input: "{\"name\":\"validate\",\"timestamp\":0}\n",
+        status: 1,
+        output: "",
+        notice: "NotAllowed",
     },
 ];
 
@@ -227,6 +255,9 @@ fn a_source_and_a_sink_that_fail(rt: HostRuntime) -> Result<(), Fail> {
     assert_eq!(rt; failed.status, 3);
     assert_eq!(rt; sink.taken(), b"".as_slice());
     assert_eq!(rt; notice(alloc, &failed.fault)?.as_str(), "read fault");
+    let failed = run(alloc, &["replay"], "", 10, &[0], &mut sink)?;
+    assert_eq!(rt; failed.status, 3);
+    assert_eq!(rt; sink.taken(), b"".as_slice());
     let mut sink = MemSink::new(alloc, 4096, 5, Vec::from_slice(alloc, &[2])?)?;
     let failed = run(alloc, &["run"], input, 4096, &[], &mut sink)?;
     assert_eq!(rt; failed.status, 5);

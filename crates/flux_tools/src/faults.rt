@@ -1,13 +1,18 @@
 ghost use Rattle.std.specs.Prelude.{◌≡◌};
 ghost use Rattle.flux_tools.specs.declared.faults.ToolFault.TheVariants.{NoMemory};
 
+use event_log::LogFault;
+use fl_json::JsonFault;
 use fluid_ids::FluidFault;
 use hostlist::HostFault;
 use idset::IdFault;
+use job_states::ReplayFault;
+use outside::ReadFault;
+use resource_set::RFault;
 use std::alloc::{AllocError, AllocFailed};
 use std::fmt::{Display, Error, Formatter, Write};
 
-/// Why a tool prints nothing. A fault of a text is never its want of memory.
+/// Why a tool prints nothing. A lower fault is never its want of memory.
 #[derive(Clone, Copy, Debug, PartialEq, Eq)]
 pub enum ToolFault {
     NoMemory,
@@ -17,6 +22,14 @@ pub enum ToolFault {
     Host(HostFault),
     /// The text is no FLUID (Flux RFC 19).
     Fluid(FluidFault),
+    /// The text is no R (Flux RFC 20).
+    R(RFault),
+    /// The text is no eventlog (Flux RFC 18).
+    Log(LogFault),
+    /// The events tell no job (Flux RFC 21).
+    Replay(ReplayFault),
+    /// The source has more than 16 MiB, or it failed.
+    Read(ReadFault),
 }
 
 impl From<AllocError> for ToolFault {
@@ -44,6 +57,13 @@ impl Display for ToolFault {
             ToolFault::Host(fault) => write_host(f, fault),
             ToolFault::Fluid(FluidFault::BadText) => f.write_str("BadText"),
             ToolFault::Fluid(FluidFault::TooLarge) => f.write_str("TooLarge"),
+            ToolFault::R(fault) => write_r(f, fault),
+            ToolFault::Log(LogFault::NoMemory) => f.write_str("no memory"),
+            ToolFault::Log(LogFault::NoNewline) => f.write_str("NoNewline"),
+            ToolFault::Log(LogFault::BadLine { .. }) => f.write_str("BadLine"),
+            ToolFault::Replay(ReplayFault::NoMemory) => f.write_str("no memory"),
+            ToolFault::Replay(ReplayFault::NotAllowed { .. }) => f.write_str("NotAllowed"),
+            ToolFault::Read(fault) => write!(f, "{fault}"),
         }
     }
 }
@@ -63,5 +83,18 @@ fn write_host<W: Write>(f: &mut Formatter<W>, fault: &HostFault) -> Result<(), E
         HostFault::BadText { place } => write!(f, "BadText at {place}"),
         HostFault::Backwards { place } => write!(f, "Backwards at {place}"),
         HostFault::TooMany => f.write_str("TooMany"),
+    }
+}
+
+fn write_r<W: Write>(f: &mut Formatter<W>, fault: &RFault) -> Result<(), Error> {
+    match fault {
+        RFault::NoMemory => f.write_str("no memory"),
+        RFault::NotJson(JsonFault::BadNumber { place }) => write!(f, "BadNumber at {place}"),
+        RFault::NotJson(_) => f.write_str("NotJson"),
+        RFault::BadVersion => f.write_str("BadVersion"),
+        RFault::BadField(_) => f.write_str("BadField"),
+        RFault::RankTwice { .. } => f.write_str("RankTwice"),
+        RFault::HostsDiffer { .. } => f.write_str("HostsDiffer"),
+        RFault::HostTwice => f.write_str("HostTwice"),
     }
 }

@@ -1,7 +1,9 @@
-//! The tools: an idset, a hostlist or a FLUID that stands in the words is printed canonically.
+//! The tools: an idset, a hostlist or a FLUID that stands in the words, or an R from the source, is printed canonically;
+//! the state that an eventlog tells is named.
 #![tactic(auto)]
 
 pub mod faults;
+mod lines;
 #[cfg(test)]
 mod tests;
 pub mod tools;

@@ -1,4 +1,5 @@
 use crate::{is_tool, tool};
+use outside::MemSource;
 use std::alloc::Global;
 use std::test::Fail;
 
@@ -40,6 +41,51 @@ const CASES: [(&str, &str, &str); 26] = [
     ("", "1", "no tool"),
 ];
 
+/// An R as it is printed.
+const R: &str =
+    "{\"execution\":{\"R_lite\":[{\"children\":{\"core\":\"0\"},\"rank\":\"0\"}],\"expiration\":3600,\"nodelist\":[\"node0\"],\"starttime\":0},\"version\":1}\n";
+
+/// The log of a job that is submitted and cancelled.
+const LOG: &str =
+    "{\"context\":{\"flags\":0,\"urgency\":16,\"userid\":0,\"version\":1},\"name\":\"submit\",\"timestamp\":0}\n{\"name\":\"validate\",\"timestamp\":0}\n{\"context\":{\"severity\":0,\"type\":\"cancel\"},\"name\":\"exception\",\"timestamp\":10}\n{\"name\":\"clean\",\"timestamp\":10}\n";
+
+/// Tools that read the source: what it has, and what they print; a refusal is told by its notice.
+const READERS: [(&str, &str, &str); 13] = [
+    ("R", R, R),
+    ("R", "{ \"version\" : 2, \"execution\": {} }", "BadVersion"),
+    ("R", "{\"version\":1}", "BadField"),
+    ("R", "{\"version\":1.5}", "BadNumber at 11"),
+    ("R", "", "NotJson"),
+    (
+        "R",
+        "{\"execution\":{\"R_lite\":[{\"children\":{\"core\":\"0\"},\"rank\":\"0\"}],\"nodelist\":[\"a,b\"]},\"version\":1}",
+        "HostsDiffer",
+    ),
+    (
+        "R",
+        "{\"execution\":{\"R_lite\":[{\"children\":{\"core\":\"0\"},\"rank\":\"0-1\"}],\"nodelist\":[\"a,a\"]},\"version\":1}",
+        "HostTwice",
+    ),
+    (
+        "R",
+        "{\"execution\":{\"R_lite\":[{\"children\":{\"core\":\"0\"},\"rank\":\"0,1\"},{\"children\":{\"core\":\"0\"},\"rank\":\"1\"}],\"nodelist\":[]},\"version\":1}",
+        "RankTwice",
+    ),
+    ("replay", LOG, "INACTIVE\n"),
+    ("replay", "", "NotAllowed"),
+    (
+        "replay",
+        "{\"name\":\"alloc\",\"timestamp\":0}\n",
+        "NotAllowed",
+    ),
+    (
+        "replay",
+        "{\"name\":\"alloc\",\"timestamp\":0}",
+        "NoNewline",
+    ),
+    ("replay", "\n", "BadLine"),
+];
+
 /// These words, each a string.
 fn strings(alloc: Global, words: &[&str]) -> Result<Vec<String>, Fail> {
     let mut all = Vec::new(alloc);
@@ -49,12 +95,15 @@ fn strings(alloc: Global, words: &[&str]) -> Result<Vec<String>, Fail> {
     Ok(all)
 }
 
-/// What the words come to, as text.
-fn told(alloc: Global, words: &[String]) -> Result<Vec<u8>, Fail> {
-    if !is_tool(words) {
+/// What the words come to over this input, as text, with a source that fails at these calls.
+fn told(alloc: Global, words: &[&str], input: &str, fails: &[u64]) -> Result<Vec<u8>, Fail> {
+    let words = strings(alloc, words)?;
+    if !is_tool(&words) {
         return Ok(Vec::from_slice(alloc, b"no tool")?);
     }
-    match tool(alloc, words) {
+    let bytes = Vec::from_slice(alloc, input.as_bytes())?;
+    let mut source = MemSource::new(bytes, 100, Vec::from_slice(alloc, fails)?);
+    match tool(alloc, &words, &mut source) {
         Ok(line) => Ok(line),
         Err(fault) => Ok(format!(in alloc; "{fault}")?.into_bytes()),
     }
@@ -64,15 +113,25 @@ fn told(alloc: Global, words: &[String]) -> Result<Vec<u8>, Fail> {
 fn lines_and_refusals(rt: HostRuntime) -> Result<(), Fail> {
     let alloc = rt.alloc();
     for (name, text, line) in &CASES {
-        let words = strings(alloc, &[name, text])?;
-        assert_eq!(rt;
-            told(alloc, &words)?.as_slice(),
-            line.as_bytes(),
-            "{name} {text}"
-        );
+        let printed = told(alloc, &[name, text], "not read", &[])?;
+        assert_eq!(rt; printed.as_slice(), line.as_bytes(), "{name} {text}");
     }
+    for (name, text, line) in &READERS {
+        let printed = told(alloc, &[name], text, &[])?;
+        assert_eq!(rt; printed.as_slice(), line.as_bytes(), "{name} {text}");
+    }
+    let failed = told(alloc, &["R"], R, &[1])?;
+    assert_eq!(rt; failed.as_slice(), b"read fault".as_slice());
+    Ok(())
+}
+
+#[test]
+fn words_of_no_tool(rt: HostRuntime) -> Result<(), Fail> {
+    let alloc = rt.alloc();
     assert!(rt; !is_tool(&strings(alloc, &[])?));
     assert!(rt; !is_tool(&strings(alloc, &["idset"])?));
     assert!(rt; !is_tool(&strings(alloc, &["idset", "1", "2"])?));
+    assert!(rt; !is_tool(&strings(alloc, &["R", "1"])?));
+    assert!(rt; !is_tool(&strings(alloc, &["r"])?));
     Ok(())
 }

@@ -1,22 +1,26 @@
-ghost use Rattle.std.specs.Prelude.{◌≡◌, ◌↔◌, IsTrue, map, string_bytes};
-ghost use Rattle.fluid_ids.specs.Texts.{meaning};
-ghost use Rattle.flux_tools.specs.Tools.{AreToolWords, Answers, Gives, answer, answer_to, asked, fluid_told, hostlist_answer, idset_answer, of_hostlist, of_idset, tool_named};
+ghost use Rattle.std.specs.Prelude.{◌≡◌, ◌≤◌, IfErr, IfOk, IsTrue, Ok, Some, length, map, string_bytes, ◌↔◌};
+ghost use Rattle.std.specs.Io.KnownBytes.{Consumes, IsAtEnd};
+ghost use Rattle.flux_tools.specs.Tools.{AreReaderWords, AreToolWords, Gives, HasAnswer, HasCause, answer, asked, reader_named, tool_named};
 
 use crate::faults::ToolFault;
-use fluid_ids::Form;
-use hostlist::{HostFault, HostList};
-use idset::{IdFault, IdSet};
+use crate::lines::line_of;
+use outside::{ReadFault, Source, read_all};
 use std::alloc::Global;
 
-/// A tool, which prints a text canonically.
+/// The most bytes of an input.
+const MOST_TEXT: usize = 16_777_216;
+
+/// A tool, which prints a text canonically, or the state that it tells.
 #[derive(Clone, Copy, Debug, PartialEq, Eq)]
 pub enum ToolName {
     Idset,
     Hostlist,
     Fluid,
+    R,
+    Replay,
 }
 
-/// The tool that a word names.
+/// The tool that a word names, whose text is the next word.
 fn tool_named(name: &str) -> Option<ToolName>
     ensures { result ≡ tool_named name.now }
 {
@@ -28,89 +32,59 @@ fn tool_named(name: &str) -> Option<ToolName>
     }
 }
 
-/// A tool's fault for that of an idset.
-fn of_idset(fault: IdFault) -> ToolFault
-    ensures { result ≡ of_idset fault }
+/// The tool that a word names, whose text is what the source has.
+fn reader_named(name: &str) -> Option<ToolName>
+    ensures { result ≡ reader_named name.now }
 {
-    match fault {
-        IdFault::NoMemory => ToolFault::NoMemory,
-        fault => ToolFault::Id(fault),
+    match name {
+        "R" => Some(ToolName::R),
+        "replay" => Some(ToolName::Replay),
+        _ => None,
     }
 }
 
-/// A tool's fault for that of a hostlist.
-fn of_hostlist(fault: HostFault) -> ToolFault
-    ensures { result ≡ of_hostlist fault }
+/// The tool that words ask for.
+fn asked(words: &[String]) -> Option<ToolName>
+    ensures { result ≡ asked (map string_bytes words.now) }
 {
-    match fault {
-        HostFault::NoMemory => ToolFault::NoMemory,
-        fault => ToolFault::Host(fault),
+    match words {
+        [name] => reader_named(name.as_str()),
+        [name, _] => tool_named(name.as_str()),
+        _ => None,
     }
 }
 
-/// The canonical idset and a newline.
-fn idset_line(alloc: Global, text: &str) -> Result<Vec<u8>, ToolFault>
-    ensures { Gives (λ v. v.items) result (idset_answer text.now) }
-{
-    let set = match IdSet::read(alloc, text.as_bytes()) {
-        Ok(set) => set,
-        Err(fault) => return Err(of_idset(fault)),
-    };
-    let mut line = set.print()?;
-    line.push(b'\n')?;
-    Ok(line)
-}
-
-/// The canonical hostlist and a newline.
-fn hostlist_line(alloc: Global, text: &str) -> Result<Vec<u8>, ToolFault>
-    ensures { Gives (λ v. v.items) result (hostlist_answer text.now) }
-{
-    let hosts = match HostList::read(alloc, text.as_bytes()) {
-        Ok(hosts) => hosts,
-        Err(fault) => return Err(of_hostlist(fault)),
-    };
-    let mut line = hosts.print()?;
-    line.push(b'\n')?;
-    Ok(line)
-}
-
-/// The three texts of an id with a space between, and a newline.
-fn fluid_line(alloc: Global, text: &str) -> Result<Vec<u8>, ToolFault>
-    ensures { Gives (λ v. v.items) result (fluid_told (meaning text.now)) }
-{
-    let id = match fluid_ids::read(text.as_bytes()) {
-        Ok(id) => id,
-        Err(fault) => return Err(ToolFault::Fluid(fault)),
-    };
-    let mut line = fluid_ids::print(alloc, id, Form::F58)?;
-    line.push(b' ')?;
-    line.extend_from_slice(&fluid_ids::print(alloc, id, Form::Dothex)?)?;
-    line.push(b' ')?;
-    line.extend_from_slice(&fluid_ids::print(alloc, id, Form::Decimal)?)?;
-    line.push(b'\n')?;
-    Ok(line)
-}
-
-/// Whether the words are a tool's: its name and one text, which may be empty.
+/// Whether the words are a tool's: `idset`, `hostlist` or `fluid` and one text, which may be empty; or `R` or `replay`
+/// alone.
 pub fn is_tool(words: &[String]) -> bool
     ensures { IsTrue result ↔ AreToolWords (map string_bytes words.now) }
 {
-    match words {
-        [name, _] => tool_named(name.as_str()).is_some(),
-        _ => false,
-    }
+    asked(words).is_some()
 }
 
-/// What a tool prints of the text that its words give: one line, or the text's fault.
-pub fn tool(alloc: Global, words: &[String]) -> Result<Vec<u8>, ToolFault>
+/// What a tool prints of the text that it is given: one line, or why it prints nothing. `R` and `replay` read the
+/// source to its end for their text, of at most 16 MiB.
+pub fn tool<S: Source>(
+    alloc: Global,
+    words: &[String],
+    source: &mut S,
+) -> Result<Vec<u8>, ToolFault>
     requires { AreToolWords (map string_bytes words.now) }
-    ensures { Answers (λ v. v.items) result (answer_to (map string_bytes words.now)) }
+    ensures answer { IfOk result (λ line. HasAnswer (map string_bytes words.now) (S.left source.old) (S.left source.new) (Ok line.items)) }
+    ensures cause { IfErr result (λ fault. HasCause (map string_bytes words.now) (S.left source.old) (S.left source.new) (S.faults source.old) (S.faults source.new) fault) }
+    ensures unread { ¬ AreReaderWords (map string_bytes words.now) → source.new ≡ source.old }
+    ensures later { S.faults source.old ≤ S.faults source.new }
 {
-    let [name, text] = words else { unreachable!() };
-    match tool_named(name.as_str()) {
-        Some(ToolName::Idset) => idset_line(alloc, text.as_str()),
-        Some(ToolName::Hostlist) => hostlist_line(alloc, text.as_str()),
-        Some(ToolName::Fluid) => fluid_line(alloc, text.as_str()),
-        None => unreachable!(),
+    let Some(name) = asked(words) else {
+        unreachable!()
+    };
+    match words {
+        [_, text] => line_of(alloc, name, text.as_bytes()),
+        [_] => match read_all(alloc, source, MOST_TEXT) {
+            Ok(text) => line_of(alloc, name, &text),
+            Err(ReadFault::NoMemory) => Err(ToolFault::NoMemory),
+            Err(fault) => Err(ToolFault::Read(fault)),
+        },
+        _ => unreachable!(),
     }
 }

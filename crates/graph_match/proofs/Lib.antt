@@ -1,0 +1,9 @@
+pub mod Spots
+pub mod Hosts
+pub mod Turns
+pub mod Holds
+pub mod Fitting
+pub mod Counting
+pub mod Freeing
+pub mod Blocking
+pub mod Letters

@@ -1,0 +1,7 @@
+pub mod Spots
+pub mod Rooms
+pub mod Places
+pub mod Holds
+pub mod Kept
+pub mod Allotment
+pub mod Answers

@@ -1,0 +1,410 @@
+ghost use Rattle.std.specs.Prelude.{◌≡◌, ◌<◌, ◌≤◌, ◌↔◌, ◌+◌, ◌^◌, ◌++◌, List, [], length, map, take, drop, IfNone, IfSome, nat_lt, Contains, IfOk, OnOk, OnErr, IsTrue, Some, None, All};
+ghost use Rattle.std.specs.Bool.{OnFalse};
+ghost use Rattle.std.specs.List.{HoldsAt, AllByRecursion as Each};
+ghost use Rattle.std.specs.List.Sorted.{IsStrictlyIncreasing};
+ghost use Rattle.resource_set.specs.Units.{AreHosts};
+ghost use Rattle.job_rules.specs.Fits.{AreWithin, HasIdSets, IsGrant, IsSpec, IsWithin, NeverFits, end_of, first_fit, free_of, sooner};
+ghost use Rattle.job_rules.specs.Worths.{total, wanted as wanted_of, worth as worth_of};
+ghost use Rattle.resource_set.specs.declared.node.Node.{Node as Taken};
+ghost use Rattle.job_rules.specs.Fits.{AreApart, AreBlockers, nodes_of};
+ghost use Rattle.graph_match.specs.Holds.{IsNew, with_hold, without_hold};
+ghost use Rattle.graph_match.specs.Kept.{IsKept};
+ghost use Rattle.graph_match.specs.Places.{after_each, free_node, fresh_place, held_place, left_place, node_of};
+ghost use Rattle.graph_match.specs.Rooms.{AreRooms, room_of, worth_of as worth_in};
+
+use crate::fit::{Fit, JobList};
+use crate::place::Place;
+use crate::rooms::{Room, wanted, worth};
+use job_rules::Hold;
+use job_spec::JobSpec;
+use lists::Copied;
+use resource_set::{Node, NodeList, Resources};
+use std::alloc::{AllocError, Global};
+use std::marker::Model;
+
+/// The units of a grant, and the live jobs with what they hold of it.
+#[derive(Drop)]
+pub struct Graph {
+    /// In rank order.
+    places: Vec<Place>,
+    /// In seconds; 0 is none.
+    expiration: u64,
+    /// By rising ids.
+    live: Vec<Hold>,
+}
+
+impl Model for Graph {
+    ghost use Rattle.std.specs.Prelude.{map};
+    ghost use Rattle.graph_match.specs.Allotment.{Allotment};
+
+    ghost Value = { Allotment };
+
+    ghost use Rattle.graph_match.specs.Places.{node_of};
+    ghost use Rattle.graph_match.specs.Kept.{IsKept};
+
+    ghost view = { λ g. record { grant = map node_of g.places.items; expiration = g.expiration; live = g.live.items } };
+
+    ghost invariant = { λ g. IsKept g.places.items g.live.items };
+}
+
+/// The hosts of a grant, all of them free.
+fn fresh(alloc: Global, nodes: &[Node]) -> Result<Vec<Place>, AllocError>
+    ensures places { IfOk result (λ places. places.items ≡ map fresh_place nodes.now) }
+    ensures sets { OnOk result (All HasIdSets nodes.now) }
+{
+    let mut places = Vec::new(alloc);
+    for node in nodes {
+        places.push(Place::new(alloc, node)?)?;
+    }
+    Ok(places)
+}
+
+/// The place of a host by its rank.
+fn place_of(places: &[Place], rank: u32) -> usize
+    requires rising { IsStrictlyIncreasing (map (λ p. p.rank) places.now) }
+    requires there { Contains (map (λ p. p.rank) places.now) rank }
+    ensures within { result < length places.now }
+    ensures rank { HoldsAt (λ p. p.rank ≡ rank) places.now result }
+{
+    places.partition_point(|p| p.rank < rank)
+}
+
+/// Where a job stands by its id, or would stand.
+fn hold_of(live: &[Hold], id: u64) -> usize
+    requires { IsStrictlyIncreasing (map (λ hold. hold.id) live.now) }
+    ensures within { result ≤ length live.now }
+    ensures before { Each (λ hold. hold.id < id) (take result live.now) }
+    ensures after { Each (λ hold. id ≤ hold.id) (drop result live.now) }
+{
+    live.partition_point(|h| h.id < id)
+}
+
+/// Where a job stands, if it is live.
+fn find_hold(live: &[Hold], id: u64) -> Option<usize>
+    requires { IsStrictlyIncreasing (map (λ hold. hold.id) live.now) }
+    ensures none { IfNone result (IsNew id live.now) }
+    ensures some { IfSome result (λ at. (at < length live.now) × HoldsAt (λ hold. hold.id ≡ id) live.now at) }
+{
+    let at = hold_of(live, id);
+    match live.get(at) {
+        None => None,
+        Some(hold) => { if hold.id == id { Some(at) } else { None } }
+    }
+}
+
+/// Takes the units of a job.
+fn take_nodes(places: &mut Vec<Place>, nodes: &[Node])
+    requires grant { IsGrant (map node_of places.old.items) }
+    requires there { Each (IsWithin (map node_of places.old.items)) nodes.now }
+    ensures { places.new.items ≡ map (after_each held_place nodes.now) places.old.items }
+{
+    for node in nodes {
+        let at = place_of(places, node.rank);
+        places[at].take(node);
+    }
+}
+
+/// Frees the units of a job.
+fn give_nodes(places: &mut Vec<Place>, nodes: &[Node])
+    requires grant { IsGrant (map node_of places.old.items) }
+    requires there { Each (IsWithin (map node_of places.old.items)) nodes.now }
+    ensures { places.new.items ≡ map (after_each left_place nodes.now) places.old.items }
+{
+    for node in nodes {
+        let at = place_of(places, node.rank);
+        places[at].give(node);
+    }
+}
+
+/// Whether all hosts together, each of them free, bring less than a job asks for.
+fn is_small(places: &[Place], spec: &JobSpec) -> bool
+    requires spec { IsSpec spec.now }
+    requires grant { IsGrant (map node_of places.now) }
+    ensures { result ≡ nat_lt (total (worth_of spec.now (map node_of places.now)) (map node_of places.now)) (wanted_of spec.now) }
+{
+    let mut lacking = wanted(spec);
+    for place in places {
+        lacking = lacking.saturating_sub(place.could_bring(spec));
+    }
+    0 < lacking
+}
+
+/// Whether what is free on all hosts brings less than a job asks for.
+fn is_busy(places: &[Place], spec: &JobSpec) -> bool
+    requires spec { IsSpec spec.now }
+    requires grant { IsGrant (map node_of places.now) }
+    ensures { result ≡ nat_lt (total (worth_of spec.now (map node_of places.now)) (map free_node places.now)) (wanted_of spec.now) }
+{
+    let mut lacking = wanted(spec);
+    for place in places {
+        lacking = lacking.saturating_sub(place.brings(spec));
+    }
+    0 < lacking
+}
+
+/// The units that a job takes, where there are enough.
+fn take_first(alloc: Global, places: &[Place], spec: &JobSpec) -> Result<NodeList, AllocError>
+    requires spec { IsSpec spec.now }
+    requires grant { IsGrant (map node_of places.now) }
+    requires enough { wanted_of spec.now ≤ total (worth_of spec.now (map node_of places.now)) (map free_node places.now) }
+    ensures { IfOk result (λ nodes. first_fit spec.now (map node_of places.now) (map free_node places.now) ≡ Some nodes) }
+{
+    let mut nodes = NodeList::new(alloc);
+    let mut left = wanted(spec);
+    for place in places {
+        let here = left.min(place.brings(spec));
+        if 0 < here {
+            nodes.push(place.pick(spec, here)?)?;
+            left -= here;
+        }
+    }
+    Ok(nodes)
+}
+
+/// How much is free on each host.
+fn rooms(alloc: Global, places: &[Place]) -> Result<Vec<Room>, AllocError>
+    ensures { IfOk result (λ rooms. rooms.items ≡ map room_of (map free_node places.now)) }
+{
+    let mut rooms = Vec::new(alloc);
+    for place in places {
+        rooms.push(place.room())?;
+    }
+    Ok(rooms)
+}
+
+/// What is free on all hosts brings to a job.
+fn brings(places: &[Place], spec: &JobSpec) -> u64
+    requires spec { IsSpec spec.now }
+    requires grant { IsGrant (map node_of places.now) }
+    ensures { result ≡ total (worth_of spec.now (map node_of places.now)) (map free_node places.now) }
+{
+    let mut sum = 0u64;
+    for place in places {
+        sum += u64::from(place.brings(spec));
+    }
+    sum
+}
+
+/// How many units a job has on a host.
+fn count(node: &Node) -> Room
+    ensures count { result ≡ room_of node.now }
+    ensures sets { HasIdSets node.now }
+{
+    Room {
+        cores: node.cores.count(),
+        gpus: node.gpus.count(),
+    }
+}
+
+/// What all hosts bring once one has another room than before.
+fn moved(place: &Place, spec: &JobSpec, sum: u64, old: Room, new: Room) -> u64
+    requires spec { IsSpec spec.now }
+    requires sets { HasIdSets (node_of place.now) }
+    requires old { worth_in spec.now (room_of (node_of place.now)) old ≤ sum }
+    requires sum { sum ≤ 2 ^ 32 }
+    ensures { result + worth_in spec.now (room_of (node_of place.now)) old
+        ≡ sum + worth_in spec.now (room_of (node_of place.now)) new }
+{
+    let whole = place.whole();
+    sum - u64::from(worth(spec, whole, old)) + u64::from(worth(spec, whole, new))
+}
+
+/// Frees a job's units in the rooms of hosts where other nodes' units stay taken, and gives what they bring then.
+fn add(places: &[Place], spec: &JobSpec, rooms: &mut [Room], sum: u64, nodes: &[Node]) -> u64
+    requires spec { IsSpec spec.now }
+    requires grant { IsGrant (map node_of places.now) }
+    requires nodes { AreWithin nodes.now (map node_of places.now) }
+    requires taken { (others : List Taken) × AreApart nodes.now others
+        × AreRooms spec.now (map node_of places.now) (nodes.now ++ others) rooms.old sum }
+    ensures { (others : List Taken) → AreApart nodes.now others
+        → AreRooms spec.now (map node_of places.now) (nodes.now ++ others) rooms.old sum
+        → AreRooms spec.now (map node_of places.now) others rooms.new result }
+{
+    let mut sum = sum;
+    for node in nodes {
+        let at = place_of(places, node.rank);
+        let place = &places[at];
+        let more = count(node);
+        let old = rooms[at];
+        let new = Room {
+            cores: old.cores + more.cores,
+            gpus: old.gpus + more.gpus,
+        };
+        sum = moved(place, spec, sum, old, new);
+        rooms[at] = new;
+    }
+    sum
+}
+
+/// Takes a job's units in the rooms of hosts where other nodes' units are taken, and gives what they bring then.
+fn take_back(places: &[Place], spec: &JobSpec, rooms: &mut [Room], sum: u64, nodes: &[Node]) -> u64
+    requires spec { IsSpec spec.now }
+    requires grant { IsGrant (map node_of places.now) }
+    requires nodes { AreWithin nodes.now (map node_of places.now) }
+    requires left { (others : List Taken) × AreApart nodes.now others
+        × AreRooms spec.now (map node_of places.now) others rooms.old sum }
+    ensures { (others : List Taken) → AreApart nodes.now others
+        → AreRooms spec.now (map node_of places.now) others rooms.old sum
+        → AreRooms spec.now (map node_of places.now) (nodes.now ++ others) rooms.new result }
+{
+    let mut sum = sum;
+    for node in nodes {
+        let at = place_of(places, node.rank);
+        let place = &places[at];
+        let less = count(node);
+        let old = rooms[at];
+        let new = Room {
+            cores: old.cores - less.cores,
+            gpus: old.gpus - less.gpus,
+        };
+        sum = moved(place, spec, sum, old, new);
+        rooms[at] = new;
+    }
+    sum
+}
+
+/// The live jobs that stand in a job's way, where the rooms and what they bring are those that all of them leave.
+/// Each is left out, in order of id, without which the rest still leaves no room.
+fn sift(
+    alloc: Global,
+    places: &[Place],
+    live: &[Hold],
+    spec: &JobSpec,
+    rooms: &mut [Room],
+    sum: u64,
+) -> Result<JobList, AllocError>
+    requires spec { IsSpec spec.now }
+    requires kept { IsKept places.now live.now }
+    requires rooms { AreRooms spec.now (map node_of places.now) (nodes_of live.now) rooms.old sum }
+    requires few { sum < wanted_of spec.now }
+    ensures { IfOk result (AreBlockers spec.now (map node_of places.now) live.now) }
+{
+    let mut sum = sum;
+    let asked = u64::from(wanted(spec));
+    let mut list = JobList::new(alloc);
+    for hold in live {
+        let nodes = hold.nodes.as_slice();
+        sum = add(places, spec, rooms, sum, nodes);
+        if asked <= sum {
+            sum = take_back(places, spec, rooms, sum, nodes);
+            list.push(hold.id)?;
+        }
+    }
+    Ok(list)
+}
+
+/// The live jobs that stand in a job's way.
+fn blockers(
+    alloc: Global,
+    places: &[Place],
+    live: &[Hold],
+    spec: &JobSpec,
+) -> Result<JobList, AllocError>
+    requires spec { IsSpec spec.now }
+    requires kept { IsKept places.now live.now }
+    requires few { total (worth_of spec.now (map node_of places.now)) (map free_node places.now) < wanted_of spec.now }
+    ensures { IfOk result (AreBlockers spec.now (map node_of places.now) live.now) }
+{
+    let mut rooms = rooms(alloc, places)?;
+    let sum = brings(places, spec);
+    sift(alloc, places, live, spec, &mut rooms, sum)
+}
+
+/// The second at which a job ends that starts now, or 0.
+fn ending(spec: &JobSpec, now: u64) -> u64
+    ensures { result ≡ end_of spec.now now }
+{
+    if spec.duration == 0 {
+        0
+    } else {
+        now.saturating_add(spec.duration)
+    }
+}
+
+/// The sooner of two seconds, of which 0 is none.
+fn sooner_of(a: u64, b: u64) -> u64
+    ensures { result ≡ sooner a b }
+{
+    if a == 0 {
+        b
+    } else if b == 0 {
+        a
+    } else {
+        a.min(b)
+    }
+}
+
+impl Graph {
+    ghost use Rattle.graph_match.specs.Answers.{Answers};
+
+    /// A grant, all of it free. Its ranks rise and are below 65,536, and its hosts differ.
+    pub fn new(alloc: Global, grant: &Resources) -> Result<Graph, AllocError>
+        requires { AreHosts grant.now.nodes }
+        ensures { IfOk result (λ g. g ≡ record { grant = grant.now.nodes; expiration = grant.now.expiration; live = [] }) }
+    {
+        Ok(Graph {
+            places: fresh(alloc, grant.nodes.as_slice())?,
+            expiration: grant.expiration,
+            live: Vec::new(alloc),
+        })
+    }
+
+    /// What the grant has for a job at this second: units by first fit, the live jobs that stand in its way, or that it never fits.
+    /// Its slots, cores and hosts are at least 1, and it asks for at most 65,536 of each.
+    pub fn fit(&self, spec: &JobSpec, now: u64) -> Result<Fit, AllocError>
+        requires { IsSpec spec.now }
+        ensures { IfOk result (Answers self.now spec.now now) }
+    {
+        let alloc = *self.live.allocator();
+        if self.never(spec) {
+            return Ok(Fit::Never);
+        }
+        if is_busy(&self.places, spec) {
+            return Ok(Fit::Busy(blockers(alloc, &self.places, &self.live, spec)?));
+        }
+        Ok(Fit::Units(Resources {
+            nodes: take_first(alloc, &self.places, spec)?,
+            starttime: now,
+            expiration: sooner_of(ending(spec, now), self.expiration),
+        }))
+    }
+
+    /// Whether no units of the whole grant satisfy a job. It takes no memory.
+    pub fn never(&self, spec: &JobSpec) -> bool
+        requires { IsSpec spec.now }
+        ensures { IsTrue result ↔ NeverFits spec.now self.now.grant }
+    {
+        is_small(&self.places, spec)
+    }
+
+    /// Lets a new job hold free units, by their hosts' ranks and names, as `fit` gives them.
+    pub fn take(&mut self, id: u64, units: &Resources) -> Result<(), AllocError>
+        requires free { AreWithin units.now.nodes (free_of self.old.grant self.old.live) }
+        requires new { IsNew id self.old.live }
+        ensures taken { OnOk result (self.new
+            ≡ record self.old { live = with_hold (record { id = id; nodes = units.now.nodes }) self.old.live }) }
+        ensures kept { OnErr result (self.new ≡ self.old) }
+    {
+        let nodes = units.nodes.copy()?;
+        let at = hold_of(&self.live, id);
+        self.live.insert(at, Hold { id, nodes })?;
+        take_nodes(&mut self.places, units.nodes.as_slice());
+        Ok(())
+    }
+
+    /// Gives back what a job holds, if it is live. It takes no memory.
+    pub fn give(&mut self, id: u64) -> bool
+        ensures found { IsTrue result ↔ Contains (map (λ hold. hold.id) self.old.live) id }
+        ensures given { self.new ≡ record self.old { live = without_hold id self.old.live } }
+        ensures kept { OnFalse result (self.new ≡ self.old) }
+    {
+        match find_hold(&self.live, id) {
+            None => false,
+            Some(at) => {
+                let hold = self.live.remove(at);
+                give_nodes(&mut self.places, hold.nodes.as_slice());
+                true
+            }
+        }
+    }
+}

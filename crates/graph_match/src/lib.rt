@@ -1,0 +1,14 @@
+//! The matcher: which free units of a grant a job takes (first fit), and which live jobs stand in its way (Flux RFC 14 and 27).
+#![tactic(auto)]
+
+pub mod fit;
+pub mod graph;
+pub mod place;
+pub mod pool;
+pub mod rooms;
+pub mod spot;
+#[cfg(test)]
+mod tests;
+
+pub use fit::{Fit, JobList};
+pub use graph::Graph;

@@ -1,0 +1,15 @@
+pub mod Places
+pub mod Ranks
+pub mod Placed
+pub mod Told
+pub mod Spans
+pub mod Holdings
+pub mod UnitTests
+pub mod Rising
+pub mod Grouping
+pub mod Names
+pub mod Regroup
+pub mod Texts
+pub mod Again
+pub mod Ascii
+pub mod LeftOver

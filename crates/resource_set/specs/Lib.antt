@@ -1,0 +1,5 @@
+pub mod Units
+pub mod Places
+pub mod Reading
+pub mod Writing
+pub mod Valid

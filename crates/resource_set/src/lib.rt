@@ -1,0 +1,19 @@
+//! Resources of a job or an instance: R, version 1 (Flux RFC 20), their text and their units.
+#![tactic(auto)]
+
+pub mod entries;
+pub mod faults;
+pub mod fields;
+pub mod node;
+pub mod placing;
+pub mod printing;
+pub mod reading;
+#[cfg(test)]
+mod tests;
+pub mod units;
+
+pub use faults::{RFault, RKey};
+pub use node::{Node, NodeList, Resources};
+pub use printing::print;
+pub use reading::read;
+pub use units::{minus, within};
