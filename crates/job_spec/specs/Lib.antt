@@ -6,3 +6,4 @@ pub mod Limits
 pub mod Specs
 pub mod Sound
 pub mod Seen
+pub mod Names

@@ -29,8 +29,25 @@ pub enum Place {
 }
 
 impl fmt::Display for Place {
+    ghost use Rattle.std.specs.Prelude.{Some};
+    ghost use Rattle.job_spec.specs.Names.{place_name};
+
+    ghost output = { λ place. Some (place_name place) };
+
     fn fmt<W: fmt::Write>(&self, f: &mut fmt::Formatter<W>) -> fmt::Result {
-        write!(f, "{self:?}")
+        f.write_str(match self {
+            Place::Resources => "Resources",
+            Place::Node => "Node",
+            Place::Slot => "Slot",
+            Place::Core => "Core",
+            Place::Gpu => "Gpu",
+            Place::Task => "Task",
+            Place::Command => "Command",
+            Place::Count => "Count",
+            Place::Attributes => "Attributes",
+            Place::Duration => "Duration",
+            Place::Dependencies => "Dependencies",
+        })
     }
 }
 
