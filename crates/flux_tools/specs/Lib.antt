@@ -1,2 +1,3 @@
 pub mod Tools
 pub mod Faults
+pub mod Notices
