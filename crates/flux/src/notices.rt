@@ -1,10 +1,14 @@
 //! What the program says of a fault.
+ghost use Rattle.std.specs.Prelude.{◌≡◌, IfOk, string_bytes};
+ghost use Rattle.flux.specs.Notices.{notice_text};
 
 use crate::call::Fault;
 use std::alloc::{AllocError, Global};
 
 /// The notice of a fault, for standard error.
-pub fn notice(alloc: Global, fault: &Fault) -> Result<String, AllocError> {
+pub fn notice(alloc: Global, fault: &Fault) -> Result<String, AllocError>
+    ensures { IfOk result (λ text. string_bytes text ≡ notice_text fault.now) }
+{
     match fault {
         Fault::Nothing => format!(in alloc; "done"),
         Fault::Words => format!(in alloc; "usage: flux_cli run|idset|hostlist|fluid|R|replay"),

@@ -1,0 +1,15 @@
+-- What is said of a run's fault.
+use Rattle.std.specs.Prelude.{ℕ, List, codes}
+use Rattle.workload.specs.Faults.{fault_text as line_text}
+use Rattle.flux_tools.specs.Notices.{fault_text as tool_text}
+use Rattle.flux.specs.declared.call.Fault.{Fault}
+use Rattle.flux.specs.declared.call.Fault.TheVariants as fault
+
+abbrev pub notice_text : Fault → List ℕ
+notice_text fault.Nothing = codes "done"
+notice_text fault.Words = codes "usage: flux_cli run|idset|hostlist|fluid|R|replay"
+notice_text (fault.Line f) = line_text f
+notice_text (fault.Tool f) = tool_text f
+notice_text fault.Read = codes "read fault"
+notice_text fault.Memory = codes "no memory"
+notice_text (fault.Write n) = codes "write fault"
