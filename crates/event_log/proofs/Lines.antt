@@ -1,6 +1,6 @@
 -- The lines of a log, one after another, and the keys of an event.
-use Rattle.std.proofs.Common.{◌≡◌, ℕ, zero, suc, ◌+◌, ◌-◌, ◌<◌, ◌≤◌, Bool, true, false, ◌&&◌, ◌==◌, cond, List, [], ◌∷◌, ◌++◌, length, take, drop, map, Option, Some, None, String, Global, string_bytes, refl, sym, ap, ap₂, ◌∙◌, subst, arith, append_assoc, append-nil, add-one, ne_eqb, inl, inr, ◌⊎◌}
-use Rattle.std.specs.Prelude.{Result, Ok, Err, not}
+use Rattle.std.proofs.Common.{◌≡◌, ℕ, zero, suc, ◌+◌, ◌-◌, ◌<◌, ◌≤◌, Bool, true, false, ◌&&◌, ◌==◌, cond, List, [], ◌∷◌, ◌++◌, length, take, drop, map, Option, Some, None, String, Global, string_bytes, refl, sym, ap, ap₂, ◌∙◌, subst, arith, append_assoc, append-nil, add-one, eq-eqb, ne_eqb, inl, inr, ◌⊎◌}
+use Rattle.std.specs.Prelude.{Result, Ok, Err, IsErrAnd, not}
 use Rattle.std.specs.List.{list_all, prefix_len, slice_split, onto_first}
 use Rattle.std.proofs.lemmas.Bool.{cases_lt}
 use Rattle.std.proofs.lemmas.List.{take_all}
@@ -10,14 +10,11 @@ use Rattle.serde_json.specs.Data as json
 use Rattle.serde_json.specs.Find.{as_object}
 use Rattle.serde_json.specs.View.{members_view}
 use Rattle.serde_json.specs.declared.value.Value.{Value}
-use Rattle.fl_json.specs.Reading as fl
-use Rattle.fl_json.specs.declared.faults.JsonFault.{JsonFault}
-use Rattle.fl_json.specs.declared.faults.JsonFault.TheVariants as json_fault
 use Rattle.event_log.specs.declared.event.Event.{Event}
 use Rattle.event_log.specs.declared.event.LogFault.{LogFault}
-use Rattle.event_log.specs.declared.event.LogFault.TheVariants.{NoNewline, BadLine}
+use Rattle.event_log.specs.declared.event.LogFault.TheVariants.{NoMemory, NoNewline, BadLine}
 use Rattle.event_log.specs.Events.{◌>>=◌, told, is_event_key, keys_of, has_event_keys}
-use Rattle.event_log.specs.Logs.{at_line, events_from, log_reading, line_fault, Fails}
+use Rattle.event_log.specs.Logs.{at_line, events_from, first_told, log_reading, Fails, Gives}
 
 -- ---- keys
 
@@ -106,38 +103,9 @@ front_more : (front : List Event) (event : Event) (r : Result (List Event) LogFa
 front_more front event (Ok es) = ap Ok (sym (append_assoc front (event ∷ []) es))
 front_more front event (Err e) = refl
 
--- a line that tells an event, and a newline
-pub line_told : (front : List Event) (line : ℕ) (first next : List ℕ) (more : List (List ℕ)) (event : Event) → told first ≡ Ok event
-    → with_front front (events_from line (first ∷ next ∷ more)) ≡ with_front (front ++ event ∷ []) (events_from (line + 1) (next ∷ more))
-line_told front line first next more event h = ap (λ r. with_front front (at_line line r >>= λ e. events_from (line + 1) (next ∷ more) >>= λ es. Ok (e ∷ es))) h ∙ front_more front event (events_from (line + 1) (next ∷ more))
-
--- a line that tells none, whatever stands behind it
-pub line_bad : (front : List Event) (line : ℕ) (first next : List ℕ) (more : List (List ℕ)) (fault : JsonFault) → told first ≡ Err fault
-    → with_front front (events_from line (first ∷ next ∷ more)) ≡ Err (BadLine line fault)
-line_bad front line first next more fault h = ap (λ r. with_front front (at_line line r >>= λ e. events_from (line + 1) (next ∷ more) >>= λ es. Ok (e ∷ es))) h
-
-last_as : (front : List Event) (line : ℕ) (last : List ℕ) (v : Bool) (r : Result Event JsonFault) → (length last == 0) ≡ v → told last ≡ r
-    → with_front front (events_from line (last ∷ [])) ≡ with_front front (cond v (Ok []) (at_line line r >>= λ event. Err NoNewline))
-last_as front line last v r e h = ap (λ z. with_front front (cond z (Ok []) (at_line line (told last) >>= λ event. Err NoNewline))) e ∙ ap (λ t. with_front front (cond v (Ok []) (at_line line t >>= λ event. Err NoNewline))) h
-
 no_length : (t : List ℕ) → 0 < length t → (length t == 0) ≡ false
 no_length [] h = absurd (omega arith)
 no_length (b ∷ bs) h = ne_eqb (suc (length bs)) 0 (λ e. omega arith)
-
--- a last line without a newline
-pub last_told : (front : List Event) (line : ℕ) (last : List ℕ) (event : Event) → 0 < length last → told last ≡ Ok event → with_front front (events_from line (last ∷ [])) ≡ Err NoNewline
-last_told front line last event some h = last_as front line last false (Ok event) (no_length last some) h
-
-pub last_bad : (front : List Event) (line : ℕ) (last : List ℕ) (fault : JsonFault) → 0 < length last → told last ≡ Err fault → with_front front (events_from line (last ∷ [])) ≡ Err (BadLine line fault)
-last_bad front line last fault some h = last_as front line last false (Err fault) (no_length last some) h
-
--- the fault of a line is that of the log
-pub fault_of_line : (line : ℕ) (fault : JsonFault) (found : Result Event JsonFault) (log : Result (List Event) LogFault) → fl.Fails fault found → ((e : JsonFault) → found ≡ Err e → log ≡ Err (BadLine line e)) → Fails (line_fault line fault) log
-fault_of_line line json_fault.NoMemory found log h f = tt
-fault_of_line line (json_fault.BadNumber place) found log h f = f (json_fault.BadNumber place) h
-fault_of_line line json_fault.NotJson found log h f = f json_fault.NotJson h
-fault_of_line line json_fault.Missing found log h f = f json_fault.Missing h
-fault_of_line line json_fault.WrongKind found log h f = f json_fault.WrongKind h
 
 pub is_reading : (t : List ℕ) → events_from 1 (parts t) ≡ log_reading t
 unfolding log_reading
@@ -166,30 +134,51 @@ lines_are rest first e = go (cases_lt (first_len rest) (length rest))
         let same : first ≡ rest = e ∙ take_all (first_len rest) rest g in
         inr (g, same, last_line rest all ∙ ap (λ a. a ∷ []) (sym same))
 
--- a first line that tells no event
-pub rest_bad : (front : List Event) (line : ℕ) (rest first : List ℕ) (fault : JsonFault) → 0 < length rest → first ≡ take (first_len rest) rest → told first ≡ Err fault
-    → with_front front (events_from line (parts rest)) ≡ Err (BadLine line fault)
-rest_bad front line rest first fault some e h = elim (lines_are rest first e) [
-  | inl s ↦ ap (λ ps. with_front front (events_from line ps)) s.1.1.1.1 ∙ line_bad front line first s.1.0 s.1.1.0 fault h
-  | inr s ↦ let long : 0 < length first = subst (λ t. 0 < length t) (sym s.1) some in ap (λ ps. with_front front (events_from line ps)) s.2 ∙ last_bad front line first fault long h
+-- the events so far, that of a first line, and those of the lines behind it
+abbrev pub with_later : List Event → ℕ → List ℕ → Event → Result (List Event) LogFault
+with_later front line behind event = with_front (front ++ event ∷ []) (events_from (line + 1) (parts (drop 1 behind)))
+
+-- a line and its newline
+whole_line : (front : List Event) (line : ℕ) (next : List ℕ) (more : List (List ℕ)) (behind : List ℕ) (r : Result Event LogFault) → (length behind == 0) ≡ false → parts (drop 1 behind) ≡ next ∷ more
+    → with_front front (r >>= λ event. events_from (line + 1) (next ∷ more) >>= λ es. Ok (event ∷ es)) ≡ (r >>= λ event. cond (length behind == 0) (Err NoNewline) (Ok event)) >>= with_later front line behind
+whole_line front line next more behind (Ok event) e p =
+    front_more front event (events_from (line + 1) (next ∷ more)) ∙ ap (λ ps. with_front (front ++ event ∷ []) (events_from (line + 1) ps)) (sym p)
+    ∙ sym (ap (λ z. cond z (Err NoNewline) (Ok event) >>= with_later front line behind) e)
+whole_line front line next more behind (Err fault) e p = refl
+
+-- a last line without its newline
+cut_line : (front : List Event) (line : ℕ) (last behind : List ℕ) (r : Result Event LogFault) → (length last == 0) ≡ false → (length behind == 0) ≡ true
+    → with_front front (cond (length last == 0) (Ok []) (r >>= λ event. Err NoNewline)) ≡ (r >>= λ event. cond (length behind == 0) (Err NoNewline) (Ok event)) >>= with_later front line behind
+cut_line front line last behind (Ok event) e n =
+    ap (λ z. with_front front (cond z (Ok []) (Err NoNewline))) e ∙ sym (ap (λ z. cond z (Err NoNewline) (Ok event) >>= with_later front line behind) n)
+cut_line front line last behind (Err fault) e n = ap (λ z. with_front front (cond z (Ok []) (Err fault))) e
+
+-- what is left of a log is its first line and the lines behind that
+pub rest_is : (front : List Event) (line : ℕ) (rest first behind : List ℕ) → 0 < length rest → first ≡ take (first_len rest) rest → behind ≡ drop (first_len rest) rest
+    → with_front front (events_from line (parts rest)) ≡ first_told line first behind >>= with_later front line behind
+rest_is front line rest first behind some e b = elim (lines_are rest first e) [
+  | inl s ↦
+      let l : first_len rest < length rest = s.0 in
+      let long : 0 < length behind = omega (arith, ap length b, length_left (first_len rest) rest) in
+      let later : parts (drop 1 behind) ≡ s.1.0 ∷ s.1.1.0 = ap (λ t. parts (drop 1 t)) b ∙ ap parts (drop_suc (first_len rest) rest) ∙ ap (λ k. parts (drop k rest)) (sym (add-one (first_len rest))) ∙ s.1.1.1.0 in
+      ap (λ ps. with_front front (events_from line ps)) s.1.1.1.1 ∙ whole_line front line s.1.0 s.1.1.0 behind (at_line line (told first)) (no_length behind long) later
+  | inr s ↦
+      let g : length rest ≤ first_len rest = s.0 in
+      let none : length behind ≡ 0 = omega (arith, ap length b, length_left (first_len rest) rest) in
+      let long : 0 < length first = subst (λ t. 0 < length t) (sym s.1) some in
+      ap (λ ps. with_front front (events_from line ps)) s.2 ∙ cut_line front line first behind (at_line line (told first)) (no_length first long) (eq-eqb _ _ none)
 ]
 
--- a first line that tells an event, without a newline
-pub rest_cut : (front : List Event) (line : ℕ) (rest first behind : List ℕ) (event : Event) → 0 < length rest → first ≡ take (first_len rest) rest → behind ≡ drop (first_len rest) rest → length behind ≡ 0 → told first ≡ Ok event
-    → with_front front (events_from line (parts rest)) ≡ Err NoNewline
-rest_cut front line rest first behind event some e b none h = elim (lines_are rest first e) [
-  | inl s ↦ let l : first_len rest < length rest = s.0 in let k : length (drop (first_len rest) rest) ≡ 0 = sym (ap length b) ∙ none in absurd (omega (arith, length_left (first_len rest) rest))
-  | inr s ↦ let long : 0 < length first = subst (λ t. 0 < length t) (sym s.1) some in ap (λ ps. with_front front (events_from line ps)) s.2 ∙ last_told front line first event long h
-]
+-- the fault of a first line is that of the log
+pub log_fails : (fault : LogFault) (found : Result Event LogFault) (later : Event → Result (List Event) LogFault) (log : Result (List Event) LogFault) → log ≡ found >>= later → Fails fault found → Fails fault log
+log_fails NoMemory found later log is h = tt
+log_fails NoNewline found later log is h = is ∙ ap (λ r. r >>= later) h
+log_fails (BadLine line fault) found later log is h = is ∙ ap (λ r. r >>= later) h
 
--- a first line that tells an event, and a newline
-pub rest_told : (front : List Event) (line : ℕ) (rest first behind : List ℕ) (event : Event) → first ≡ take (first_len rest) rest → behind ≡ drop (first_len rest) rest → 0 < length behind → told first ≡ Ok event
-    → with_front front (events_from line (parts rest)) ≡ with_front (front ++ event ∷ []) (events_from (line + 1) (parts (drop 1 behind)))
-rest_told front line rest first behind event e b some h = elim (lines_are rest first e) [
-  | inl s ↦ ap (λ ps. with_front front (events_from line ps)) s.1.1.1.1 ∙ line_told front line first s.1.0 s.1.1.0 event h
-      ∙ ap (λ ps. with_front (front ++ event ∷ []) (events_from (line + 1) ps)) (sym s.1.1.1.0 ∙ ap (λ k. parts (drop k rest)) (add-one (first_len rest)) ∙ ap parts (sym (drop_suc (first_len rest) rest)) ∙ ap (λ t. parts (drop 1 t)) (sym b))
-  | inr s ↦ let g : length rest ≤ first_len rest = s.0 in let k : length behind ≡ length (drop (first_len rest) rest) = ap length b in absurd (omega (arith, length_left (first_len rest) rest))
-]
+-- what hands on a fault
+pub fault_gives : {X Y : Type 0} (seen : X → Y) (r : Result X LogFault) (fault : LogFault) (found : Result Y LogFault) → IsErrAnd r (λ e. e ≡ fault) → Fails fault found → Gives seen r found
+fault_gives seen (Ok x) fault found is h = absurd is
+fault_gives seen (Err e) fault found is h = subst (λ e. Fails e found) (sym is) h
 
 -- all of what stands behind the first byte
 pub all_behind : (behind : List ℕ) → take (length behind - 1) (drop 1 behind) ≡ drop 1 behind

@@ -26,6 +26,10 @@ events_from line (first ∷ next ∷ more) = do
 unfoldable pub log_reading : List ℕ → Result (List Event) LogFault
 log_reading text = events_from 1 (slice_split (λ b. b == 10) text)
 
+-- the event of the first line of what is left of a log: a line whose newline is missing counts where it tells an event
+abbrev pub first_told : ℕ → List ℕ → List ℕ → Result Event LogFault
+first_told line first behind = at_line line (told first) >>= λ event. if length behind == 0 then Err NoNewline else Ok event
+
 -- the text of a log: the lines of its events, one after another
 abbrev pub log_text : List Event → List ℕ
 log_text events = flat_map line_text events

@@ -1,4 +1,4 @@
-ghost use Rattle.std.specs.Prelude.{◌≡◌, ◌≤◌, ◌<◌, IfOk, IfSome, All, Ok, length, not, string_bytes, ◌==◌, IsUtf8};
+ghost use Rattle.std.specs.Prelude.{◌≡◌, ◌≤◌, ◌<◌, IfOk, OnOk, IfSome, All, Ok, length, not, string_bytes, ◌==◌, IsUtf8};
 ghost use Rattle.std.specs.List.{list_all, prefix_len};
 ghost use Rattle.std.specs.BTreeMap.{keys};
 ghost use Rattle.serde_json.specs.Data.{depth};
@@ -7,7 +7,7 @@ ghost use Rattle.serde_json.specs.View.{view};
 ghost use Rattle.fl_json.specs.Reading.{Gives as GivesJson, Finds};
 ghost use Rattle.fl_json.specs.Valid.{IsValid};
 ghost use Rattle.event_log.specs.Events.{IsEvent, IsObjectText, event_of, told, name_of, context_of, has_event_keys, is_event_key};
-ghost use Rattle.event_log.specs.Logs.{Gives, log_reading, line_fault};
+ghost use Rattle.event_log.specs.Logs.{Gives, first_told, log_reading, line_fault};
 
 use crate::event::{Event, LogFault};
 use fl_json::{JsonFault, Value, field, number, word};
@@ -121,7 +121,24 @@ fn fault_at(line: u64, fault: JsonFault) -> LogFault
     }
 }
 
-/// The events of a log. `BadLine` at the first line that tells none, and else `NoNewline` where the last line has none.
+/// The event of the first line of what is left of a log, which stands before its newline and what is behind that.
+fn first_event(alloc: Global, line: u64, first: &[u8], behind: &[u8]) -> Result<Event, LogFault>
+    ensures event { Gives (λ e. e) result (first_told line first.now behind.now) }
+    ensures valid { IfOk result IsEvent }
+    ensures newline { OnOk result (0 < length behind.now) }
+{
+    let event = match event_at(alloc, first) {
+        Ok(event) => event,
+        Err(fault) => return Err(fault_at(line, fault)),
+    };
+    if behind.is_empty() {
+        return Err(LogFault::NoNewline);
+    }
+    Ok(event)
+}
+
+/// The events of a log (Flux RFC 18). `BadLine` at the first line that tells none, and else `NoNewline` where the last
+/// line has none.
 pub fn read(alloc: Global, text: &[u8]) -> Result<Vec<Event>, LogFault>
     ensures log { Gives (λ v. v.items) result (log_reading text.now) }
     ensures valid { IfOk result (λ v. All IsEvent v.items) }
@@ -132,13 +149,7 @@ pub fn read(alloc: Global, text: &[u8]) -> Result<Vec<Event>, LogFault>
     'lines: while !rest.is_empty() {
         line += 1;
         let (first, behind) = rest.split_at(line_len(rest));
-        let event = match event_at(alloc, first) {
-            Ok(event) => event,
-            Err(fault) => return Err(fault_at(line, fault)),
-        };
-        if behind.is_empty() {
-            return Err(LogFault::NoNewline);
-        }
+        let event = first_event(alloc, line, first, behind)?;
         events.push(event)?;
         rest = &behind[1..];
     }

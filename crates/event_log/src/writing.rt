@@ -90,7 +90,7 @@ fn add_context(out: &mut Vec<u8>, context: &Option<Bytes>) -> Result<(), AllocEr
     out.extend_from_slice(b",")
 }
 
-/// The line of an event, with its newline: compact JSON with the keys in their order.
+/// The line of an event, with its newline (Flux RFC 18): compact JSON with the keys in their order.
 pub fn line(alloc: Global, event: &Event) -> Result<Vec<u8>, AllocError>
     ensures text { IfOk result (λ t. t.items ≡ line_text event.now) }
     // What is written of an event of a log is read again as that event.
