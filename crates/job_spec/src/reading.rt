@@ -1,4 +1,4 @@
-ghost use Rattle.std.specs.Prelude.{◌≡◌, ◌≤◌, IfOk, length};
+ghost use Rattle.std.specs.Prelude.{◌≡◌, ◌≤◌, IfOk, length, nat_le};
 ghost use Rattle.serde_json.specs.View.{view};
 ghost use Rattle.job_spec.specs.Fields.{Gives};
 ghost use Rattle.job_spec.specs.Sound.{IsSpec};
@@ -64,6 +64,13 @@ fn fault_of(fault: JsonFault) -> SpecFault
     }
 }
 
+/// Whether a text is short enough for a jobspec.
+fn fits(text: &[u8]) -> bool
+    ensures { result ≡ nat_le (length text.now) 65536 }
+{
+    text.len() <= MAX_TEXT
+}
+
 /// The jobspec of a text, or the first fault: `TooLarge`, `NotJson`, `BadVersion`, and then the first in the order of
 /// `resources`, `tasks` and `attributes`, and in each of its fields in the order of its type. Other keys are read over.
 /// A job without `attributes.system` has no limit and no dependencies.
@@ -72,7 +79,7 @@ pub fn read(alloc: Global, text: &[u8]) -> Result<JobSpec, SpecFault>
     ensures found { Gives (λ spec. spec) result (spec_reading text.now) }
     ensures sound { IfOk result IsSpec }
 {
-    if MAX_TEXT < text.len() {
+    if !fits(text) {
         return Err(SpecFault::TooLarge);
     }
     match fl_json::read(alloc, text) {
