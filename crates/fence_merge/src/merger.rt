@@ -50,7 +50,7 @@ impl Merger {
         }
     }
 
-    /// Takes a plain commit, which is ready at once.
+    /// Takes a plain commit, which is ready at once. `NoMemory` hands it back, and nothing changes.
     pub fn push(&mut self, member: Member) -> Result<(), PushFault>
         ensures pushed { OnOk result (self.new ≡ pushed self.old member) }
         ensures kept { OnErr result (self.new ≡ self.old) }
@@ -76,7 +76,8 @@ impl Merger {
 
     /// Takes a member of the fence of a name that waits for so many members: true exactly where the fence became ready.
     ///
-    /// The first member opens the fence. The name may be used again once the fence became ready.
+    /// The first member opens the fence. The name may be used again once the fence became ready. `CountDiffers` where the
+    /// open fence waits for another count. A fault hands the member back, and nothing changes.
     pub fn join(&mut self, name: &Bytes, count: u32, member: Member) -> Result<bool, JoinFault>
         requires { (1 ≤ count) × (count ≤ 256) }
         ensures ready { IfOk result (λ ready. ready ≡ completes self.old.fences name.now count) }
