@@ -1,4 +1,4 @@
-ghost use Rattle.std.specs.Prelude.{◌≡◌, ◌<◌, ◌≤◌, ◌↔◌, ◌+◌, ◌^◌, ◌++◌, List, [], length, map, take, drop, IfNone, IfSome, nat_lt, Contains, IfOk, OnOk, OnErr, IsTrue, Some, None, All};
+ghost use Rattle.std.specs.Prelude.{◌≡◌, ◌<◌, ◌≤◌, ◌↔◌, ◌+◌, ◌^◌, ◌++◌, List, [], length, map, take, drop, IfNone, IfSome, nat_le, nat_lt, Contains, IfOk, OnOk, OnErr, IsTrue, Some, None, All};
 ghost use Rattle.std.specs.Bool.{OnFalse};
 ghost use Rattle.std.specs.List.{HoldsAt, AllByRecursion as Each};
 ghost use Rattle.std.specs.List.Sorted.{IsStrictlyIncreasing};
@@ -263,6 +263,13 @@ fn take_back(places: &[Place], spec: &JobSpec, rooms: &mut [Room], sum: u64, nod
     sum
 }
 
+/// Whether what hosts bring is as much as a job asks for.
+fn is_enough(spec: &JobSpec, sum: u64) -> bool
+    ensures { result ≡ nat_le (wanted_of spec.now) sum }
+{
+    u64::from(wanted(spec)) <= sum
+}
+
 /// The live jobs that stand in a job's way, where the rooms and what they bring are those that all of them leave.
 /// Each is left out, in order of id, without which the rest still leaves no room.
 fn sift(
@@ -280,12 +287,11 @@ fn sift(
     ensures { IfOk result (AreBlockers spec.now (map node_of places.now) live.now) }
 {
     let mut sum = sum;
-    let asked = u64::from(wanted(spec));
     let mut list = JobList::new(alloc);
     for hold in live {
         let nodes = hold.nodes.as_slice();
         sum = add(places, spec, rooms, sum, nodes);
-        if asked <= sum {
+        if is_enough(spec, sum) {
             sum = take_back(places, spec, rooms, sum, nodes);
             list.push(hold.id)?;
         }

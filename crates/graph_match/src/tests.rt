@@ -85,6 +85,13 @@ fn grant(alloc: Global, hosts: u32, cores: u32, gpus: u32) -> Result<Resources, 
     })
 }
 
+/// Such a grant, with no live job.
+fn free_graph(alloc: Global, hosts: u32, cores: u32, gpus: u32) -> Result<Graph, AllocError>
+    requires { hosts ≤ 26 }
+{
+    Graph::new(alloc, &grant(alloc, hosts, cores, gpus)?)
+}
+
 /// Whether a graph may be asked with it.
 fn is_spec(spec: &JobSpec) -> bool
     ensures { IsTrue result → IsSpec spec.now }
@@ -161,7 +168,7 @@ fn answered(
 #[test]
 fn the_lowest_units_of_the_first_host_go_first(rt: HostRuntime) -> Result<(), Fail> {
     let alloc = rt.alloc();
-    let mut graph = Graph::new(alloc, &grant(alloc, 2, 4, 0)?)?;
+    let mut graph = free_graph(alloc, 2, 4, 0)?;
     let four = Ask { slots: 4, ..PLAIN };
     let five = Ask { cores: 5, ..PLAIN };
     assert_eq!(rt;
@@ -183,6 +190,11 @@ struct Turn<'a> {
     id: u64,
     ask: Ask,
     answer: &'a str,
+}
+
+/// A turn of the job with this id.
+const fn job<'a>(id: u64, ask: Ask, answer: &'a str) -> Turn<'a> {
+    Turn { id, ask, answer }
 }
 
 fn check(
@@ -217,43 +229,15 @@ const fn hosts(count: u32, slots: u32, exclusive: bool) -> Ask {
 #[test]
 fn busy_names_the_jobs_that_stand_in_the_way(rt: HostRuntime) -> Result<(), Fail> {
     let alloc = rt.alloc();
-    let mut graph = Graph::new(alloc, &grant(alloc, 2, 4, 0)?)?;
+    let mut graph = free_graph(alloc, 2, 4, 0)?;
     let turns = [
-        Turn {
-            id: 1,
-            ask: slots(4),
-            answer: "0:0-3 7-0",
-        },
-        Turn {
-            id: 2,
-            ask: slots(2),
-            answer: "1:0-1 7-0",
-        },
-        Turn {
-            id: 3,
-            ask: slots(2),
-            answer: "1:2-3 7-0",
-        },
-        Turn {
-            id: 4,
-            ask: slots(4),
-            answer: "busy 1 3",
-        },
-        Turn {
-            id: 5,
-            ask: slots(8),
-            answer: "busy 3",
-        },
-        Turn {
-            id: 6,
-            ask: slots(9),
-            answer: "never",
-        },
-        Turn {
-            id: 7,
-            ask: hosts(1, 3, false),
-            answer: "busy 1 3",
-        },
+        job(1, slots(4), "0:0-3 7-0"),
+        job(2, slots(2), "1:0-1 7-0"),
+        job(3, slots(2), "1:2-3 7-0"),
+        job(4, slots(4), "busy 1 3"),
+        job(5, slots(8), "busy 3"),
+        job(6, slots(9), "never"),
+        job(7, hosts(1, 3, false), "busy 1 3"),
     ];
     check(&rt, alloc, &mut graph, &turns)?;
     Ok(())
@@ -262,43 +246,15 @@ fn busy_names_the_jobs_that_stand_in_the_way(rt: HostRuntime) -> Result<(), Fail
 #[test]
 fn hosts_serve_wholly_or_in_part(rt: HostRuntime) -> Result<(), Fail> {
     let alloc = rt.alloc();
-    let mut graph = Graph::new(alloc, &grant(alloc, 4, 4, 1)?)?;
+    let mut graph = free_graph(alloc, 4, 4, 1)?;
     let turns = [
-        Turn {
-            id: 1,
-            ask: slots(1),
-            answer: "0:0-0 7-0",
-        },
-        Turn {
-            id: 2,
-            ask: hosts(2, 2, false),
-            answer: "0:1-2 1:0-1 7-0",
-        },
-        Turn {
-            id: 3,
-            ask: hosts(1, 2, true),
-            answer: "2:0-3 g0-0 7-0",
-        },
-        Turn {
-            id: 4,
-            ask: hosts(2, 1, true),
-            answer: "busy 2 3",
-        },
-        Turn {
-            id: 5,
-            ask: hosts(5, 1, true),
-            answer: "never",
-        },
-        Turn {
-            id: 6,
-            ask: hosts(1, 5, false),
-            answer: "never",
-        },
-        Turn {
-            id: 7,
-            ask: hosts(1, 3, false),
-            answer: "3:0-2 7-0",
-        },
+        job(1, slots(1), "0:0-0 7-0"),
+        job(2, hosts(2, 2, false), "0:1-2 1:0-1 7-0"),
+        job(3, hosts(1, 2, true), "2:0-3 g0-0 7-0"),
+        job(4, hosts(2, 1, true), "busy 2 3"),
+        job(5, hosts(5, 1, true), "never"),
+        job(6, hosts(1, 5, false), "never"),
+        job(7, hosts(1, 3, false), "3:0-2 7-0"),
     ];
     check(&rt, alloc, &mut graph, &turns)?;
     Ok(())
@@ -307,7 +263,7 @@ fn hosts_serve_wholly_or_in_part(rt: HostRuntime) -> Result<(), Fail> {
 #[test]
 fn slots_are_spread_over_what_is_free(rt: HostRuntime) -> Result<(), Fail> {
     let alloc = rt.alloc();
-    let mut graph = Graph::new(alloc, &grant(alloc, 3, 4, 2)?)?;
+    let mut graph = free_graph(alloc, 3, 4, 2)?;
     let pair = Ask {
         slots: 1,
         cores: 2,
@@ -317,46 +273,18 @@ fn slots_are_spread_over_what_is_free(rt: HostRuntime) -> Result<(), Fail> {
     let pairs = Ask { slots: 3, ..pair };
     let wide = Ask { cores: 5, ..PLAIN };
     let first = [
-        Turn {
-            id: 9,
-            ask: pair,
-            answer: "0:0-1 g0-0 7-0",
-        },
-        Turn {
-            id: 4,
-            ask: slots(2),
-            answer: "0:2-3 7-0",
-        },
-        Turn {
-            id: 5,
-            ask: slots(4),
-            answer: "1:0-3 7-0",
-        },
-        Turn {
-            id: 6,
-            ask: pairs,
-            answer: "busy 4 5 9",
-        },
-        Turn {
-            id: 6,
-            ask: wide,
-            answer: "never",
-        },
+        job(9, pair, "0:0-1 g0-0 7-0"),
+        job(4, slots(2), "0:2-3 7-0"),
+        job(5, slots(4), "1:0-3 7-0"),
+        job(6, pairs, "busy 4 5 9"),
+        job(6, wide, "never"),
     ];
     check(&rt, alloc, &mut graph, &first)?;
     assert!(rt; graph.give(9));
     assert!(rt; !graph.give(8));
     let second = [
-        Turn {
-            id: 7,
-            ask: pairs,
-            answer: "0:0-1 g0-0 2:0-3 g0-1 7-0",
-        },
-        Turn {
-            id: 8,
-            ask: slots(1),
-            answer: "busy 4 5 7",
-        },
+        job(7, pairs, "0:0-1 g0-0 2:0-3 g0-1 7-0"),
+        job(8, slots(1), "busy 4 5 7"),
     ];
     check(&rt, alloc, &mut graph, &second)?;
     Ok(())
@@ -376,41 +304,17 @@ fn units_end_with_the_job_or_the_grant(rt: HostRuntime) -> Result<(), Fail> {
     };
     let mut graph = Graph::new(alloc, &of)?;
     let free = [
-        Turn {
-            id: 1,
-            ask: PLAIN,
-            answer: "0:0-0 7-0",
-        },
-        Turn {
-            id: 2,
-            ask: ten,
-            answer: "0:1-1 7-17",
-        },
-        Turn {
-            id: 3,
-            ask: long,
-            answer: "0:2-2 7-18446744073709551615",
-        },
+        job(1, PLAIN, "0:0-0 7-0"),
+        job(2, ten, "0:1-1 7-17"),
+        job(3, long, "0:2-2 7-18446744073709551615"),
     ];
     check(&rt, alloc, &mut graph, &free)?;
     of.expiration = 100;
     let mut graph = Graph::new(alloc, &of)?;
     let bounded = [
-        Turn {
-            id: 1,
-            ask: PLAIN,
-            answer: "0:0-0 7-100",
-        },
-        Turn {
-            id: 2,
-            ask: ten,
-            answer: "0:1-1 7-17",
-        },
-        Turn {
-            id: 3,
-            ask: long,
-            answer: "0:2-2 7-100",
-        },
+        job(1, PLAIN, "0:0-0 7-100"),
+        job(2, ten, "0:1-1 7-17"),
+        job(3, long, "0:2-2 7-100"),
     ];
     check(&rt, alloc, &mut graph, &bounded)?;
     Ok(())
