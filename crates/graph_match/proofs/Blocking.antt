@@ -32,8 +32,16 @@ listed list i live = nodes_of (with_ids list (take i live))
 abbrev pub later : ℕ → List Hold → List Node
 later i live = nodes_of (drop i live)
 
+-- what all others hold while a job is left out
+abbrev pub rest_of : List ℕ → ℕ → List Hold → List Node
+rest_of list i live = listed list i live ++ later (i + 1) live
+
+-- of nodes that are apart no unit of a kind is in both
+abbrev pub IsApartBy : (Node → List ℕ) → Type 0
+IsApartBy kind = (a b : List Node) → AreApart a b → (host : List ℕ) (id : ℕ) → has_unit kind a host id ≡ true → has_unit kind b host id ≡ false
+
 -- ---- a job is apart from those before and behind it
-apart_at : (kind : Node → List ℕ) → ((a b : List Node) → AreApart a b → (host : List ℕ) (id : ℕ) → has_unit kind a host id ≡ true → has_unit kind b host id ≡ false) → (live : List Hold) (i : ℕ) (hold : Hold) (host : List ℕ) (id : ℕ) → AllApart live → i < length live → hold ≡ get_or live i hold → has_unit kind hold.nodes host id ≡ true → (has_unit kind (nodes_of (take i live)) host id ≡ false) × (has_unit kind (nodes_of (drop (suc i) live)) host id ≡ false)
+apart_at : (kind : Node → List ℕ) → IsApartBy kind → (live : List Hold) (i : ℕ) (hold : Hold) (host : List ℕ) (id : ℕ) → AllApart live → i < length live → hold ≡ get_or live i hold → has_unit kind hold.nodes host id ≡ true → (has_unit kind (nodes_of (take i live)) host id ≡ false) × (has_unit kind (nodes_of (drop (suc i) live)) host id ≡ false)
 apart_at kind by [] i hold host id a h e t = let no : ⊥ = omega (arith, h) in absurd no
 apart_at kind by (x ∷ xs) zero hold host id a h e t = (refl, by x.nodes (nodes_of xs) a.0 host id (ap (λ y. has_unit kind y.nodes host id) (sym e) ∙ t))
 apart_at kind by (x ∷ xs) (suc i) hold host id a h e t =
@@ -46,13 +54,13 @@ apart_at kind by (x ∷ xs) (suc i) hold host id a h e t =
     held : Among hold xs → has_unit kind (nodes_of xs) host id ≡ true
     held i = has_held kind xs hold host id i t
 
-pub apart_others : (list : List ℕ) (live : List Hold) (i : ℕ) (hold : Hold) → AllApart live → i < length live → hold ≡ get_or live i hold → AreApart hold.nodes (listed list i live ++ later (i + 1) live)
+pub apart_others : (list : List ℕ) (live : List Hold) (i : ℕ) (hold : Hold) → AllApart live → i < length live → hold ≡ get_or live i hold → AreApart hold.nodes (rest_of list i live)
 apart_others list live i hold a h e host id = (one (λ n. n.cores) (λ a b x host id. (x host id).0), one (λ n. n.gpus) (λ a b x host id. (x host id).1))
   where
     next : i + 1 ≡ suc i
     next = omega arith
 
-    one : (kind : Node → List ℕ) → ((a b : List Node) → AreApart a b → (host : List ℕ) (id : ℕ) → has_unit kind a host id ≡ true → has_unit kind b host id ≡ false) → has_unit kind hold.nodes host id ≡ true → has_unit kind (listed list i live ++ later (i + 1) live) host id ≡ false
+    one : (kind : Node → List ℕ) → IsApartBy kind → has_unit kind hold.nodes host id ≡ true → has_unit kind (rest_of list i live) host id ≡ false
     one kind by t =
         let both = apart_at kind by live i hold host id a h e t in
         has_both kind (listed list i live) (later (i + 1) live) host id
@@ -79,6 +87,11 @@ later_step : (live : List Hold) (i : ℕ) (hold : Hold) → i < length live → 
 later_step live i hold h e = ap nodes_of (drop_more live i hold h ∙ ap (λ x. x ∷ drop (i + 1) live) (sym e))
 
 -- ---- the other jobs at an id
+above : (m : ℕ) (ys : List Hold) (j : ℕ) (d : Hold) → RiseFrom m (ids_of ys) → j < length ys → m ≤ (get_or ys j d).id
+above m [] j d r h = let no : ⊥ = omega (arith, h) in absurd no
+above m (y ∷ ys) zero d r h = r.0
+above m (y ∷ ys) (suc j) d r h = omega (arith, r.0, above (y.id + 1) ys j d r.1 (omega (arith, h)))
+
 split_at : (list : List ℕ) (n i : ℕ) (live : List Hold) (hold : Hold) → RiseFrom n (ids_of live) → i < length live → hold ≡ get_or live i hold → others_at hold.id list live ≡ with_ids list (take i live) ++ drop (suc i) live
 split_at list n i [] hold r h e = let no : ⊥ = omega (arith, h) in absurd no
 split_at list n zero (x ∷ xs) hold r h e =
@@ -101,13 +114,8 @@ split_at list n (suc i) (x ∷ xs) hold r h e = step (split_at list (x.id + 1) i
     within : i < length xs
     within = omega (arith, h)
 
-    above : (m : ℕ) (ys : List Hold) (j : ℕ) → RiseFrom m (ids_of ys) → j < length ys → m ≤ (get_or ys j hold).id
-    above m [] j r h = let no : ⊥ = omega (arith, h) in absurd no
-    above m (y ∷ ys) zero r h = r.0
-    above m (y ∷ ys) (suc j) r h = omega (arith, r.0, above (y.id + 1) ys j r.1 (omega (arith, h)))
-
     below : x.id < hold.id
-    below = omega (arith, above (x.id + 1) xs i r.1 within, ap (λ y. y.id) e)
+    below = omega (arith, above (x.id + 1) xs i hold r.1 within, ap (λ y. y.id) e)
 
     step : others_at hold.id list xs ≡ with_ids list (take i xs) ++ drop (suc i) xs → x.id < hold.id → others_at hold.id list (x ∷ xs) ≡ with_ids list (x ∷ take i xs) ++ drop (suc i) xs
     step more b =
@@ -125,7 +133,7 @@ split_at list n (suc i) (x ∷ xs) hold r h e = step (split_at list (x.id + 1) i
         at false more = more
 
 -- the grant without the other jobs' units
-pub others_free : (grant : List Node) (list : List ℕ) (live : List Hold) (i : ℕ) (hold : Hold) → IsStrictlyIncreasing (ids_of live) → i < length live → hold ≡ get_or live i hold → free_of grant (others_at hold.id list live) ≡ map (without_nodes (listed list i live ++ later (i + 1) live)) grant
+pub others_free : (grant : List Node) (list : List ℕ) (live : List Hold) (i : ℕ) (hold : Hold) → IsStrictlyIncreasing (ids_of live) → i < length live → hold ≡ get_or live i hold → free_of grant (others_at hold.id list live) ≡ map (without_nodes (rest_of list i live)) grant
 others_free grant list live i hold r h e =
     ap (λ hs. map (without_nodes (nodes_of hs)) grant) (split_at list 0 i live hold (rise_of 0 (ids_of live) (λ w. omega arith) r) h e)
     ∙ ap (λ ns. map (without_nodes ns) grant) (flat_map-append (λ x. x.nodes) (with_ids list (take i live)) (drop (suc i) live) ∙ ap (λ n. listed list i live ++ nodes_of (drop n live)) next)
@@ -159,8 +167,7 @@ others_push list new at live h = filter_agree (λ x. (ltb x.id at && has (list +
 
 -- ---- the state as the jobs are gone over
 pub record IsBlocking (spec : JobSpec) (grant : List Node) (live : List Hold) (i : ℕ) (list : List ℕ) (rooms : List Room) (sum : ℕ) : Type 0 where
-  pub rooms_are : rooms ≡ rooms_without (listed list i live ++ later i live) grant
-  pub sum_is : sum ≡ brought spec grant rooms
+  pub are_rooms : AreRooms spec grant (listed list i live ++ later i live) rooms sum
   pub few : sum < wanted spec
   pub alive : (id : ℕ) → Among id list → Among id (ids_of (take i live))
   pub rising : RiseFrom 0 list
@@ -168,8 +175,7 @@ pub record IsBlocking (spec : JobSpec) (grant : List Node) (live : List Hold) (i
 
 pub blocking_begun : (spec : JobSpec) (grant : List Node) (live : List Hold) (rooms : List Room) (sum : ℕ) (list : List ℕ) → AreRooms spec grant (nodes_of live) rooms sum → sum < wanted spec → list ≡ [] → IsBlocking spec grant live 0 list rooms sum
 blocking_begun spec grant live rooms sum list a few l = subst (λ xs. IsBlocking spec grant live 0 xs rooms sum) (sym l) (record {
-  rooms_are = a.0;
-  sum_is = a.1;
+  are_rooms = a;
   few = few;
   alive = λ id i. absurd i;
   rising = tt;
@@ -177,7 +183,10 @@ blocking_begun spec grant live rooms sum list a few l = subst (λ xs. IsBlocking
 })
 
 pub rooms_begun : (spec : JobSpec) (places : List Place) (live : List Hold) (rooms : List Room) (sum : ℕ) → IsKept places live → rooms ≡ map room_of (map free_node places) → sum ≡ total (worth spec (map node_of places)) (map free_node places) → AreRooms spec (map node_of places) (nodes_of live) rooms sum
-rooms_begun spec places live rooms sum k r s = (rooms_is, s ∙ ap (total (worth spec (map node_of places))) free ∙ sym (brought_is spec (map node_of places) (nodes_of live) k.grant) ∙ ap (brought spec (map node_of places)) (sym rooms_is))
+rooms_begun spec places live rooms sum k r s = record {
+  rooms_are = rooms_is;
+  sum_is = s ∙ ap (total (worth spec (map node_of places))) free ∙ sym (brought_is spec (map node_of places) (nodes_of live) k.grant) ∙ ap (brought spec (map node_of places)) (sym rooms_is);
+}
   where
     free : map free_node places ≡ map (without_nodes (nodes_of live)) (map node_of places)
     free = free_places (nodes_of live) places k.marks
@@ -185,24 +194,32 @@ rooms_begun spec places live rooms sum k r s = (rooms_is, s ∙ ap (total (worth
     rooms_is : rooms ≡ rooms_without (nodes_of live) (map node_of places)
     rooms_is = r ∙ ap (map room_of) free
 
-module _ (spec : JobSpec) (grant : List Node) (live : List Hold) (is : IsSpec spec) (g : IsGrant grant) (r : IsStrictlyIncreasing (ids_of live)) (i : ℕ) (list : List ℕ) (rooms : List Room) (sum : ℕ) (b : IsBlocking spec grant live i list rooms sum) (hold : Hold) (h : i < length live) (e : hold ≡ get_or live i hold) where
-  pub ready : rooms ≡ rooms_without (hold.nodes ++ (listed list i live ++ later (i + 1) live)) grant
-  ready = b.rooms_are ∙ ap (λ ns. rooms_without (listed list i live ++ ns) grant) (later_step live i hold h e) ∙ rooms_swapped (listed list i live) hold.nodes (later (i + 1) live) grant
+-- the nodes' rooms bring as much as a job asks for where it can have what they leave
+room_for : (spec : JobSpec) (grant taken : List Node) (rooms : List Room) (sum : ℕ) → IsSpec spec → IsGrant grant → AreRooms spec grant taken rooms sum → CanFit spec grant (map (without_nodes taken) grant) ↔ (wanted spec ≤ sum)
+room_for spec grant taken rooms sum is g a = (
+  λ can. let many = can_fit_enough spec grant (map (without_nodes taken) grant) is (free_is grant taken g) can in omega (arith, many, same),
+  λ many. enough_can_fit spec grant (map (without_nodes taken) grant) (free_is grant taken g) is (omega (arith, many, same)),
+)
+  where
+    same : sum ≡ total (worth spec grant) (map (without_nodes taken) grant)
+    same = a.sum_is ∙ ap (brought spec grant) a.rooms_are ∙ brought_is spec grant taken g
+
+module _ {spec : JobSpec} {grant : List Node} {live : List Hold} {i : ℕ} {list : List ℕ} {rooms : List Room} {sum : ℕ} (b : IsBlocking spec grant live i list rooms sum) (is : IsSpec spec) (g : IsGrant grant) (r : IsStrictlyIncreasing (ids_of live)) (hold : Hold) (h : i < length live) (e : hold ≡ get_or live i hold) where
+  pub ready : AreRooms spec grant (hold.nodes ++ rest_of list i live) rooms sum
+  ready = record {
+    rooms_are = b.are_rooms.rooms_are ∙ ap (λ ns. rooms_without (listed list i live ++ ns) grant) (later_step live i hold h e) ∙ rooms_swapped (listed list i live) hold.nodes (later (i + 1) live) grant;
+    sum_is = b.are_rooms.sum_is;
+  }
 
   -- jobs before have lower ids
   lower : (x : Hold) → Among x (take i live) → x.id < hold.id
   lower x j = below 0 live i (rise_of 0 (ids_of live) (λ w. omega arith) r) h e x j
     where
-      above : (m : ℕ) (ys : List Hold) (j : ℕ) → RiseFrom m (ids_of ys) → j < length ys → m ≤ (get_or ys j hold).id
-      above m [] j r h = let no : ⊥ = omega (arith, h) in absurd no
-      above m (y ∷ ys) zero r h = r.0
-      above m (y ∷ ys) (suc j) r h = omega (arith, r.0, above (y.id + 1) ys j r.1 (omega (arith, h)))
-
       below : (m : ℕ) (ys : List Hold) (j : ℕ) → RiseFrom m (ids_of ys) → j < length ys → hold ≡ get_or ys j hold → (x : Hold) → Among x (take j ys) → x.id < hold.id
       below m [] j r h e x k = let no : ⊥ = omega (arith, h) in absurd no
       below m (y ∷ ys) zero r h e x k = absurd k
       below m (y ∷ ys) (suc j) r h e x k = elim k [
-        | inl same ↦ omega (arith, ap (λ z. z.id) same, above (y.id + 1) ys j r.1 (omega (arith, h)), ap (λ z. z.id) e)
+        | inl same ↦ omega (arith, ap (λ z. z.id) same, above (y.id + 1) ys j hold r.1 (omega (arith, h)), ap (λ z. z.id) e)
         | inr l ↦ below (y.id + 1) ys j r.1 (omega (arith, h)) e x l
       ]
 
@@ -214,9 +231,6 @@ module _ (spec : JobSpec) (grant : List Node) (live : List Hold) (is : IsSpec sp
 
   take_next : take (i + 1) live ≡ take i live ++ hold ∷ []
   take_next = take_more live i hold h ∙ ap (λ x. take i live ++ x ∷ []) (sym e)
-
-  others : List Node
-  others = listed list i live ++ later (i + 1) live
 
   among_next : (x : Hold) → Among x (take (i + 1) live) → Among x (take i live) ⊎ (hold ≡ x)
   among_next x j = elim (among_append (take i live) (hold ∷ []) x (subst (λ xs. Among x xs) take_next j)) [
@@ -230,11 +244,9 @@ module _ (spec : JobSpec) (grant : List Node) (live : List Hold) (is : IsSpec sp
       subst (λ n. Among n (ids_of (take (i + 1) live))) hit.2 (among_mapped (λ x. x.id) (take (i + 1) live) hit.0 (subst (λ xs. Among hit.0 xs) (sym take_next) (among_left (take i live) (hold ∷ []) hit.0 hit.1)))
 
   -- the job is left out: the rest leaves no room
-  pub left_out : (rooms' : List Room) (sum' : ℕ) → rooms' ≡ rooms_without (listed list i live ++ later (i + 1) live) grant → sum' ≡ brought spec grant rooms' → sum' < wanted spec → IsBlocking spec grant live (i + 1) list rooms' sum'
-  unfolding others
-  left_out rooms' sum' l s few = record {
-    rooms_are = l ∙ ap (λ hs. rooms_without (nodes_of hs ++ later (i + 1) live) grant) (sym kept);
-    sum_is = s;
+  pub left_out : {rooms' : List Room} {sum' : ℕ} → AreRooms spec grant (rest_of list i live) rooms' sum' → sum' < wanted spec → IsBlocking spec grant live (i + 1) list rooms' sum'
+  left_out {rooms'} {sum'} a few = record {
+    are_rooms = subst (λ hs. AreRooms spec grant (nodes_of hs ++ later (i + 1) live) rooms' sum') (sym kept) a;
     few = few;
     alive = λ id j. ids_more id (b.alive id j);
     rising = b.rising;
@@ -249,10 +261,8 @@ module _ (spec : JobSpec) (grant : List Node) (live : List Hold) (is : IsSpec sp
 
       none : CanFit spec grant (free_of grant (others_at hold.id list live)) → ⊥
       none can =
-          let can' : CanFit spec grant (map (without_nodes others) grant) = subst (CanFit spec grant) (others_free grant list live i hold r h e) can in
-          let many : wanted spec ≤ total (worth spec grant) (map (without_nodes others) grant) = can_fit_enough spec grant (map (without_nodes others) grant) is (free_is grant others g) can' in
-          let same : sum' ≡ total (worth spec grant) (map (without_nodes others) grant) = s ∙ ap (brought spec grant) l ∙ brought_is spec grant others g in
-          omega (arith, few, many, same)
+          let many = (room_for spec grant (rest_of list i live) rooms' sum' is g a).0 (subst (CanFit spec grant) (others_free grant list live i hold r h e) can) in
+          omega (arith, few, many)
 
       here : (x : Hold) → hold ≡ x → Contains list x.id ↔ CanFit spec grant (free_of grant (others_at x.id list live))
       here x same = subst (λ y. Contains list y.id ↔ CanFit spec grant (free_of grant (others_at y.id list live))) same
@@ -262,12 +272,10 @@ module _ (spec : JobSpec) (grant : List Node) (live : List Hold) (is : IsSpec sp
       exact x j = elim (among_next x j) [ inl before ↦ b.exact x before | inr same ↦ here x same ]
 
   -- the job stays: without it there is room
-  pub stays : (rooms' rooms'' : List Room) (sum' sum'' : ℕ) (list' : List ℕ) → rooms' ≡ rooms_without (listed list i live ++ later (i + 1) live) grant → sum' ≡ brought spec grant rooms' → wanted spec ≤ sum' → rooms'' ≡ rooms_without (hold.nodes ++ (listed list i live ++ later (i + 1) live)) grant → sum'' ≡ brought spec grant rooms'' → list' ≡ list ++ hold.id ∷ [] → IsBlocking spec grant live (i + 1) list' rooms'' sum''
-  unfolding others
-  stays rooms' rooms'' sum' sum'' list' l s many l'' s'' p = subst (λ xs. IsBlocking spec grant live (i + 1) xs rooms'' sum'') (sym p) (record {
-    rooms_are = back ∙ b.rooms_are ∙ ap (λ ns. rooms_without ns grant) taken;
-    sum_is = s'';
-    few = omega (arith, b.few, b.sum_is, s'', ap (brought spec grant) back);
+  pub stays : {gone rooms' : List Room} {more sum' : ℕ} {list' : List ℕ} → AreRooms spec grant (rest_of list i live) gone more → wanted spec ≤ more → AreRooms spec grant (hold.nodes ++ rest_of list i live) rooms' sum' → list' ≡ list ++ hold.id ∷ [] → IsBlocking spec grant live (i + 1) list' rooms' sum'
+  stays {gone} {rooms'} {more} {sum'} a many a' p = subst (λ xs. IsBlocking spec grant live (i + 1) xs rooms' sum') (sym p) (record {
+    are_rooms = record { rooms_are = back ∙ b.are_rooms.rooms_are ∙ ap (λ ns. rooms_without ns grant) taken; sum_is = a'.sum_is };
+    few = omega (arith, b.few, b.are_rooms.sum_is, a'.sum_is, ap (brought spec grant) back);
     alive = alive;
     rising = rise_push list b.rising;
     exact = exact;
@@ -276,8 +284,8 @@ module _ (spec : JobSpec) (grant : List Node) (live : List Hold) (is : IsSpec sp
       pushed : List ℕ
       pushed = list ++ hold.id ∷ []
 
-      back : rooms'' ≡ rooms
-      back = l'' ∙ sym ready
+      back : rooms' ≡ rooms
+      back = a'.rooms_are ∙ sym ready.rooms_are
 
       last : with_ids pushed (hold ∷ []) ≡ hold ∷ []
       last = ap (λ t. cond t (hold ∷ []) []) (among_has pushed hold.id (among_right list (hold.id ∷ []) hold.id (inl refl)))
@@ -312,8 +320,7 @@ module _ (spec : JobSpec) (grant : List Node) (live : List Hold) (is : IsSpec sp
 
       fits : CanFit spec grant (free_of grant (others_at hold.id pushed live))
       fits =
-          let same : sum' ≡ total (worth spec grant) (map (without_nodes others) grant) = s ∙ ap (brought spec grant) l ∙ brought_is spec grant others g in
-          let can : CanFit spec grant (map (without_nodes others) grant) = enough_can_fit spec grant (map (without_nodes others) grant) (free_is grant others g) is (omega (arith, many, same)) in
+          let can = (room_for spec grant (rest_of list i live) gone more is g a).1 many in
           let held : listed pushed i live ≡ listed list i live = ap nodes_of (kept_ids list hold.id (take i live) (λ x j same. let no : ⊥ = omega (arith, lower x j, same) in no)) in
           subst (CanFit spec grant) (sym (others_free grant pushed live i hold r h e ∙ ap (λ ns. map (without_nodes (ns ++ later (i + 1) live)) grant) held)) can
 
@@ -338,11 +345,11 @@ module _ (spec : JobSpec) (grant : List Node) (live : List Hold) (is : IsSpec sp
       exact : (x : Hold) → Among x (take (i + 1) live) → Contains pushed x.id ↔ CanFit spec grant (free_of grant (others_at x.id pushed live))
       exact x j = elim (among_next x j) [ inl a ↦ before x a | inr same ↦ here x same ]
 
-pub blocking_done : (spec : JobSpec) (grant : List Node) (live : List Hold) (i : ℕ) (list : List ℕ) (rooms : List Room) (sum : ℕ) → IsSpec spec → IsGrant grant → length live ≤ i → IsBlocking spec grant live i list rooms sum → AreBlockers spec grant live list
-blocking_done spec grant live i list rooms sum is g h b = record {
+pub blocking_done : {spec : JobSpec} {grant : List Node} {live : List Hold} {i : ℕ} {list : List ℕ} {rooms : List Room} {sum : ℕ} → IsSpec spec → IsGrant grant → length live ≤ i → IsBlocking spec grant live i list rooms sum → AreBlockers spec grant live list
+blocking_done {spec} {grant} {live} {i} {list} {rooms} {sum} is g h b = record {
   rising = rises 0 list b.rising;
   alive = λ id c. contains_from (ids_of live) id (subst (λ hs. Among id (ids_of hs)) all (b.alive id (among_from list id c)));
-  block = block;
+  block = λ can. (let many = (room_for spec grant (nodes_of (with_ids list live)) rooms sum is g (subst (λ ns. AreRooms spec grant ns rooms sum) taken b.are_rooms)).0 can in omega (arith, b.few, many));
   exact = λ hold c. b.exact hold (subst (λ hs. Among hold hs) (sym all) (among_from live hold c));
 }
   where
@@ -351,9 +358,3 @@ blocking_done spec grant live i list rooms sum is g h b = record {
 
     taken : listed list i live ++ later i live ≡ nodes_of (with_ids list live)
     taken = ap (λ hs. nodes_of (with_ids list hs) ++ later i live) all ∙ ap (λ hs. nodes_of (with_ids list live) ++ nodes_of hs) (drop_all i live h) ∙ append-nil (nodes_of (with_ids list live))
-
-    block : CanFit spec grant (free_of grant (with_ids list live)) → ⊥
-    block can =
-        let many : wanted spec ≤ total (worth spec grant) (map (without_nodes (nodes_of (with_ids list live))) grant) = can_fit_enough spec grant (map (without_nodes (nodes_of (with_ids list live))) grant) is (free_is grant (nodes_of (with_ids list live)) g) can in
-        let same : sum ≡ total (worth spec grant) (map (without_nodes (nodes_of (with_ids list live))) grant) = b.sum_is ∙ ap (brought spec grant) (b.rooms_are ∙ ap (λ ns. rooms_without ns grant) taken) ∙ brought_is spec grant (nodes_of (with_ids list live)) g in
-        omega (arith, b.few, many, same)

@@ -17,13 +17,15 @@ use Rattle.job_rules.proofs.Counts.{enough, not_found, picked, picks}
 use Rattle.job_rules.proofs.Few.{bytes_same, hosts_of}
 use Rattle.job_rules.proofs.Sets.{IsFree, IsPiece, among_picked, can_fit_enough, enough_can_fit, free_is, grant_is, picks_set, piece}
 use Rattle.graph_match.specs.declared.place.Place.{Place}
+use Rattle.graph_match.specs.declared.spot.Spot.{Spot}
 use Rattle.graph_match.specs.Allotment.{Allotment}
 use Rattle.graph_match.specs.Answers.{AreFirstFit, IsBlocked}
 use Rattle.graph_match.specs.Holds.{IsNew, with_hold, without_hold}
 use Rattle.graph_match.specs.Kept.{IsKept, IsMarked}
-use Rattle.graph_match.specs.Places.{after_each, free_node, fresh_place, held_place, left_place, node_of}
+use Rattle.graph_match.specs.Places.{after_each, free_node, fresh_place, marked_place, node_of}
+use Rattle.graph_match.specs.Spots.{marked_at}
 use Rattle.graph_match.proofs.Spots.{MarksBy, Rising, marks_fresh, marks_same, rising_earlier, rising_of, rising_small}
-use Rattle.graph_match.proofs.Hosts.{after_node, after_nodes, free_places, fresh_nodes, held_marks, holding, leaving, left_marks}
+use Rattle.graph_match.proofs.Hosts.{after_node, after_nodes, free_places, fresh_nodes, marks_after}
 use Rattle.graph_match.proofs.Holds.{RiseFrom, apart_filter, apart_with, has_with, has_without, ids_of, inserted, removed, rise_filter, rise_of, rise_with, rises}
 
 abbrev ranks_of : List Node → List ℕ
@@ -154,12 +156,6 @@ free_of_others taken grant nodes w host id = (
   free_apart (λ n. n.gpus) taken grant nodes (λ node g part i e. part.gpus i e) w.inside host id,
 )
 
-or_swap : (a b : Bool) → (a || b) ≡ (b || a)
-or_swap true true = refl
-or_swap true false = refl
-or_swap false true = refl
-or_swap false false = refl
-
 each_with : (P : Hold → Type 0) (hold : Hold) (holds : List Hold) → P hold → Each P holds → Each P (with_hold hold holds)
 each_with P hold [] h e = (h, tt)
 each_with P hold (x ∷ xs) h e = at (ltb hold.id x.id) (each_with P hold xs h e.1)
@@ -179,58 +175,61 @@ each_filter P p (x ∷ xs) e = at (p x) (each_filter P p xs e.1)
 pub not_among : (id : ℕ) (holds : List Hold) → IsNew id holds → (h : Hold) → Among h holds → h.id ≢ id
 not_among id holds new h i e = new (contains_from (ids_of holds) id (subst (λ n. Among n (ids_of holds)) e (among_mapped (λ h. h.id) holds h i)))
 
-pub held_kept : (places : List Place) (live : List Hold) (hold : Hold) → IsKept places live → IsNew hold.id live → AreWithin hold.nodes (free_of (map node_of places) live) → IsKept (map (after_each held_place hold.nodes) places) (with_hold hold live)
-held_kept places live hold k new w =
-    let same : map node_of (map (after_each held_place hold.nodes) places) ≡ map node_of places = after_nodes held_place holding hold.nodes places in
-    record {
-      grant = subst IsGrant (sym same) k.grant;
-      live = subst (λ g. AreLive g (with_hold hold live)) (sym same) (record {
-        rising = rises 0 (ids_of (with_hold hold live)) (rise_with 0 hold live (rise_of 0 (ids_of live) (λ u. omega arith) k.live.rising) (omega arith) (not_among hold.id live new));
-        within = each_with (λ h. AreWithin h.nodes (map node_of places)) hold live (are_within_grant (nodes_of live) (map node_of places) hold.nodes w) k.live.within;
-        apart = apart_with hold live (free_of_others (nodes_of live) (map node_of places) hold.nodes w) k.live.apart;
-      });
-      marks = marks places k.marks;
-    }
+-- what is kept once the marks follow what jobs hold
+kept_after : (free : Bool) (nodes : List Node) (places : List Place) (live after : List Hold) → IsKept places live → AreLive (map node_of places) after
+    → ((host : List ℕ) (id : ℕ) → cond (has_unit (λ n. n.cores) nodes host id) (not free) (has_unit (λ n. n.cores) (nodes_of live) host id) ≡ has_unit (λ n. n.cores) (nodes_of after) host id)
+    → ((host : List ℕ) (id : ℕ) → cond (has_unit (λ n. n.gpus) nodes host id) (not free) (has_unit (λ n. n.gpus) (nodes_of live) host id) ≡ has_unit (λ n. n.gpus) (nodes_of after) host id)
+    → IsKept (map (after_each free nodes) places) after
+kept_after free nodes places live after k alive cores gpus = record {
+  grant = subst IsGrant (sym same) k.grant;
+  live = subst (λ grant. AreLive grant after) (sym same) alive;
+  marks = marks places k.marks;
+}
   where
-    after : (place : Place) → (after_each held_place hold.nodes place).host ≡ place.host
-    after place = ap (λ n. n.host) (after_node held_place holding hold.nodes place)
+    same : map node_of (map (after_each free nodes) places) ≡ map node_of places
+    same = after_nodes free nodes places
 
-    one : (place : Place) → IsMarked (nodes_of live) place → IsMarked (nodes_of (with_hold hold live)) (after_each held_place hold.nodes place)
-    one place m = subst (λ h. MarksBy (λ id. has_unit (λ n. n.cores) (nodes_of (with_hold hold live)) h id) (after_each held_place hold.nodes place).cores × MarksBy (λ id. has_unit (λ n. n.gpus) (nodes_of (with_hold hold live)) h id) (after_each held_place hold.nodes place).gpus) (sym (after place)) (
-      marks_same (λ id. has_unit (λ n. n.cores) (nodes_of live) place.host id || has_unit (λ n. n.cores) hold.nodes place.host id) (λ id. has_unit (λ n. n.cores) (nodes_of (with_hold hold live)) place.host id) (after_each held_place hold.nodes place).cores (λ id. or_swap (has_unit (λ n. n.cores) (nodes_of live) place.host id) (has_unit (λ n. n.cores) hold.nodes place.host id) ∙ sym (has_with (λ n. n.cores) hold live place.host id)) (held_marks (λ n. n.cores) (λ p. p.cores) (λ n p. refl) (λ n p. refl) (λ id. has_unit (λ n. n.cores) (nodes_of live) place.host id) hold.nodes place place.host refl m.0),
-      marks_same (λ id. has_unit (λ n. n.gpus) (nodes_of live) place.host id || has_unit (λ n. n.gpus) hold.nodes place.host id) (λ id. has_unit (λ n. n.gpus) (nodes_of (with_hold hold live)) place.host id) (after_each held_place hold.nodes place).gpus (λ id. or_swap (has_unit (λ n. n.gpus) (nodes_of live) place.host id) (has_unit (λ n. n.gpus) hold.nodes place.host id) ∙ sym (has_with (λ n. n.gpus) hold live place.host id)) (held_marks (λ n. n.gpus) (λ p. p.gpus) (λ n p. refl) (λ n p. refl) (λ id. has_unit (λ n. n.gpus) (nodes_of live) place.host id) hold.nodes place place.host refl m.1),
-    )
+    one : (kind : Node → List ℕ) (spots : Place → List Spot) → ((node : Node) (place : Place) → spots (marked_place free node place) ≡ map (marked_at free (kind node)) (spots place))
+        → ((host : List ℕ) (id : ℕ) → cond (has_unit kind nodes host id) (not free) (has_unit kind (nodes_of live) host id) ≡ has_unit kind (nodes_of after) host id)
+        → (place : Place) → MarksBy (λ id. has_unit kind (nodes_of live) place.host id) (spots place) → MarksBy (λ id. has_unit kind (nodes_of after) (after_each free nodes place).host id) (spots (after_each free nodes place))
+    one kind spots marked held place m = subst (λ h. MarksBy (λ id. has_unit kind (nodes_of after) h id) (spots (after_each free nodes place))) (sym (ap (λ n. n.host) (after_node free nodes place)))
+        (marks_same (λ id. cond (has_unit kind nodes place.host id) (not free) (has_unit kind (nodes_of live) place.host id)) (λ id. has_unit kind (nodes_of after) place.host id) (spots (after_each free nodes place)) (held place.host)
+        (marks_after free kind spots marked (λ id. has_unit kind (nodes_of live) place.host id) nodes place place.host refl m))
 
-    marks : (ps : List Place) → Each (IsMarked (nodes_of live)) ps → Each (IsMarked (nodes_of (with_hold hold live))) (map (after_each held_place hold.nodes) ps)
+    marks : (ps : List Place) → Each (IsMarked (nodes_of live)) ps → Each (IsMarked (nodes_of after)) (map (after_each free nodes) ps)
     marks [] m = tt
-    marks (p ∷ ps) m = (one p m.0, marks ps m.1)
+    marks (p ∷ ps) m = ((one (λ n. n.cores) (λ x. x.cores) (λ n x. refl) cores p m.0.0, one (λ n. n.gpus) (λ x. x.gpus) (λ n x. refl) gpus p m.0.1), marks ps m.1)
+
+cond_or : (a b : Bool) → cond a true b ≡ (a || b)
+cond_or true b = refl
+cond_or false b = refl
+
+cond_and : (a b : Bool) → cond a false b ≡ (b && not a)
+cond_and true true = refl
+cond_and true false = refl
+cond_and false true = refl
+cond_and false false = refl
+
+pub held_kept : (places : List Place) (live : List Hold) (hold : Hold) → IsKept places live → IsNew hold.id live → AreWithin hold.nodes (free_of (map node_of places) live) → IsKept (map (after_each false hold.nodes) places) (with_hold hold live)
+held_kept places live hold k new w = kept_after false hold.nodes places live (with_hold hold live) k (record {
+  rising = rises 0 (ids_of (with_hold hold live)) (rise_with 0 hold live (rise_of 0 (ids_of live) (λ u. omega arith) k.live.rising) (omega arith) (not_among hold.id live new));
+  within = each_with (λ h. AreWithin h.nodes (map node_of places)) hold live (are_within_grant (nodes_of live) (map node_of places) hold.nodes w) k.live.within;
+  apart = apart_with hold live (free_of_others (nodes_of live) (map node_of places) hold.nodes w) k.live.apart;
+}) (held (λ n. n.cores)) (held (λ n. n.gpus))
+  where
+    held : (kind : Node → List ℕ) (host : List ℕ) (id : ℕ) → cond (has_unit kind hold.nodes host id) true (has_unit kind (nodes_of live) host id) ≡ has_unit kind (nodes_of (with_hold hold live)) host id
+    held kind host id = cond_or (has_unit kind hold.nodes host id) (has_unit kind (nodes_of live) host id) ∙ sym (has_with kind hold live host id)
 
 -- ---- one less
-pub left_kept : (places : List Place) (live : List Hold) (hold : Hold) → IsKept places live → Among hold live → Distinct (ids_of live) → IsKept (map (after_each left_place hold.nodes) places) (without_hold hold.id live)
-left_kept places live hold k i d =
-    let same : map node_of (map (after_each left_place hold.nodes) places) ≡ map node_of places = after_nodes left_place leaving hold.nodes places in
-    record {
-      grant = subst IsGrant (sym same) k.grant;
-      live = subst (λ g. AreLive g (without_hold hold.id live)) (sym same) (record {
-        rising = rises 0 (ids_of (without_hold hold.id live)) (rise_filter (λ h. not (eqb h.id hold.id)) 0 live (rise_of 0 (ids_of live) (λ u. omega arith) k.live.rising));
-        within = each_filter (λ h. AreWithin h.nodes (map node_of places)) (λ h. not (eqb h.id hold.id)) live k.live.within;
-        apart = apart_filter (λ h. not (eqb h.id hold.id)) live k.live.apart;
-      });
-      marks = marks places k.marks;
-    }
+pub left_kept : (places : List Place) (live : List Hold) (hold : Hold) → IsKept places live → Among hold live → Distinct (ids_of live) → IsKept (map (after_each true hold.nodes) places) (without_hold hold.id live)
+left_kept places live hold k i d = kept_after true hold.nodes places live (without_hold hold.id live) k (record {
+  rising = rises 0 (ids_of (without_hold hold.id live)) (rise_filter (λ h. not (eqb h.id hold.id)) 0 live (rise_of 0 (ids_of live) (λ u. omega arith) k.live.rising));
+  within = each_filter (λ h. AreWithin h.nodes (map node_of places)) (λ h. not (eqb h.id hold.id)) live k.live.within;
+  apart = apart_filter (λ h. not (eqb h.id hold.id)) live k.live.apart;
+}) (left (λ n. n.cores) (λ a b h host id. (h host id).0)) (left (λ n. n.gpus) (λ a b h host id. (h host id).1))
   where
-    after : (place : Place) → (after_each left_place hold.nodes place).host ≡ place.host
-    after place = ap (λ n. n.host) (after_node left_place leaving hold.nodes place)
-
-    one : (place : Place) → IsMarked (nodes_of live) place → IsMarked (nodes_of (without_hold hold.id live)) (after_each left_place hold.nodes place)
-    one place m = subst (λ h. MarksBy (λ id. has_unit (λ n. n.cores) (nodes_of (without_hold hold.id live)) h id) (after_each left_place hold.nodes place).cores × MarksBy (λ id. has_unit (λ n. n.gpus) (nodes_of (without_hold hold.id live)) h id) (after_each left_place hold.nodes place).gpus) (sym (after place)) (
-      marks_same (λ id. has_unit (λ n. n.cores) (nodes_of live) place.host id && not (has_unit (λ n. n.cores) hold.nodes place.host id)) (λ id. has_unit (λ n. n.cores) (nodes_of (without_hold hold.id live)) place.host id) (after_each left_place hold.nodes place).cores (λ id. has_without (λ n. n.cores) (λ a b h host id. (h host id).0) live hold place.host id d k.live.apart i) (left_marks (λ n. n.cores) (λ p. p.cores) (λ n p. refl) (λ n p. refl) (λ id. has_unit (λ n. n.cores) (nodes_of live) place.host id) hold.nodes place place.host refl m.0),
-      marks_same (λ id. has_unit (λ n. n.gpus) (nodes_of live) place.host id && not (has_unit (λ n. n.gpus) hold.nodes place.host id)) (λ id. has_unit (λ n. n.gpus) (nodes_of (without_hold hold.id live)) place.host id) (after_each left_place hold.nodes place).gpus (λ id. has_without (λ n. n.gpus) (λ a b h host id. (h host id).1) live hold place.host id d k.live.apart i) (left_marks (λ n. n.gpus) (λ p. p.gpus) (λ n p. refl) (λ n p. refl) (λ id. has_unit (λ n. n.gpus) (nodes_of live) place.host id) hold.nodes place place.host refl m.1),
-    )
-
-    marks : (ps : List Place) → Each (IsMarked (nodes_of live)) ps → Each (IsMarked (nodes_of (without_hold hold.id live))) (map (after_each left_place hold.nodes) ps)
-    marks [] m = tt
-    marks (p ∷ ps) m = (one p m.0, marks ps m.1)
+    left : (kind : Node → List ℕ) → ((a b : List Node) → AreApart a b → (host : List ℕ) (id : ℕ) → has_unit kind a host id ≡ true → has_unit kind b host id ≡ false) → (host : List ℕ) (id : ℕ) → cond (has_unit kind hold.nodes host id) false (has_unit kind (nodes_of live) host id) ≡ has_unit kind (nodes_of (without_hold hold.id live)) host id
+    left kind by host id = cond_and (has_unit kind hold.nodes host id) (has_unit kind (nodes_of live) host id) ∙ has_without kind by live hold host id d k.live.apart i
 
 -- ---- what the calls leave, in the terms of what they read
 abbrev pub allot : List Node → ℕ → List Hold → Allotment
@@ -244,25 +243,25 @@ pub record IsChange (places places' : List Place) (live' to : List Hold) : Type 
   pub grant : map node_of places' ≡ map node_of places
   pub live : live' ≡ to
 
-pub take_change : (places places' : List Place) (live live' : List Hold) (hold : Hold) (seen : List Node) (at : ℕ) → IsKept places live → IsNew hold.id live → AreWithin hold.nodes (free_of (map node_of places) live) → Each (λ h. h.id < hold.id) (take at live) → Each (λ h. hold.id ≤ h.id) (drop at live) → places' ≡ map (after_each held_place seen) places → seen ≡ hold.nodes → live' ≡ take at live ++ hold ∷ drop at live → IsChange places places' live' (with_hold hold live)
+pub take_change : (places places' : List Place) (live live' : List Hold) (hold : Hold) (seen : List Node) (at : ℕ) → IsKept places live → IsNew hold.id live → AreWithin hold.nodes (free_of (map node_of places) live) → Each (λ h. h.id < hold.id) (take at live) → Each (λ h. hold.id ≤ h.id) (drop at live) → places' ≡ map (after_each false seen) places → seen ≡ hold.nodes → live' ≡ take at live ++ hold ∷ drop at live → IsChange places places' live' (with_hold hold live)
 take_change places places' live live' hold seen at k new w b a p s l =
-    let placed : places' ≡ map (after_each held_place hold.nodes) places = p ∙ ap (λ ns. map (after_each held_place ns) places) s in
+    let placed : places' ≡ map (after_each false hold.nodes) places = p ∙ ap (λ ns. map (after_each false ns) places) s in
     let lived : live' ≡ with_hold hold live = l ∙ inserted hold at live b a (not_among hold.id live new) in
     record {
-      kept = subst (λ ps. IsKept ps live') (sym placed) (subst (IsKept (map (after_each held_place hold.nodes) places)) (sym lived) (held_kept places live hold k new w));
-      grant = ap (map node_of) placed ∙ after_nodes held_place holding hold.nodes places;
+      kept = subst (λ ps. IsKept ps live') (sym placed) (subst (IsKept (map (after_each false hold.nodes) places)) (sym lived) (held_kept places live hold k new w));
+      grant = ap (map node_of) placed ∙ after_nodes false hold.nodes places;
       live = lived;
     }
 
-pub give_change : (places places' : List Place) (live live' : List Hold) (hold : Hold) (seen : List Node) (at id : ℕ) → IsKept places live → at < length live → hold ≡ get_or live at hold → hold.id ≡ id → places' ≡ map (after_each left_place seen) places → seen ≡ hold.nodes → live' ≡ take at live ++ drop (suc at) live → IsChange places places' live' (without_hold id live)
+pub give_change : (places places' : List Place) (live live' : List Hold) (hold : Hold) (seen : List Node) (at id : ℕ) → IsKept places live → at < length live → hold ≡ get_or live at hold → hold.id ≡ id → places' ≡ map (after_each true seen) places → seen ≡ hold.nodes → live' ≡ take at live ++ drop (suc at) live → IsChange places places' live' (without_hold id live)
 give_change places places' live live' hold seen at id k h q e p s l =
     let distinct : Distinct (ids_of live) = distinct_rising (ids_of live) k.live.rising in
-    let placed : places' ≡ map (after_each left_place hold.nodes) places = p ∙ ap (λ ns. map (after_each left_place ns) places) s in
+    let placed : places' ≡ map (after_each true hold.nodes) places = p ∙ ap (λ ns. map (after_each true ns) places) s in
     let lived : live' ≡ without_hold hold.id live = l ∙ removed hold.id at live hold distinct h (ap (λ x. x.id) (sym q)) in
     let among : Among hold live = among_from live hold (at, h, sym q) in
     record {
-      kept = subst (λ ps. IsKept ps live') (sym placed) (subst (IsKept (map (after_each left_place hold.nodes) places)) (sym lived) (left_kept places live hold k among distinct));
-      grant = ap (map node_of) placed ∙ after_nodes left_place leaving hold.nodes places;
+      kept = subst (λ ps. IsKept ps live') (sym placed) (subst (IsKept (map (after_each true hold.nodes) places)) (sym lived) (left_kept places live hold k among distinct));
+      grant = ap (map node_of) placed ∙ after_nodes true hold.nodes places;
       live = lived ∙ ap (λ n. without_hold n live) e;
     }
 

@@ -1,22 +1,19 @@
 -- A job's units leave the rooms of hosts and come back, one node after another.
 use Rattle.std.proofs.Common.{◌≡◌, ◌≢◌, ℕ, suc, zero, ◌+◌, ◌-◌, ◌<◌, ◌≤◌, Bool, true, false, ◌&&◌, ◌||◌, inl, inr, List, [], ◌∷◌, ◌++◌, length, get_or, set, take, drop, map, refl, sym, ap, ◌∙◌, subst, arith}
-use Rattle.std.specs.Prelude.{Contains}
 use Rattle.std.specs.Str.{bytes_eq}
 use Rattle.std.proofs.lemmas.Bool.{and_parts, or_from, false_from_ne_true}
 use Rattle.std.proofs.lemmas.List.{drop_more, take_more, get_or-map, get_or_default, length-map}
 use Rattle.idset.specs.Ids.{has}
 use Rattle.job_spec.specs.declared.spec.JobSpec.{JobSpec}
 use Rattle.resource_set.specs.declared.node.Node.{Node}
-use Rattle.job_rules.specs.Fits.{AreApart, AreWithin, HasIdSets, IsGrant, IsPartOf, IsWithin, has_unit, without_nodes}
-use Rattle.job_rules.proofs.Among.{Among, Distinct, among_from, among_mapped, contains_from, any_at, any_from, distinct_from, distinct_rising, each_at, same_image}
+use Rattle.job_rules.specs.Fits.{AreApart, AreWithin, HasIdSets, IsGrant, has_unit, without_nodes}
+use Rattle.job_rules.proofs.Among.{Among, Distinct, among_mapped, any_at, any_from, distinct_from}
 use Rattle.job_rules.proofs.Few.{bytes_same, hosts_of}
 use Rattle.graph_match.specs.declared.place.Place.{Place}
 use Rattle.graph_match.specs.declared.rooms.Room.{Room}
 use Rattle.graph_match.specs.Places.{node_of}
 use Rattle.graph_match.specs.Rooms.{AreRooms, brought, room_of, rooms_without, worth_of}
-use Rattle.std.specs.List.Sorted.{IsStrictlyIncreasing}
-use Rattle.graph_match.proofs.Hosts.{place_ranks}
-use Rattle.graph_match.proofs.Turns.{read_among}
+use Rattle.graph_match.proofs.Turns.{IsRead, read_among, read_is, read_node, read_part, read_sets, read_within}
 use Rattle.graph_match.proofs.Holds.{has_both}
 use Rattle.graph_match.proofs.Counting.{brought_at, brought_bound, brought_set, elsewhere, left_small, only_at, room_counts, room_with, rooms_same, same_room}
 
@@ -36,22 +33,12 @@ far_take (x ∷ xs) (suc i) node m d h e j =
       | inr k ↦ far_take xs i node m d.1 within e k
     ]
 
-module _ (grant nodes others : List Node) (is : IsGrant grant) (w : AreWithin nodes grant) (apart : AreApart nodes others) (i : ℕ) (node : Node) (h : i < length nodes) (e : node ≡ get_or nodes i node) (s : HasIdSets node) (at : ℕ) (g : Node) (lt : at < length grant) (q : g ≡ get_or grant at g) (r : g.rank ≡ node.rank) where
-  node_in : Among node nodes
-  node_in = read_among nodes i node h e
+module _ {nodes : List Node} {places : List Place} {i : ℕ} {node : Node} {at : ℕ} {p : Place} (read : IsRead nodes places i node at p) (others : List Node) (apart : AreApart nodes others) (s : HasIdSets node) where
+  abbrev grant : List Node
+  grant = map node_of places
 
-  g_in : Among g grant
-  g_in = read_among grant at g lt q
-
-  sets_g : HasIdSets g
-  sets_g = each_at HasIdSets grant g is.sets g_in
-
-  part : IsPartOf node g
-  part =
-      let home = each_at (IsWithin grant) nodes node w.inside node_in in
-      let ranks : Distinct (map (λ n. n.rank) grant) = distinct_rising (map (λ n. n.rank) grant) is.hosts.rising in
-      let same : home.0 ≡ g = same_image (λ n. n.rank) grant home.0 g ranks (among_from grant home.0 home.1) g_in (sym home.2.rank ∙ sym r) in
-      subst (IsPartOf node) same home.2
+  abbrev g : Node
+  g = node_of p
 
   alone_by : (kind : Node → List ℕ) (ms : List Node) → ((m : Node) → Among m ms → m.host ≢ node.host) → (host : List ℕ) (id : ℕ) → (has_unit kind nodes host id ≡ true → has_unit kind others host id ≡ false) → has_unit kind (node ∷ []) host id ≡ true → has_unit kind (ms ++ others) host id ≡ false
   alone_by kind ms far host id f t =
@@ -63,7 +50,7 @@ module _ (grant nodes others : List Node) (is : IsGrant grant) (w : AreWithin no
       let none : has_unit kind ms host id ≡ false = false_from_ne_true (has_unit kind ms host id) (λ u.
       let other = any_from (λ n. bytes_eq n.host host && has (kind n) id) ms u in
       far other.0 other.1 (bytes_same other.0.host host (and_parts (bytes_eq other.0.host host) (has (kind other.0) id) other.2).0 ∙ sym here)) in
-      has_both kind ms others host id ∙ or_from (has_unit kind ms host id) (has_unit kind others host id) none (f (any_at (λ n. bytes_eq n.host host && has (kind n) id) nodes node node_in hit))
+      has_both kind ms others host id ∙ or_from (has_unit kind ms host id) (has_unit kind others host id) none (f (any_at (λ n. bytes_eq n.host host && has (kind n) id) nodes node (read_node read) hit))
     where
       the_one : (x : Node) → Among x (node ∷ []) → node ≡ x
       the_one x i = elim i [ inl e ↦ e | inr j ↦ absurd j ]
@@ -74,37 +61,37 @@ module _ (grant nodes others : List Node) (is : IsGrant grant) (w : AreWithin no
   room_at : (taken : List Node) (rooms : List Room) (old : Room) → rooms ≡ rooms_without taken grant → old ≡ get_or rooms at old → old ≡ room_of (without_nodes taken g)
   room_at taken rooms old l o =
       o ∙ ap (λ rs. get_or rs at old) l
-      ∙ get_or-map room_of (map (without_nodes taken) grant) at (without_nodes taken g) old (subst (λ n. at < n) (sym (length-map grant (without_nodes taken))) lt)
-      ∙ ap room_of (get_or-map (without_nodes taken) grant at g (without_nodes taken g) lt)
-      ∙ ap (λ x. room_of (without_nodes taken x)) (sym q)
+      ∙ get_or-map room_of (map (without_nodes taken) grant) at (without_nodes taken g) old (subst (λ n. at < n) (sym (length-map grant (without_nodes taken))) (read_within read))
+      ∙ ap room_of (get_or-map (without_nodes taken) grant at g (without_nodes taken g) (read_within read))
+      ∙ ap (λ x. room_of (without_nodes taken x)) (sym (read_is read))
 
   at_g : (a b : List Node) → ((x : Node) → x.host ≢ g.host → room_of (without_nodes a x) ≡ room_of (without_nodes b x)) → rooms_without a grant ≡ set (rooms_without b grant) at (room_of (without_nodes a g))
-  at_g a b f = only_at a b grant at g lt (distinct_from (hosts_of grant) is.hosts.hosts) (λ x far. f x (λ same. far (same ∙ ap (λ n. n.host) q)))
-      ∙ ap (λ x. set (rooms_without b grant) at (room_of (without_nodes a x))) (sym q)
+  at_g a b f = only_at a b grant at g (read_within read) (distinct_from (hosts_of grant) read.grant.hosts.hosts) (λ x far. f x (λ same. far (same ∙ ap (λ n. n.host) (read_is read))))
+      ∙ ap (λ x. set (rooms_without b grant) at (room_of (without_nodes a x))) (sym (read_is read))
 
   pub freed : (ms : List Node) → ((m : Node) → Among m ms → m.host ≢ node.host) → (rooms : List Room) (old : Room) → rooms ≡ rooms_without (node ∷ (ms ++ others)) grant → old ≡ get_or rooms at old → (set rooms at (room_with (old.cores + length node.cores) (old.gpus + length node.gpus)) ≡ rooms_without (ms ++ others) grant) × (old.cores + length node.cores ≤ 65536) × (old.gpus + length node.gpus ≤ 65536)
   freed ms far rooms old l o =
-      let counts = room_counts node g (ms ++ others) part s sets_g (alone ms far) in
+      let counts = room_counts node g (ms ++ others) (read_part read) s (read_sets read) (alone ms far) in
       let was : old ≡ room_of (without_nodes (node ∷ (ms ++ others)) g) = room_at (node ∷ (ms ++ others)) rooms old l o in
       let cores = ap (λ x. x.cores + length node.cores) was ∙ sym counts.0 in
       let gpus = ap (λ x. x.gpus + length node.gpus) was ∙ sym counts.1 in
       let new : room_with (old.cores + length node.cores) (old.gpus + length node.gpus) ≡ room_of (without_nodes (ms ++ others) g) = same_room _ _ cores gpus in
-      let small = left_small (ms ++ others) g sets_g in (
+      let small = left_small (ms ++ others) g (read_sets read) in (
         ap (λ x. set rooms at x) new ∙ ap (λ rs. set rs at (room_of (without_nodes (ms ++ others) g))) l
-            ∙ sym (at_g (ms ++ others) (node ∷ (ms ++ others)) (λ x away. sym (elsewhere node (ms ++ others) x (λ same. away (same ∙ part.host))))),
+            ∙ sym (at_g (ms ++ others) (node ∷ (ms ++ others)) (λ x away. sym (elsewhere node (ms ++ others) x (λ same. away (same ∙ (read_part read).host))))),
         subst (λ n. n ≤ 65536) (sym cores) small.0,
         subst (λ n. n ≤ 65536) (sym gpus) small.1,
       )
 
   pub taken_back : (ms : List Node) → ((m : Node) → Among m ms → m.host ≢ node.host) → (rooms : List Room) (old : Room) → rooms ≡ rooms_without (ms ++ others) grant → old ≡ get_or rooms at old → (set rooms at (room_with (old.cores - length node.cores) (old.gpus - length node.gpus)) ≡ rooms_without (node ∷ (ms ++ others)) grant) × (length node.cores ≤ old.cores) × (length node.gpus ≤ old.gpus)
   taken_back ms far rooms old l o =
-      let counts = room_counts node g (ms ++ others) part s sets_g (alone ms far) in
+      let counts = room_counts node g (ms ++ others) (read_part read) s (read_sets read) (alone ms far) in
       let was : old ≡ room_of (without_nodes (ms ++ others) g) = room_at (ms ++ others) rooms old l o in
       let cores = ap (λ x. x.cores) was ∙ counts.0 in
       let gpus = ap (λ x. x.gpus) was ∙ counts.1 in
       let new : room_with (old.cores - length node.cores) (old.gpus - length node.gpus) ≡ room_of (without_nodes (node ∷ (ms ++ others)) g) = same_room _ _ (less _ _ _ cores) (less _ _ _ gpus) in (
         ap (λ x. set rooms at x) new ∙ ap (λ rs. set rs at (room_of (without_nodes (node ∷ (ms ++ others)) g))) l
-            ∙ sym (at_g (node ∷ (ms ++ others)) (ms ++ others) (λ x away. elsewhere node (ms ++ others) x (λ same. away (same ∙ part.host)))),
+            ∙ sym (at_g (node ∷ (ms ++ others)) (ms ++ others) (λ x away. elsewhere node (ms ++ others) x (λ same. away (same ∙ (read_part read).host)))),
         omega (arith, cores),
         omega (arith, gpus),
       )
@@ -130,7 +117,7 @@ pub rooms_length : (taken grant : List Node) (rooms : List Room) → rooms ≡ r
 rooms_length taken grant rooms e = ap length e ∙ length-map (map (without_nodes taken) grant) room_of ∙ length-map grant (without_nodes taken)
 
 pub sum_bound : (spec : JobSpec) (grant taken : List Node) (rooms : List Room) (sum : ℕ) → IsGrant grant → AreRooms spec grant taken rooms sum → sum ≤ 4294967296
-sum_bound spec grant taken rooms sum is a = let bound = brought_bound spec grant taken is in let same = ap (brought spec grant) a.0 in omega (arith, bound, same, a.1)
+sum_bound spec grant taken rooms sum is a = let bound = brought_bound spec grant taken is in let same = ap (brought spec grant) a.rooms_are in omega (arith, bound, same, a.sum_is)
 
 -- one more node of a list stands before others
 swap_one : (a b c : Bool) → ((a || b) || c) ≡ (b || (a || c))
@@ -162,64 +149,41 @@ drop_step nodes others i node h e = ap (λ ns. ns ++ others) (drop_more nodes i 
 pub far_after : (nodes : List Node) (i : ℕ) (node m : Node) → Distinct (hosts_of nodes) → i < length nodes → node ≡ get_or nodes i node → Among m (drop (i + 1) nodes) → m.host ≢ node.host
 far_after nodes i node m d h e j = let next : i + 1 ≡ suc i = omega arith in far_drop nodes i node m d h e (subst (λ n. Among m (drop n nodes)) next j)
 
--- ---- a turn of either loop
-module _ (spec : JobSpec) (places : List Place) (nodes others : List Node) (is : IsGrant (map node_of places)) (w : AreWithin nodes (map node_of places)) (apart : AreApart nodes others) (i : ℕ) (node : Node) (h : i < length nodes) (e : node ≡ get_or nodes i node) (at : ℕ) (p : Place) (lt : at < length places) (q : p ≡ get_or places at p) (r : p.rank ≡ node.rank) (rooms : List Room) (sum : ℕ) (old : Room) (o : old ≡ get_or rooms at old) where
-  at_grant : at < length (map node_of places)
-  at_grant = subst (λ n. at < n) (sym (length-map places node_of)) lt
-
-  g_is : node_of p ≡ get_or (map node_of places) at (node_of p)
-  g_is = ap node_of q ∙ sym (get_or-map node_of places at p (node_of p) lt)
-
-  hosts : Distinct (hosts_of nodes)
-  hosts = distinct_from (hosts_of nodes) w.hosts.hosts
-
-  pub place_sets : HasIdSets (node_of p)
-  place_sets = each_at HasIdSets (map node_of places) (node_of p) is.sets (read_among (map node_of places) at (node_of p) at_grant g_is)
-
-  pub room_within : (taken : List Node) → AreRooms spec (map node_of places) taken rooms sum → (at < length rooms) × (worth_of spec (room_of (node_of p)) old ≤ sum) × (sum ≤ 4294967296)
-  room_within taken a =
-      let long : length rooms ≡ length (map node_of places) = rooms_length taken (map node_of places) rooms a.0 in
-      (subst (λ n. at < n) (sym long) at_grant, old_within spec (map node_of places) rooms at old (node_of p) sum at_grant long g_is o a.1, sum_bound spec (map node_of places) taken rooms sum is a)
-
-  pub add_fits : HasIdSets node → AreRooms spec (map node_of places) (drop i nodes ++ others) rooms sum → (old.cores + length node.cores ≤ 65536) × (old.gpus + length node.gpus ≤ 65536)
-  add_fits s a =
-      let step = freed (map node_of places) nodes others is w apart i node h e s at (node_of p) at_grant g_is r (drop (i + 1) nodes) (λ m j. far_after nodes i node m hosts h e j) rooms old (a.0 ∙ ap (λ ns. rooms_without ns (map node_of places)) (drop_step nodes others i node h e)) o in
-      (step.1, step.2)
-
-  pub add_more : HasIdSets node → (new : Room) (sum' : ℕ) → new ≡ room_with (old.cores + length node.cores) (old.gpus + length node.gpus) → sum' + worth_of spec (room_of (node_of p)) old ≡ sum + worth_of spec (room_of (node_of p)) new → AreRooms spec (map node_of places) (drop i nodes ++ others) rooms sum → AreRooms spec (map node_of places) (drop (i + 1) nodes ++ others) (set rooms at new) sum'
-  add_more s new sum' n m a =
-      let step = freed (map node_of places) nodes others is w apart i node h e s at (node_of p) at_grant g_is r (drop (i + 1) nodes) (λ m j. far_after nodes i node m hosts h e j) rooms old (a.0 ∙ ap (λ ns. rooms_without ns (map node_of places)) (drop_step nodes others i node h e)) o in (
-        ap (λ x. set rooms at x) n ∙ step.0,
-        sum_moves spec (map node_of places) rooms at new old (node_of p) sum sum' at_grant (rooms_length (drop i nodes ++ others) (map node_of places) rooms a.0) g_is o a.1 m,
-      )
-
-  pub take_fits : HasIdSets node → AreRooms spec (map node_of places) (take i nodes ++ others) rooms sum → (length node.cores ≤ old.cores) × (length node.gpus ≤ old.gpus)
-  take_fits s a =
-      let step = taken_back (map node_of places) nodes others is w apart i node h e s at (node_of p) at_grant g_is r (take i nodes) (λ m j. far_take nodes i node m hosts h e j) rooms old a.0 o in
-      (step.1, step.2)
-
-  pub back_more : HasIdSets node → (new : Room) (sum' : ℕ) → new ≡ room_with (old.cores - length node.cores) (old.gpus - length node.gpus) → sum' + worth_of spec (room_of (node_of p)) old ≡ sum + worth_of spec (room_of (node_of p)) new → AreRooms spec (map node_of places) (take i nodes ++ others) rooms sum → AreRooms spec (map node_of places) (take (i + 1) nodes ++ others) (set rooms at new) sum'
-  back_more s new sum' n m a =
-      let step = taken_back (map node_of places) nodes others is w apart i node h e s at (node_of p) at_grant g_is r (take i nodes) (λ m j. far_take nodes i node m hosts h e j) rooms old a.0 o in (
-        ap (λ x. set rooms at x) n ∙ step.0 ∙ taken_more (map node_of places) nodes others i node h e,
-        sum_moves spec (map node_of places) rooms at new old (node_of p) sum sum' at_grant (rooms_length (take i nodes ++ others) (map node_of places) rooms a.0) g_is o a.1 m,
-      )
-
--- a node of a job has a host here
-pub node_there : (places : List Place) (nodes : List Node) (i : ℕ) (node : Node) → AreWithin nodes (map node_of places) → i < length nodes → node ≡ get_or nodes i node → Contains (map (λ p. p.rank) places) node.rank
-node_there places nodes i node w h e =
-    let home = each_at (IsWithin (map node_of places)) nodes node w.inside (read_among nodes i node h e) in
-    let mapped : Among home.0.rank (map (λ n. n.rank) (map node_of places)) = among_mapped (λ n. n.rank) (map node_of places) home.0 (among_from (map node_of places) home.0 home.1) in
-    contains_from (map (λ p. p.rank) places) node.rank (subst (λ xs. Among node.rank xs) (sym (place_ranks places)) (subst (λ k. Among k (map (λ n. n.rank) (map node_of places))) (sym home.2.rank) mapped))
-
-pub places_rise : (places : List Place) → IsGrant (map node_of places) → IsStrictlyIncreasing (map (λ p. p.rank) places)
-places_rise places is = subst IsStrictlyIncreasing (sym (place_ranks places)) is.hosts.rising
-
 -- a room as the code reads it
 abbrev pub old_at : List Room → ℕ → Room
 old_at rooms at = get_or rooms at (room_with 0 0)
 
-pub old_is : (spec : JobSpec) (places : List Place) (taken : List Node) (rooms : List Room) (sum at : ℕ) → at < length places → AreRooms spec (map node_of places) taken rooms sum → old_at rooms at ≡ get_or rooms at (old_at rooms at)
-old_is spec places taken rooms sum at h a =
-    let long : length rooms ≡ length (map node_of places) = rooms_length taken (map node_of places) rooms a.0 in
-    get_or_default rooms at (room_with 0 0) (get_or rooms at (room_with 0 0)) (omega (arith, long, length-map places node_of, h))
+-- ---- a turn of either loop
+module _ {nodes : List Node} {places : List Place} {i : ℕ} {node : Node} {at : ℕ} {p : Place} (read : IsRead nodes places i node at p) {spec : JobSpec} {taken : List Node} {rooms : List Room} {sum : ℕ} (a : AreRooms spec (map node_of places) taken rooms sum) where
+  long : length rooms ≡ length (map node_of places)
+  long = rooms_length taken (map node_of places) rooms a.rooms_are
+
+  old_is : old_at rooms at ≡ get_or rooms at (old_at rooms at)
+  old_is = get_or_default rooms at (room_with 0 0) (old_at rooms at) (omega (arith, long, length-map places node_of, read.there))
+
+  pub room_within : (worth_of spec (room_of (node_of p)) (old_at rooms at) ≤ sum) × (sum ≤ 4294967296)
+  room_within = (
+    old_within spec (map node_of places) rooms at (old_at rooms at) (node_of p) sum (read_within read) long (read_is read) old_is a.sum_is,
+    sum_bound spec (map node_of places) taken rooms sum read.grant a,
+  )
+
+  -- once the host has another room
+  moved : (after : List Node) (new : Room) (sum' : ℕ) → set rooms at new ≡ rooms_without after (map node_of places) → sum' + worth_of spec (room_of (node_of p)) (old_at rooms at) ≡ sum + worth_of spec (room_of (node_of p)) new → AreRooms spec (map node_of places) after (set rooms at new) sum'
+  moved after new sum' r m = record {
+    rooms_are = r;
+    sum_is = sum_moves spec (map node_of places) rooms at new (old_at rooms at) (node_of p) sum sum' (read_within read) long (read_is read) old_is a.sum_is m;
+  }
+
+module _ {nodes : List Node} {places : List Place} {i : ℕ} {node : Node} {at : ℕ} {p : Place} (read : IsRead nodes places i node at p) (w : AreWithin nodes (map node_of places)) (s : HasIdSets node) (others : List Node) (apart : AreApart nodes others) {spec : JobSpec} {rooms : List Room} {sum : ℕ} where
+  pub added : AreRooms spec (map node_of places) (drop i nodes ++ others) rooms sum → (set rooms at (room_with ((old_at rooms at).cores + length node.cores) ((old_at rooms at).gpus + length node.gpus)) ≡ rooms_without (drop (i + 1) nodes ++ others) (map node_of places)) × ((old_at rooms at).cores + length node.cores ≤ 65536) × ((old_at rooms at).gpus + length node.gpus ≤ 65536)
+  added a = freed read others apart s (drop (i + 1) nodes) (λ m j. far_after nodes i node m (distinct_from (hosts_of nodes) w.hosts.hosts) read.within read.node_is j) rooms (old_at rooms at)
+      (a.rooms_are ∙ ap (λ ns. rooms_without ns (map node_of places)) (drop_step nodes others i node read.within read.node_is)) (old_is read a)
+
+  pub add_more : AreRooms spec (map node_of places) (drop i nodes ++ others) rooms sum → (new : Room) (sum' : ℕ) → new ≡ room_with ((old_at rooms at).cores + length node.cores) ((old_at rooms at).gpus + length node.gpus) → sum' + worth_of spec (room_of (node_of p)) (old_at rooms at) ≡ sum + worth_of spec (room_of (node_of p)) new → AreRooms spec (map node_of places) (drop (i + 1) nodes ++ others) (set rooms at new) sum'
+  add_more a new sum' n m = moved read a (drop (i + 1) nodes ++ others) new sum' (ap (λ x. set rooms at x) n ∙ (added a).0) m
+
+  pub back : AreRooms spec (map node_of places) (take i nodes ++ others) rooms sum → (set rooms at (room_with ((old_at rooms at).cores - length node.cores) ((old_at rooms at).gpus - length node.gpus)) ≡ rooms_without (node ∷ (take i nodes ++ others)) (map node_of places)) × (length node.cores ≤ (old_at rooms at).cores) × (length node.gpus ≤ (old_at rooms at).gpus)
+  back a = taken_back read others apart s (take i nodes) (λ m j. far_take nodes i node m (distinct_from (hosts_of nodes) w.hosts.hosts) read.within read.node_is j) rooms (old_at rooms at) a.rooms_are (old_is read a)
+
+  pub back_more : AreRooms spec (map node_of places) (take i nodes ++ others) rooms sum → (new : Room) (sum' : ℕ) → new ≡ room_with ((old_at rooms at).cores - length node.cores) ((old_at rooms at).gpus - length node.gpus) → sum' + worth_of spec (room_of (node_of p)) (old_at rooms at) ≡ sum + worth_of spec (room_of (node_of p)) new → AreRooms spec (map node_of places) (take (i + 1) nodes ++ others) (set rooms at new) sum'
+  back_more a new sum' n m = moved read a (take (i + 1) nodes ++ others) new sum' (ap (λ x. set rooms at x) n ∙ (back a).0 ∙ taken_more (map node_of places) nodes others i node read.within read.node_is) m

@@ -15,67 +15,54 @@ use Rattle.job_rules.proofs.Sets.{same_node}
 use Rattle.graph_match.specs.declared.place.Place.{Place}
 use Rattle.graph_match.specs.declared.spot.Spot.{Spot}
 use Rattle.graph_match.specs.Kept.{IsMarked}
-use Rattle.graph_match.specs.Places.{after_each, at_host, free_node, fresh_place, held_place, left_place, node_of}
+use Rattle.graph_match.specs.Places.{after_each, at_host, free_node, fresh_place, marked_place, node_of}
 use Rattle.graph_match.specs.Rooms.{room_of, worth_of, worth_as as worth_in}
-use Rattle.graph_match.specs.Spots.{taken_at, given_at}
-use Rattle.graph_match.proofs.Spots.{MarksBy, free_left, ids_fresh, ids_given, ids_taken, marks_given, marks_same, marks_taken}
+use Rattle.graph_match.specs.Spots.{marked_at}
+use Rattle.graph_match.proofs.Spots.{MarksBy, free_left, ids_fresh, ids_marked, marks_marked, marks_same}
 
--- a step that changes no host's name, rank or units, only what is free
-pub record IsStep (step : Node → Place → Place) : Type 0 where
-  pub host : (node : Node) (place : Place) → (step node place).host ≡ place.host
-  pub node : (node : Node) (place : Place) → node_of (step node place) ≡ node_of place
+-- marks change no host's name, rank or units, only what is free
+module _ (free : Bool) where
+  pub marked_node : (node : Node) (place : Place) → node_of (marked_place free node place) ≡ node_of place
+  marked_node node place = same_node _ _ refl refl (sym (ids_marked free node.cores place.cores)) (sym (ids_marked free node.gpus place.gpus))
 
-pub holding : IsStep held_place
-holding = record {
-  host = λ node place. refl;
-  node = λ node place. same_node _ _ refl refl (sym (ids_taken node.cores place.cores)) (sym (ids_taken node.gpus place.gpus));
-}
-
-pub leaving : IsStep left_place
-leaving = record {
-  host = λ node place. refl;
-  node = λ node place. same_node _ _ refl refl (sym (ids_given node.cores place.cores)) (sym (ids_given node.gpus place.gpus));
-}
-
-module _ (step : Node → Place → Place) (is : IsStep step) where
-  at_host_node : (node : Node) (place : Place) → node_of (at_host step node place) ≡ node_of place
+  at_host_node : (node : Node) (place : Place) → node_of (at_host free node place) ≡ node_of place
   at_host_node node place = at (bytes_eq node.host place.host)
     where
-      at : (b : Bool) → node_of (cond b (step node place) place) ≡ node_of place
-      at true = is.node node place
+      at : (b : Bool) → node_of (cond b (marked_place free node place) place) ≡ node_of place
+      at true = marked_node node place
       at false = refl
 
-  pub at_host_host : (node : Node) (place : Place) → (at_host step node place).host ≡ place.host
+  pub at_host_host : (node : Node) (place : Place) → (at_host free node place).host ≡ place.host
   at_host_host node place = at (bytes_eq node.host place.host)
     where
-      at : (b : Bool) → (let p : Place = cond b (step node place) place in p.host) ≡ place.host
-      at true = is.host node place
+      at : (b : Bool) → (let p : Place = cond b (marked_place free node place) place in p.host) ≡ place.host
+      at true = refl
       at false = refl
 
-  pub after_node : (nodes : List Node) (place : Place) → node_of (after_each step nodes place) ≡ node_of place
+  pub after_node : (nodes : List Node) (place : Place) → node_of (after_each free nodes place) ≡ node_of place
   after_node [] place = refl
-  after_node (node ∷ nodes) place = after_node nodes (at_host step node place) ∙ at_host_node node place
+  after_node (node ∷ nodes) place = after_node nodes (at_host free node place) ∙ at_host_node node place
 
-  pub after_nodes : (nodes : List Node) (places : List Place) → map node_of (map (after_each step nodes) places) ≡ map node_of places
+  pub after_nodes : (nodes : List Node) (places : List Place) → map node_of (map (after_each free nodes) places) ≡ map node_of places
   after_nodes nodes [] = refl
-  after_nodes nodes (p ∷ ps) = ap (λ x. x ∷ map node_of (map (after_each step nodes) ps)) (after_node nodes p) ∙ ap (λ xs. node_of p ∷ xs) (after_nodes nodes ps)
+  after_nodes nodes (p ∷ ps) = ap (λ x. x ∷ map node_of (map (after_each free nodes) ps)) (after_node nodes p) ∙ ap (λ xs. node_of p ∷ xs) (after_nodes nodes ps)
 
-  -- the step at one host's place
-  untouched : (node : Node) (ps : List Place) → ((p : Place) → Among p ps → node.host ≢ p.host) → map (at_host step node) ps ≡ ps
+  -- the marks at one host's place
+  untouched : (node : Node) (ps : List Place) → ((p : Place) → Among p ps → node.host ≢ p.host) → map (at_host free node) ps ≡ ps
   untouched node [] h = refl
   untouched node (p ∷ ps) h =
-      ap (λ b. cond b (step node p) p ∷ map (at_host step node) ps) (other_bytes node.host p.host (h p (inl refl)))
+      ap (λ b. cond b (marked_place free node p) p ∷ map (at_host free node) ps) (other_bytes node.host p.host (h p (inl refl)))
       ∙ ap (λ xs. p ∷ xs) (untouched node ps (λ q i. h q (inr i)))
 
-  pub one_place : (node : Node) (ps : List Place) (at : ℕ) (d : Place) → at < length ps → (get_or ps at d).host ≡ node.host → Distinct (map (λ p. p.host) ps) → map (at_host step node) ps ≡ set ps at (step node (get_or ps at d))
+  pub one_place : (node : Node) (ps : List Place) (at : ℕ) (d : Place) → at < length ps → (get_or ps at d).host ≡ node.host → Distinct (map (λ p. p.host) ps) → map (at_host free node) ps ≡ set ps at (marked_place free node (get_or ps at d))
   one_place node [] at d h e apart = let no : ⊥ = omega (arith, h) in absurd no
   one_place node (p ∷ ps) zero d h e apart =
-      ap (λ b. cond b (step node p) p ∷ map (at_host step node) ps) (same_bytes node.host p.host (sym e))
-      ∙ ap (λ xs. step node p ∷ xs) (untouched node ps (λ q i same. apart.0 q.host (among_mapped (λ p. p.host) ps q i) (e ∙ same)))
+      ap (λ b. cond b (marked_place free node p) p ∷ map (at_host free node) ps) (same_bytes node.host p.host (sym e))
+      ∙ ap (λ xs. marked_place free node p ∷ xs) (untouched node ps (λ q i same. apart.0 q.host (among_mapped (λ p. p.host) ps q i) (e ∙ same)))
   one_place node (p ∷ ps) (suc at) d h e apart =
       let within : at < length ps = omega (arith, h) in
       let far : bytes_eq node.host p.host ≡ false = other_bytes node.host p.host (λ same. apart.0 (get_or ps at d).host (there ps at d within) (sym same ∙ sym e)) in
-      ap (λ b. cond b (step node p) p ∷ map (at_host step node) ps) far ∙ ap (λ xs. p ∷ xs) (one_place node ps at d within e apart.1)
+      ap (λ b. cond b (marked_place free node p) p ∷ map (at_host free node) ps) far ∙ ap (λ xs. p ∷ xs) (one_place node ps at d within e apart.1)
     where
       there : (ps : List Place) (at : ℕ) (d : Place) → at < length ps → Among (get_or ps at d).host (map (λ p. p.host) ps)
       there ps at d h = among_mapped (λ p. p.host) ps (get_or ps at d) (among_from ps (get_or ps at d) (at, h, default ps at d h))
@@ -83,60 +70,33 @@ module _ (step : Node → Place → Place) (is : IsStep step) where
           default : (ps : List Place) (at : ℕ) (d : Place) → at < length ps → get_or ps at (get_or ps at d) ≡ get_or ps at d
           default ps at d h = search (get_or_default)
 
-  composed : (node : Node) (nodes : List Node) (ps : List Place) → map (after_each step (node ∷ nodes)) ps ≡ map (after_each step nodes) (map (at_host step node) ps)
+  composed : (node : Node) (nodes : List Node) (ps : List Place) → map (after_each free (node ∷ nodes)) ps ≡ map (after_each free nodes) (map (at_host free node) ps)
   composed node nodes [] = refl
-  composed node nodes (p ∷ ps) = ap (λ xs. after_each step nodes (at_host step node p) ∷ xs) (composed node nodes ps)
+  composed node nodes (p ∷ ps) = ap (λ xs. after_each free nodes (at_host free node p) ∷ xs) (composed node nodes ps)
 
-  pub one_more : (node : Node) (nodes : List Node) (ps : List Place) (at : ℕ) (d : Place) → at < length ps → (get_or ps at d).host ≡ node.host → Distinct (map (λ p. p.host) ps) → map (after_each step (node ∷ nodes)) ps ≡ map (after_each step nodes) (set ps at (step node (get_or ps at d)))
-  one_more node nodes ps at d h e apart = composed node nodes ps ∙ ap (map (after_each step nodes)) (one_place node ps at d h e apart)
+  pub one_more : (node : Node) (nodes : List Node) (ps : List Place) (at : ℕ) (d : Place) → at < length ps → (get_or ps at d).host ≡ node.host → Distinct (map (λ p. p.host) ps) → map (after_each free (node ∷ nodes)) ps ≡ map (after_each free nodes) (set ps at (marked_place free node (get_or ps at d)))
+  one_more node nodes ps at d h e apart = composed node nodes ps ∙ ap (map (after_each free nodes)) (one_place node ps at d h e apart)
 
--- marks after several nodes' units are taken, or given back
-either_first : (t b h r : Bool) → ((t || (b && h)) || r) ≡ (t || ((b && h) || r))
-either_first true b h r = refl
-either_first false b h r = refl
+-- what is held after several nodes' units are marked
+both_marks : (held t x r : Bool) → cond r held (cond x held t) ≡ cond (x || r) held t
+both_marks held t true true = refl
+both_marks held t true false = refl
+both_marks held t false r = refl
 
-neither_first : (t b h r : Bool) → ((t && not (b && h)) && not r) ≡ (t && not ((b && h) || r))
-neither_first true true true r = refl
-neither_first true true false r = refl
-neither_first true false h r = refl
-neither_first false b h r = refl
-
-or_none : (t : Bool) → t ≡ (t || false)
-or_none true = refl
-or_none false = refl
-
-and_all : (t : Bool) → t ≡ (t && not false)
-and_all true = refl
-and_all false = refl
-
-module _ (kind : Node → List ℕ) (spots : Place → List Spot) (held : (node : Node) (place : Place) → spots (held_place node place) ≡ map (taken_at (kind node)) (spots place)) (left : (node : Node) (place : Place) → spots (left_place node place) ≡ map (given_at (kind node)) (spots place)) where
-  held_once : (t : ℕ → Bool) (node : Node) (place : Place) (host : List ℕ) → place.host ≡ host → MarksBy t (spots place) → MarksBy (λ id. t id || (bytes_eq node.host host && has (kind node) id)) (spots (at_host held_place node place))
-  held_once t node place host e m = subst (λ h. MarksBy (λ id. t id || (bytes_eq node.host h && has (kind node) id)) (spots (at_host held_place node place))) e (at (bytes_eq node.host place.host))
+module _ (free : Bool) (kind : Node → List ℕ) (spots : Place → List Spot) (marked : (node : Node) (place : Place) → spots (marked_place free node place) ≡ map (marked_at free (kind node)) (spots place)) where
+  marks_once : (t : ℕ → Bool) (node : Node) (place : Place) (host : List ℕ) → place.host ≡ host → MarksBy t (spots place) → MarksBy (λ id. cond (bytes_eq node.host host && has (kind node) id) (not free) (t id)) (spots (at_host free node place))
+  marks_once t node place host e m = subst (λ h. MarksBy (λ id. cond (bytes_eq node.host h && has (kind node) id) (not free) (t id)) (spots (at_host free node place))) e (at (bytes_eq node.host place.host))
     where
-      at : (b : Bool) → MarksBy (λ id. t id || (b && has (kind node) id)) (spots (cond b (held_place node place) place))
-      at true = subst (MarksBy (λ id. t id || has (kind node) id)) (sym (held node place)) (marks_taken t (kind node) (spots place) m)
-      at false = marks_same t (λ id. t id || false) (spots place) (λ id. or_none (t id)) m
+      at : (b : Bool) → MarksBy (λ id. cond (b && has (kind node) id) (not free) (t id)) (spots (cond b (marked_place free node place) place))
+      at true = subst (MarksBy (λ id. cond (has (kind node) id) (not free) (t id))) (sym (marked node place)) (marks_marked free t (kind node) (spots place) m)
+      at false = m
 
-  pub held_marks : (t : ℕ → Bool) (nodes : List Node) (place : Place) (host : List ℕ) → place.host ≡ host → MarksBy t (spots place) → MarksBy (λ id. t id || has_unit kind nodes host id) (spots (after_each held_place nodes place))
-  held_marks t [] place host e m = marks_same t (λ id. t id || false) (spots place) (λ id. or_none (t id)) m
-  held_marks t (node ∷ nodes) place host e m =
-      marks_same (λ id. (t id || (bytes_eq node.host host && has (kind node) id)) || has_unit kind nodes host id) (λ id. t id || has_unit kind (node ∷ nodes) host id) (spots (after_each held_place nodes (at_host held_place node place)))
-      (λ id. either_first (t id) (bytes_eq node.host host) (has (kind node) id) (has_unit kind nodes host id))
-      (held_marks (λ id. t id || (bytes_eq node.host host && has (kind node) id)) nodes (at_host held_place node place) host (at_host_host held_place holding node place ∙ e) (held_once t node place host e m))
-
-  left_once : (t : ℕ → Bool) (node : Node) (place : Place) (host : List ℕ) → place.host ≡ host → MarksBy t (spots place) → MarksBy (λ id. t id && not (bytes_eq node.host host && has (kind node) id)) (spots (at_host left_place node place))
-  left_once t node place host e m = subst (λ h. MarksBy (λ id. t id && not (bytes_eq node.host h && has (kind node) id)) (spots (at_host left_place node place))) e (at (bytes_eq node.host place.host))
-    where
-      at : (b : Bool) → MarksBy (λ id. t id && not (b && has (kind node) id)) (spots (cond b (left_place node place) place))
-      at true = subst (MarksBy (λ id. t id && not (has (kind node) id))) (sym (left node place)) (marks_given t (kind node) (spots place) m)
-      at false = marks_same t (λ id. t id && not false) (spots place) (λ id. and_all (t id)) m
-
-  pub left_marks : (t : ℕ → Bool) (nodes : List Node) (place : Place) (host : List ℕ) → place.host ≡ host → MarksBy t (spots place) → MarksBy (λ id. t id && not (has_unit kind nodes host id)) (spots (after_each left_place nodes place))
-  left_marks t [] place host e m = marks_same t (λ id. t id && not false) (spots place) (λ id. and_all (t id)) m
-  left_marks t (node ∷ nodes) place host e m =
-      marks_same (λ id. (t id && not (bytes_eq node.host host && has (kind node) id)) && not (has_unit kind nodes host id)) (λ id. t id && not (has_unit kind (node ∷ nodes) host id)) (spots (after_each left_place nodes (at_host left_place node place)))
-      (λ id. neither_first (t id) (bytes_eq node.host host) (has (kind node) id) (has_unit kind nodes host id))
-      (left_marks (λ id. t id && not (bytes_eq node.host host && has (kind node) id)) nodes (at_host left_place node place) host (at_host_host left_place leaving node place ∙ e) (left_once t node place host e m))
+  pub marks_after : (t : ℕ → Bool) (nodes : List Node) (place : Place) (host : List ℕ) → place.host ≡ host → MarksBy t (spots place) → MarksBy (λ id. cond (has_unit kind nodes host id) (not free) (t id)) (spots (after_each free nodes place))
+  marks_after t [] place host e m = m
+  marks_after t (node ∷ nodes) place host e m =
+      marks_same (λ id. cond (has_unit kind nodes host id) (not free) (cond (bytes_eq node.host host && has (kind node) id) (not free) (t id))) (λ id. cond (has_unit kind (node ∷ nodes) host id) (not free) (t id)) (spots (after_each free nodes (at_host free node place)))
+      (λ id. both_marks (not free) (t id) (bytes_eq node.host host && has (kind node) id) (has_unit kind nodes host id))
+      (marks_after (λ id. cond (bytes_eq node.host host && has (kind node) id) (not free) (t id)) nodes (at_host free node place) host (at_host_host free node place ∙ e) (marks_once t node place host e m))
 
 -- what is free of marked hosts
 free_place : (taken : List Node) (place : Place) → IsMarked taken place → free_node place ≡ without_nodes taken (node_of place)

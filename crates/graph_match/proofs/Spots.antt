@@ -1,5 +1,5 @@
 -- Spots: their ids in order, those that are free, and what a job takes of them and gives back.
-use Rattle.std.proofs.Common.{◌≡◌, ℕ, suc, zero, ◌+◌, ◌<◌, ◌≤◌, Bool, true, false, cond, not, ◌&&◌, ◌||◌, eqb, inl, inr, List, [], ◌∷◌, length, get_or, take, map, refl, sym, ap, ◌∙◌, subst, arith}
+use Rattle.std.proofs.Common.{◌≡◌, ℕ, suc, zero, ◌+◌, ◌<◌, ◌≤◌, Bool, true, false, cond, not, ◌||◌, eqb, inl, inr, List, [], ◌∷◌, length, get_or, take, map, refl, sym, ap, ◌∙◌, subst, arith}
 use Rattle.std.specs.Prelude.{All, filter}
 use Rattle.std.specs.List.{range_with_len, AllByRecursion as Each}
 use Rattle.std.specs.List.Sorted.{IsStrictlyIncreasing}
@@ -9,7 +9,7 @@ use Rattle.std.proofs.lemmas.List.Elements.{All-cons, All-head, All-tail, All-ni
 use Rattle.idset.specs.Ids.{has, ids_where, list_of, IsIdSet}
 use Rattle.idset.proofs.Members.{filter-alike}
 use Rattle.graph_match.specs.declared.spot.Spot.{Spot}
-use Rattle.graph_match.specs.Spots.{ids_of, free_ids, free_spot, taken_at, given_at}
+use Rattle.graph_match.specs.Spots.{ids_of, free_ids, free_spot, marked_at}
 
 -- rising numbers below 65,536, from one on
 abbrev pub Rising : ℕ → List ℕ → Type 0
@@ -101,34 +101,22 @@ free_left t (s ∷ ss) m = at s.free (not (t s.id)) m.0 (free_left t ss m.1)
     at true false e h = cc
     at false true e h = cc
 
-neither : (t h : Bool) → (not t && not h) ≡ not (t || h)
-neither true h = refl
-neither false h = refl
-
-one_of : (t h : Bool) → (not t || h) ≡ not (t && not h)
-one_of true true = refl
-one_of true false = refl
-one_of false h = refl
-
-pub marks_taken : (t : ℕ → Bool) (ids : List ℕ) (spots : List Spot) → MarksBy t spots → MarksBy (λ id. t id || has ids id) (map (taken_at ids) spots)
-marks_taken t ids [] m = tt
-marks_taken t ids (s ∷ ss) m = (ap (λ b. b && not (has ids s.id)) m.0 ∙ neither (t s.id) (has ids s.id), marks_taken t ids ss m.1)
-
-pub marks_given : (t : ℕ → Bool) (ids : List ℕ) (spots : List Spot) → MarksBy t spots → MarksBy (λ id. t id && not (has ids id)) (map (given_at ids) spots)
-marks_given t ids [] m = tt
-marks_given t ids (s ∷ ss) m = (ap (λ b. b || has ids s.id) m.0 ∙ one_of (t s.id) (has ids s.id), marks_given t ids ss m.1)
+pub marks_marked : (free : Bool) (t : ℕ → Bool) (ids : List ℕ) (spots : List Spot) → MarksBy t spots → MarksBy (λ id. cond (has ids id) (not free) (t id)) (map (marked_at free ids) spots)
+marks_marked free t ids [] m = tt
+marks_marked free t ids (s ∷ ss) m = (at (has ids s.id) free, marks_marked free t ids ss m.1)
+  where
+    at : (h f : Bool) → cond h f s.free ≡ not (cond h (not f) (t s.id))
+    at true true = refl
+    at true false = refl
+    at false f = m.0
 
 pub marks_same : (t u : ℕ → Bool) (spots : List Spot) → ((id : ℕ) → t id ≡ u id) → MarksBy t spots → MarksBy u spots
 marks_same t u [] h m = tt
 marks_same t u (s ∷ ss) h m = (m.0 ∙ ap not (h s.id), marks_same t u ss h m.1)
 
-pub ids_taken : (ids : List ℕ) (spots : List Spot) → ids_of (map (taken_at ids) spots) ≡ ids_of spots
-ids_taken ids [] = refl
-ids_taken ids (s ∷ ss) = ap (λ ys. s.id ∷ ys) (ids_taken ids ss)
-
-pub ids_given : (ids : List ℕ) (spots : List Spot) → ids_of (map (given_at ids) spots) ≡ ids_of spots
-ids_given ids [] = refl
-ids_given ids (s ∷ ss) = ap (λ ys. s.id ∷ ys) (ids_given ids ss)
+pub ids_marked : (free : Bool) (ids : List ℕ) (spots : List Spot) → ids_of (map (marked_at free ids) spots) ≡ ids_of spots
+ids_marked free ids [] = refl
+ids_marked free ids (s ∷ ss) = ap (λ ys. s.id ∷ ys) (ids_marked free ids ss)
 
 pub ids_fresh : (ids : List ℕ) → ids_of (map free_spot ids) ≡ ids
 ids_fresh [] = refl

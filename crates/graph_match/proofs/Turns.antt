@@ -10,24 +10,24 @@ use Rattle.std.proofs.lemmas.List.Elements.{All-more}
 use Rattle.std.proofs.lemmas.List.Kept.{AllPairs-from_increasing}
 use Rattle.job_spec.specs.declared.spec.JobSpec.{JobSpec}
 use Rattle.resource_set.specs.declared.node.Node.{Node}
-use Rattle.job_rules.specs.Fits.{HasIdSets, IsGrant, IsSpec, IsWithin}
+use Rattle.job_rules.specs.Fits.{HasIdSets, IsGrant, IsPartOf, IsSpec, IsWithin}
 use Rattle.job_rules.specs.Worths.{give_as, total, wanted, worth}
 use Rattle.job_rules.proofs.Among.{Among, Distinct, among_from, among_mapped, contains_from, distinct_from, distinct_rising, each_at, same_image}
 use Rattle.job_rules.proofs.Counts.{picks}
 use Rattle.job_rules.proofs.Few.{hosts_of}
 use Rattle.graph_match.specs.declared.place.Place.{Place}
 use Rattle.graph_match.specs.declared.rooms.Room.{Room}
-use Rattle.graph_match.specs.Places.{after_each, free_node, fresh_place, node_of}
+use Rattle.graph_match.specs.Places.{after_each, free_node, fresh_place, marked_place, node_of}
 use Rattle.graph_match.specs.Rooms.{has_enough, room_of, slot_count, worth_of, worth_as as worth_in}
-use Rattle.graph_match.proofs.Hosts.{IsStep, one_more, place_hosts, place_ranks, worth_is}
+use Rattle.graph_match.proofs.Hosts.{marked_node, one_more, place_hosts, place_ranks, worth_is}
 
 -- where an element that was read stands
 pub read_among : {A : Type 0} (xs : List A) (i : ℕ) (x : A) → i < length xs → x ≡ get_or xs i x → Among x xs
 read_among xs i x h e = among_from xs x (i, h, sym e)
 
 -- ---- a place by its rank
-ranks_le : (places : List Place) → IsStrictlyIncreasing (map (λ p. p.rank) places) → (i j : ℕ) (d : Place) → i ≤ j → j < length places → (get_or places i d).rank ≤ (get_or places j d).rank
-ranks_le places r i j d h w = elim (cases_order i j) [
+pub ranks_rise : (places : List Place) → IsStrictlyIncreasing (map (λ p. p.rank) places) → (i j : ℕ) (d : Place) → i ≤ j → j < length places → (get_or places i d).rank ≤ (get_or places j d).rank
+ranks_rise places r i j d h w = elim (cases_order i j) [
   | inl e ↦ subst (λ k. (get_or places i d).rank ≤ (get_or places k d).rank) e (omega arith)
   | inr o ↦ elim o [
     | inl below ↦
@@ -38,9 +38,6 @@ ranks_le places r i j d h w = elim (cases_order i j) [
     | inr above ↦ let no : ⊥ = omega (arith, above, h) in absurd no
   ]
 ]
-
-pub ranks_rise : (places : List Place) → IsStrictlyIncreasing (map (λ p. p.rank) places) → (i j : ℕ) (d : Place) → i ≤ j → j < length places → (get_or places i d).rank ≤ (get_or places j d).rank
-ranks_rise places r i j d h w = ranks_le places r i j d h w
 
 pub found_place : (places : List Place) (rank place : ℕ) → IsStrictlyIncreasing (map (λ p. p.rank) places) → Contains (map (λ p. p.rank) places) rank → ((k : ℕ) (d : Place) → k < place → k < length places → (get_or places k d).rank < rank) → ((k : ℕ) (d : Place) → place ≤ k → k < length places → rank ≤ (get_or places k d).rank) → (place < length places) × HoldsAt (λ p. p.rank ≡ rank) places place
 found_place places rank place r c before after =
@@ -55,7 +52,7 @@ found_place places rank place r c before after =
     let within : place < length places = omega (arith, reached, w) in (
       within,
       λ d. let low : rank ≤ (get_or places place d).rank = after place d (omega arith) within in
-          let high : (get_or places place d).rank ≤ (get_or places k d).rank = ranks_le places r place k d reached w in
+          let high : (get_or places place d).rank ≤ (get_or places k d).rank = ranks_rise places r place k d reached w in
           omega (arith, low, high, at_k d),
     )
   where
@@ -63,60 +60,82 @@ found_place places rank place r c before after =
     first [] k h = let no : ⊥ = omega (arith, h) in absurd no
     first (p ∷ ps) k h = p
 
+-- ---- the hosts of a job's nodes
+pub places_rise : (places : List Place) → IsGrant (map node_of places) → IsStrictlyIncreasing (map (λ p. p.rank) places)
+places_rise places grant = subst IsStrictlyIncreasing (sym (place_ranks places)) grant.hosts.rising
+
+pub node_there : (nodes : List Node) (places : List Place) (i : ℕ) (node : Node) → Each (IsWithin (map node_of places)) nodes → i < length nodes → node ≡ get_or nodes i node → Contains (map (λ p. p.rank) places) node.rank
+node_there nodes places i node inside h e =
+    let home = each_at (IsWithin (map node_of places)) nodes node inside (read_among nodes i node h e) in
+    let mapped : Among home.0.rank (map (λ n. n.rank) (map node_of places)) = among_mapped (λ n. n.rank) (map node_of places) home.0 (among_from (map node_of places) home.0 home.1) in
+    contains_from (map (λ p. p.rank) places) node.rank (subst (λ xs. Among node.rank xs) (sym (place_ranks places)) (subst (λ r. Among r (map (λ n. n.rank) (map node_of places))) (sym home.2.rank) mapped))
+
+-- a node of a job, and the place of its rank, as a turn reads them
+pub record IsRead (nodes : List Node) (places : List Place) (i : ℕ) (node : Node) (at : ℕ) (p : Place) : Type 0 where
+  pub grant : IsGrant (map node_of places)
+  pub inside : Each (IsWithin (map node_of places)) nodes
+  pub within : i < length nodes
+  pub node_is : node ≡ get_or nodes i node
+  pub there : at < length places
+  pub place_is : p ≡ get_or places at p
+  pub rank : p.rank ≡ node.rank
+
+module _ {nodes : List Node} {places : List Place} {i : ℕ} {node : Node} {at : ℕ} {p : Place} (read : IsRead nodes places i node at p) where
+  pub read_node : Among node nodes
+  read_node = read_among nodes i node read.within read.node_is
+
+  read_place : Among (node_of p) (map node_of places)
+  read_place = among_mapped node_of places p (read_among places at p read.there read.place_is)
+
+  pub read_within : at < length (map node_of places)
+  read_within = subst (λ n. at < n) (sym (length-map places node_of)) read.there
+
+  pub read_is : node_of p ≡ get_or (map node_of places) at (node_of p)
+  read_is = ap node_of read.place_is ∙ sym (get_or-map node_of places at p (node_of p) read.there)
+
+  pub read_sets : HasIdSets (node_of p)
+  read_sets = each_at HasIdSets (map node_of places) (node_of p) read.grant.sets read_place
+
+  pub read_part : IsPartOf node (node_of p)
+  read_part =
+      let home = each_at (IsWithin (map node_of places)) nodes node read.inside read_node in
+      let ranks : Distinct (map (λ n. n.rank) (map node_of places)) = distinct_rising (map (λ n. n.rank) (map node_of places)) read.grant.hosts.rising in
+      let same : home.0 ≡ node_of p = same_image (λ n. n.rank) (map node_of places) home.0 (node_of p) ranks (among_from (map node_of places) home.0 home.1) read_place (sym home.2.rank ∙ sym read.rank) in
+      subst (IsPartOf node) same home.2
+
 -- ---- a job's nodes, one after another
-pub record IsTurn (step : Node → Place → Place) (nodes : List Node) (all now : List Place) (i : ℕ) : Type 0 where
-  pub done : map (after_each step (drop i nodes)) now ≡ map (after_each step nodes) all
+pub record IsTurn (free : Bool) (nodes : List Node) (all now : List Place) (i : ℕ) : Type 0 where
+  pub done : map (after_each free (drop i nodes)) now ≡ map (after_each free nodes) all
   pub same : map node_of now ≡ map node_of all
 
-module _ (step : Node → Place → Place) (is : IsStep step) (nodes : List Node) (all now : List Place) (i : ℕ) (grant : IsGrant (map node_of all)) (there : Each (IsWithin (map node_of all)) nodes) (t : IsTurn step nodes all now i) where
-  pub turn_rising : IsStrictlyIncreasing (map (λ p. p.rank) now)
-  turn_rising = subst IsStrictlyIncreasing (sym (place_ranks now ∙ ap (map (λ n. n.rank)) t.same)) grant.hosts.rising
+pub turn_grant : {free : Bool} {nodes : List Node} {all now : List Place} {i : ℕ} → IsTurn free nodes all now i → IsGrant (map node_of all) → IsGrant (map node_of now)
+turn_grant t grant = subst IsGrant (sym t.same) grant
 
-  turn_hosts : Distinct (map (λ p. p.host) now)
-  turn_hosts = subst Distinct (sym (place_hosts now ∙ ap (map (λ n. n.host)) t.same)) (distinct_from (hosts_of (map node_of all)) grant.hosts.hosts)
+pub turn_inside : {free : Bool} {nodes : List Node} {all now : List Place} {i : ℕ} → IsTurn free nodes all now i → Each (IsWithin (map node_of all)) nodes → Each (IsWithin (map node_of now)) nodes
+turn_inside {free} {nodes} t inside = subst (λ hosts. Each (IsWithin hosts) nodes) (sym t.same) inside
 
-  module _ (node : Node) (h : i < length nodes) (e : node ≡ get_or nodes i node) where
-    home : IsWithin (map node_of all) node
-    home = each_at (IsWithin (map node_of all)) nodes node there (read_among nodes i node h e)
-
-    pub turn_there : Contains (map (λ p. p.rank) now) node.rank
-    turn_there =
-        let mapped : Among home.0.rank (map (λ n. n.rank) (map node_of all)) = among_mapped (λ n. n.rank) (map node_of all) home.0 (among_from (map node_of all) home.0 home.1) in
-        let here : Among node.rank (map (λ p. p.rank) now) = subst (λ xs. Among node.rank xs) (sym (place_ranks now ∙ ap (map (λ n. n.rank)) t.same)) (subst (λ r. Among r (map (λ n. n.rank) (map node_of all))) (sym home.2.rank) mapped) in
-        contains_from (map (λ p. p.rank) now) node.rank here
-
-    module _ (at : ℕ) (w : at < length now) (p : Place) (q : p ≡ get_or now at p) (r : p.rank ≡ node.rank) where
-      place_among : Among (node_of p) (map node_of all)
-      place_among = subst (λ xs. Among (node_of p) xs) t.same (among_mapped node_of now p (read_among now at p w q))
-
-      pub turn_sets : HasIdSets (node_of p)
-      turn_sets = each_at HasIdSets (map node_of all) (node_of p) grant.sets place_among
-
-      pub turn_host : p.host ≡ node.host
-      turn_host =
-          let ranks : Distinct (map (λ n. n.rank) (map node_of all)) = distinct_rising (map (λ n. n.rank) (map node_of all)) grant.hosts.rising in
-          let same : node_of p ≡ home.0 = same_image (λ n. n.rank) (map node_of all) (node_of p) home.0 ranks place_among (among_from (map node_of all) home.0 home.1) (r ∙ home.2.rank) in
-          ap (λ n. n.host) same ∙ sym home.2.host
-
-      pub turn_more : IsTurn step nodes all (set now at (step node p)) (i + 1)
-      turn_more = record {
-        done =
-            ap (λ x. map (after_each step (drop (i + 1) nodes)) (set now at (step node x))) q
-            ∙ sym (one_more step is node (drop (i + 1) nodes) now at p w (ap (λ x. x.host) (sym q) ∙ turn_host) turn_hosts)
-            ∙ ap (λ ns. map (after_each step ns) now) (ap (λ n. n ∷ drop (i + 1) nodes) e ∙ sym (drop_more nodes i node h))
-            ∙ t.done;
-        same =
-            map-set node_of now at (step node p)
-            ∙ ap (λ n. set (map node_of now) at n) (is.node node p ∙ ap node_of q)
-            ∙ sym (map-set node_of now at (get_or now at p))
-            ∙ ap (map node_of) (set-get_or now at p)
-            ∙ t.same;
-      }
-
-pub turn_done : (step : Node → Place → Place) (nodes : List Node) (all now : List Place) (i : ℕ) → length nodes ≤ i → IsTurn step nodes all now i → now ≡ map (after_each step nodes) all
-turn_done step nodes all now i h t = sym (none now) ∙ sym (ap (λ ns. map (after_each step ns) now) (drop_none i nodes h)) ∙ t.done
+pub turn_more : {free : Bool} {nodes : List Node} {all now : List Place} {i : ℕ} {node : Node} {at : ℕ} {p : Place} → IsTurn free nodes all now i → IsRead nodes now i node at p → IsTurn free nodes all (set now at (marked_place free node p)) (i + 1)
+turn_more {free} {nodes} {all} {now} {i} {node} {at} {p} t read = record {
+  done =
+      ap (λ x. map (after_each free (drop (i + 1) nodes)) (set now at (marked_place free node x))) read.place_is
+      ∙ sym (one_more free node (drop (i + 1) nodes) now at p read.there (ap (λ x. x.host) (sym read.place_is) ∙ sym (read_part read).host) hosts)
+      ∙ ap (λ ns. map (after_each free ns) now) (ap (λ n. n ∷ drop (i + 1) nodes) read.node_is ∙ sym (drop_more nodes i node read.within))
+      ∙ t.done;
+  same =
+      map-set node_of now at (marked_place free node p)
+      ∙ ap (λ n. set (map node_of now) at n) (marked_node free node p ∙ ap node_of read.place_is)
+      ∙ sym (map-set node_of now at (get_or now at p))
+      ∙ ap (map node_of) (set-get_or now at p)
+      ∙ t.same;
+}
   where
-    none : (ps : List Place) → map (after_each step []) ps ≡ ps
+    hosts : Distinct (map (λ x. x.host) now)
+    hosts = subst Distinct (sym (place_hosts now)) (distinct_from (hosts_of (map node_of now)) read.grant.hosts.hosts)
+
+pub turn_done : {free : Bool} {nodes : List Node} {all now : List Place} {i : ℕ} → length nodes ≤ i → IsTurn free nodes all now i → now ≡ map (after_each free nodes) all
+turn_done {free} {nodes} {all} {now} {i} h t = sym (none now) ∙ sym (ap (λ ns. map (after_each free ns) now) (drop_none i nodes h)) ∙ t.done
+  where
+    none : (ps : List Place) → map (after_each free []) ps ≡ ps
     none [] = refl
     none (p ∷ ps) = ap (λ xs. p ∷ xs) (none ps)
 

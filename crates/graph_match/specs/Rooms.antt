@@ -36,5 +36,6 @@ brought spec (node ∷ nodes) [] = 0
 brought spec (node ∷ nodes) (room ∷ rooms) = worth_of spec (room_of node) room + brought spec nodes rooms
 
 -- rooms are what is left without these nodes' units, and the sum is what they bring
-abbrev pub AreRooms : JobSpec → List Node → List Node → List Room → ℕ → Type 0
-AreRooms spec grant taken rooms sum = (rooms ≡ rooms_without taken grant) × (sum ≡ brought spec grant rooms)
+pub record AreRooms (spec : JobSpec) (grant taken : List Node) (rooms : List Room) (sum : ℕ) : Type 0 where
+  pub rooms_are : rooms ≡ rooms_without taken grant
+  pub sum_is : sum ≡ brought spec grant rooms

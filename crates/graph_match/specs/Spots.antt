@@ -1,5 +1,5 @@
 -- The cores, or the GPUs, of a host, each of them free or held.
-use Rattle.std.specs.Prelude.{ℕ, List, true, not, ◌&&◌, ◌||◌, map, filter}
+use Rattle.std.specs.Prelude.{ℕ, Bool, List, true, map, filter, if◌then◌else◌}
 use Rattle.idset.specs.Ids.{has}
 use Rattle.graph_match.specs.declared.spot.Spot.{Spot}
 
@@ -13,9 +13,6 @@ free_ids spots = ids_of (filter (λ s. s.free) spots)
 abbrev pub free_spot : ℕ → Spot
 free_spot id = record { id = id; free = true }
 
--- a spot once these ids are held, and once they are free again
-abbrev pub taken_at : List ℕ → Spot → Spot
-taken_at ids spot = record { id = spot.id; free = spot.free && not (has ids spot.id) }
-
-abbrev pub given_at : List ℕ → Spot → Spot
-given_at ids spot = record { id = spot.id; free = spot.free || has ids spot.id }
+-- a spot once these ids are free, or held
+abbrev pub marked_at : Bool → List ℕ → Spot → Spot
+marked_at free ids spot = record { id = spot.id; free = if has ids spot.id then free else spot.free }

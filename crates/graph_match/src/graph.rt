@@ -9,7 +9,7 @@ ghost use Rattle.resource_set.specs.declared.node.Node.{Node as Taken};
 ghost use Rattle.job_rules.specs.Fits.{AreApart, AreBlockers, nodes_of};
 ghost use Rattle.graph_match.specs.Holds.{IsNew, with_hold, without_hold};
 ghost use Rattle.graph_match.specs.Kept.{IsKept};
-ghost use Rattle.graph_match.specs.Places.{after_each, free_node, fresh_place, held_place, left_place, node_of};
+ghost use Rattle.graph_match.specs.Places.{after_each, free_node, fresh_place, node_of};
 ghost use Rattle.graph_match.specs.Rooms.{AreRooms, room_of, worth_of as worth_in};
 
 use crate::fit::{Fit, JobList};
@@ -92,27 +92,15 @@ fn find_hold(live: &[Hold], id: u64) -> Option<usize>
     }
 }
 
-/// Takes the units of a job.
-fn take_nodes(places: &mut Vec<Place>, nodes: &[Node])
+/// Marks the units of a job as free, or as held.
+fn mark_nodes(places: &mut Vec<Place>, nodes: &[Node], free: bool)
     requires grant { IsGrant (map node_of places.old.items) }
     requires there { Each (IsWithin (map node_of places.old.items)) nodes.now }
-    ensures { places.new.items ≡ map (after_each held_place nodes.now) places.old.items }
+    ensures { places.new.items ≡ map (after_each free nodes.now) places.old.items }
 {
     for node in nodes {
         let at = place_of(places, node.rank);
-        places[at].take(node);
-    }
-}
-
-/// Frees the units of a job.
-fn give_nodes(places: &mut Vec<Place>, nodes: &[Node])
-    requires grant { IsGrant (map node_of places.old.items) }
-    requires there { Each (IsWithin (map node_of places.old.items)) nodes.now }
-    ensures { places.new.items ≡ map (after_each left_place nodes.now) places.old.items }
-{
-    for node in nodes {
-        let at = place_of(places, node.rank);
-        places[at].give(node);
+        places[at].mark(node, free);
     }
 }
 
@@ -394,7 +382,7 @@ impl Graph {
         let nodes = units.nodes.copy()?;
         let at = hold_of(&self.live, id);
         self.live.insert(at, Hold { id, nodes })?;
-        take_nodes(&mut self.places, units.nodes.as_slice());
+        mark_nodes(&mut self.places, units.nodes.as_slice(), false);
         Ok(())
     }
 
@@ -408,7 +396,7 @@ impl Graph {
             None => false,
             Some(at) => {
                 let hold = self.live.remove(at);
-                give_nodes(&mut self.places, hold.nodes.as_slice());
+                mark_nodes(&mut self.places, hold.nodes.as_slice(), true);
                 true
             }
         }

@@ -1,7 +1,7 @@
 ghost use Rattle.std.specs.Prelude.{◌≡◌, ◌≤◌, IfOk, OnOk};
 ghost use Rattle.job_rules.specs.Fits.{HasIdSets, IsSpec, lowest};
 ghost use Rattle.job_rules.specs.Worths.{give_as};
-ghost use Rattle.graph_match.specs.Places.{free_node, fresh_place, held_place, left_place, node_of};
+ghost use Rattle.graph_match.specs.Places.{free_node, fresh_place, marked_place, node_of};
 ghost use Rattle.graph_match.specs.Rooms.{room_of, slot_count, worth_of};
 
 use crate::pool::Pool;
@@ -117,21 +117,12 @@ impl Place {
         }
     }
 
-    /// Takes the units that a job has here.
-    pub fn take(&mut self, node: &Node)
+    /// Marks the units that a job has here as free, or as held.
+    pub fn mark(&mut self, node: &Node, free: bool)
         requires { HasIdSets (node_of self.old) }
-        ensures { self.new ≡ held_place node.now self.old }
+        ensures { self.new ≡ marked_place free node.now self.old }
     {
-        self.cores.take(&node.cores);
-        self.gpus.take(&node.gpus);
-    }
-
-    /// Frees the units that a job has here.
-    pub fn give(&mut self, node: &Node)
-        requires { HasIdSets (node_of self.old) }
-        ensures { self.new ≡ left_place node.now self.old }
-    {
-        self.cores.give(&node.cores);
-        self.gpus.give(&node.gpus);
+        self.cores.mark(&node.cores, free);
+        self.gpus.mark(&node.gpus, free);
     }
 }

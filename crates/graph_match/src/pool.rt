@@ -1,6 +1,6 @@
 ghost use Rattle.std.specs.Prelude.{◌≡◌, ℕ, ◌≤◌, ◌<◌, length, take, map, IfOk, OnOk};
 ghost use Rattle.idset.specs.Ids.{IsIdSet};
-ghost use Rattle.graph_match.specs.Spots.{ids_of, free_ids, free_spot, taken_at, given_at};
+ghost use Rattle.graph_match.specs.Spots.{ids_of, free_ids, free_spot, marked_at};
 
 use crate::spot::Spot;
 use idset::IdSet;
@@ -27,41 +27,23 @@ impl Model for Pool {
     ghost invariant = { λ p. p.free ≡ length (free_ids p.spots.items) };
 }
 
-/// A spot as it is while a job has these ids.
-fn taken(spot: Spot, ids: &IdSet) -> Spot
-    ensures { result ≡ taken_at ids.now spot }
+/// A spot once these ids are free, or held.
+fn marked(spot: Spot, ids: &IdSet, free: bool) -> Spot
+    ensures { result ≡ marked_at free ids.now spot }
 {
-    Spot {
-        id: spot.id,
-        free: spot.free && !ids.has(spot.id),
+    if ids.has(spot.id) {
+        Spot { id: spot.id, free }
+    } else {
+        spot
     }
 }
 
-/// A spot as it is once these ids are free.
-fn given(spot: Spot, ids: &IdSet) -> Spot
-    ensures { result ≡ given_at ids.now spot }
-{
-    Spot {
-        id: spot.id,
-        free: spot.free || ids.has(spot.id),
-    }
-}
-
-/// Takes the ids that are free.
-fn take_all(spots: &mut [Spot], ids: &IdSet)
-    ensures { spots.new ≡ map (taken_at ids.now) spots.old }
+/// Marks the ids as free, or as held.
+fn mark_all(spots: &mut [Spot], ids: &IdSet, free: bool)
+    ensures { spots.new ≡ map (marked_at free ids.now) spots.old }
 {
     for spot in spots.iter_mut() {
-        *spot = taken(*spot, ids);
-    }
-}
-
-/// Frees the ids.
-fn give_all(spots: &mut [Spot], ids: &IdSet)
-    ensures { spots.new ≡ map (given_at ids.now) spots.old }
-{
-    for spot in spots.iter_mut() {
-        *spot = given(*spot, ids);
+        *spot = marked(*spot, ids, free);
     }
 }
 
@@ -142,21 +124,12 @@ impl Pool {
         Ok(set)
     }
 
-    /// Takes these ids.
-    pub fn take(&mut self, ids: &IdSet)
+    /// Marks these ids as free, or as held.
+    pub fn mark(&mut self, ids: &IdSet, free: bool)
         requires { length self.old ≤ 65536 }
-        ensures { self.new ≡ map (taken_at ids.now) self.old }
+        ensures { self.new ≡ map (marked_at free ids.now) self.old }
     {
-        take_all(&mut self.spots, ids);
-        self.free = count_free(&self.spots);
-    }
-
-    /// Gives these ids back.
-    pub fn give(&mut self, ids: &IdSet)
-        requires { length self.old ≤ 65536 }
-        ensures { self.new ≡ map (given_at ids.now) self.old }
-    {
-        give_all(&mut self.spots, ids);
+        mark_all(&mut self.spots, ids, free);
         self.free = count_free(&self.spots);
     }
 }

@@ -1,35 +1,57 @@
-use Rattle.std.proofs.Common.{◌+◌, ◌++◌, drop, ap, ◌∙◌, arith}
+use Rattle.std.proofs.Common.{◌+◌, ◌++◌, drop, map, ap, ◌∙◌, arith}
+use Rattle.graph_match.specs.Places.{node_of}
+use Rattle.graph_match.specs.Rooms.{AreRooms}
 use Rattle.graph_match.proofs.Counting.{room_with}
-use Rattle.graph_match.proofs.Freeing.{add_fits, add_more, node_there, old_at, old_is, place_sets, places_rise, room_within}
+use Rattle.graph_match.proofs.Freeing.{add_more, added, old_at, room_within}
+use Rattle.graph_match.proofs.Turns.{IsRead, node_there, places_rise, read_sets}
+use Rattle.graph_match.proofs.graph.add.Goals.{After-index-places-at}
 use Rattle.graph_match.proofs.graph.add.Goals as goal
+
+-- what a turn reads, and the rooms at its start
+read : (c : After-index-places-at) → IsRead c.args.nodes.now c.args.places.now c.loop-node.node-index c.node-item.result c.place_of-at.result c.index-places-at.result
+read c = record {
+  grant = c.requires.grant;
+  inside = c.requires.nodes.inside;
+  within = c.loop-node-test.true;
+  node_is = c.node-item.is;
+  there = c.place_of-at.ensures.within;
+  place_is = c.index-places-at.is;
+  rank = ap (λ x. x.rank) c.index-places-at.is ∙ c.place_of-at.ensures.rank c.index-places-at.result;
+}
+
+rooms : (c : After-index-places-at) → AreRooms c.args.spec.now (map node_of c.args.places.now) (drop c.loop-node.node-index c.args.nodes.now ++ c.requires.taken.0) c.loop-node.rooms c.loop-node.sum
+rooms c = c.loop-node.invariant c.requires.taken.0 c.requires.taken.1 c.requires.taken.2
 
 pub place_of-at-requires-clause-rising : goal.place_of-at-requires-clause-rising
 place_of-at-requires-clause-rising c = places_rise c.args.places.now c.requires.grant
 
 pub place_of-at-requires-clause-there : goal.place_of-at-requires-clause-there
-place_of-at-requires-clause-there c = node_there c.args.places.now c.args.nodes.now c.loop-node.node-index c.node-item.result c.requires.nodes c.loop-node-test.true c.node-item.is
+place_of-at-requires-clause-there c = node_there c.args.nodes.now c.args.places.now c.loop-node.node-index c.node-item.result c.requires.nodes.inside c.loop-node-test.true c.node-item.is
 
 pub moved-sum-requires-clause-sets : goal.moved-sum-requires-clause-sets
-moved-sum-requires-clause-sets c = place_sets c.args.spec.now c.args.places.now c.args.nodes.now c.requires.taken.0 c.requires.grant c.requires.nodes c.requires.taken.1 c.loop-node.node-index c.node-item.result c.loop-node-test.true c.node-item.is c.place_of-at.result c.index-places-at.result c.place_of-at.ensures.within c.index-places-at.is (ap (λ x. x.rank) c.index-places-at.is ∙ c.place_of-at.ensures.rank c.index-places-at.result) c.loop-node.rooms c.loop-node.sum (old_at c.loop-node.rooms c.place_of-at.result) (old_is c.args.spec.now c.args.places.now (drop c.loop-node.node-index c.args.nodes.now ++ c.requires.taken.0) c.loop-node.rooms c.loop-node.sum c.place_of-at.result c.place_of-at.ensures.within (c.loop-node.invariant c.requires.taken.0 c.requires.taken.1 c.requires.taken.2))
+moved-sum-requires-clause-sets c = read_sets (read (goal.at.moved-sum-requires-clause-sets c).After-index-places-at)
 
 pub moved-sum-requires-clause-old : goal.moved-sum-requires-clause-old
-moved-sum-requires-clause-old c = (room_within c.args.spec.now c.args.places.now c.args.nodes.now c.requires.taken.0 c.requires.grant c.requires.nodes c.requires.taken.1 c.loop-node.node-index c.node-item.result c.loop-node-test.true c.node-item.is c.place_of-at.result c.index-places-at.result c.place_of-at.ensures.within c.index-places-at.is (ap (λ x. x.rank) c.index-places-at.is ∙ c.place_of-at.ensures.rank c.index-places-at.result) c.loop-node.rooms c.loop-node.sum (old_at c.loop-node.rooms c.place_of-at.result) (old_is c.args.spec.now c.args.places.now (drop c.loop-node.node-index c.args.nodes.now ++ c.requires.taken.0) c.loop-node.rooms c.loop-node.sum c.place_of-at.result c.place_of-at.ensures.within (c.loop-node.invariant c.requires.taken.0 c.requires.taken.1 c.requires.taken.2)) (drop c.loop-node.node-index c.args.nodes.now ++ c.requires.taken.0) (c.loop-node.invariant c.requires.taken.0 c.requires.taken.1 c.requires.taken.2)).1
+moved-sum-requires-clause-old c = let s = (goal.at.moved-sum-requires-clause-old c).After-index-places-at in (room_within (read s) (rooms s)).0
 
 pub moved-sum-requires-clause-sum : goal.moved-sum-requires-clause-sum
-moved-sum-requires-clause-sum c = (room_within c.args.spec.now c.args.places.now c.args.nodes.now c.requires.taken.0 c.requires.grant c.requires.nodes c.requires.taken.1 c.loop-node.node-index c.node-item.result c.loop-node-test.true c.node-item.is c.place_of-at.result c.index-places-at.result c.place_of-at.ensures.within c.index-places-at.is (ap (λ x. x.rank) c.index-places-at.is ∙ c.place_of-at.ensures.rank c.index-places-at.result) c.loop-node.rooms c.loop-node.sum (old_at c.loop-node.rooms c.place_of-at.result) (old_is c.args.spec.now c.args.places.now (drop c.loop-node.node-index c.args.nodes.now ++ c.requires.taken.0) c.loop-node.rooms c.loop-node.sum c.place_of-at.result c.place_of-at.ensures.within (c.loop-node.invariant c.requires.taken.0 c.requires.taken.1 c.requires.taken.2)) (drop c.loop-node.node-index c.args.nodes.now ++ c.requires.taken.0) (c.loop-node.invariant c.requires.taken.0 c.requires.taken.1 c.requires.taken.2)).2
+moved-sum-requires-clause-sum c = let s = (goal.at.moved-sum-requires-clause-sum c).After-index-places-at in (room_within (read s) (rooms s)).1
 
 pub overflow_add-new : goal.overflow_add-new
 overflow_add-new c =
-    let fit = add_fits c.args.spec.now c.args.places.now c.args.nodes.now c.requires.taken.0 c.requires.grant c.requires.nodes c.requires.taken.1 c.loop-node.node-index c.node-item.result c.loop-node-test.true c.node-item.is c.place_of-at.result c.index-places-at.result c.place_of-at.ensures.within c.index-places-at.is (ap (λ x. x.rank) c.index-places-at.is ∙ c.place_of-at.ensures.rank c.index-places-at.result) c.loop-node.rooms c.loop-node.sum (old_at c.loop-node.rooms c.place_of-at.result) (old_is c.args.spec.now c.args.places.now (drop c.loop-node.node-index c.args.nodes.now ++ c.requires.taken.0) c.loop-node.rooms c.loop-node.sum c.place_of-at.result c.place_of-at.ensures.within (c.loop-node.invariant c.requires.taken.0 c.requires.taken.1 c.requires.taken.2)) c.count-more.ensures.sets (c.loop-node.invariant c.requires.taken.0 c.requires.taken.1 c.requires.taken.2) in
-    omega (arith, fit.0, ap (λ x. x.cores) c.count-more.ensures.count)
+    let s = (goal.at.overflow_add-new c).After-index-places-at in
+    let fit = added (read s) c.requires.nodes c.count-more.ensures.sets c.requires.taken.0 c.requires.taken.1 (rooms s) in
+    omega (arith, fit.1, ap (λ x. x.cores) c.count-more.ensures.count)
 
 pub overflow_add-new-in-loop-node : goal.overflow_add-new-in-loop-node
 overflow_add-new-in-loop-node c =
-    let fit = add_fits c.args.spec.now c.args.places.now c.args.nodes.now c.requires.taken.0 c.requires.grant c.requires.nodes c.requires.taken.1 c.loop-node.node-index c.node-item.result c.loop-node-test.true c.node-item.is c.place_of-at.result c.index-places-at.result c.place_of-at.ensures.within c.index-places-at.is (ap (λ x. x.rank) c.index-places-at.is ∙ c.place_of-at.ensures.rank c.index-places-at.result) c.loop-node.rooms c.loop-node.sum (old_at c.loop-node.rooms c.place_of-at.result) (old_is c.args.spec.now c.args.places.now (drop c.loop-node.node-index c.args.nodes.now ++ c.requires.taken.0) c.loop-node.rooms c.loop-node.sum c.place_of-at.result c.place_of-at.ensures.within (c.loop-node.invariant c.requires.taken.0 c.requires.taken.1 c.requires.taken.2)) c.count-more.ensures.sets (c.loop-node.invariant c.requires.taken.0 c.requires.taken.1 c.requires.taken.2) in
-    omega (arith, fit.1, ap (λ x. x.gpus) c.count-more.ensures.count)
+    let s = (goal.at.overflow_add-new-in-loop-node c).After-index-places-at in
+    let fit = added (read s) c.requires.nodes c.count-more.ensures.sets c.requires.taken.0 c.requires.taken.1 (rooms s) in
+    omega (arith, fit.2, ap (λ x. x.gpus) c.count-more.ensures.count)
 
 pub loop-node-preserved : goal.loop-node-preserved
-loop-node-preserved c = λ oth away start.
-    add_more c.args.spec.now c.args.places.now c.args.nodes.now oth c.requires.grant c.requires.nodes away c.loop-node.node-index c.node-item.result c.loop-node-test.true c.node-item.is c.place_of-at.result c.index-places-at.result c.place_of-at.ensures.within c.index-places-at.is (ap (λ x. x.rank) c.index-places-at.is ∙ c.place_of-at.ensures.rank c.index-places-at.result) c.loop-node.rooms c.loop-node.sum (old_at c.loop-node.rooms c.place_of-at.result) (old_is c.args.spec.now c.args.places.now (drop c.loop-node.node-index c.args.nodes.now ++ oth) c.loop-node.rooms c.loop-node.sum c.place_of-at.result c.place_of-at.ensures.within (c.loop-node.invariant oth away start)) c.count-more.ensures.sets
-    (room_with ((old_at c.loop-node.rooms c.place_of-at.result).cores + c.count-more.result.cores) ((old_at c.loop-node.rooms c.place_of-at.result).gpus + c.count-more.result.gpus)) c.moved-sum.result
-    (ap (λ x. room_with ((old_at c.loop-node.rooms c.place_of-at.result).cores + x.cores) ((old_at c.loop-node.rooms c.place_of-at.result).gpus + x.gpus)) c.count-more.ensures.count) c.moved-sum.ensures (c.loop-node.invariant oth away start)
+loop-node-preserved c = λ others apart start.
+    let old = old_at c.loop-node.rooms c.place_of-at.result in
+    let s = (goal.at.loop-node-preserved c).After-index-places-at in
+    add_more (read s) c.requires.nodes c.count-more.ensures.sets others apart (c.loop-node.invariant others apart start)
+    (room_with (old.cores + c.count-more.result.cores) (old.gpus + c.count-more.result.gpus)) c.moved-sum.result (ap (λ x. room_with (old.cores + x.cores) (old.gpus + x.gpus)) c.count-more.ensures.count) c.moved-sum.ensures
