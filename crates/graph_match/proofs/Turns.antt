@@ -165,22 +165,28 @@ abbrev pub IsFitting : JobSpec → List Place → ℕ → ℕ → List Node → 
 IsFitting spec places i left nodes = nodes ++ picks spec (map node_of places) left (map free_node (drop i places)) ≡ picks spec (map node_of places) (wanted spec) (map free_node places)
 
 module _ (spec : JobSpec) (places : List Place) (i left : ℕ) (nodes : List Node) (p : Place) (h : i < length places) (e : p ≡ get_or places i p) (here : ℕ) (b : here ≡ min left (worth spec (map node_of places) (free_node p))) (f : IsFitting spec places i left nodes) where
-  next : picks spec (map node_of places) left (map free_node (drop i places)) ≡ cond (eqb here 0) (picks spec (map node_of places) (left - here) (map free_node (drop (i + 1) places))) (give_as spec.nodes spec here (free_node p) ∷ picks spec (map node_of places) (left - here) (map free_node (drop (i + 1) places)))
+  -- what the hosts behind give, and the first fit with and without this one
+  abbrev behind : ℕ → List Node
+  behind still = picks spec (map node_of places) still (map free_node (drop (i + 1) places))
+
+  abbrev with_some : Bool → ℕ → List Node
+  with_some none some = cond none (behind (left - some)) (give_as spec.nodes spec some (free_node p) ∷ behind (left - some))
+
+  next : picks spec (map node_of places) left (map free_node (drop i places)) ≡ with_some (eqb here 0) here
   next =
       ap (λ ps. picks spec (map node_of places) left (map free_node ps)) (drop_more places i p h ∙ ap (λ x. x ∷ drop (i + 1) places) (sym e))
-      ∙ ap (λ k. cond (eqb k 0) (picks spec (map node_of places) (left - k) (map free_node (drop (i + 1) places))) (give_as spec.nodes spec k (free_node p) ∷ picks spec (map node_of places) (left - k) (map free_node (drop (i + 1) places)))) (sym b)
+      ∙ ap (λ k. with_some (eqb k 0) k) (sym b)
 
   pub fit_none : here ≤ 0 → IsFitting spec places (i + 1) left nodes
   fit_none z =
       let none : here ≡ 0 = omega (arith, z) in
       let same : left - here ≡ left = omega (arith, none) in
-      ap (λ ns. nodes ++ ns) (sym (next ∙ ap (λ b. cond b (picks spec (map node_of places) (left - here) (map free_node (drop (i + 1) places))) (give_as spec.nodes spec here (free_node p) ∷ picks spec (map node_of places) (left - here) (map free_node (drop (i + 1) places)))) (eq-eqb here 0 none)
-      ∙ ap (λ k. picks spec (map node_of places) k (map free_node (drop (i + 1) places))) same)) ∙ f
+      ap (λ ns. nodes ++ ns) (sym (next ∙ ap (λ t. with_some t here) (eq-eqb here 0 none) ∙ ap behind same)) ∙ f
 
   pub fit_some : 0 < here → IsFitting spec places (i + 1) (left - here) (nodes ++ give_as spec.nodes spec here (free_node p) ∷ [])
   fit_some z =
-      append_assoc nodes (give_as spec.nodes spec here (free_node p) ∷ []) (picks spec (map node_of places) (left - here) (map free_node (drop (i + 1) places)))
-      ∙ ap (λ ns. nodes ++ ns) (sym (next ∙ ap (λ b. cond b (picks spec (map node_of places) (left - here) (map free_node (drop (i + 1) places))) (give_as spec.nodes spec here (free_node p) ∷ picks spec (map node_of places) (left - here) (map free_node (drop (i + 1) places)))) (ne_eqb here 0 (λ z'. let no : ⊥ = omega (arith, z, z') in no))))
+      append_assoc nodes (give_as spec.nodes spec here (free_node p) ∷ []) (behind (left - here))
+      ∙ ap (λ ns. nodes ++ ns) (sym (next ∙ ap (λ t. with_some t here) (ne_eqb here 0 (λ z'. let no : ⊥ = omega (arith, z, z') in no))))
       ∙ f
 
 pub fit_done : (spec : JobSpec) (places : List Place) (i left : ℕ) (nodes : List Node) → length places ≤ i → IsFitting spec places i left nodes → nodes ≡ picks spec (map node_of places) (wanted spec) (map free_node places)

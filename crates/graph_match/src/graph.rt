@@ -1,4 +1,4 @@
-ghost use Rattle.std.specs.Prelude.{◌≡◌, ◌<◌, ◌≤◌, ◌↔◌, ◌+◌, ◌^◌, ◌++◌, List, [], length, map, take, drop, IfNone, IfSome, nat_le, nat_lt, Contains, IfOk, OnOk, OnErr, IsTrue, Some, None, All};
+ghost use Rattle.std.specs.Prelude.{◌≡◌, ◌<◌, ◌≤◌, ◌↔◌, ◌+◌, ◌-◌, ◌^◌, ◌++◌, List, [], length, map, take, drop, IfNone, IfSome, nat_le, nat_lt, Contains, IfOk, OnOk, OnErr, IsTrue, Some, None, All};
 ghost use Rattle.std.specs.Bool.{OnFalse};
 ghost use Rattle.std.specs.List.{HoldsAt, AllByRecursion as Each};
 ghost use Rattle.std.specs.List.Sorted.{IsStrictlyIncreasing};
@@ -184,6 +184,30 @@ fn count(node: &Node) -> Room
     }
 }
 
+/// A host's room with so many units more.
+fn plus(room: Room, units: Room) -> Room
+    requires cores { room.cores + units.cores < 2 ^ 32 }
+    requires gpus { room.gpus + units.gpus < 2 ^ 32 }
+    ensures { result ≡ record { cores = room.cores + units.cores; gpus = room.gpus + units.gpus } }
+{
+    Room {
+        cores: room.cores + units.cores,
+        gpus: room.gpus + units.gpus,
+    }
+}
+
+/// A host's room with so many units less.
+fn minus(room: Room, units: Room) -> Room
+    requires cores { units.cores ≤ room.cores }
+    requires gpus { units.gpus ≤ room.gpus }
+    ensures { result ≡ record { cores = room.cores - units.cores; gpus = room.gpus - units.gpus } }
+{
+    Room {
+        cores: room.cores - units.cores,
+        gpus: room.gpus - units.gpus,
+    }
+}
+
 /// What all hosts bring once one has another room than before.
 fn moved(place: &Place, spec: &JobSpec, sum: u64, old: Room, new: Room) -> u64
     requires spec { IsSpec spec.now }
@@ -214,10 +238,7 @@ fn add(places: &[Place], spec: &JobSpec, rooms: &mut [Room], sum: u64, nodes: &[
         let place = &places[at];
         let more = count(node);
         let old = rooms[at];
-        let new = Room {
-            cores: old.cores + more.cores,
-            gpus: old.gpus + more.gpus,
-        };
+        let new = plus(old, more);
         sum = moved(place, spec, sum, old, new);
         rooms[at] = new;
     }
@@ -241,10 +262,7 @@ fn take_back(places: &[Place], spec: &JobSpec, rooms: &mut [Room], sum: u64, nod
         let place = &places[at];
         let less = count(node);
         let old = rooms[at];
-        let new = Room {
-            cores: old.cores - less.cores,
-            gpus: old.gpus - less.gpus,
-        };
+        let new = minus(old, less);
         sum = moved(place, spec, sum, old, new);
         rooms[at] = new;
     }

@@ -37,15 +37,15 @@ moved-sum-requires-clause-old c = let s = (goal.at.moved-sum-requires-clause-old
 pub moved-sum-requires-clause-sum : goal.moved-sum-requires-clause-sum
 moved-sum-requires-clause-sum c = let s = (goal.at.moved-sum-requires-clause-sum c).After-index-places-at in (room_within (read s) (rooms s)).1
 
-pub overflow_add-new : goal.overflow_add-new
-overflow_add-new c =
-    let s = (goal.at.overflow_add-new c).After-index-places-at in
+pub plus-new-requires-clause-cores : goal.plus-new-requires-clause-cores
+plus-new-requires-clause-cores c =
+    let s = (goal.at.plus-new-requires-clause-cores c).After-index-places-at in
     let fit = added (read s) c.requires.nodes c.count-more.ensures.sets c.requires.taken.0 c.requires.taken.1 (rooms s) in
     omega (arith, fit.1, ap (λ x. x.cores) c.count-more.ensures.count)
 
-pub overflow_add-new-in-loop-node : goal.overflow_add-new-in-loop-node
-overflow_add-new-in-loop-node c =
-    let s = (goal.at.overflow_add-new-in-loop-node c).After-index-places-at in
+pub plus-new-requires-clause-gpus : goal.plus-new-requires-clause-gpus
+plus-new-requires-clause-gpus c =
+    let s = (goal.at.plus-new-requires-clause-gpus c).After-index-places-at in
     let fit = added (read s) c.requires.nodes c.count-more.ensures.sets c.requires.taken.0 c.requires.taken.1 (rooms s) in
     omega (arith, fit.2, ap (λ x. x.gpus) c.count-more.ensures.count)
 
@@ -54,4 +54,4 @@ loop-node-preserved c = λ others apart start.
     let old = old_at c.loop-node.rooms c.place_of-at.result in
     let s = (goal.at.loop-node-preserved c).After-index-places-at in
     add_more (read s) c.requires.nodes c.count-more.ensures.sets others apart (c.loop-node.invariant others apart start)
-    (room_with (old.cores + c.count-more.result.cores) (old.gpus + c.count-more.result.gpus)) c.moved-sum.result (ap (λ x. room_with (old.cores + x.cores) (old.gpus + x.gpus)) c.count-more.ensures.count) c.moved-sum.ensures
+    c.plus-new.result c.moved-sum.result (c.plus-new.ensures ∙ ap (λ x. room_with (old.cores + x.cores) (old.gpus + x.gpus)) c.count-more.ensures.count) c.moved-sum.ensures

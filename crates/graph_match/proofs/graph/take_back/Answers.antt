@@ -37,15 +37,15 @@ moved-sum-requires-clause-old c = let s = (goal.at.moved-sum-requires-clause-old
 pub moved-sum-requires-clause-sum : goal.moved-sum-requires-clause-sum
 moved-sum-requires-clause-sum c = let s = (goal.at.moved-sum-requires-clause-sum c).After-index-places-at in (room_within (read s) (rooms s)).1
 
-pub overflow_sub-new : goal.overflow_sub-new
-overflow_sub-new c =
-    let s = (goal.at.overflow_sub-new c).After-index-places-at in
+pub minus-new-requires-clause-cores : goal.minus-new-requires-clause-cores
+minus-new-requires-clause-cores c =
+    let s = (goal.at.minus-new-requires-clause-cores c).After-index-places-at in
     let fit = back (read s) c.requires.nodes c.count-less.ensures.sets c.requires.left.0 c.requires.left.1 (rooms s) in
     omega (arith, fit.1, ap (λ x. x.cores) c.count-less.ensures.count)
 
-pub overflow_sub-new-in-loop-node : goal.overflow_sub-new-in-loop-node
-overflow_sub-new-in-loop-node c =
-    let s = (goal.at.overflow_sub-new-in-loop-node c).After-index-places-at in
+pub minus-new-requires-clause-gpus : goal.minus-new-requires-clause-gpus
+minus-new-requires-clause-gpus c =
+    let s = (goal.at.minus-new-requires-clause-gpus c).After-index-places-at in
     let fit = back (read s) c.requires.nodes c.count-less.ensures.sets c.requires.left.0 c.requires.left.1 (rooms s) in
     omega (arith, fit.2, ap (λ x. x.gpus) c.count-less.ensures.count)
 
@@ -54,4 +54,4 @@ loop-node-preserved c = λ others apart start.
     let old = old_at c.loop-node.rooms c.place_of-at.result in
     let s = (goal.at.loop-node-preserved c).After-index-places-at in
     back_more (read s) c.requires.nodes c.count-less.ensures.sets others apart (c.loop-node.invariant others apart start)
-    (room_with (old.cores - c.count-less.result.cores) (old.gpus - c.count-less.result.gpus)) c.moved-sum.result (ap (λ x. room_with (old.cores - x.cores) (old.gpus - x.gpus)) c.count-less.ensures.count) c.moved-sum.ensures
+    c.minus-new.result c.moved-sum.result (c.minus-new.ensures ∙ ap (λ x. room_with (old.cores - x.cores) (old.gpus - x.gpus)) c.count-less.ensures.count) c.moved-sum.ensures
