@@ -13,19 +13,12 @@ use Rattle.resource_set.specs.declared.entries.Entry.{Entry}
 use Rattle.resource_set.specs.declared.entries.Group.{Group}
 use Rattle.resource_set.specs.declared.node.Node.{Node}
 use Rattle.resource_set.specs.Places.{place_of}
-use Rattle.resource_set.specs.Writing.{fits_in, with_node, written, has_texts, IsSpelled, IsWritten}
+use Rattle.resource_set.specs.Writing.{fits_in, single, added, with_node, written, with_rank, has_texts, IsSpelled, IsWritten}
 use Rattle.resource_set.proofs.Places.{or_place, place_of-push}
 use Rattle.resource_set.proofs.Ranks.{bytes_eq_back}
 
 abbrev next : Option ℕ → Option ℕ
 next o = option_map (λ n. n + 1) o
-
--- an entry with the rank of a host
-abbrev pub added : Node → Entry → Entry
-added node entry = record entry { ranks = entry.ranks ++ node.rank ∷ [] }
-
-abbrev pub single : Node → Entry
-single node = record { ranks = node.rank ∷ []; cores = node.cores; gpus = node.gpus }
 
 at_step : (b : Bool) (o : Option ℕ) (node : Node) (e : Entry) (more rest : List Entry) (p : ℕ) (d : Entry) → cond b (Some 0) (next o) ≡ Some p → ((j : ℕ) → o ≡ Some j → rest ≡ set more j (added node (get_or more j d)))
     → cond b (added node e ∷ more) (e ∷ rest) ≡ set (e ∷ more) p (added node (get_or (e ∷ more) p d))
@@ -87,11 +80,11 @@ set-written (e ∷ more) (suc p) x = ap (λ l. written e ∷ l) (set-written mor
 
 -- a rank more in a group
 pub rank_added : (entries : List Entry) (groups new : List Group) (node : Node) (p : ℕ) → groups ≡ map written entries → place_of (fits_in node) entries ≡ Some p
-    → ((d : Group) → new ≡ set groups p (record (get_or groups p d) { ranks = (get_or groups p d).ranks ++ node.rank ∷ [] })) → new ≡ map written (with_node entries node)
+    → ((d : Group) → new ≡ set groups p (with_rank node.rank (get_or groups p d))) → new ≡ map written (with_node entries node)
 rank_added entries groups new node p same at is =
     let d : Entry = record { ranks = []; cores = []; gpus = [] } in
     let got : get_or groups p (written d) ≡ written (get_or entries p d) = ap (λ l. get_or l p (written d)) same ∙ get_or-written entries p d in
-    is (written d) ∙ ap₂ (λ l (g : Group). set l p (record g { ranks = g.ranks ++ node.rank ∷ [] })) same got
+    is (written d) ∙ ap₂ (λ l g. set l p (with_rank node.rank g)) same got
     ∙ sym (set-written entries p (added node (get_or entries p d))) ∙ ap (map written) (sym (grouped_at entries node p d at))
 
 pub map_written-push : (entries : List Entry) (x : Entry) → map written (entries ++ x ∷ []) ≡ map written entries ++ written x ∷ []

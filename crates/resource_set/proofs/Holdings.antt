@@ -9,19 +9,12 @@ use Rattle.std.proofs.lemmas.List.{get_or-take, get_or-drop, take_more}
 use Rattle.std.proofs.lemmas.List.Elements.{All-head, All-tail}
 use Rattle.resource_set.specs.declared.node.Node.{Node}
 use Rattle.resource_set.specs.Places.{place_of}
-use Rattle.resource_set.specs.Units.{AreDistinct, without_ids, without_nodes}
+use Rattle.resource_set.specs.Units.{AreDistinct, host_names, is_named, without_ids, without_node, without_nodes}
 use Rattle.resource_set.proofs.Places.{is_some-place_of, place_of-true, place_of-push, or_place}
 use Rattle.resource_set.proofs.Placed.{All-unmap}
 use Rattle.resource_set.proofs.Spans.{without_none}
 
 -- ---- a host among different ones
-
-abbrev pub hosts : List Node → List (List ℕ)
-hosts nodes = map (λ node. node.host) nodes
-
--- a host of this name
-abbrev pub is_at : List ℕ → Node → Bool
-is_at name node = bytes_eq node.host name
 
 same : (a b : List ℕ) → bytes_eq a b ≡ true → a ≡ b
 same a b t = (bytes_eq-Decides a b).0 t
@@ -35,28 +28,28 @@ false_of true f = absurd (f refl)
 false_of false f = refl
 
 -- no host further on has the name of the first one
-none_behind : (name : List ℕ) (nodes : List Node) → All (λ y. name ≢ y) (hosts nodes) → list_any (is_at name) nodes ≡ false
+none_behind : (name : List ℕ) (nodes : List Node) → All (λ y. name ≢ y) (host_names nodes) → list_any (is_named name) nodes ≡ false
 none_behind name [] a = refl
 none_behind name (n ∷ ns) a =
-    let here : bytes_eq n.host name ≡ false = false_of (bytes_eq n.host name) (λ t. All-head (λ y. name ≢ y) n.host (hosts ns) a (sym (same n.host name t))) in
-    let rest : list_any (is_at name) ns ≡ false = none_behind name ns (All-tail (λ y. name ≢ y) n.host (hosts ns) a) in
+    let here : bytes_eq n.host name ≡ false = false_of (bytes_eq n.host name) (λ t. All-head (λ y. name ≢ y) n.host (host_names ns) a (sym (same n.host name t))) in
+    let rest : list_any (is_named name) ns ≡ false = none_behind name ns (All-tail (λ y. name ≢ y) n.host (host_names ns) a) in
     ap₂ (λ p q. p || q) here rest
 
-pub none_so : (name : List ℕ) (q : Node → Bool) (nodes : List Node) → list_any (is_at name) nodes ≡ false → list_any (λ n. bytes_eq n.host name && q n) nodes ≡ false
+pub none_so : (name : List ℕ) (q : Node → Bool) (nodes : List Node) → list_any (is_named name) nodes ≡ false → list_any (λ n. bytes_eq n.host name && q n) nodes ≡ false
 none_so name q [] h = refl
-none_so name q (n ∷ ns) h = go (bytes_eq n.host name) (list_any (is_at name) ns) h (λ e. none_so name q ns e)
+none_so name q (n ∷ ns) h = go (bytes_eq n.host name) (list_any (is_named name) ns) h (λ e. none_so name q ns e)
   where
     go : (a b : Bool) → (a || b) ≡ false → (b ≡ false → list_any (λ m. bytes_eq m.host name && q m) ns ≡ false) → ((a && q n) || list_any (λ m. bytes_eq m.host name && q m) ns) ≡ false
     go true b e f = cc
     go false b e f = f e
 
 -- the test of what stands at a host is the test of that host
-pub only_there : (name : List ℕ) (q : Node → Bool) (nodes : List Node) (i : ℕ) (d : Node) → AreDistinct (hosts nodes) → i < length nodes → bytes_eq (get_or nodes i d).host name ≡ true
+pub only_there : (name : List ℕ) (q : Node → Bool) (nodes : List Node) (i : ℕ) (d : Node) → AreDistinct (host_names nodes) → i < length nodes → bytes_eq (get_or nodes i d).host name ≡ true
     → list_any (λ n. bytes_eq n.host name && q n) nodes ≡ q (get_or nodes i d)
 only_there name q [] i d a h t = absurd (omega arith)
 only_there name q (n ∷ ns) zero d a h t =
-    let other : list_any (is_at n.host) ns ≡ false = none_behind n.host ns a.0 in
-    let rest : list_any (λ m. bytes_eq m.host name && q m) ns ≡ false = none_so name q ns (ap (λ l. list_any (is_at l) ns) (sym (same n.host name t)) ∙ other) in
+    let other : list_any (is_named n.host) ns ≡ false = none_behind n.host ns a.0 in
+    let rest : list_any (λ m. bytes_eq m.host name && q m) ns ≡ false = none_so name q ns (ap (λ l. list_any (is_named l) ns) (sym (same n.host name t)) ∙ other) in
     ap₂ (λ x y. (x && q n) || y) t rest ∙ last (q n)
   where
     last : (b : Bool) → (b || false) ≡ b
@@ -66,11 +59,11 @@ only_there name q (n ∷ ns) (suc i) d a h t =
     let here : bytes_eq n.host name ≡ false = false_of (bytes_eq n.host name) (λ e. apart n ns i d a.0 (omega arith) (same n.host name e ∙ sym (same (get_or ns i d).host name t))) in
     ap (λ b. (b && q n) || list_any (λ m. bytes_eq m.host name && q m) ns) here ∙ only_there name q ns i d a.1 (omega arith) t
   where
-    apart : (n : Node) (ns : List Node) (i : ℕ) (d : Node) → All (λ y. n.host ≢ y) (hosts ns) → i < length ns → n.host ≢ (get_or ns i d).host
+    apart : (n : Node) (ns : List Node) (i : ℕ) (d : Node) → All (λ y. n.host ≢ y) (host_names ns) → i < length ns → n.host ≢ (get_or ns i d).host
     apart n ns i d all h e = All-unmap (λ y. n.host ≢ y) (λ (m : Node). m.host) ns all i d h e
 
 -- the host at a place stands at no earlier one
-pub no_earlier : (nodes : List Node) (i : ℕ) (d : Node) → AreDistinct (hosts nodes) → i < length nodes → list_any (is_at (get_or nodes i d).host) (take i nodes) ≡ false
+pub no_earlier : (nodes : List Node) (i : ℕ) (d : Node) → AreDistinct (host_names nodes) → i < length nodes → list_any (is_named (get_or nodes i d).host) (take i nodes) ≡ false
 no_earlier [] i d a h = absurd (omega arith)
 no_earlier (n ∷ ns) zero d a h = refl
 no_earlier (n ∷ ns) (suc i) d a h =
@@ -79,22 +72,22 @@ no_earlier (n ∷ ns) (suc i) d a h =
 
 -- ---- a host without others
 
-no_host_filter : (name : List ℕ) (nodes : List Node) → list_any (is_at name) nodes ≡ false → filter (is_at name) nodes ≡ []
+no_host_filter : (name : List ℕ) (nodes : List Node) → list_any (is_named name) nodes ≡ false → filter (is_named name) nodes ≡ []
 no_host_filter name [] h = refl
-no_host_filter name (n ∷ ns) h = go (bytes_eq n.host name) (list_any (is_at name) ns) h (λ e. no_host_filter name ns e)
+no_host_filter name (n ∷ ns) h = go (bytes_eq n.host name) (list_any (is_named name) ns) h (λ e. no_host_filter name ns e)
   where
-    go : (a b : Bool) → (a || b) ≡ false → (b ≡ false → filter (is_at name) ns ≡ []) → cond a (n ∷ filter (is_at name) ns) (filter (is_at name) ns) ≡ []
+    go : (a b : Bool) → (a || b) ≡ false → (b ≡ false → filter (is_named name) ns ≡ []) → cond a (n ∷ filter (is_named name) ns) (filter (is_named name) ns) ≡ []
     go true b e f = cc
     go false b e f = f e
 
-pub one_host_filter : (name : List ℕ) (nodes : List Node) (t : Node) → AreDistinct (hosts nodes) → find (is_at name) nodes ≡ Some t → filter (is_at name) nodes ≡ t ∷ []
+pub one_host_filter : (name : List ℕ) (nodes : List Node) (t : Node) → AreDistinct (host_names nodes) → find (is_named name) nodes ≡ Some t → filter (is_named name) nodes ≡ t ∷ []
 one_host_filter name [] t a h = cc
 one_host_filter name (n ∷ ns) t a h = go (bytes_eq n.host name) refl h (λ e. one_host_filter name ns t a.1 e)
   where
-    go : (b : Bool) → bytes_eq n.host name ≡ b → cond b (Some n) (find (is_at name) ns) ≡ Some t → (find (is_at name) ns ≡ Some t → filter (is_at name) ns ≡ t ∷ []) → cond b (n ∷ filter (is_at name) ns) (filter (is_at name) ns) ≡ t ∷ []
+    go : (b : Bool) → bytes_eq n.host name ≡ b → cond b (Some n) (find (is_named name) ns) ≡ Some t → (find (is_named name) ns ≡ Some t → filter (is_named name) ns ≡ t ∷ []) → cond b (n ∷ filter (is_named name) ns) (filter (is_named name) ns) ≡ t ∷ []
     go true e h f =
         let is : n ≡ t = cc in
-        let none : filter (is_at name) ns ≡ [] = no_host_filter name ns (ap (λ l. list_any (is_at l) ns) (sym (same n.host name e)) ∙ none_behind n.host ns a.0) in
+        let none : filter (is_named name) ns ≡ [] = no_host_filter name ns (ap (λ l. list_any (is_named l) ns) (sym (same n.host name e)) ∙ none_behind n.host ns a.0) in
         ap₂ (λ x l. x ∷ l) is none
     go false e h f = f h
 
@@ -106,33 +99,33 @@ find_none_any p (n ∷ ns) h = go (p n) h (λ e. find_none_any p ns e)
     go true h f = cc
     go false h f = f h
 
-pub left_here : (taken : List Node) (node there : Node) → AreDistinct (hosts taken) → find (is_at node.host) taken ≡ Some there
-    → (let left : Node = record node { cores = without_ids node.cores there.cores; gpus = without_ids node.gpus there.gpus } in left) ≡ without_nodes taken node
+pub left_here : (taken : List Node) (node there : Node) → AreDistinct (host_names taken) → find (is_named node.host) taken ≡ Some there
+    → without_node there node ≡ without_nodes taken node
 left_here taken node there a h =
-    let one : filter (is_at node.host) taken ≡ there ∷ [] = one_host_filter node.host taken there a h in
+    let one : filter (is_named node.host) taken ≡ there ∷ [] = one_host_filter node.host taken there a h in
     sym (ap (λ (ts : List Node). let left : Node = record node { cores = without_ids node.cores (flat_map (λ t. t.cores) ts); gpus = without_ids node.gpus (flat_map (λ t. t.gpus) ts) } in left) one
     ∙ ap₂ (λ cs gs. let left : Node = record node { cores = without_ids node.cores cs; gpus = without_ids node.gpus gs } in left) (append-nil there.cores) (append-nil there.gpus))
 
-pub left_whole : (taken : List Node) (node : Node) → find (is_at node.host) taken ≡ None → node ≡ without_nodes taken node
+pub left_whole : (taken : List Node) (node : Node) → find (is_named node.host) taken ≡ None → node ≡ without_nodes taken node
 left_whole taken node h =
-    let none : filter (is_at node.host) taken ≡ [] = no_host_filter node.host taken (find_none_any (is_at node.host) taken h) in
+    let none : filter (is_named node.host) taken ≡ [] = no_host_filter node.host taken (find_none_any (is_named node.host) taken h) in
     sym (ap (λ (ts : List Node). let left : Node = record node { cores = without_ids node.cores (flat_map (λ t. t.cores) ts); gpus = without_ids node.gpus (flat_map (λ t. t.gpus) ts) } in left) none
     ∙ ap₂ (λ cs gs. let left : Node = record node { cores = cs; gpus = gs } in left) (without_none node.cores [] refl) (without_none node.gpus [] refl))
 
 -- ---- a walk around
 
-pub around_some : (name : List ℕ) (nodes : List Node) (from k : ℕ) → place_of (is_at name) (drop from nodes) ≡ Some k → HoldsAt (λ node. bytes_eq node.host name ≡ true) nodes (from + k)
-around_some name nodes from k h d = ap (λ (n : Node). bytes_eq n.host name) (sym (get_or-drop from nodes k d)) ∙ place_of-true (is_at name) (drop from nodes) k d h
+pub around_some : (name : List ℕ) (nodes : List Node) (from k : ℕ) → place_of (is_named name) (drop from nodes) ≡ Some k → HoldsAt (λ node. bytes_eq node.host name ≡ true) nodes (from + k)
+around_some name nodes from k h d = ap (λ (n : Node). bytes_eq n.host name) (sym (get_or-drop from nodes k d)) ∙ place_of-true (is_named name) (drop from nodes) k d h
 
-pub around_none : (name : List ℕ) (nodes : List Node) (from : ℕ) (r : Option ℕ) → from ≤ length nodes → place_of (is_at name) (drop from nodes) ≡ None → r ≡ place_of (is_at name) (take from nodes) → IfSome r (λ place. place < length (take from nodes))
-    → MatchOption r (list_any (is_at name) nodes ≡ false) (λ place. (place < length nodes) × HoldsAt (λ node. bytes_eq node.host name ≡ true) nodes place)
+pub around_none : (name : List ℕ) (nodes : List Node) (from : ℕ) (r : Option ℕ) → from ≤ length nodes → place_of (is_named name) (drop from nodes) ≡ None → r ≡ place_of (is_named name) (take from nodes) → IfSome r (λ place. place < length (take from nodes))
+    → MatchOption r (list_any (is_named name) nodes ≡ false) (λ place. (place < length nodes) × HoldsAt (λ node. bytes_eq node.host name ≡ true) nodes place)
 around_none name nodes from None f b h i =
-    ap (list_any (is_at name)) (sym (take-append-drop from nodes)) ∙ list_any-append (is_at name) (take from nodes) (drop from nodes)
-    ∙ ap₂ (λ x y. x || y) (sym (is_some-place_of (is_at name) (take from nodes)) ∙ ap is_some (sym h)) (sym (is_some-place_of (is_at name) (drop from nodes)) ∙ ap is_some b)
+    ap (list_any (is_named name)) (sym (take-append-drop from nodes)) ∙ list_any-append (is_named name) (take from nodes) (drop from nodes)
+    ∙ ap₂ (λ x y. x || y) (sym (is_some-place_of (is_named name) (take from nodes)) ∙ ap is_some (sym h)) (sym (is_some-place_of (is_named name) (drop from nodes)) ∙ ap is_some b)
 around_none name nodes from (Some k) f b h i =
     let len : length (take from nodes) ≡ from = length-take-le from nodes f in
     let below : k < from = omega (arith, i) in
-    (omega arith, λ d. ap (λ (n : Node). bytes_eq n.host name) (sym (get_or-take from nodes k d below)) ∙ place_of-true (is_at name) (take from nodes) k d (sym h))
+    (omega arith, λ d. ap (λ (n : Node). bytes_eq n.host name) (sym (get_or-take from nodes k d below)) ∙ place_of-true (is_named name) (take from nodes) k d (sym h))
 
 placed_step : (b : Bool) (o : Option ℕ) (i : ℕ) → (b ≡ true → o ≡ None) → cond b (Some i) o ≡ or_place o (cond b (Some i) None)
 placed_step true o i f = sym (ap (λ p. or_place p (Some i)) (f refl))
@@ -144,13 +137,13 @@ not_placed p nodes None e h = e
 not_placed p nodes (Some k) e h = let met : true ≡ list_any p nodes = sym (ap is_some e) ∙ is_some-place_of p nodes in cc
 
 -- one host more is written down
-pub host_placed : (nodes : List Node) (i : ℕ) (node : Node) (name : List ℕ) → AreDistinct (hosts nodes) → i < length nodes → node ≡ get_or nodes i node
-    → cond (bytes_eq node.host name) (Some i) (place_of (is_at name) (take i nodes)) ≡ place_of (is_at name) (take (i + 1) nodes)
+pub host_placed : (nodes : List Node) (i : ℕ) (node : Node) (name : List ℕ) → AreDistinct (host_names nodes) → i < length nodes → node ≡ get_or nodes i node
+    → cond (bytes_eq node.host name) (Some i) (place_of (is_named name) (take i nodes)) ≡ place_of (is_named name) (take (i + 1) nodes)
 host_placed nodes i node name a h is =
     let len : length (take i nodes) ≡ i = length-take-le i nodes (omega arith) in
-    placed_step (bytes_eq node.host name) (place_of (is_at name) (take i nodes)) i (λ t. not_placed (is_at name) (take i nodes) (place_of (is_at name) (take i nodes)) refl
-    (ap (λ l. list_any (is_at l) (take i nodes)) (sym (same node.host name t) ∙ ap (λ (n : Node). n.host) is) ∙ no_earlier nodes i node a h))
-    ∙ ap (λ n. or_place (place_of (is_at name) (take i nodes)) (cond (bytes_eq node.host name) (Some n) None)) (sym len)
-    ∙ sym (place_of-push (is_at name) (take i nodes) node)
-    ∙ ap (λ n. place_of (is_at name) (take i nodes ++ n ∷ [])) is
-    ∙ ap (place_of (is_at name)) (sym (take_more nodes i node h))
+    placed_step (bytes_eq node.host name) (place_of (is_named name) (take i nodes)) i (λ t. not_placed (is_named name) (take i nodes) (place_of (is_named name) (take i nodes)) refl
+    (ap (λ l. list_any (is_named l) (take i nodes)) (sym (same node.host name t) ∙ ap (λ (n : Node). n.host) is) ∙ no_earlier nodes i node a h))
+    ∙ ap (λ n. or_place (place_of (is_named name) (take i nodes)) (cond (bytes_eq node.host name) (Some n) None)) (sym len)
+    ∙ sym (place_of-push (is_named name) (take i nodes) node)
+    ∙ ap (λ n. place_of (is_named name) (take i nodes ++ n ∷ [])) is
+    ∙ ap (place_of (is_named name)) (sym (take_more nodes i node h))

@@ -15,8 +15,7 @@ use Rattle.resource_set.specs.declared.entries.Entry.{Entry}
 use Rattle.resource_set.specs.declared.node.Node.{Node}
 use Rattle.resource_set.specs.Units.{AreHosts}
 use Rattle.resource_set.specs.Reading.{has_rank, or_else, twice_behind, ranks_of, node_at, node_with, nodes_with, no_entry}
-use Rattle.resource_set.specs.Writing.{fits_in, with_node, entries_of}
-use Rattle.resource_set.proofs.Grouping.{added, single}
+use Rattle.resource_set.specs.Writing.{fits_in, single, added, with_node, entries_of}
 use Rattle.resource_set.proofs.Rising.{list_of_rising, rising_push}
 
 both : (a b : Bool) → (a && b) ≡ true → (a ≡ true) × (b ≡ true)

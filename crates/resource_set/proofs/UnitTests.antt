@@ -10,9 +10,9 @@ use Rattle.std.proofs.lemmas.List.Elements.{Contains-append_left, Contains-appen
 use Rattle.idset.specs.Ids.{has}
 use Rattle.resource_set.specs.declared.node.Node.{Node}
 use Rattle.resource_set.specs.Places.{place_of}
-use Rattle.resource_set.specs.Units.{ResourceUnit, core_of, gpu_of, units_of_node, units_of, LiesIn, AreDistinct, without_ids, without_nodes, has_ids_of, has_units_of, lies_on}
+use Rattle.resource_set.specs.Units.{ResourceUnit, host_names, is_named, core_of, gpu_of, units_of_node, units_of, LiesIn, AreDistinct, without_ids, without_nodes, has_ids_of, has_units_of, lies_on}
 use Rattle.resource_set.proofs.Places.{is_some-place_of, place_of-true, place_of-inside}
-use Rattle.resource_set.proofs.Holdings.{hosts, is_at, only_there, none_so, false_of}
+use Rattle.resource_set.proofs.Holdings.{only_there, none_so, false_of}
 
 -- a unit of a host, by its kind
 abbrev made : Bool → Node → ℕ → ResourceUnit
@@ -162,11 +162,11 @@ lies_units whole (n ∷ ns) u a h =
 own_unit : (gpu : Bool) (n : Node) (id : ℕ) → has (cond gpu n.gpus n.cores) id ≡ true → node_has (made gpu n id) n ≡ true
 own_unit gpu n id h = ap₂ (λ a b. a && b) (host_is n.host n.host refl) h
 
-lies_at : (whole : List Node) (n : Node) (o : Option ℕ) → AreDistinct (hosts whole) → place_of (is_at n.host) whole ≡ o → ((u : ResourceUnit) → node_has u n ≡ true → has_unit whole u ≡ true) → lies_on whole n ≡ true
+lies_at : (whole : List Node) (n : Node) (o : Option ℕ) → AreDistinct (host_names whole) → place_of (is_named n.host) whole ≡ o → ((u : ResourceUnit) → node_has u n ≡ true → has_unit whole u ≡ true) → lies_on whole n ≡ true
 lies_at whole n None a e f = ap₂ (λ x y. (x && y) || list_any (λ m. has_units_of m n) whole) (empty false n.cores (λ id t. f (made false n id) (own_unit false n id t))) (empty true n.gpus (λ id t. f (made true n id) (own_unit true n id t)))
   where
     nowhere : (gpu : Bool) (id : ℕ) → has_unit whole (made gpu n id) ≡ false
-    nowhere gpu id = none_so n.host (λ m. has (cond gpu m.gpus m.cores) id) whole (sym (is_some-place_of (is_at n.host) whole) ∙ ap is_some e)
+    nowhere gpu id = none_so n.host (λ m. has (cond gpu m.gpus m.cores) id) whole (sym (is_some-place_of (is_named n.host) whole) ∙ ap is_some e)
 
     empty : (gpu : Bool) (ids : List ℕ) → ((id : ℕ) → has ids id ≡ true → has_unit whole (made gpu n id) ≡ true) → eqb (length ids) 0 ≡ true
     empty gpu [] g = refl
@@ -175,25 +175,25 @@ lies_at whole n None a e f = ap₂ (λ x y. (x && y) || list_any (λ m. has_unit
         let clash : true ≡ false = sym (g x (ap (λ b. b || has xs x) met)) ∙ nowhere gpu x in
         cc
 lies_at whole n (Some i) a e f =
-    let inside = place_of-inside (is_at n.host) whole i e in
-    let at = place_of-true (is_at n.host) whole i n e in
+    let inside = place_of-inside (is_named n.host) whole i e in
+    let at = place_of-true (is_named n.host) whole i n e in
     let there = get_or whole i n in
     let cores : list_all (has there.cores) n.cores ≡ true = all_if (has there.cores) n.cores (λ id t. sym (only_there n.host (λ m. has m.cores id) whole i n a inside at) ∙ f (made false n id) (own_unit false n id t)) in
     let gpus : list_all (has there.gpus) n.gpus ≡ true = all_if (has there.gpus) n.gpus (λ id t. sym (only_there n.host (λ m. has m.gpus id) whole i n a inside at) ∙ f (made true n id) (own_unit true n id t)) in
     let some : list_any (λ m. has_units_of m n) whole ≡ true = only_there n.host (λ m. has_ids_of m n) whole i n a inside at ∙ ap₂ (λ x y. x && y) cores gpus in
     ap (λ b. (eqb (length n.cores) 0 && eqb (length n.gpus) 0) || b) some ∙ or_true (eqb (length n.cores) 0 && eqb (length n.gpus) 0)
 
-lies_from : (whole part : List Node) → AreDistinct (hosts whole) → ((u : ResourceUnit) → has_unit part u ≡ true → has_unit whole u ≡ true) → list_all (lies_on whole) part ≡ true
+lies_from : (whole part : List Node) → AreDistinct (host_names whole) → ((u : ResourceUnit) → has_unit part u ≡ true → has_unit whole u ≡ true) → list_all (lies_on whole) part ≡ true
 lies_from whole [] a f = refl
 lies_from whole (n ∷ ns) a f = ap₂ (λ x y. x && y)
-    (lies_at whole n (place_of (is_at n.host) whole) a refl (λ u t. f u (ap (λ b. b || has_unit ns u) t)))
+    (lies_at whole n (place_of (is_named n.host) whole) a refl (λ u t. f u (ap (λ b. b || has_unit ns u) t)))
     (lies_from whole ns a (λ u t. f u (ap (λ b. node_has u n || b) t ∙ or_true (node_has u n))))
 
 -- hosts lie in others just where their units do
 pub lies_in : (whole part : List Node) → list_all (lies_on whole) part ≡ true → LiesIn part whole
 lies_in whole part a u h = units_there whole u (lies_units whole part u a (units_told part u h))
 
-pub lies_in_back : (whole part : List Node) → AreDistinct (hosts whole) → LiesIn part whole → list_all (lies_on whole) part ≡ true
+pub lies_in_back : (whole part : List Node) → AreDistinct (host_names whole) → LiesIn part whole → list_all (lies_on whole) part ≡ true
 lies_in_back whole part a f = lies_from whole part a (λ u t. units_told whole u (f u (units_there part u t)))
 
 -- ---- difference
@@ -221,12 +221,12 @@ has_without (x ∷ xs) taken id = go (has taken x) (eqb x id) refl refl (has_wit
         ap (λ c. c || has (without_ids xs taken) id) be ∙ sym (ap not kept)
     go false false ae be h = ap (λ c. c || has (without_ids xs taken) id) be ∙ h
 
-has_flat : (f : Node → List ℕ) (name : List ℕ) (taken : List Node) (id : ℕ) → has (flat_map f (filter (is_at name) taken)) id ≡ list_any (λ t. bytes_eq t.host name && has (f t) id) taken
+has_flat : (f : Node → List ℕ) (name : List ℕ) (taken : List Node) (id : ℕ) → has (flat_map f (filter (is_named name) taken)) id ≡ list_any (λ t. bytes_eq t.host name && has (f t) id) taken
 has_flat f name [] id = refl
 has_flat f name (t ∷ ts) id = go (bytes_eq t.host name) (has_flat f name ts id)
   where
-    go : (b : Bool) → has (flat_map f (filter (is_at name) ts)) id ≡ list_any (λ m. bytes_eq m.host name && has (f m) id) ts → has (flat_map f (cond b (t ∷ filter (is_at name) ts) (filter (is_at name) ts))) id ≡ ((b && has (f t) id) || list_any (λ m. bytes_eq m.host name && has (f m) id) ts)
-    go true h = list_any-append (λ i. eqb i id) (f t) (flat_map f (filter (is_at name) ts)) ∙ ap (λ b. has (f t) id || b) h
+    go : (b : Bool) → has (flat_map f (filter (is_named name) ts)) id ≡ list_any (λ m. bytes_eq m.host name && has (f m) id) ts → has (flat_map f (cond b (t ∷ filter (is_named name) ts) (filter (is_named name) ts))) id ≡ ((b && has (f t) id) || list_any (λ m. bytes_eq m.host name && has (f m) id) ts)
+    go true h = list_any-append (λ i. eqb i id) (f t) (flat_map f (filter (is_named name) ts)) ∙ ap (λ b. has (f t) id || b) h
     go false h = h
 
 node_without : (taken : List Node) (n : Node) (u : ResourceUnit) → node_has u (without_nodes taken n) ≡ (node_has u n && not (has_unit taken u))
@@ -237,13 +237,13 @@ node_without taken n u = go (bytes_eq n.host u.host) refl u.is_gpu refl
     go true e true k =
         let host : n.host ≡ u.host = same_host n.host u.host e in
         ap₂ (λ b c. b && has (cond c (without_nodes taken n).gpus (without_nodes taken n).cores) u.id) e k
-        ∙ has_without n.gpus (flat_map (λ t. t.gpus) (filter (is_at n.host) taken)) u.id
+        ∙ has_without n.gpus (flat_map (λ t. t.gpus) (filter (is_named n.host) taken)) u.id
         ∙ ap (λ b. has n.gpus u.id && not b) (has_flat (λ t. t.gpus) n.host taken u.id ∙ ap (λ h. list_any (λ t. bytes_eq t.host h && has t.gpus u.id) taken) host ∙ ap (λ c. list_any (λ t. bytes_eq t.host u.host && has (cond c t.gpus t.cores) u.id) taken) (sym k))
         ∙ sym (ap₂ (λ b c. (b && has (cond c n.gpus n.cores) u.id) && not (has_unit taken u)) e k)
     go true e false k =
         let host : n.host ≡ u.host = same_host n.host u.host e in
         ap₂ (λ b c. b && has (cond c (without_nodes taken n).gpus (without_nodes taken n).cores) u.id) e k
-        ∙ has_without n.cores (flat_map (λ t. t.cores) (filter (is_at n.host) taken)) u.id
+        ∙ has_without n.cores (flat_map (λ t. t.cores) (filter (is_named n.host) taken)) u.id
         ∙ ap (λ b. has n.cores u.id && not b) (has_flat (λ t. t.cores) n.host taken u.id ∙ ap (λ h. list_any (λ t. bytes_eq t.host h && has t.cores u.id) taken) host ∙ ap (λ c. list_any (λ t. bytes_eq t.host u.host && has (cond c t.gpus t.cores) u.id) taken) (sym k))
         ∙ sym (ap₂ (λ b c. (b && has (cond c n.gpus n.cores) u.id) && not (has_unit taken u)) e k)
 

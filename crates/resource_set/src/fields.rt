@@ -21,7 +21,8 @@ pub(crate) fn object_under<'a>(
     key: &str,
     field: RKey,
 ) -> Result<&'a Value, RFault>
-    ensures { Gives (λ v. view v.now) result (ok_or (object_at key.now (view value.now)) (BadField field)) }
+    ensures { Gives (λ v. view v.now) result
+        (ok_or (object_at key.now (view value.now)) (BadField field)) }
 {
     match value.get(key) {
         Some(found) if found.is_object() => Ok(found),
@@ -35,7 +36,8 @@ pub(crate) fn list_under<'a>(
     key: &str,
     field: RKey,
 ) -> Result<&'a [Value], RFault>
-    ensures { Gives (λ vs. items_view vs.now) result (ok_or (list_at key.now (view value.now)) (BadField field)) }
+    ensures { Gives (λ vs. items_view vs.now) result
+        (ok_or (list_at key.now (view value.now)) (BadField field)) }
 {
     match value.get(key).and_then(Value::as_array) {
         Some(items) => Ok(items.as_slice()),
@@ -76,7 +78,8 @@ pub(crate) fn ids_or_none(
     key: &str,
     field: RKey,
 ) -> Result<IdSet, RFault>
-    ensures { Gives (λ s. s) result (ok_or (ids_if_there key.now (view value.now)) (BadField field)) }
+    ensures { Gives (λ s. s) result
+        (ok_or (ids_if_there key.now (view value.now)) (BadField field)) }
 {
     if value.get(key).is_none() {
         return Ok(IdSet::new(alloc));
@@ -86,7 +89,8 @@ pub(crate) fn ids_or_none(
 
 /// The seconds under a key; 0 where the key is missing.
 pub(crate) fn seconds_under(value: &Value, key: &str, field: RKey) -> Result<u64, RFault>
-    ensures { Gives (λ n. n) result (ok_or (seconds_at key.now (view value.now)) (BadField field)) }
+    ensures { Gives (λ n. n) result
+        (ok_or (seconds_at key.now (view value.now)) (BadField field)) }
 {
     match value.get(key) {
         Some(found) => found.as_u64().ok_or(RFault::BadField(field)),
@@ -118,7 +122,8 @@ fn hosts_in(alloc: Global, text: &str) -> Result<HostList, RFault>
 
 /// The hosts that a value's text spells.
 fn hosts_told(alloc: Global, value: &Value) -> Result<HostList, RFault>
-    ensures hosts { Gives (λ names. names) result (ok_or (option_and_then hosts_of (as_str (view value.now))) (BadField Nodelist)) }
+    ensures hosts { Gives (λ names. names) result
+        (ok_or (option_and_then hosts_of (as_str (view value.now))) (BadField Nodelist)) }
     ensures named { IfOk result AreHostNames }
 {
     match value.as_str() {
@@ -140,7 +145,8 @@ fn add_hosts(hosts: &mut Vec<Bytes>, names: &HostList) -> Result<(), AllocError>
 
 /// The hosts that the texts of a list spell, joined in their order.
 pub(crate) fn hosts_under(alloc: Global, value: &Value, key: &str) -> Result<Vec<Bytes>, RFault>
-    ensures hosts { Gives (λ names. names.items) result (ok_or (hosts_at key.now (view value.now)) (BadField Nodelist)) }
+    ensures hosts { Gives (λ names. names.items) result
+        (ok_or (hosts_at key.now (view value.now)) (BadField Nodelist)) }
     ensures named { IfOk result (λ names. AreHostNames names.items) }
 {
     let texts = list_under(value, key, RKey::Nodelist)?;

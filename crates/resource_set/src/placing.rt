@@ -1,12 +1,12 @@
 // Which entry has a rank, and which host belongs to it.
-ghost use Rattle.std.specs.Prelude.{◌≡◌, ℕ, length, map, IfOk, OnOk, MatchResult, Some, None, is_some, unwrap_or, cond, option_copied, []};
+ghost use Rattle.std.specs.Prelude.{◌≡◌, ℕ, length, IfOk, OnOk, MatchResult, Some, None, is_some, unwrap_or, cond, option_copied, []};
 ghost use Rattle.std.specs.List.{find};
 ghost use Rattle.std.specs.List.Sorted.{IsStrictlyIncreasing};
 ghost use Rattle.std.specs.Ordering.{nat_cmp};
 ghost use Rattle.std.specs.BTreeMap.{get};
 ghost use Rattle.idset.specs.Ids.{has, IsIdSet};
-ghost use Rattle.resource_set.specs.Units.{AreHosts};
-ghost use Rattle.resource_set.specs.Places.{place_of};
+ghost use Rattle.resource_set.specs.Units.{AreHosts, host_names};
+ghost use Rattle.resource_set.specs.Places.{IsRankIndex};
 ghost use Rattle.resource_set.specs.Reading.{Gives, Fails, has_rank, twice_behind, ranks_of, node_with, nodes_with, nodes_of, are_distinct, unless_twice, told_count, no_entry};
 
 use crate::entries::Entry;
@@ -20,8 +20,10 @@ use std::collections::{BTreeMap, BTreeSet};
 /// Writes down the entry that has some ranks, none of which may have an entry yet.
 fn place_ranks(places: &mut BTreeMap<u32, usize>, ranks: &[u32], place: usize) -> Result<(), RFault>
     requires { IsStrictlyIncreasing ranks.now }
-    ensures placed { OnOk result ((rank : ℕ) → get nat_cmp places.new rank ≡ cond (has ranks.now rank) (Some place) (get nat_cmp places.old rank)) }
-    ensures once { Gives (λ _. 0) result (unless_twice (find (λ rank. is_some (get nat_cmp places.old rank)) ranks.now)) }
+    ensures placed { OnOk result ((rank : ℕ) → get nat_cmp places.new rank
+        ≡ cond (has ranks.now rank) (Some place) (get nat_cmp places.old rank)) }
+    ensures once { Gives (λ _. 0) result
+        (unless_twice (find (λ rank. is_some (get nat_cmp places.old rank)) ranks.now)) }
 {
     for rank in ranks {
         if places.insert(*rank, place)?.is_some() {
@@ -33,7 +35,7 @@ fn place_ranks(places: &mut BTreeMap<u32, usize>, ranks: &[u32], place: usize) -
 
 /// Which entry has a rank.
 fn places_of(alloc: Global, entries: &[Entry]) -> Result<BTreeMap<u32, usize>, RFault>
-    ensures placed { IfOk result (λ places. (rank : ℕ) → get nat_cmp places rank ≡ place_of (has_rank rank) entries.now) }
+    ensures placed { IfOk result (λ places. IsRankIndex places entries.now) }
     ensures once { Gives (λ _. 0) result (unless_twice (twice_behind [] entries.now)) }
 {
     let mut places = BTreeMap::new(alloc);
@@ -62,7 +64,7 @@ fn entry_with<'a>(
     places: &BTreeMap<u32, usize>,
     rank: u32,
 ) -> Option<&'a Entry>
-    requires { (r : ℕ) → get nat_cmp places.now r ≡ place_of (has_rank r) entries.now }
+    requires { IsRankIndex places.now entries.now }
     ensures { option_copied result ≡ find (has_rank rank) entries.now }
 {
     match places.get(&rank) {
@@ -78,7 +80,8 @@ fn node_of(
     rank: u32,
     host: &Bytes,
 ) -> Result<Node, AllocError>
-    ensures { IfOk result (λ node. node ≡ node_with (unwrap_or (option_copied entry.entry) no_entry) rank host.now) }
+    ensures { IfOk result (λ node. node
+        ≡ node_with (unwrap_or (option_copied entry.entry) no_entry) rank host.now) }
 {
     let host = host.copy()?;
     Ok(match entry {
@@ -105,7 +108,7 @@ fn joined(
     ranks: &[u32],
     hosts: &[Bytes],
 ) -> Result<Vec<Node>, AllocError>
-    requires placed { (r : ℕ) → get nat_cmp places.now r ≡ place_of (has_rank r) entries.now }
+    requires placed { IsRankIndex places.now entries.now }
     requires same { length ranks.now ≡ length hosts.now }
     ensures { IfOk result (λ nodes. nodes.items ≡ nodes_with entries.now ranks.now hosts.now) }
 {
@@ -146,7 +149,7 @@ pub(crate) fn hosts_at_ranks(
 ) -> Result<Vec<Node>, RFault>
     ensures found { Gives (λ nodes. nodes.items) result (nodes_of entries.now hosts.now) }
     ensures valid { IfOk result (λ nodes. AreHosts nodes.items) }
-    ensures names { IfOk result (λ nodes. map (λ node. node.host) nodes.items ≡ hosts.now) }
+    ensures names { IfOk result (λ nodes. host_names nodes.items ≡ hosts.now) }
 {
     let places = places_of(alloc, entries)?;
     let ranks = all_ranks(alloc, entries)?;

@@ -1,18 +1,17 @@
 // Printing an R.
-ghost use Rattle.std.specs.Prelude.{◌≡◌, ◌≢◌, ◌<◌, ◌≤◌, ◌++◌, ◌∷◌, [], List, ℕ, IfOk, OnOk, Ok, Some, map, length, All, slice_set, slice_index_or};
+ghost use Rattle.std.specs.Prelude.{◌≡◌, ◌<◌, ◌≤◌, ◌∷◌, [], IfOk, OnOk, Ok, map, length, All, slice_set, slice_index_or};
 ghost use Rattle.std.specs.List.{AllByRecursion};
 ghost use Rattle.std.specs.Str.{IsUtf8};
-ghost use Rattle.serde_json.specs.Data.{string, array, depth};
+ghost use Rattle.serde_json.specs.Data.{string, depth};
 ghost use Rattle.serde_json.specs.Read.{max_depth};
 ghost use Rattle.fl_json.specs.Valid.{IsValid};
-ghost use Rattle.serde_json.specs.View.{view, items_of};
+ghost use Rattle.serde_json.specs.View.{view};
 ghost use Rattle.idset.specs.Ids.{list_of};
 ghost use Rattle.idset.specs.Runs.{printed};
 ghost use Rattle.hostlist.specs.Names.{AreHostNames};
-ghost use Rattle.hostlist.specs.Printing.{canonical};
-ghost use Rattle.resource_set.specs.Units.{AreHosts};
-ghost use Rattle.resource_set.specs.Writing.{entry_data, hosts_data, framed, data_of, r_text, entries_of, written, children_data, group_data, IsSpelled, IsWritten, IsEntrySpelled};
-ghost use Rattle.resource_set.specs.Reading.{told, hosts_of as hosts_spelled};
+ghost use Rattle.resource_set.specs.Units.{AreHosts, host_names};
+ghost use Rattle.resource_set.specs.Writing.{framed, data_of, r_text, single, entries_of, entries_data, names_data, written, with_rank, children_data, group_data, AreNamesSpelled, IsSpelled, IsWritten, IsEntrySpelled};
+ghost use Rattle.resource_set.specs.Reading.{told};
 ghost use Rattle.resource_set.specs.Valid.{IsR};
 ghost use Rattle.resource_set.specs.declared.entries.Group.{Group};
 
@@ -28,7 +27,8 @@ use std::collections::BTreeMap;
 
 /// The texts of a host's cores and GPUs.
 fn texts_of(alloc: Global, node: &Node) -> Result<ListOf<Bytes>, AllocError>
-    ensures texts { IfOk result (λ texts. texts ≡ printed node.now.cores ∷ printed node.now.gpus ∷ []) }
+    ensures texts { IfOk result (λ texts. texts
+        ≡ printed node.now.cores ∷ printed node.now.gpus ∷ []) }
     ensures spelled { OnOk result (IsSpelled node.now.cores × IsSpelled node.now.gpus) }
 {
     let mut texts = ListOf::new(alloc);
@@ -39,7 +39,7 @@ fn texts_of(alloc: Global, node: &Node) -> Result<ListOf<Bytes>, AllocError>
 
 /// The group of one host.
 fn group_of(alloc: Global, node: &Node) -> Result<Group, AllocError>
-    ensures { IfOk result (λ group. group ≡ record { ranks = node.now.rank ∷ []; cores = printed node.now.cores; gpus = printed node.now.gpus }) }
+    ensures { IfOk result (λ group. group ≡ written (single node.now)) }
 {
     let mut ranks = ListOf::new(alloc);
     ranks.push(node.rank)?;
@@ -53,7 +53,9 @@ fn group_of(alloc: Global, node: &Node) -> Result<Group, AllocError>
 /// Adds a rank to the group at a place.
 fn add_rank(groups: &mut Vec<Group>, place: usize, rank: u32) -> Result<(), AllocError>
     requires { place < length groups.old.items }
-    ensures { OnOk result ((d : Group) → groups.new.items ≡ slice_set groups.old.items place (record (slice_index_or groups.old.items place d) { ranks = (slice_index_or groups.old.items place d).ranks ++ rank ∷ [] })) }
+    ensures { OnOk result ((d : Group) → groups.new.items
+        ≡ slice_set groups.old.items place
+        (with_rank rank (slice_index_or groups.old.items place d))) }
 {
     let group = &mut groups[place];
     group.ranks.push(rank)?;
@@ -119,7 +121,7 @@ fn group_value(alloc: Global, group: &Group) -> Result<Value, AllocError>
 /// The entries of hosts as a JSON value.
 fn entries_value(alloc: Global, nodes: &[Node]) -> Result<Value, AllocError>
     requires { AreHosts nodes.now }
-    ensures value { IfOk result (λ v. view v ≡ array (items_of (map entry_data (entries_of nodes.now)))) }
+    ensures value { IfOk result (λ v. view v ≡ entries_data nodes.now) }
     ensures spelled { OnOk result (AllByRecursion IsEntrySpelled (entries_of nodes.now)) }
 {
     let groups = groups_of(alloc, nodes)?;
@@ -132,8 +134,8 @@ fn entries_value(alloc: Global, nodes: &[Node]) -> Result<Value, AllocError>
 
 /// The hosts' names.
 fn names_of(alloc: Global, nodes: &[Node]) -> Result<HostList, AllocError>
-    requires { AreHostNames (map (λ node. node.host) nodes.now) }
-    ensures { IfOk result (λ names. names ≡ map (λ node. node.host) nodes.now) }
+    requires { AreHostNames (host_names nodes.now) }
+    ensures { IfOk result (λ names. names ≡ host_names nodes.now) }
 {
     let mut hosts = HostList::new(alloc);
     for node in nodes {
@@ -144,10 +146,10 @@ fn names_of(alloc: Global, nodes: &[Node]) -> Result<HostList, AllocError>
 
 /// The hosts' names as a JSON value: a list of one text, or of none.
 fn hosts_value(alloc: Global, nodes: &[Node]) -> Result<Value, AllocError>
-    requires named { AreHostNames (map (λ node. node.host) nodes.now) }
+    requires named { AreHostNames (host_names nodes.now) }
     requires few { length nodes.now ≤ 65536 }
-    ensures value { IfOk result (λ v. view v ≡ array (hosts_data (map (λ node. node.host) nodes.now))) }
-    ensures spelled { OnOk result (nodes.now ≢ [] → hosts_spelled (canonical (map (λ node. node.host) nodes.now)) ≡ Some (map (λ node. node.host) nodes.now)) }
+    ensures value { IfOk result (λ v. view v ≡ names_data nodes.now) }
+    ensures spelled { OnOk result (AreNamesSpelled nodes.now) }
 {
     let mut texts = Vec::new(alloc);
     if !nodes.is_empty() {
@@ -165,7 +167,8 @@ fn framed_value(
     starttime: u64,
     expiration: u64,
 ) -> Result<Value, AllocError>
-    ensures { IfOk result (λ v. view v ≡ framed (view entries) (view hosts) starttime expiration) }
+    ensures { IfOk result (λ v. view v
+        ≡ framed (view entries) (view hosts) starttime expiration) }
 {
     json!(in alloc; {
         "execution": {
@@ -186,7 +189,7 @@ fn value_of(alloc: Global, r: &Resources) -> Result<Value, AllocError>
     ensures valid { IfOk result (λ v. IsValid (view v)) }
     ensures nests { IfOk result (λ v. depth (view v) ≤ max_depth) }
     ensures entries { OnOk result (AllByRecursion IsEntrySpelled (entries_of r.now.nodes)) }
-    ensures hosts { OnOk result (r.now.nodes ≢ [] → hosts_spelled (canonical (map (λ node. node.host) r.now.nodes)) ≡ Some (map (λ node. node.host) r.now.nodes)) }
+    ensures hosts { OnOk result (AreNamesSpelled r.now.nodes) }
 {
     let nodes = r.nodes.as_slice();
     let entries = entries_value(alloc, nodes)?;

@@ -1,13 +1,9 @@
 // What is left of resources without others, and whether some lie in others.
-ghost use Rattle.std.specs.Prelude.{◌≡◌, ◌<◌, ◌≤◌, ◌↔◌, ℕ, List, IfOk, IsTrue, Contains, map, ◌==◌, ◌&&◌, not, length, false, true, IfSome, MatchOption, option_copied};
+ghost use Rattle.std.specs.Prelude.{◌≡◌, ◌<◌, ◌≤◌, ◌↔◌, IfOk, IsTrue, map, ◌==◌, ◌&&◌, not, length, false, true, IfSome, MatchOption, option_copied};
 ghost use Rattle.std.specs.List.{list_all, list_any, find, HoldsAt};
-ghost use Rattle.std.specs.Str.{bytes_eq};
-ghost use Rattle.std.specs.Ordering.{nat_cmp};
-ghost use Rattle.std.specs.Cmp.Lexicographic.{slice_cmp};
-ghost use Rattle.std.specs.BTreeMap.{get};
 ghost use Rattle.idset.specs.Ids.{has, ids_from};
-ghost use Rattle.resource_set.specs.Places.{place_of};
-ghost use Rattle.resource_set.specs.Units.{LiesIn, AreHosts, AreDistinct, units_of, ResourceUnit, without_ids, without_nodes, has_ids_of, has_units_of, lies_on};
+ghost use Rattle.resource_set.specs.Places.{place_of, IsHostIndex};
+ghost use Rattle.resource_set.specs.Units.{LiesIn, AreHosts, AreDistinct, IsDifference, host_names, is_named, without_ids, without_node, without_nodes, has_ids_of, one_has_units_of, lies_on};
 ghost use Rattle.resource_set.specs.Valid.{IsR};
 
 use crate::node::{Node, NodeList, Resources};
@@ -19,8 +15,8 @@ use std::collections::BTreeMap;
 
 /// Where each host stands.
 fn places_of(alloc: Global, nodes: &[Node]) -> Result<BTreeMap<Bytes, usize>, AllocError>
-    requires { AreDistinct (map (λ node. node.host) nodes.now) }
-    ensures { IfOk result (λ places. (host : List ℕ) → get (slice_cmp nat_cmp) places host ≡ place_of (λ node. bytes_eq node.host host) nodes.now) }
+    requires { AreDistinct (host_names nodes.now) }
+    ensures { IfOk result (λ places. IsHostIndex places nodes.now) }
 {
     let mut places = BTreeMap::new(alloc);
     for (place, node) in nodes.iter().enumerate() {
@@ -41,7 +37,7 @@ fn ids_without(ids: &IdSet, taken: &IdSet) -> Result<IdSet, AllocError>
 
 /// A host without what another has.
 fn node_without(node: &Node, taken: &Node) -> Result<Node, AllocError>
-    ensures { IfOk result (λ left. left ≡ record node.now { cores = without_ids node.now.cores taken.now.cores; gpus = without_ids node.now.gpus taken.now.gpus }) }
+    ensures { IfOk result (λ left. left ≡ without_node taken.now node.now) }
 {
     Ok(Node {
         rank: node.rank,
@@ -57,8 +53,8 @@ fn node_there<'a>(
     places: &BTreeMap<Bytes, usize>,
     host: &Bytes,
 ) -> Option<&'a Node>
-    requires { (name : List ℕ) → get (slice_cmp nat_cmp) places.now name ≡ place_of (λ node. bytes_eq node.host name) nodes.now }
-    ensures { option_copied result ≡ find (λ node. bytes_eq node.host host.now) nodes.now }
+    requires { IsHostIndex places.now nodes.now }
+    ensures { option_copied result ≡ find (is_named host.now) nodes.now }
 {
     match places.get(host) {
         Some(place) => nodes.get(*place),
@@ -72,8 +68,8 @@ fn node_left(
     taken: &[Node],
     places: &BTreeMap<Bytes, usize>,
 ) -> Result<Node, AllocError>
-    requires distinct { AreDistinct (map (λ t. t.host) taken.now) }
-    requires placed { (name : List ℕ) → get (slice_cmp nat_cmp) places.now name ≡ place_of (λ t. bytes_eq t.host name) taken.now }
+    requires distinct { AreDistinct (host_names taken.now) }
+    requires placed { IsHostIndex places.now taken.now }
     ensures { IfOk result (λ left. left ≡ without_nodes taken.now node.now) }
 {
     match node_there(taken, places, &node.host) {
@@ -85,8 +81,9 @@ fn node_left(
 /// The hosts of the first, each without what the second has of it. They stay, also where nothing is left of them, and so do the seconds.
 pub fn minus(alloc: Global, a: &Resources, b: &Resources) -> Result<Resources, AllocError>
     requires { AreHosts b.now.nodes }
-    ensures left { IfOk result (λ r. r ≡ record a.now { nodes = map (without_nodes b.now.nodes) a.now.nodes }) }
-    ensures units { IfOk result (λ r. (unit : ResourceUnit) → Contains (units_of r.nodes) unit ↔ (Contains (units_of a.now.nodes) unit × (Contains (units_of b.now.nodes) unit → ⊥))) }
+    ensures left { IfOk result (λ r. r
+        ≡ record a.now { nodes = map (without_nodes b.now.nodes) a.now.nodes }) }
+    ensures units { IfOk result (λ r. IsDifference a.now.nodes b.now.nodes r.nodes) }
     ensures valid { IfOk result (λ r. IsR a.now → IsR r) }
 {
     let taken = b.nodes.as_slice();
@@ -104,7 +101,7 @@ pub fn minus(alloc: Global, a: &Resources, b: &Resources) -> Result<Resources, A
 
 /// Where a host stands first, if it stands there.
 fn place_in(nodes: &[Node], host: &Bytes) -> Option<usize>
-    ensures place { result ≡ place_of (λ node. bytes_eq node.host host.now) nodes.now }
+    ensures place { result ≡ place_of (is_named host.now) nodes.now }
     ensures inside { IfSome result (λ place. place < length nodes.now) }
 {
     for (place, node) in nodes.iter().enumerate() {
@@ -118,7 +115,9 @@ fn place_in(nodes: &[Node], host: &Bytes) -> Option<usize>
 /// A host among several that are walked from a place on, and then from the first one.
 fn place_around(nodes: &[Node], host: &Bytes, from: usize) -> Option<usize>
     requires { from ≤ length nodes.now }
-    ensures { MatchOption result (list_any (λ node. bytes_eq node.host host.now) nodes.now ≡ false) (λ place. (place < length nodes.now) × HoldsAt (λ node. bytes_eq node.host host.now ≡ true) nodes.now place) }
+    ensures { MatchOption result (list_any (is_named host.now) nodes.now ≡ false) (λ place.
+        (place < length nodes.now)
+        × HoldsAt (λ node. is_named host.now node ≡ true) nodes.now place) }
 {
     let (front, back) = nodes.split_at(from);
     match place_in(back, host) {
@@ -161,9 +160,10 @@ fn has_ids(whole: &Node, part: &Node) -> bool
 
 /// The place of the host that has all units of another one, if there is one.
 fn place_with_units(whole: &[Node], part: &Node, from: usize) -> Option<usize>
-    requires distinct { AreDistinct (map (λ node. node.host) whole.now) }
+    requires distinct { AreDistinct (host_names whole.now) }
     requires from { from ≤ length whole.now }
-    ensures { MatchOption result (list_any (λ node. has_units_of node part.now) whole.now ≡ false) (λ place. (place < length whole.now) × (list_any (λ node. has_units_of node part.now) whole.now ≡ true)) }
+    ensures { MatchOption result (one_has_units_of whole.now part.now ≡ false)
+        (λ place. (place < length whole.now) × (one_has_units_of whole.now part.now ≡ true)) }
 {
     match place_around(whole, &part.host, from) {
         Some(place) => {
@@ -185,7 +185,7 @@ fn has_units(node: &Node) -> bool
 
 /// Whether every unit of some hosts is one of others. Hosts are sought from the last one that was found on.
 fn are_within(part: &[Node], whole: &[Node]) -> bool
-    requires { AreDistinct (map (λ node. node.host) whole.now) }
+    requires { AreDistinct (host_names whole.now) }
     ensures { result ≡ list_all (lies_on whole.now) part.now }
 {
     let mut next = 0;
