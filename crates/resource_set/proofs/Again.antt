@@ -16,16 +16,15 @@ use Rattle.fl_json.specs.Valid.{IsValid, AreValid}
 use Rattle.idset.specs.Runs.{printed}
 use Rattle.idset.specs.Text.{spelled}
 use Rattle.idset.proofs.Sets.{no_ids}
-use Rattle.hostlist.specs.Printing.{canonical}
 use Rattle.resource_set.specs.declared.entries.Entry.{Entry}
 use Rattle.resource_set.specs.declared.node.Node.{Node}
 use Rattle.resource_set.specs.declared.node.Resources.{Resources}
 use Rattle.resource_set.specs.declared.faults.RFault.{RFault}
 use Rattle.resource_set.specs.declared.faults.RFault.TheVariants.{BadField, HostsDiffer, HostTwice}
 use Rattle.resource_set.specs.declared.faults.RKey.TheVariants.{Rank, Core, Gpu, Nodelist}
-use Rattle.resource_set.specs.Units.{AreHosts, AreDistinct}
-use Rattle.resource_set.specs.Reading.{◌>>=◌, as_r, told, ids_of, ids_at, ids_if_there, hosts_of, all_hosts, entry_of, entries_in, ranks_of, nodes_with, are_distinct, only_if, unless_twice, told_count, nodes_of, executed, resources_of}
-use Rattle.resource_set.specs.Writing.{entry_data, hosts_data, unless_empty, framed, data_of, entries_of, IsSpelled, IsEntrySpelled}
+use Rattle.resource_set.specs.Units.{AreHosts, AreDistinct, host_names}
+use Rattle.resource_set.specs.Reading.{◌>>=◌, as_r, told, ids_of, ids_at, ids_if_there, all_hosts, entry_of, entries_in, ranks_of, nodes_with, are_distinct, only_if, unless_twice, told_count, nodes_of, executed, resources_of}
+use Rattle.resource_set.specs.Writing.{entry_data, entries_data, hosts_data, names_data, unless_empty, framed, data_of, entries_of, AreNamesSpelled, IsSpelled, IsEntrySpelled}
 use Rattle.resource_set.proofs.Regroup.{ranks_again, nodes_again, once_again}
 
 -- ---- entries
@@ -63,9 +62,9 @@ entries_again (e ∷ more) a = ap (λ r. r >>= λ x. entries_in (items_of (map e
 
 -- ---- hosts
 
-hosts_again : (nodes : List Node) → (nodes ≢ [] → hosts_of (canonical (map (λ node. node.host) nodes)) ≡ Some (map (λ node. node.host) nodes)) → all_hosts (hosts_data (map (λ node. node.host) nodes)) ≡ Some (map (λ node. node.host) nodes)
+hosts_again : (nodes : List Node) → AreNamesSpelled nodes → all_hosts (hosts_data (host_names nodes)) ≡ Some (host_names nodes)
 hosts_again [] f = refl
-hosts_again (n ∷ ns) f = ap (λ o. option_and_then (λ (l : List (List ℕ)). option_map (λ more. l ++ more) (Some [])) o) (f (λ e. cc)) ∙ ap Some (append-nil (n.host ∷ map (λ node. node.host) ns))
+hosts_again (n ∷ ns) f = ap (λ o. option_and_then (λ (l : List (List ℕ)). option_map (λ more. l ++ more) (Some [])) o) (f (λ e. cc)) ∙ ap Some (append-nil (host_names (n ∷ ns)))
 
 test_step : (x : List ℕ) (xs : List (List ℕ)) (k : ℕ) (d : List ℕ) → All (λ y. x ≢ y) xs → k < length xs → bytes_eq x (get_or xs k d) ≡ false
 test_step x xs k d a h = go (bytes_eq x (get_or xs k d)) (λ t. a k d h ((bytes_eq-Decides x (get_or xs k d)).0 t))
@@ -78,18 +77,18 @@ distinct_test : (xs : List (List ℕ)) → AreDistinct xs → are_distinct xs �
 distinct_test [] a = refl
 distinct_test (x ∷ xs) a = ap₂ (λ p q. not p && q) (list_any_none (bytes_eq x) xs (λ k d h. test_step x xs k d a.0 h)) (distinct_test xs a.1)
 
-as_many : (nodes : List Node) → AreHosts nodes → eqb (length (ranks_of (entries_of nodes))) (length (map (λ (n : Node). n.host) nodes)) ≡ true
+as_many : (nodes : List Node) → AreHosts nodes → eqb (length (ranks_of (entries_of nodes))) (length (host_names nodes)) ≡ true
 as_many nodes a =
     let r : length (ranks_of (entries_of nodes)) ≡ length nodes = ap length (ranks_again nodes a) ∙ length-map nodes (λ (n : Node). n.rank) in
-    let h : length (map (λ (n : Node). n.host) nodes) ≡ length nodes = length-map nodes (λ (n : Node). n.host) in
-    let same : length (ranks_of (entries_of nodes)) ≡ length (map (λ (n : Node). n.host) nodes) = omega arith in
+    let h : length (host_names nodes) ≡ length nodes = length-map nodes (λ (n : Node). n.host) in
+    let same : length (ranks_of (entries_of nodes)) ≡ length (host_names nodes) = omega arith in
     grind (arith, nat_tests)
 
-placed_again : (nodes : List Node) → AreHosts nodes → nodes_of (entries_of nodes) (map (λ node. node.host) nodes) ≡ Ok nodes
+placed_again : (nodes : List Node) → AreHosts nodes → nodes_of (entries_of nodes) (host_names nodes) ≡ Ok nodes
 unfolding nodes_of
 placed_again nodes a =
     let entries = entries_of nodes in
-    let hosts : List (List ℕ) = map (λ (n : Node). n.host) nodes in
+    let hosts = host_names nodes in
     let fault : RFault = HostsDiffer (told_count (length (ranks_of entries))) (told_count (length hosts)) in
     ap (λ o. unless_twice o >>= λ once. only_if (eqb (length (ranks_of entries)) (length hosts)) fault (ranks_of entries) >>= λ ranks. only_if (are_distinct hosts) HostTwice (nodes_with entries ranks hosts)) (once_again nodes a)
     ∙ ap (λ b. only_if b fault (ranks_of entries) >>= λ ranks. only_if (are_distinct hosts) HostTwice (nodes_with entries ranks hosts)) (as_many nodes a)
@@ -107,13 +106,13 @@ executed_again entries_told names_told start end entries hosts nodes e h n =
     ∙ ap (λ o. ok_or o (BadField Nodelist) >>= λ ns. nodes_of entries ns >>= λ ms. Ok (let x : Resources = record { nodes = ms; starttime = start; expiration = end } in x)) h
     ∙ ap (λ r. r >>= λ ms. Ok (let x : Resources = record { nodes = ms; starttime = start; expiration = end } in x)) n
 
-resources_again : (r : Resources) → AreHosts r.nodes → AllByRecursion IsEntrySpelled (entries_of r.nodes) → (r.nodes ≢ [] → hosts_of (canonical (map (λ node. node.host) r.nodes)) ≡ Some (map (λ node. node.host) r.nodes)) → resources_of (data_of r) ≡ Ok r
+resources_again : (r : Resources) → AreHosts r.nodes → AllByRecursion IsEntrySpelled (entries_of r.nodes) → AreNamesSpelled r.nodes → resources_of (data_of r) ≡ Ok r
 unfolding resources_of data_of
-resources_again r a s f = executed_again (items_of (map entry_data (entries_of r.nodes))) (hosts_data (map (λ node. node.host) r.nodes)) r.starttime r.expiration (entries_of r.nodes) (map (λ node. node.host) r.nodes) r.nodes
+resources_again r a s f = executed_again (items_of (map entry_data (entries_of r.nodes))) (hosts_data (host_names r.nodes)) r.starttime r.expiration (entries_of r.nodes) (host_names r.nodes) r.nodes
     (entries_again (entries_of r.nodes) s) (hosts_again r.nodes f) (placed_again r.nodes a)
 
 -- what is read again as the value of resources tells them
-pub told_again : (text : List ℕ) (d : Data) (r : Resources) → reading text ≡ Ok d → d ≡ data_of r → AreHosts r.nodes → AllByRecursion IsEntrySpelled (entries_of r.nodes) → (r.nodes ≢ [] → hosts_of (canonical (map (λ node. node.host) r.nodes)) ≡ Some (map (λ node. node.host) r.nodes)) → told text ≡ Ok r
+pub told_again : (text : List ℕ) (d : Data) (r : Resources) → reading text ≡ Ok d → d ≡ data_of r → AreHosts r.nodes → AllByRecursion IsEntrySpelled (entries_of r.nodes) → AreNamesSpelled r.nodes → told text ≡ Ok r
 told_again text d r e is a s f = ap (λ x. as_r x >>= resources_of) e ∙ ap resources_of is ∙ resources_again r a s f
 
 -- ---- the value
@@ -132,7 +131,7 @@ valid_hosts (n ∷ ns) = (tt, tt)
 
 pub data_valid : (r : Resources) → r.starttime < 2 ^ 64 → r.expiration < 2 ^ 64 → IsValid (data_of r)
 unfolding data_of
-data_valid r s x = (refl, (refl, valid_entries (entries_of r.nodes), (refl, x, (refl, valid_hosts (map (λ node. node.host) r.nodes), (tt, s, tt)))), (tt, lit< tt, tt))
+data_valid r s x = (refl, (refl, valid_entries (entries_of r.nodes), (refl, x, (refl, valid_hosts (host_names r.nodes), (tt, s, tt)))), (tt, lit< tt, tt))
 
 flat_children : (b : Bool) (core gpu : List ℕ) → depth (object (member (codes "core") (string core) (cond b no_members (member (codes "gpu") (string gpu) no_members)))) ≤ 1
 flat_children true core gpu = omega arith
@@ -148,9 +147,9 @@ flat_hosts (n ∷ ns) = omega arith
 
 pub data_flat : (r : Resources) → depth (data_of r) ≤ max_depth
 unfolding data_of
-data_flat r = omega (arith, flat_entries (entries_of r.nodes), flat_hosts (map (λ node. node.host) r.nodes))
+data_flat r = omega (arith, flat_entries (entries_of r.nodes), flat_hosts (host_names r.nodes))
 
-pub data_is : (d entries hosts : Data) (r : Resources) → d ≡ framed entries hosts r.starttime r.expiration → entries ≡ array (items_of (map entry_data (entries_of r.nodes))) → hosts ≡ array (hosts_data (map (λ node. node.host) r.nodes)) → d ≡ data_of r
+pub data_is : (d entries hosts : Data) (r : Resources) → d ≡ framed entries hosts r.starttime r.expiration → entries ≡ entries_data r.nodes → hosts ≡ names_data r.nodes → d ≡ data_of r
 unfolding data_of
 data_is d entries hosts r is e h = is ∙ ap₂ (λ x y. framed x y r.starttime r.expiration) e h
 

@@ -1,5 +1,5 @@
 -- Texts of ids and of hosts are ASCII, and so UTF-8.
-use Rattle.std.proofs.Common.{◌≡◌, ℕ, zero, suc, ◌-◌, ◌<◌, Bool, true, false, cond, ◌&&◌, not, eqb, List, [], ◌∷◌, ◌++◌, length, get_or, map, refl, arith}
+use Rattle.std.proofs.Common.{◌≡◌, ℕ, zero, suc, ◌-◌, ◌<◌, Bool, true, false, cond, not, eqb, List, [], ◌∷◌, ◌++◌, length, get_or, map, arith}
 use Rattle.std.specs.Fmt.{decimal}
 use Rattle.std.specs.List.{All, AllByRecursion, list_all, join_with_byte}
 use Rattle.std.specs.Str.{IsAscii, IsUtf8}
@@ -17,6 +17,7 @@ use Rattle.hostlist.specs.Names.{is_name_byte, is_host_name, AreHostNames, numbe
 use Rattle.hostlist.specs.Printing.{onto_chunks, chunks_by, first_name, last_name, run_text, group_text, canonical}
 use Rattle.resource_set.specs.Writing.{IsSpelled}
 use Rattle.resource_set.proofs.Spans.{IsSmallRange, small_runs}
+use Rattle.resource_set.proofs.Booleans.{both}
 
 joined_ascii : (parts : List (List ℕ)) → AllByRecursion IsAscii parts → IsAscii (join_with_byte 44 parts)
 joined_ascii [] a = IsAscii-nil
@@ -58,10 +59,6 @@ printed_utf8 ids s = IsUtf8-from_ascii (printed ids) (printed_ascii ids (a_set i
 
 small_byte : (b : ℕ) → is_name_byte b ≡ true → b < 128
 small_byte b h = grind (arith, nat_tests)
-
-both : (a b : Bool) → (a && b) ≡ true → (a ≡ true) × (b ≡ true)
-both true b h = (refl, h)
-both false b h = cc
 
 bytes_ascii : (name : List ℕ) → list_all is_name_byte name ≡ true → IsAscii name
 bytes_ascii [] h = IsAscii-nil

@@ -1,5 +1,5 @@
 -- Hosts put together by their cores and GPUs.
-use Rattle.std.proofs.Common.{◌≡◌, ℕ, zero, suc, ◌+◌, Bool, true, false, cond, ◌&&◌, List, [], ◌∷◌, ◌++◌, length, get_or, set, map, Option, Some, None, Ordering, Less, Equal, Greater, is_eq, refl, sym, ap, ap₂, ◌∙◌, add-one}
+use Rattle.std.proofs.Common.{◌≡◌, ℕ, zero, suc, ◌+◌, Bool, true, false, cond, ◌&&◌, List, [], ◌∷◌, ◌++◌, length, get_or, set, map, Option, Some, None, is_some, Ordering, Less, Equal, Greater, is_eq, refl, sym, ap, ap₂, ◌∙◌, add-one}
 use Rattle.std.specs.Prelude.{option_map}
 use Rattle.std.specs.Ordering.{nat_cmp, ordering_then}
 use Rattle.std.specs.Cmp.Lexicographic.{slice_cmp}
@@ -16,6 +16,7 @@ use Rattle.resource_set.specs.Places.{place_of}
 use Rattle.resource_set.specs.Writing.{fits_in, single, added, with_node, written, with_rank, has_texts, IsSpelled, IsWritten}
 use Rattle.resource_set.proofs.Places.{or_place, place_of-push}
 use Rattle.resource_set.proofs.Ranks.{bytes_eq_back}
+use Rattle.resource_set.proofs.Booleans.{both, agree, same_name, placed_anew}
 
 abbrev next : Option ℕ → Option ℕ
 next o = option_map (λ n. n + 1) o
@@ -44,27 +45,30 @@ grouped_new (e ∷ more) node h = new_step (fits_in node e) (place_of (fits_in n
 -- ---- by texts
 
 texts_alike : (a b : List ℕ) → IsSpelled a → IsSpelled b → bytes_eq (printed a) (printed b) ≡ bytes_eq a b
-texts_alike a b sa sb = go (bytes_eq (printed a) (printed b)) (bytes_eq a b)
-    (λ t. (bytes_eq-Decides a b).1 (sym sa.same ∙ ap spelled ((bytes_eq-Decides (printed a) (printed b)).0 t) ∙ sb.same))
-    (λ t. (bytes_eq-Decides (printed a) (printed b)).1 (ap printed ((bytes_eq-Decides a b).0 t)))
-  where
-    go : (x y : Bool) → (x ≡ true → y ≡ true) → (y ≡ true → x ≡ true) → x ≡ y
-    go true y f g = sym (f refl)
-    go false true f g = g refl
-    go false false f g = refl
+texts_alike a b sa sb = agree (bytes_eq (printed a) (printed b)) (bytes_eq a b)
+    (λ t. (bytes_eq-Decides a b).1 (sym sa.same ∙ ap spelled (same_name (printed a) (printed b) t) ∙ sb.same))
+    (λ t. (bytes_eq-Decides (printed a) (printed b)).1 (ap printed (same_name a b t)))
 
 -- a host fits where its texts are those of the entry
 pub place_alike : (node : Node) (entries : List Entry) → IsSpelled node.cores → IsSpelled node.gpus → AllByRecursion IsWritten entries → place_of (has_texts (printed node.cores) (printed node.gpus)) (map written entries) ≡ place_of (fits_in node) entries
 place_alike node [] c g a = refl
 place_alike node (e ∷ more) c g a = ap₂ (λ b o. cond b (Some 0) (next o)) (ap₂ (λ x y. x && y) (texts_alike node.cores e.cores c a.0.cores) (texts_alike node.gpus e.gpus g a.0.gpus)) (place_alike node more c g a.1)
 
-written_step : (b : Bool) (node : Node) (e : Entry) (more rest : List Entry) → IsWritten e → AllByRecursion IsWritten more → AllByRecursion IsWritten rest → AllByRecursion IsWritten (cond b (added node e ∷ more) (e ∷ rest))
-written_step true node e more rest w m r = (record { cores = w.cores; gpus = w.gpus }, m)
-written_step false node e more rest w m r = (w, r)
+pub all_weaker : {A : Type 0} (P Q : A → Type 0) → ((x : A) → P x → Q x) → (xs : List A) → AllByRecursion P xs → AllByRecursion Q xs
+all_weaker P Q f [] a = tt
+all_weaker P Q f (x ∷ xs) a = (f x a.0, all_weaker P Q f xs a.1)
+
+-- what holds of each entry, of an entry with one more rank and of an entry alone
+pub all-with_node : (P Q : Entry → Type 0) (node : Node) → ((e : Entry) → P e → Q e) → ((e : Entry) → P e → Q (added node e)) → Q (single node) → (entries : List Entry) → AllByRecursion P entries → AllByRecursion Q (with_node entries node)
+all-with_node P Q node kept grown alone [] a = (alone, tt)
+all-with_node P Q node kept grown alone (e ∷ more) a = go (fits_in node e) (all-with_node P Q node kept grown alone more a.1)
+  where
+    go : (b : Bool) → AllByRecursion Q (with_node more node) → AllByRecursion Q (cond b (added node e ∷ more) (e ∷ with_node more node))
+    go true rest = (grown e a.0, all_weaker P Q kept more a.1)
+    go false rest = (kept e a.0, rest)
 
 pub written-with_node : (entries : List Entry) (node : Node) → IsSpelled node.cores → IsSpelled node.gpus → AllByRecursion IsWritten entries → AllByRecursion IsWritten (with_node entries node)
-written-with_node [] node c g a = (record { cores = c; gpus = g }, tt)
-written-with_node (e ∷ more) node c g a = written_step (fits_in node e) node e more (with_node more node) a.0 a.1 (written-with_node more node c g a.1)
+written-with_node entries node c g a = all-with_node IsWritten IsWritten node (λ e w. w) (λ e w. record { cores = w.cores; gpus = w.gpus }) (record { cores = c; gpus = g }) entries a
 
 -- ---- groups
 
@@ -125,20 +129,11 @@ key_step Equal Greater = refl
 pub is_key : (a b c g : List ℕ) → is_eq (slice_cmp (slice_cmp nat_cmp) (a ∷ b ∷ []) (c ∷ g ∷ [])) ≡ (bytes_eq c a && bytes_eq g b)
 is_key a b c g = key_step (slice_cmp nat_cmp a c) (slice_cmp nat_cmp b g) ∙ ap₂ (λ x y. x && y) (is_eq-slice_cmp a c ∙ bytes_eq_back a c) (is_eq-slice_cmp b g ∙ bytes_eq_back b g)
 
-placed_step : (b : Bool) (o : Option ℕ) (i : ℕ) → (b ≡ true → o ≡ None) → cond b (Some i) o ≡ or_place o (cond b (Some i) None)
-placed_step true o i f = sym (ap (λ p. or_place p (Some i)) (f refl))
-placed_step false None i f = refl
-placed_step false (Some k) i f = refl
-
-both : (a b : Bool) → (a && b) ≡ true → (a ≡ true) × (b ≡ true)
-both true b h = (refl, h)
-both false b h = cc
-
 -- a group more is written down
 pub group_placed : (cores gpus a b : List ℕ) (groups : List Group) (group : Group) → group.cores ≡ a → group.gpus ≡ b → place_of (has_texts a b) groups ≡ None
     → cond (bytes_eq cores a && bytes_eq gpus b) (Some (length groups)) (place_of (has_texts cores gpus) groups) ≡ place_of (has_texts cores gpus) (groups ++ group ∷ [])
 group_placed cores gpus a b groups group ca gb none =
-    placed_step (bytes_eq cores a && bytes_eq gpus b) (place_of (has_texts cores gpus) groups) (length groups)
-    (λ t. let m = both (bytes_eq cores a) (bytes_eq gpus b) t in ap₂ (λ x y. place_of (has_texts x y) groups) ((bytes_eq-Decides cores a).0 m.0) ((bytes_eq-Decides gpus b).0 m.1) ∙ none)
+    placed_anew (bytes_eq cores a && bytes_eq gpus b) (place_of (has_texts cores gpus) groups) (length groups)
+    (λ t. let m = both (bytes_eq cores a) (bytes_eq gpus b) t in ap is_some (ap₂ (λ x y. place_of (has_texts x y) groups) (same_name cores a m.0) (same_name gpus b m.1) ∙ none))
     ∙ ap₂ (λ x y. or_place (place_of (has_texts cores gpus) groups) (cond (bytes_eq cores x && bytes_eq gpus y) (Some (length groups)) None)) (sym ca) (sym gb)
     ∙ sym (place_of-push (has_texts cores gpus) groups group)

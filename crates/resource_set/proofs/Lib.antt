@@ -1,4 +1,5 @@
 pub mod Places
+pub mod Booleans
 pub mod Ranks
 pub mod Placed
 pub mod Told
@@ -9,6 +10,7 @@ pub mod Rising
 pub mod Grouping
 pub mod Names
 pub mod Regroup
+pub mod Canonical
 pub mod Texts
 pub mod Again
 pub mod Ascii

@@ -1,12 +1,9 @@
 -- Names of hosts.
-use Rattle.std.proofs.Common.{◌≡◌, ℕ, zero, suc, ◌<◌, Bool, true, false, ◌&&◌, List, [], ◌∷◌, length, get_or, map, refl, arith}
+use Rattle.std.proofs.Common.{ℕ, zero, suc, ◌<◌, List, [], ◌∷◌, length, get_or, map, arith}
 use Rattle.hostlist.specs.Names.{IsHostName, AreHostNames, is_host_name}
 use Rattle.std.specs.List.{list_all}
 use Rattle.resource_set.specs.declared.node.Node.{Node}
-
-both : (a b : Bool) → (a && b) ≡ true → (a ≡ true) × (b ≡ true)
-both true b h = (refl, h)
-both false b h = cc
+use Rattle.resource_set.proofs.Booleans.{both}
 
 -- each host has a name
 pub named_at : (nodes : List Node) (i : ℕ) (d : Node) → AreHostNames (map (λ node. node.host) nodes) → i < length nodes → IsHostName (get_or nodes i d).host

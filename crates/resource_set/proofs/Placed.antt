@@ -1,5 +1,5 @@
 -- Entries and hosts at their ranks.
-use Rattle.std.proofs.Common.{◌≡◌, ℕ, zero, suc, ◌+◌, ◌<◌, Bool, true, false, cond, List, [], ◌∷◌, ◌++◌, length, take, get_or, map, Option, Some, None, is_some, refl, sym, ap, ap₂, subst, ◌∙◌, arith}
+use Rattle.std.proofs.Common.{◌≡◌, ℕ, zero, suc, ◌+◌, ◌<◌, true, cond, List, [], ◌∷◌, ◌++◌, length, take, drop, get_or, map, Option, Some, None, is_some, refl, sym, ap, ap₂, subst, ◌∙◌, arith, drop-cons, add-one, length-take-le}
 use Rattle.std.specs.Prelude.{Result, Ok, Err, IsErrAnd}
 use Rattle.std.specs.List.{find, list_any, All}
 use Rattle.std.proofs.lemmas.List.{take_more, get_or-map, length-map}
@@ -7,6 +7,7 @@ use Rattle.std.specs.List.Sorted.{IsStrictlyIncreasing}
 use Rattle.idset.specs.Ids.{has, IsIdSet}
 use Rattle.resource_set.specs.Units.{AreHosts, AreDistinct}
 use Rattle.resource_set.proofs.Ranks.{distinct_told}
+use Rattle.resource_set.proofs.Booleans.{placed_anew}
 use Rattle.resource_set.specs.Places.{place_of}
 use Rattle.resource_set.specs.Reading.{Fails, Gives, has_rank, or_else, twice_behind, unless_twice, node_at, nodes_with, ranks_of, are_distinct}
 use Rattle.resource_set.specs.declared.entries.Entry.{Entry}
@@ -21,7 +22,7 @@ err_gives seen (Ok x) e found is h = absurd is
 err_gives seen (Err x) e found is h = subst (λ y. Fails y found) (sym is) h
 
 -- the first rank that stands twice is the fault of all
-pub fails_first : (e : RFault) (o later : Option ℕ) → Fails e (unless_twice o) → Fails e (unless_twice (or_else o later))
+fails_first : (e : RFault) (o later : Option ℕ) → Fails e (unless_twice o) → Fails e (unless_twice (or_else o later))
 fails_first e (Some r) later h = h
 fails_first NoMemory None later h = tt
 fails_first (NotJson f) None later h = cc
@@ -32,26 +33,42 @@ fails_first (HostsDiffer r n) None later h = cc
 fails_first HostTwice None later h = cc
 
 -- ranks that have an entry
-pub met_alike : (old : ℕ → Option ℕ) (done : List Entry) (ids ranks : List ℕ) → ((r : ℕ) → old r ≡ place_of (has_rank r) done) → ids ≡ ranks → find (λ r. is_some (old r)) ids ≡ find (λ r. list_any (has_rank r) done) ranks
+met_alike : (old : ℕ → Option ℕ) (done : List Entry) (ids ranks : List ℕ) → ((r : ℕ) → old r ≡ place_of (has_rank r) done) → ids ≡ ranks → find (λ r. is_some (old r)) ids ≡ find (λ r. list_any (has_rank r) done) ranks
 met_alike old done ids ranks placed same = ap (find (λ r. is_some (old r))) same ∙ find-alike (λ r. is_some (old r)) (λ r. list_any (has_rank r) done) ranks (λ r. ap is_some (placed r) ∙ is_some-place_of (has_rank r) done)
 
-placed_here : (b : Bool) (o : Option ℕ) (i : ℕ) → (b ≡ true → is_some o ≡ false) → cond b (Some i) o ≡ or_place o (cond b (Some i) None)
-placed_here true None i h = refl
-placed_here true (Some k) i h = let no : true ≡ false = h refl in cc
-placed_here false None i h = refl
-placed_here false (Some k) i h = refl
-
 -- one entry more
-pub placed_more : (done : List Entry) (i : ℕ) (entry : Entry) (ids : List ℕ) (old new : ℕ → Option ℕ) → ((r : ℕ) → old r ≡ place_of (has_rank r) done) → length done ≡ i → ids ≡ entry.ranks
-    → find (λ r. is_some (old r)) ids ≡ None → ((r : ℕ) → new r ≡ cond (has ids r) (Some i) (old r)) → (r : ℕ) → new r ≡ place_of (has_rank r) (done ++ entry ∷ [])
-placed_more done i entry ids old new placed len same none is r =
-    is r ∙ placed_here (has ids r) (old r) i (λ t. not_found (λ q. is_some (old q)) ids r none t)
+next_entry : (entries : List Entry) (i : ℕ) (entry : Entry) → i < length entries → entry ≡ get_or entries i entry → take (i + 1) entries ≡ take i entries ++ entry ∷ []
+next_entry entries i entry inside is = take_more entries i entry inside ∙ ap (λ e. take i entries ++ e ∷ []) (sym is)
+
+rest_of : (entries : List Entry) (i : ℕ) (entry : Entry) → i < length entries → entry ≡ get_or entries i entry → drop i entries ≡ entry ∷ drop (i + 1) entries
+rest_of entries i entry inside is = drop-cons entries i entry inside ∙ ap₂ (λ e n. e ∷ drop n entries) (sym is) (sym (add-one i))
+
+pub placed_more : (entries : List Entry) (i : ℕ) (entry : Entry) (ids : List ℕ) (old new : ℕ → Option ℕ) → i < length entries → entry ≡ get_or entries i entry → ((r : ℕ) → old r ≡ place_of (has_rank r) (take i entries)) → ids ≡ entry.ranks
+    → find (λ r. is_some (old r)) ids ≡ None → ((r : ℕ) → new r ≡ cond (has ids r) (Some i) (old r)) → (r : ℕ) → new r ≡ place_of (has_rank r) (take (i + 1) entries)
+placed_more entries i entry ids old new inside at placed same none is r =
+    let done = take i entries in
+    let len : length done ≡ i = length-take-le i entries (omega arith) in
+    is r ∙ placed_anew (has ids r) (old r) i (λ t. not_found (λ q. is_some (old q)) ids r none t)
     ∙ ap₂ (λ o b. or_place o (cond b (Some i) None)) (placed r) (ap (λ l. has l r) same)
     ∙ ap (λ n. or_place (place_of (has_rank r) done) (cond (has entry.ranks r) (Some n) None)) (sym len)
-    ∙ sym (place_of-push (has_rank r) done entry)
+    ∙ sym (place_of-push (has_rank r) done entry) ∙ ap (place_of (has_rank r)) (sym (next_entry entries i entry inside at))
 
-pub once_more : (done : List Entry) (entry : Entry) (rest : List Entry) → find (λ r. list_any (has_rank r) done) entry.ranks ≡ None → twice_behind done (entry ∷ rest) ≡ twice_behind (done ++ entry ∷ []) rest
-once_more done entry rest none = ap (λ o. or_else o (twice_behind (done ++ entry ∷ []) rest)) none
+pub once_more : (entries : List Entry) (i : ℕ) (entry : Entry) (ids : List ℕ) (old : ℕ → Option ℕ) → i < length entries → entry ≡ get_or entries i entry → ((r : ℕ) → old r ≡ place_of (has_rank r) (take i entries)) → ids ≡ entry.ranks
+    → find (λ r. is_some (old r)) ids ≡ None → twice_behind (take i entries) (drop i entries) ≡ twice_behind (take (i + 1) entries) (drop (i + 1) entries)
+once_more entries i entry ids old inside at placed same none =
+    let done = take i entries in
+    ap (twice_behind done) (rest_of entries i entry inside at)
+    ∙ ap (λ o. or_else o (twice_behind (done ++ entry ∷ []) (drop (i + 1) entries))) (sym (met_alike old done ids entry.ranks placed same) ∙ none)
+    ∙ ap (λ l. twice_behind l (drop (i + 1) entries)) (sym (next_entry entries i entry inside at))
+
+-- an entry with a rank that stands before
+pub fails_there : (entries : List Entry) (i : ℕ) (entry : Entry) (ids : List ℕ) (old : ℕ → Option ℕ) (e : RFault) → i < length entries → entry ≡ get_or entries i entry → ((r : ℕ) → old r ≡ place_of (has_rank r) (take i entries)) → ids ≡ entry.ranks
+    → Fails e (unless_twice (find (λ r. is_some (old r)) ids)) → Fails e (unless_twice (twice_behind (take i entries) (drop i entries)))
+fails_there entries i entry ids old e inside at placed same fails =
+    let done = take i entries in
+    subst (λ l. Fails e (unless_twice (twice_behind done l))) (sym (rest_of entries i entry inside at))
+    (fails_first e (find (λ r. list_any (has_rank r) done) entry.ranks) (twice_behind (done ++ entry ∷ []) (drop (i + 1) entries))
+    (subst (λ o. Fails e (unless_twice o)) (met_alike old done ids entry.ranks placed same) fails))
 
 -- ---- nodes
 

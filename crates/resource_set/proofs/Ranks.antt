@@ -1,5 +1,5 @@
 -- Ranks in order, and lists of different names.
-use Rattle.std.proofs.Common.{◌≡◌, ◌≢◌, ℕ, zero, suc, ◌+◌, ◌<◌, ◌≤◌, Bool, true, false, cond, ◌||◌, ◌&&◌, not, List, [], ◌∷◌, ◌++◌, length, take, drop, get_or, Option, Some, None, is_some, eqb, ltb, Ordering, is_eq, refl, sym, ap, ap₂, subst, ◌∙◌, arith, add-one, drop-cons, length-take-le}
+use Rattle.std.proofs.Common.{◌≡◌, ◌≢◌, ℕ, suc, ◌+◌, ◌<◌, Bool, true, false, cond, ◌||◌, ◌&&◌, not, List, [], ◌∷◌, ◌++◌, length, take, drop, get_or, Option, Some, None, eqb, is_eq, refl, sym, ap, ap₂, ◌∙◌, arith, add-one, drop-cons, length-take-le}
 use Rattle.std.specs.Ordering.{nat_cmp}
 use Rattle.std.specs.Prelude.{Result, Ok, Err, OnOk}
 use Rattle.std.proofs.lemmas.Slice.Eq.{bytes_eq-Decides}
@@ -7,18 +7,20 @@ use Rattle.resource_set.specs.Units.{AreDistinct}
 use Rattle.std.specs.List.{find, list_any}
 use Rattle.std.specs.List.Sorted.{IsStrictlyIncreasing}
 use Rattle.std.specs.Str.{bytes_eq}
+use Rattle.std.proofs.Math.Bool.{or-true, and-false}
 use Rattle.std.proofs.lemmas.Bool.Decides.{nat_tests}
 use Rattle.std.proofs.lemmas.List.Folds.{list_any-append, list_any_none, list_any_at}
 use Rattle.std.proofs.lemmas.List.Kept.{AllPairs-from_increasing}
 use Rattle.idset.specs.Ids.{has}
 use Rattle.resource_set.specs.Reading.{are_distinct, unless_twice}
+use Rattle.resource_set.proofs.Booleans.{agree, same_name}
 
 -- the numbers are the same just where they rank alike
 pub is_eq-nat_cmp : (a b : ℕ) → is_eq (nat_cmp a b) ≡ eqb a b
 is_eq-nat_cmp a b = grind (arith, nat_tests)
 
 -- a number of a rising list stands at no earlier place
-pub not_before : (xs : List ℕ) (i : ℕ) → IsStrictlyIncreasing xs → i < length xs → has (take i xs) (get_or xs i 0) ≡ false
+not_before : (xs : List ℕ) (i : ℕ) → IsStrictlyIncreasing xs → i < length xs → has (take i xs) (get_or xs i 0) ≡ false
 not_before xs i up h = list_any_none (λ x. eqb x (get_or xs i 0)) (take i xs) (λ k d m. earlier k d m)
   where
     earlier : (k d : ℕ) → k < length (take i xs) → eqb (get_or (take i xs) k d) (get_or xs i 0) ≡ false
@@ -35,7 +37,7 @@ cond_twice true false x y = refl
 cond_twice false true x y = refl
 cond_twice false false x y = refl
 
-pub cond_no : {X : Type 0} (b : Bool) (x y : X) → b ≡ false → cond b x y ≡ y
+cond_no : {X : Type 0} (b : Bool) (x y : X) → b ≡ false → cond b x y ≡ y
 cond_no true x y e = cc
 cond_no false x y e = refl
 
@@ -45,6 +47,13 @@ find_here p xs i h t = ap (find p) (drop-cons xs i 0 h) ∙ ap (λ b. cond b (So
 
 pub find_behind : (p : ℕ → Bool) (xs : List ℕ) (i : ℕ) → i < length xs → p (get_or xs i 0) ≡ false → find p (drop i xs) ≡ find p (drop (i + 1) xs)
 find_behind p xs i h t = ap (find p) (drop-cons xs i 0 h) ∙ ap (λ b. cond b (Some (get_or xs i 0)) (find p (drop (suc i) xs))) t ∙ ap (λ n. find p (drop n xs)) (sym (add-one i))
+
+-- a rank of a rising list isn't placed before its turn
+pub unplaced : (ranks : List ℕ) (i place : ℕ) (now old : ℕ → Option ℕ) → IsStrictlyIncreasing ranks → i < length ranks → ((rank : ℕ) → now rank ≡ cond (has (take i ranks) rank) (Some place) (old rank))
+    → now (get_or ranks i 0) ≡ old (get_or ranks i 0)
+unplaced ranks i place now old up inside placed =
+    let rank = get_or ranks i 0 in
+    placed rank ∙ cond_no (has (take i ranks) rank) (Some place) (old rank) (not_before ranks i up inside)
 
 -- no rank stands twice where all goes well
 pub no_twice : (o : Option ℕ) → unless_twice o ≡ Ok 0 → o ≡ None
@@ -69,30 +78,14 @@ not_is true b h = ap not h
 not_is false b h = ap not h
 
 pub bytes_eq_back : (a b : List ℕ) → bytes_eq a b ≡ bytes_eq b a
-bytes_eq_back a b = go (bytes_eq a b) (bytes_eq b a) (λ t. (bytes_eq-Decides b a).1 (sym ((bytes_eq-Decides a b).0 t))) (λ t. (bytes_eq-Decides a b).1 (sym ((bytes_eq-Decides b a).0 t)))
-  where
-    go : (x y : Bool) → (x ≡ true → y ≡ true) → (y ≡ true → x ≡ true) → x ≡ y
-    go true y f g = sym (f refl)
-    go false true f g = g refl
-    go false false f g = refl
-
-or_false : (a b : Bool) → a ≡ false → b ≡ false → (a || b) ≡ false
-or_false a b e h = rw (e, h) refl
+bytes_eq_back a b = agree (bytes_eq a b) (bytes_eq b a) (λ t. (bytes_eq-Decides b a).1 (sym (same_name a b t))) (λ t. (bytes_eq-Decides a b).1 (sym (same_name b a t)))
 
 among : (x y : List ℕ) (xs zs : List (List ℕ)) → bytes_eq y x ≡ true → list_any (bytes_eq x) (xs ++ y ∷ zs) ≡ true
-among x y xs zs e = list_any-append (bytes_eq x) xs (y ∷ zs) ∙ ap (λ b. list_any (bytes_eq x) xs || (b || list_any (bytes_eq x) zs)) (bytes_eq_back x y ∙ e) ∙ last (list_any (bytes_eq x) xs)
-  where
-    last : (b : Bool) → (b || true) ≡ true
-    last true = refl
-    last false = refl
-
-no_and : (a : Bool) → (a && false) ≡ false
-no_and true = refl
-no_and false = refl
+among x y xs zs e = list_any-append (bytes_eq x) xs (y ∷ zs) ∙ ap (λ b. list_any (bytes_eq x) xs || (b || list_any (bytes_eq x) zs)) (bytes_eq_back x y ∙ e) ∙ or-true (list_any (bytes_eq x) xs)
 
 twice_step : (y x : List ℕ) (xs zs : List (List ℕ)) (b : Bool) → bytes_eq y x ≡ b → (b || list_any (bytes_eq y) xs) ≡ true → (list_any (bytes_eq y) xs ≡ true → are_distinct (xs ++ y ∷ zs) ≡ false) → (not (list_any (bytes_eq x) (xs ++ y ∷ zs)) && are_distinct (xs ++ y ∷ zs)) ≡ false
 twice_step y x xs zs true e t f = ap (λ a. not a && are_distinct (xs ++ y ∷ zs)) (among x y xs zs e)
-twice_step y x xs zs false e t f = ap (λ a. not (list_any (bytes_eq x) (xs ++ y ∷ zs)) && a) (f t) ∙ no_and (not (list_any (bytes_eq x) (xs ++ y ∷ zs)))
+twice_step y x xs zs false e t f = ap (λ a. not (list_any (bytes_eq x) (xs ++ y ∷ zs)) && a) (f t) ∙ and-false (not (list_any (bytes_eq x) (xs ++ y ∷ zs)))
 
 twice : (y : List ℕ) (xs zs : List (List ℕ)) → list_any (bytes_eq y) xs ≡ true → are_distinct (xs ++ y ∷ zs) ≡ false
 twice y [] zs h = cc

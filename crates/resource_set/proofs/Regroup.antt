@@ -1,11 +1,12 @@
 -- What the entries of hosts tell of the hosts.
-use Rattle.std.proofs.Common.{◌≡◌, ℕ, suc, ◌+◌, ◌<◌, ◌≤◌, Bool, true, false, cond, ◌&&◌, ◌||◌, eqb, List, [], ◌∷◌, ◌++◌, length, get_or, map, Some, None, unwrap_or, refl, sym, ap, ap₂, ◌∙◌, arith}
+use Rattle.std.proofs.Common.{◌≡◌, ℕ, suc, ◌+◌, ◌<◌, ◌≤◌, Bool, true, false, cond, ◌||◌, eqb, List, [], ◌∷◌, ◌++◌, length, get_or, map, Some, None, unwrap_or, ◌⊎◌, inl, inr, refl, sym, ap, ap₂, subst, ◌∙◌, arith, length-append}
 use Rattle.std.specs.Prelude.{flat_map}
 use Rattle.std.specs.List.{All, AllPairs, AllByRecursion, find, fold, list_any}
 use Rattle.std.specs.List.Sorted.{IsStrictlyIncreasing}
 use Rattle.std.specs.Str.{bytes_eq}
+use Rattle.std.proofs.Math.Bool.{or-true, or-false, or_assoc, or_comm}
 use Rattle.std.proofs.lemmas.Bool.Decides.{nat_tests}
-use Rattle.std.proofs.lemmas.Slice.Eq.{bytes_eq-Decides}
+use Rattle.std.proofs.lemmas.List.{get_or_append_left}
 use Rattle.std.proofs.lemmas.List.Folds.{list_any-append, list_any_none}
 use Rattle.std.proofs.lemmas.List.Elements.{All-head, All-tail, All-nil, All-cons, All-push, All-map, All-weaker}
 use Rattle.std.proofs.lemmas.List.Kept.{AllPairs-from_increasing}
@@ -15,16 +16,11 @@ use Rattle.resource_set.specs.declared.entries.Entry.{Entry}
 use Rattle.resource_set.specs.declared.node.Node.{Node}
 use Rattle.resource_set.specs.Units.{AreHosts}
 use Rattle.resource_set.specs.Reading.{has_rank, or_else, twice_behind, ranks_of, node_at, node_with, nodes_with, no_entry}
+use Rattle.resource_set.specs.Canonical.{first_rank}
 use Rattle.resource_set.specs.Writing.{fits_in, single, added, with_node, entries_of}
+use Rattle.resource_set.proofs.Grouping.{all-with_node}
 use Rattle.resource_set.proofs.Rising.{list_of_rising, rising_push}
-
-both : (a b : Bool) → (a && b) ≡ true → (a ≡ true) × (b ≡ true)
-both true b h = (refl, h)
-both false b h = cc
-
-or_true : (a : Bool) → (a || true) ≡ true
-or_true true = refl
-or_true false = refl
+use Rattle.resource_set.proofs.Booleans.{both, neither, no_or, false_of, itself, same_name}
 
 -- ---- ranks that rise
 
@@ -54,6 +50,7 @@ pub record IsUp (m : ℕ) (entry : Entry) : Type 0 where
   pub rising : IsStrictlyIncreasing entry.ranks
   pub below : All (λ rank. rank < m) entry.ranks
   pub small : All (λ rank. rank < 65536) entry.ranks
+  pub some : 0 < length entry.ranks
 
 -- no rank is in two entries
 abbrev pub Once : List Entry → Type 0
@@ -68,73 +65,44 @@ not_in [] m q a h = refl
 not_in (e ∷ more) m q a h = ap₂ (λ x y. x || y) (unmet e.ranks m q a.0.below h) (not_in more m q a.1 h)
 
 has-push : (xs : List ℕ) (r q : ℕ) → has (xs ++ r ∷ []) q ≡ (has xs q || eqb r q)
-has-push xs r q = list_any-append (λ x. eqb x q) xs (r ∷ []) ∙ ap (λ b. has xs q || b) (last (eqb r q))
-  where
-    last : (b : Bool) → (b || false) ≡ b
-    last true = refl
-    last false = refl
+has-push xs r q = list_any-append (λ x. eqb x q) xs (r ∷ []) ∙ ap (λ b. has xs q || b) (or-false (eqb r q))
 
 or_move : (a b c : Bool) → ((a || c) || b) ≡ ((a || b) || c)
-or_move true b c = refl
-or_move false true true = refl
-or_move false true false = refl
-or_move false false true = refl
-or_move false false false = refl
-
-or_group : (a b c : Bool) → (a || (b || c)) ≡ ((a || b) || c)
-or_group true b c = refl
-or_group false b c = refl
+or_move a b c = or_assoc a c b ∙ ap (λ x. a || x) (or_comm c b) ∙ sym (or_assoc a b c)
 
 any_step : (b : Bool) (node : Node) (e : Entry) (more rest : List Entry) (q : ℕ) → list_any (has_rank q) rest ≡ (list_any (has_rank q) more || eqb node.rank q)
     → list_any (has_rank q) (cond b (added node e ∷ more) (e ∷ rest)) ≡ ((has e.ranks q || list_any (has_rank q) more) || eqb node.rank q)
 any_step true node e more rest q h = ap (λ b. b || list_any (has_rank q) more) (has-push e.ranks node.rank q) ∙ or_move (has e.ranks q) (list_any (has_rank q) more) (eqb node.rank q)
-any_step false node e more rest q h = ap (λ b. has e.ranks q || b) h ∙ or_group (has e.ranks q) (list_any (has_rank q) more) (eqb node.rank q)
+any_step false node e more rest q h = ap (λ b. has e.ranks q || b) h ∙ sym (or_assoc (has e.ranks q) (list_any (has_rank q) more) (eqb node.rank q))
 
 any-with_node : (entries : List Entry) (node : Node) (q : ℕ) → list_any (has_rank q) (with_node entries node) ≡ (list_any (has_rank q) entries || eqb node.rank q)
-any-with_node [] node q = last (eqb node.rank q)
-  where
-    last : (b : Bool) → ((b || false) || false) ≡ b
-    last true = refl
-    last false = refl
+any-with_node [] node q = or-false (eqb node.rank q || false) ∙ or-false (eqb node.rank q)
 any-with_node (e ∷ more) node q = any_step (fits_in node e) node e more (with_node more node) q (any-with_node more node q)
 
-up_more : (m n : ℕ) (entries : List Entry) → m ≤ n → AllByRecursion (IsUp m) entries → AllByRecursion (IsUp n) entries
-up_more m n [] h a = tt
-up_more m n (e ∷ more) h a = (record { rising = a.0.rising; below = All-weaker (λ x. x < m) (λ x. x < n) (λ x l. omega arith) e.ranks a.0.below; small = a.0.small }, up_more m n more h a.1)
+up_more : (m n : ℕ) (e : Entry) → m ≤ n → IsUp m e → IsUp n e
+up_more m n e h u = record { rising = u.rising; below = All-weaker (λ x. x < m) (λ x. x < n) (λ x l. omega arith) e.ranks u.below; small = u.small; some = u.some }
 
 up_added : (m : ℕ) (node : Node) (e : Entry) → IsUp m e → m ≤ node.rank → node.rank < 65536 → IsUp (node.rank + 1) (added node e)
-up_added m node e u h s =
-    let below : All (λ x. x < node.rank) e.ranks = All-weaker (λ x. x < m) (λ x. x < node.rank) (λ x l. omega arith) e.ranks u.below in
-    record {
-      rising = rising_push e.ranks node.rank u.rising below;
-      below = All-push (λ x. x < node.rank + 1) e.ranks node.rank (All-weaker (λ x. x < m) (λ x. x < node.rank + 1) (λ x l. omega arith) e.ranks u.below) (omega arith);
-      small = All-push (λ x. x < 65536) e.ranks node.rank u.small s;
-    }
+up_added m node e u h s = record {
+  rising = rising_push e.ranks node.rank u.rising (up_more m node.rank e h u).below;
+  below = All-push (λ x. x < node.rank + 1) e.ranks node.rank (up_more m (node.rank + 1) e (omega arith) u).below (omega arith);
+  small = All-push (λ x. x < 65536) e.ranks node.rank u.small s;
+  some = omega (arith, length-append e.ranks (node.rank ∷ []));
+}
 
-up_step : (b : Bool) (m : ℕ) (node : Node) (e : Entry) (more rest : List Entry) → AllByRecursion (IsUp m) (e ∷ more) → m ≤ node.rank → node.rank < 65536 → AllByRecursion (IsUp (node.rank + 1)) rest → AllByRecursion (IsUp (node.rank + 1)) (cond b (added node e ∷ more) (e ∷ rest))
-up_step true m node e more rest a h s r = (up_added m node e a.0 h s, up_more m (node.rank + 1) more (omega arith) a.1)
-up_step false m node e more rest a h s r = let up = up_more m (node.rank + 1) (e ∷ more) (omega arith) a in (up.0, r)
-
-one_up : (r : ℕ) → IsStrictlyIncreasing (r ∷ [])
-one_up r k h = absurd (omega arith)
+up_alone : (node : Node) → node.rank < 65536 → IsUp (node.rank + 1) (single node)
+up_alone node s = record {
+  rising = λ k h. absurd (omega arith);
+  below = All-cons (λ x. x < node.rank + 1) node.rank [] (omega arith) (All-nil (λ x. x < node.rank + 1));
+  small = All-cons (λ x. x < 65536) node.rank [] s (All-nil (λ x. x < 65536));
+  some = omega arith;
+}
 
 up-with_node : (entries : List Entry) (m : ℕ) (node : Node) → AllByRecursion (IsUp m) entries → m ≤ node.rank → node.rank < 65536 → AllByRecursion (IsUp (node.rank + 1)) (with_node entries node)
-up-with_node [] m node a h s = (record { rising = one_up node.rank; below = All-cons (λ x. x < node.rank + 1) node.rank [] (omega arith) (All-nil (λ x. x < node.rank + 1)); small = All-cons (λ x. x < 65536) node.rank [] s (All-nil (λ x. x < 65536)) }, tt)
-up-with_node (e ∷ more) m node a h s = up_step (fits_in node e) m node e more (with_node more node) a h s (up-with_node more m node a.1 h s)
-
-no_or : (a b : Bool) → a ≡ false → b ≡ false → (a || b) ≡ false
-no_or a b e f = ap₂ (λ x y. x || y) e f
+up-with_node entries m node a h s = all-with_node (IsUp m) (IsUp (node.rank + 1)) node (λ e u. up_more m (node.rank + 1) e (omega arith) u) (λ e u. up_added m node e u h s) (up_alone node s) entries a
 
 other_rank : (xs : List ℕ) (r q : ℕ) → has xs r ≡ false → has xs q ≡ true → eqb r q ≡ false
-other_rank xs r q n t = go (eqb r q) refl
-  where
-    go : (b : Bool) → eqb r q ≡ b → b ≡ false
-    go true e = let is : r ≡ q = grind (arith, nat_tests) in let clash : false ≡ true = sym n ∙ ap (has xs) is ∙ t in cc
-    go false e = refl
-
-left_no : (a b : Bool) → (a || b) ≡ false → (a ≡ false) × (b ≡ false)
-left_no true b h = cc
-left_no false b h = (refl, h)
+other_rank xs r q n t = false_of (eqb r q) (λ e. let is : r ≡ q = grind (arith, nat_tests) in let clash : false ≡ true = sym n ∙ ap (has xs) is ∙ t in cc)
 
 once_step : (b : Bool) (node : Node) (e : Entry) (more : List Entry) → Once (e ∷ more) → list_any (has_rank node.rank) (e ∷ more) ≡ false → Once (with_node more node) → Once (cond b (added node e ∷ more) (e ∷ with_node more node))
 once_step true node e more o n r = ((λ q t. go q (has e.ranks q) refl (sym (has-push e.ranks node.rank q) ∙ t)), o.1)
@@ -144,12 +112,12 @@ once_step true node e more o n r = ((λ q t. go q (has e.ranks q) refl (sym (has
     go q false f t =
         let met : eqb node.rank q ≡ true = sym (ap (λ b. b || eqb node.rank q) f) ∙ t in
         let is : node.rank ≡ q = grind (arith, nat_tests) in
-        ap (λ k. list_any (has_rank k) more) (sym is) ∙ (left_no (has e.ranks node.rank) (list_any (has_rank node.rank) more) n).1
-once_step false node e more o n r = ((λ q t. any-with_node more node q ∙ no_or (list_any (has_rank q) more) (eqb node.rank q) (o.0 q t) (other_rank e.ranks node.rank q (left_no (has e.ranks node.rank) (list_any (has_rank node.rank) more) n).0 t)), r)
+        ap (λ k. list_any (has_rank k) more) (sym is) ∙ (neither (has e.ranks node.rank) (list_any (has_rank node.rank) more) n).1
+once_step false node e more o n r = ((λ q t. any-with_node more node q ∙ no_or (list_any (has_rank q) more) (eqb node.rank q) (o.0 q t) (other_rank e.ranks node.rank q (neither (has e.ranks node.rank) (list_any (has_rank node.rank) more) n).0 t)), r)
 
 once-with_node : (entries : List Entry) (node : Node) → Once entries → list_any (has_rank node.rank) entries ≡ false → Once (with_node entries node)
 once-with_node [] node o n = ((λ q t. refl), tt)
-once-with_node (e ∷ more) node o n = once_step (fits_in node e) node e more o n (once-with_node more node o.1 (left_no (has e.ranks node.rank) (list_any (has_rank node.rank) more) n).1)
+once-with_node (e ∷ more) node o n = once_step (fits_in node e) node e more o n (once-with_node more node o.1 (neither (has e.ranks node.rank) (list_any (has_rank node.rank) more) n).1)
 
 -- ---- what an entry tells of a host
 
@@ -166,19 +134,16 @@ tells_behind e more node n t = record { entry = t.entry; found = ap (λ b. cond 
 tells_first : (e : Entry) (more : List Entry) (node : Node) → has e.ranks node.rank ≡ true → e.cores ≡ node.cores → e.gpus ≡ node.gpus → Tells (e ∷ more) node
 tells_first e more node h c g = record { entry = e; found = ap (λ b. cond b (Some e) (find (has_rank node.rank) more)) h; cores = c; gpus = g }
 
-itself : (r : ℕ) → eqb r r ≡ true
-itself r = grind (arith, nat_tests)
-
 tells_step : (b : Bool) (node : Node) (e : Entry) (more : List Entry) → fits_in node e ≡ b → has e.ranks node.rank ≡ false → Tells (with_node more node) node → Tells (cond b (added node e ∷ more) (e ∷ with_node more node)) node
 tells_step true node e more f n t =
     let m = both (bytes_eq node.cores e.cores) (bytes_eq node.gpus e.gpus) f in
-    tells_first (added node e) more node (has-push e.ranks node.rank node.rank ∙ ap (λ b. has e.ranks node.rank || b) (itself node.rank) ∙ or_true (has e.ranks node.rank))
-    (sym ((bytes_eq-Decides node.cores e.cores).0 m.0)) (sym ((bytes_eq-Decides node.gpus e.gpus).0 m.1))
+    tells_first (added node e) more node (has-push e.ranks node.rank node.rank ∙ ap (λ b. has e.ranks node.rank || b) (itself node.rank) ∙ or-true (has e.ranks node.rank))
+    (sym (same_name node.cores e.cores m.0)) (sym (same_name node.gpus e.gpus m.1))
 tells_step false node e more f n t = tells_behind e (with_node more node) node n t
 
 tells_new : (entries : List Entry) (node : Node) → list_any (has_rank node.rank) entries ≡ false → Tells (with_node entries node) node
 tells_new [] node n = tells_first (single node) [] node (ap (λ b. b || false) (itself node.rank)) refl refl
-tells_new (e ∷ more) node n = let m = left_no (has e.ranks node.rank) (list_any (has_rank node.rank) more) n in tells_step (fits_in node e) node e more refl m.0 (tells_new more node m.1)
+tells_new (e ∷ more) node n = let m = neither (has e.ranks node.rank) (list_any (has_rank node.rank) more) n in tells_step (fits_in node e) node e more refl m.0 (tells_new more node m.1)
 
 find_other : (b : Bool) (c : Bool) (node other : Node) (e : Entry) (more : List Entry) → has e.ranks other.rank ≡ c → eqb node.rank other.rank ≡ false → Tells (e ∷ more) other → (Tells more other → Tells (with_node more node) other) → Tells (cond b (added node e ∷ more) (e ∷ with_node more node)) other
 find_other true true node other e more h n t f =
@@ -196,15 +161,48 @@ tells_kept : (entries : List Entry) (node other : Node) → eqb node.rank other.
 tells_kept [] node other n t = let no : None ≡ Some t.entry = t.found in cc
 tells_kept (e ∷ more) node other n t = find_other (fits_in node e) (has e.ranks other.rank) node other e more refl n t (λ s. tells_kept more node other n s)
 
+-- ---- first ranks
+
+first_kept : (e : Entry) (node : Node) → 0 < length e.ranks → first_rank (added node e) ≡ first_rank e
+first_kept e node h = get_or_append_left e.ranks (node.rank ∷ []) 0 0 h
+
+-- they stay, or the host's rank comes last
+firsts-with_node : (entries : List Entry) (m : ℕ) (node : Node) → AllByRecursion (IsUp m) entries
+    → (map first_rank (with_node entries node) ≡ map first_rank entries) ⊎ (map first_rank (with_node entries node) ≡ map first_rank entries ++ node.rank ∷ [])
+firsts-with_node [] m node a = inr refl
+firsts-with_node (e ∷ more) m node a = go (fits_in node e) (firsts-with_node more m node a.1)
+  where
+    go : (b : Bool) → (map first_rank (with_node more node) ≡ map first_rank more) ⊎ (map first_rank (with_node more node) ≡ map first_rank more ++ node.rank ∷ [])
+        → (map first_rank (cond b (added node e ∷ more) (e ∷ with_node more node)) ≡ map first_rank (e ∷ more)) ⊎ (map first_rank (cond b (added node e ∷ more) (e ∷ with_node more node)) ≡ map first_rank (e ∷ more) ++ node.rank ∷ [])
+    go true r = inl (ap (λ n. n ∷ map first_rank more) (first_kept e node a.0.some))
+    go false (inl same) = inl (ap (λ l. first_rank e ∷ l) same)
+    go false (inr last) = inr (ap (λ l. first_rank e ∷ l) last)
+
+firsts_below : (entries : List Entry) (m : ℕ) → AllByRecursion (IsUp m) entries → All (λ rank. rank < m) (map first_rank entries)
+firsts_below [] m a = All-nil (λ rank. rank < m)
+firsts_below (e ∷ more) m a = All-cons (λ rank. rank < m) (first_rank e) (map first_rank more) (a.0.below 0 0 a.0.some) (firsts_below more m a.1)
+
+firsts_rise : (entries : List Entry) (m : ℕ) (node : Node) → AllByRecursion (IsUp m) entries → IsStrictlyIncreasing (map first_rank entries) → m ≤ node.rank → IsStrictlyIncreasing (map first_rank (with_node entries node))
+firsts_rise entries m node a up h = elim (firsts-with_node entries m node a) [
+  | inl same ↦ subst IsStrictlyIncreasing (sym same) up
+  | inr last ↦ subst IsStrictlyIncreasing (sym last) (rising_push (map first_rank entries) node.rank up
+      (All-weaker (λ x. x < m) (λ x. x < node.rank) (λ x l. omega arith) (map first_rank entries) (firsts_below entries m a)))
+]
+
 -- ---- all hosts
 
 -- what holds of entries whose ranks are below a number
 pub record AreUp (m : ℕ) (entries : List Entry) : Type 0 where
   pub up : AllByRecursion (IsUp m) entries
   pub once : Once entries
+  pub firsts : IsStrictlyIncreasing (map first_rank entries)
 
 up_next : (m : ℕ) (entries : List Entry) (node : Node) → AreUp m entries → m ≤ node.rank → node.rank < 65536 → AreUp (node.rank + 1) (with_node entries node)
-up_next m entries node a h s = record { up = up-with_node entries m node a.up h s; once = once-with_node entries node a.once (not_in entries m node.rank a.up h) }
+up_next m entries node a h s = record {
+  up = up-with_node entries m node a.up h s;
+  once = once-with_node entries node a.once (not_in entries m node.rank a.up h);
+  firsts = firsts_rise entries m node a.up a.firsts h;
+}
 
 pub record AreEntriesOf (entries : List Entry) : Type 0 where
   pub bound : ℕ
@@ -215,12 +213,8 @@ up_all [] m entries c a = record { bound = m; up = a }
 up_all (n ∷ ns) m entries c a = up_all ns (n.rank + 1) (with_node entries n) c.2 (up_next m entries n a c.0 c.1)
 
 any_all : (nodes : List Node) (entries : List Entry) (q : ℕ) → list_any (has_rank q) (fold with_node entries nodes) ≡ (list_any (has_rank q) entries || has (ranks nodes) q)
-any_all [] entries q = last (list_any (has_rank q) entries)
-  where
-    last : (b : Bool) → b ≡ (b || false)
-    last true = refl
-    last false = refl
-any_all (n ∷ ns) entries q = any_all ns (with_node entries n) q ∙ ap (λ b. b || has (ranks ns) q) (any-with_node entries n q) ∙ sym (or_group (list_any (has_rank q) entries) (eqb n.rank q) (has (ranks ns) q))
+any_all [] entries q = sym (or-false (list_any (has_rank q) entries))
+any_all (n ∷ ns) entries q = any_all ns (with_node entries n) q ∙ ap (λ b. b || has (ranks ns) q) (any-with_node entries n q) ∙ or_assoc (list_any (has_rank q) entries) (eqb n.rank q) (has (ranks ns) q)
 
 keep_all : (nodes : List Node) (m : ℕ) (entries : List Entry) (other : Node) → Climbs m nodes → other.rank < m → Tells entries other → Tells (fold with_node entries nodes) other
 keep_all [] m entries other c l t = t
@@ -236,7 +230,13 @@ tell_all (n ∷ ns) m entries c a = (
 )
 
 none_up : AreUp 0 []
-none_up = record { up = tt; once = tt }
+none_up = record { up = tt; once = tt; firsts = λ k h. absurd (omega arith) }
+
+pub are_up : (nodes : List Node) → AreHosts nodes → AreEntriesOf (entries_of nodes)
+are_up nodes a = up_all nodes 0 [] (climbing nodes a) none_up
+
+pub are_told : (nodes : List Node) → AreHosts nodes → AllByRecursion (Tells (entries_of nodes)) nodes
+are_told nodes a = tell_all nodes 0 [] (climbing nodes a) none_up
 
 -- ---- in the words of the reader
 
@@ -260,18 +260,14 @@ nodes_told entries (n ∷ ns) a = ap₂ (λ x l. x ∷ l) (node_again entries n 
 
 -- and tell the hosts again
 pub nodes_again : (nodes : List Node) → AreHosts nodes → nodes_with (entries_of nodes) (map (λ node. node.rank) nodes) (map (λ node. node.host) nodes) ≡ nodes
-nodes_again nodes a = nodes_told (entries_of nodes) nodes (tell_all nodes 0 [] (climbing nodes a) none_up)
+nodes_again nodes a = nodes_told (entries_of nodes) nodes (are_told nodes a)
 
 find_none : (p : ℕ → Bool) (xs : List ℕ) → ((x : ℕ) → has xs x ≡ true → p x ≡ false) → find p xs ≡ None
 find_none p [] f = refl
-find_none p (x ∷ xs) f = ap (λ b. cond b (Some x) (find p xs)) (f x (ap (λ b. b || has xs x) (itself x))) ∙ find_none p xs (λ y t. f y (ap (λ b. eqb x y || b) t ∙ or_true (eqb x y)))
+find_none p (x ∷ xs) f = ap (λ b. cond b (Some x) (find p xs)) (f x (ap (λ b. b || has xs x) (itself x))) ∙ find_none p xs (λ y t. f y (ap (λ b. eqb x y || b) t ∙ or-true (eqb x y)))
 
 apart : (q : ℕ) (e : Entry) (before more : List Entry) → (list_any (has_rank q) (e ∷ more) ≡ true → list_any (has_rank q) before ≡ false) → ((r : ℕ) → has e.ranks r ≡ true → list_any (has_rank r) more ≡ false) → list_any (has_rank q) more ≡ true → list_any (has_rank q) (before ++ e ∷ []) ≡ false
-apart q e before more f o t = list_any-append (has_rank q) before (e ∷ []) ∙ no_or (list_any (has_rank q) before) (has e.ranks q || false) (f (ap (λ b. has e.ranks q || b) t ∙ or_true (has e.ranks q))) (no_or (has e.ranks q) false (go (has e.ranks q) refl) refl)
-  where
-    go : (b : Bool) → has e.ranks q ≡ b → b ≡ false
-    go true h = let clash : true ≡ false = sym t ∙ o q h in cc
-    go false h = refl
+apart q e before more f o t = list_any-append (has_rank q) before (e ∷ []) ∙ no_or (list_any (has_rank q) before) (has e.ranks q || false) (f (ap (λ b. has e.ranks q || b) t ∙ or-true (has e.ranks q))) (no_or (has e.ranks q) false (false_of (has e.ranks q) (λ h. let clash : true ≡ false = sym t ∙ o q h in cc)) refl)
 
 once_told : (before entries : List Entry) → Once entries → ((q : ℕ) → list_any (has_rank q) entries ≡ true → list_any (has_rank q) before ≡ false) → twice_behind before entries ≡ None
 once_told before [] o f = refl
@@ -281,12 +277,16 @@ once_told before (e ∷ more) o f =
 
 -- no rank stands twice
 pub once_again : (nodes : List Node) → AreHosts nodes → twice_behind [] (entries_of nodes) ≡ None
-once_again nodes a = once_told [] (entries_of nodes) (up_all nodes 0 [] (climbing nodes a) none_up).up.once (λ q t. refl)
+once_again nodes a = once_told [] (entries_of nodes) (are_up nodes a).up.once (λ q t. refl)
 
--- the ranks of each entry rise and are small
-small_up : (m : ℕ) (entries : List Entry) → AllByRecursion (IsUp m) entries → AllByRecursion (λ entry. (list_of entry.ranks ≡ entry.ranks) × All (λ rank. rank < 65536) entry.ranks) entries
+-- the ranks of an entry are small and stand in order
+pub record IsRisen (entry : Entry) : Type 0 where
+  pub told : list_of entry.ranks ≡ entry.ranks
+  pub small : All (λ rank. rank < 65536) entry.ranks
+
+small_up : (m : ℕ) (entries : List Entry) → AllByRecursion (IsUp m) entries → AllByRecursion IsRisen entries
 small_up m [] a = tt
-small_up m (e ∷ more) a = ((list_of_rising e.ranks a.0.rising a.0.small, a.0.small), small_up m more a.1)
+small_up m (e ∷ more) a = (record { told = list_of_rising e.ranks a.0.rising a.0.small; small = a.0.small }, small_up m more a.1)
 
-pub entries_rise : (nodes : List Node) → AreHosts nodes → AllByRecursion (λ entry. (list_of entry.ranks ≡ entry.ranks) × All (λ rank. rank < 65536) entry.ranks) (entries_of nodes)
-entries_rise nodes a = let all = up_all nodes 0 [] (climbing nodes a) none_up in small_up all.bound (entries_of nodes) all.up.up
+pub entries_rise : (nodes : List Node) → AreHosts nodes → AllByRecursion IsRisen (entries_of nodes)
+entries_rise nodes a = let all = are_up nodes a in small_up all.bound (entries_of nodes) all.up.up

@@ -1,27 +1,22 @@
 -- Texts of entries.
-use Rattle.std.proofs.Common.{◌≡◌, ℕ, zero, suc, ◌+◌, ◌<◌, List, [], ◌∷◌, ◌++◌, length, get_or, take, map, refl, sym, ap, subst, ◌∙◌, arith}
+use Rattle.std.proofs.Common.{◌≡◌, ℕ, ◌+◌, ◌<◌, List, [], ◌∷◌, ◌++◌, length, get_or, take, map, sym, ap, subst, ◌∙◌, arith}
 use Rattle.std.specs.List.{AllByRecursion}
-use Rattle.std.proofs.lemmas.List.{take_more}
+use Rattle.std.proofs.lemmas.List.{take_more, get_or-map, length-map}
 use Rattle.idset.specs.Ids.{list_of}
 use Rattle.resource_set.specs.declared.entries.Entry.{Entry}
 use Rattle.resource_set.specs.declared.entries.Group.{Group}
 use Rattle.resource_set.specs.Writing.{entry_data, group_data, written, IsSpelled, IsWritten, IsEntrySpelled}
 use Rattle.resource_set.specs.Reading.{no_entry}
 
-got : (entries : List Entry) (i : ℕ) (g : Group) → i < length entries → get_or (map written entries) i g ≡ written (get_or entries i no_entry)
-got [] i g h = absurd (omega arith)
-got (e ∷ more) zero g h = refl
-got (e ∷ more) (suc i) g h = got more i g (omega arith)
+-- the group at a place is that of the entry there
+pub record IsGroupAt (entries : List Entry) (i : ℕ) (g : Group) : Type 0 where
+  pub inside : i < length entries
+  pub is : g ≡ written (get_or entries i no_entry)
 
--- the group at a place
-pub group_at : (entries : List Entry) (i : ℕ) (g : Group) → i < length entries → g ≡ get_or (map written entries) i g → g ≡ written (get_or entries i no_entry)
-group_at entries i g h is = is ∙ got entries i g h
-
--- what holds of each entry holds of the entry at a place
-pub at_entry : (P : Entry → Type 0) (entries : List Entry) (i : ℕ) (d : Entry) → AllByRecursion P entries → i < length entries → P (get_or entries i d)
-at_entry P [] i d a h = absurd (omega arith)
-at_entry P (e ∷ more) zero d a h = a.0
-at_entry P (e ∷ more) (suc i) d a h = at_entry P more i d a.1 (omega arith)
+pub group_at : (entries : List Entry) (groups : List Group) (i : ℕ) (g : Group) → groups ≡ map written entries → i < length groups → g ≡ get_or groups i g → IsGroupAt entries i g
+group_at entries groups i g same within is =
+    let inside : i < length entries = omega (arith, ap length same, length-map entries written) in
+    record { inside = inside; is = is ∙ ap (λ l. get_or l i g) same ∙ get_or-map written entries i no_entry g inside }
 
 pub value_at : (e : Entry) (g : Group) → g ≡ written e → list_of e.ranks ≡ e.ranks → group_data g (list_of g.ranks) ≡ entry_data e
 value_at e g is told = ap (λ (x : Group). group_data x (list_of x.ranks)) is ∙ ap (group_data (written e)) told

@@ -1,8 +1,9 @@
 -- The units of hosts as a test, and what inclusion and difference mean by it.
-use Rattle.std.proofs.Common.{◌≡◌, ℕ, zero, suc, ◌<◌, Bool, true, false, cond, ◌&&◌, ◌||◌, not, eqb, List, [], ◌∷◌, length, get_or, map, filter, Option, Some, None, ◌⊎◌, inl, inr, is_some, refl, sym, ap, ap₂, subst, ◌∙◌, arith}
+use Rattle.std.proofs.Common.{◌≡◌, ℕ, zero, suc, ◌<◌, Bool, true, false, cond, ◌&&◌, ◌||◌, not, eqb, List, [], ◌∷◌, length, get_or, map, filter, Option, Some, None, inl, inr, is_some, refl, sym, ap, ap₂, subst, ◌∙◌, arith}
 use Rattle.std.specs.Prelude.{flat_map, Contains}
 use Rattle.std.specs.List.{list_any, list_all}
 use Rattle.std.specs.Str.{bytes_eq}
+use Rattle.std.proofs.Math.Bool.{or-true, and-false}
 use Rattle.std.proofs.lemmas.Bool.Decides.{nat_tests}
 use Rattle.std.proofs.lemmas.Slice.Eq.{bytes_eq-Decides}
 use Rattle.std.proofs.lemmas.List.Folds.{list_any-append}
@@ -12,33 +13,23 @@ use Rattle.resource_set.specs.declared.node.Node.{Node}
 use Rattle.resource_set.specs.Places.{place_of}
 use Rattle.resource_set.specs.Units.{ResourceUnit, host_names, is_named, core_of, gpu_of, units_of_node, units_of, LiesIn, AreDistinct, without_ids, without_nodes, has_ids_of, has_units_of, lies_on}
 use Rattle.resource_set.proofs.Places.{is_some-place_of, place_of-true, place_of-inside}
-use Rattle.resource_set.proofs.Holdings.{only_there, none_so, false_of}
+use Rattle.resource_set.proofs.Holdings.{only_there, none_so}
+use Rattle.resource_set.proofs.Booleans.{both, either, false_of, itself, same_name}
 
 -- a unit of a host, by its kind
 abbrev made : Bool → Node → ℕ → ResourceUnit
 made gpu node id = record { host = node.host; is_gpu = gpu; id = id }
 
+-- the GPUs of a host, or its cores
+abbrev kind : Bool → Node → List ℕ
+kind gpu node = cond gpu node.gpus node.cores
+
 -- whether a host has a unit, and whether one of several has
 abbrev pub node_has : ResourceUnit → Node → Bool
-node_has unit node = bytes_eq node.host unit.host && has (cond unit.is_gpu node.gpus node.cores) unit.id
+node_has unit node = bytes_eq node.host unit.host && has (kind unit.is_gpu node) unit.id
 
 abbrev pub has_unit : List Node → ResourceUnit → Bool
 has_unit nodes unit = list_any (node_has unit) nodes
-
-or_true : (a : Bool) → (a || true) ≡ true
-or_true true = refl
-or_true false = refl
-
-both : (a b : Bool) → (a && b) ≡ true → (a ≡ true) × (b ≡ true)
-both true b h = (refl, h)
-both false b h = cc
-
-here_or : (a b : Bool) → (a || b) ≡ true → (a ≡ true) ⊎ (b ≡ true)
-here_or true b h = inl refl
-here_or false b h = inr h
-
-same_host : (a b : List ℕ) → bytes_eq a b ≡ true → a ≡ b
-same_host a b t = (bytes_eq-Decides a b).0 t
 
 host_is : (a b : List ℕ) → a ≡ b → bytes_eq a b ≡ true
 host_is a b e = (bytes_eq-Decides a b).1 e
@@ -51,7 +42,7 @@ in_made gpu n (x ∷ xs) u zero h e =
     (ap (λ (v : ResourceUnit). v.host) e, ap (λ (v : ResourceUnit). v.is_gpu) e, ap (λ b. b || has xs u.id) met)
 in_made gpu n (x ∷ xs) u (suc k) h e =
     let rest = in_made gpu n xs u k (omega arith) e in
-    (rest.0, rest.1, ap (λ b. eqb x u.id || b) rest.2 ∙ or_true (eqb x u.id))
+    (rest.0, rest.1, ap (λ b. eqb x u.id || b) rest.2 ∙ or-true (eqb x u.id))
 
 made_step : (gpu : Bool) (n : Node) (x id : ℕ) (xs : List ℕ) (b : Bool) → eqb x id ≡ b → (b || has xs id) ≡ true → (has xs id ≡ true → Contains (map (made gpu n) xs) (made gpu n id)) → Contains (map (made gpu n) (x ∷ xs)) (made gpu n id)
 made_step gpu n x id xs true e h f = let is : x ≡ id = grind (arith, nat_tests) in (0, omega arith, ap (made gpu n) is)
@@ -63,21 +54,21 @@ made_there gpu n (x ∷ xs) id h = made_step gpu n x id xs (eqb x id) refl h (λ
 
 node_told : (n : Node) (u : ResourceUnit) → Contains (units_of_node n) u → node_has u n ≡ true
 node_told n u h = elim (Contains-append_cases (map (core_of n) n.cores) (map (gpu_of n) n.gpus) u h) [
-  | inl c ↦ let m = in_made false n n.cores u c.0 c.1 c.2 in ap₂ (λ a b. a && has (cond b n.gpus n.cores) u.id) (host_is n.host u.host m.0) (sym m.1) ∙ m.2
-  | inr c ↦ let m = in_made true n n.gpus u c.0 c.1 c.2 in ap₂ (λ a b. a && has (cond b n.gpus n.cores) u.id) (host_is n.host u.host m.0) (sym m.1) ∙ m.2
+  | inl c ↦ let m = in_made false n n.cores u c.0 c.1 c.2 in ap₂ (λ a b. a && has (kind b n) u.id) (host_is n.host u.host m.0) (sym m.1) ∙ m.2
+  | inr c ↦ let m = in_made true n n.gpus u c.0 c.1 c.2 in ap₂ (λ a b. a && has (kind b n) u.id) (host_is n.host u.host m.0) (sym m.1) ∙ m.2
 ]
 
 unit_is : (gpu : Bool) (n : Node) (u : ResourceUnit) → n.host ≡ u.host → gpu ≡ u.is_gpu → made gpu n u.id ≡ u
 unit_is gpu n u h g = ap₂ (λ a b. let v : ResourceUnit = record { host = a; is_gpu = b; id = u.id } in v) h g
 
 node_there : (n : Node) (u : ResourceUnit) → node_has u n ≡ true → Contains (units_of_node n) u
-node_there n u h = go u.is_gpu refl (both (bytes_eq n.host u.host) (has (cond u.is_gpu n.gpus n.cores) u.id) h)
+node_there n u h = go u.is_gpu refl (both (bytes_eq n.host u.host) (has (kind u.is_gpu n) u.id) h)
   where
-    go : (g : Bool) → u.is_gpu ≡ g → (bytes_eq n.host u.host ≡ true) × (has (cond u.is_gpu n.gpus n.cores) u.id ≡ true) → Contains (units_of_node n) u
+    go : (g : Bool) → u.is_gpu ≡ g → (bytes_eq n.host u.host ≡ true) × (has (kind u.is_gpu n) u.id ≡ true) → Contains (units_of_node n) u
     go false e m = Contains-append_left (map (core_of n) n.cores) (map (gpu_of n) n.gpus) u
-        (subst (Contains (map (core_of n) n.cores)) (unit_is false n u (same_host n.host u.host m.0) (sym e)) (made_there false n n.cores u.id (ap (λ b. has (cond b n.gpus n.cores) u.id) (sym e) ∙ m.1)))
+        (subst (Contains (map (core_of n) n.cores)) (unit_is false n u (same_name n.host u.host m.0) (sym e)) (made_there false n n.cores u.id (ap (λ b. has (kind b n) u.id) (sym e) ∙ m.1)))
     go true e m = Contains-append_right (map (core_of n) n.cores) (map (gpu_of n) n.gpus) u
-        (subst (Contains (map (gpu_of n) n.gpus)) (unit_is true n u (same_host n.host u.host m.0) (sym e)) (made_there true n n.gpus u.id (ap (λ b. has (cond b n.gpus n.cores) u.id) (sym e) ∙ m.1)))
+        (subst (Contains (map (gpu_of n) n.gpus)) (unit_is true n u (same_name n.host u.host m.0) (sym e)) (made_there true n n.gpus u.id (ap (λ b. has (kind b n) u.id) (sym e) ∙ m.1)))
 
 nothing_in : {A : Type 0} (x : A) → Contains [] x → ⊥
 nothing_in x h = let lt : h.0 < 0 = h.1 in omega arith
@@ -87,12 +78,12 @@ pub units_told : (nodes : List Node) (u : ResourceUnit) → Contains (units_of n
 units_told [] u h = absurd (nothing_in u h)
 units_told (n ∷ ns) u h = elim (Contains-append_cases (units_of_node n) (units_of ns) u h) [
   | inl c ↦ ap (λ b. b || has_unit ns u) (node_told n u c)
-  | inr c ↦ ap (λ b. node_has u n || b) (units_told ns u c) ∙ or_true (node_has u n)
+  | inr c ↦ ap (λ b. node_has u n || b) (units_told ns u c) ∙ or-true (node_has u n)
 ]
 
 pub units_there : (nodes : List Node) (u : ResourceUnit) → has_unit nodes u ≡ true → Contains (units_of nodes) u
 units_there [] u h = cc
-units_there (n ∷ ns) u h = elim (here_or (node_has u n) (has_unit ns u) h) [
+units_there (n ∷ ns) u h = elim (either (node_has u n) (has_unit ns u) h) [
   | inl t ↦ Contains-append_left (units_of_node n) (units_of ns) u (node_there n u t)
   | inr t ↦ Contains-append_right (units_of_node n) (units_of ns) u (units_there ns u t)
 ]
@@ -110,43 +101,42 @@ all_has p (x ∷ xs) id a h = go (eqb x id) refl h (both (p x) (list_all p xs) a
 all_if : (p : ℕ → Bool) (xs : List ℕ) → ((id : ℕ) → has xs id ≡ true → p id ≡ true) → list_all p xs ≡ true
 all_if p [] f = refl
 all_if p (x ∷ xs) f =
-    let met : eqb x x ≡ true = grind (arith, nat_tests) in
-    ap₂ (λ a b. a && b) (f x (ap (λ b. b || has xs x) met)) (all_if p xs (λ id t. f id (ap (λ b. eqb x id || b) t ∙ or_true (eqb x id))))
+    ap₂ (λ a b. a && b) (f x (ap (λ b. b || has xs x) (itself x))) (all_if p xs (λ id t. f id (ap (λ b. eqb x id || b) t ∙ or-true (eqb x id))))
 
-kind_has : (part there : Node) (u : ResourceUnit) → has_ids_of there part ≡ true → has (cond u.is_gpu part.gpus part.cores) u.id ≡ true → has (cond u.is_gpu there.gpus there.cores) u.id ≡ true
+kind_has : (part there : Node) (u : ResourceUnit) → has_ids_of there part ≡ true → has (kind u.is_gpu part) u.id ≡ true → has (kind u.is_gpu there) u.id ≡ true
 kind_has part there u a h = go u.is_gpu h (both (list_all (has there.cores) part.cores) (list_all (has there.gpus) part.gpus) a)
   where
-    go : (g : Bool) → has (cond g part.gpus part.cores) u.id ≡ true → (list_all (has there.cores) part.cores ≡ true) × (list_all (has there.gpus) part.gpus ≡ true) → has (cond g there.gpus there.cores) u.id ≡ true
+    go : (g : Bool) → has (kind g part) u.id ≡ true → (list_all (has there.cores) part.cores ≡ true) × (list_all (has there.gpus) part.gpus ≡ true) → has (kind g there) u.id ≡ true
     go true t m = all_has (has there.gpus) part.gpus u.id m.1 t
     go false t m = all_has (has there.cores) part.cores u.id m.0 t
 
 there_has : (part there : Node) (u : ResourceUnit) → has_units_of there part ≡ true → node_has u part ≡ true → node_has u there ≡ true
 there_has part there u a h =
     let m = both (bytes_eq there.host part.host) (has_ids_of there part) a in
-    let k = both (bytes_eq part.host u.host) (has (cond u.is_gpu part.gpus part.cores) u.id) h in
-    ap₂ (λ x y. x && y) (host_is there.host u.host (same_host there.host part.host m.0 ∙ same_host part.host u.host k.0)) (kind_has part there u m.1 k.1)
+    let k = both (bytes_eq part.host u.host) (has (kind u.is_gpu part) u.id) h in
+    ap₂ (λ x y. x && y) (host_is there.host u.host (same_name there.host part.host m.0 ∙ same_name part.host u.host k.0)) (kind_has part there u m.1 k.1)
 
 some_has : (whole : List Node) (part : Node) (u : ResourceUnit) → list_any (λ n. has_units_of n part) whole ≡ true → node_has u part ≡ true → has_unit whole u ≡ true
 some_has [] part u a h = cc
-some_has (n ∷ ns) part u a h = elim (here_or (has_units_of n part) (list_any (λ m. has_units_of m part) ns) a) [
+some_has (n ∷ ns) part u a h = elim (either (has_units_of n part) (list_any (λ m. has_units_of m part) ns) a) [
   | inl t ↦ ap (λ b. b || has_unit ns u) (there_has part n u t h)
-  | inr t ↦ ap (λ b. node_has u n || b) (some_has ns part u t h) ∙ or_true (node_has u n)
+  | inr t ↦ ap (λ b. node_has u n || b) (some_has ns part u t h) ∙ or-true (node_has u n)
 ]
 
-no_ids : (part : Node) (u : ResourceUnit) → (eqb (length part.cores) 0 && eqb (length part.gpus) 0) ≡ true → has (cond u.is_gpu part.gpus part.cores) u.id ≡ true → ⊥
+no_ids : (part : Node) (u : ResourceUnit) → (eqb (length part.cores) 0 && eqb (length part.gpus) 0) ≡ true → has (kind u.is_gpu part) u.id ≡ true → ⊥
 no_ids part u a h = go u.is_gpu h (both (eqb (length part.cores) 0) (eqb (length part.gpus) 0) a)
   where
     none : (ids : List ℕ) → eqb (length ids) 0 ≡ true → has ids u.id ≡ true → ⊥
     none [] e t = cc
     none (x ∷ xs) e t = let is : suc (length xs) ≡ 0 = grind (arith, nat_tests) in omega arith
 
-    go : (g : Bool) → has (cond g part.gpus part.cores) u.id ≡ true → (eqb (length part.cores) 0 ≡ true) × (eqb (length part.gpus) 0 ≡ true) → ⊥
+    go : (g : Bool) → has (kind g part) u.id ≡ true → (eqb (length part.cores) 0 ≡ true) × (eqb (length part.gpus) 0 ≡ true) → ⊥
     go true t m = none part.gpus m.1 t
     go false t m = none part.cores m.0 t
 
 lies_node : (whole : List Node) (part : Node) (u : ResourceUnit) → lies_on whole part ≡ true → node_has u part ≡ true → has_unit whole u ≡ true
-lies_node whole part u a h = elim (here_or (eqb (length part.cores) 0 && eqb (length part.gpus) 0) (list_any (λ n. has_units_of n part) whole) a) [
-  | inl t ↦ absurd (no_ids part u t (both (bytes_eq part.host u.host) (has (cond u.is_gpu part.gpus part.cores) u.id) h).1)
+lies_node whole part u a h = elim (either (eqb (length part.cores) 0 && eqb (length part.gpus) 0) (list_any (λ n. has_units_of n part) whole) a) [
+  | inl t ↦ absurd (no_ids part u t (both (bytes_eq part.host u.host) (has (kind u.is_gpu part) u.id) h).1)
   | inr t ↦ some_has whole part u t h
 ]
 
@@ -154,25 +144,24 @@ lies_units : (whole part : List Node) (u : ResourceUnit) → list_all (lies_on w
 lies_units whole [] u a h = cc
 lies_units whole (n ∷ ns) u a h =
     let m = both (lies_on whole n) (list_all (lies_on whole) ns) a in
-    elim (here_or (node_has u n) (has_unit ns u) h) [
+    elim (either (node_has u n) (has_unit ns u) h) [
       | inl t ↦ lies_node whole n u m.0 t
       | inr t ↦ lies_units whole ns u m.1 t
     ]
 
-own_unit : (gpu : Bool) (n : Node) (id : ℕ) → has (cond gpu n.gpus n.cores) id ≡ true → node_has (made gpu n id) n ≡ true
+own_unit : (gpu : Bool) (n : Node) (id : ℕ) → has (kind gpu n) id ≡ true → node_has (made gpu n id) n ≡ true
 own_unit gpu n id h = ap₂ (λ a b. a && b) (host_is n.host n.host refl) h
 
 lies_at : (whole : List Node) (n : Node) (o : Option ℕ) → AreDistinct (host_names whole) → place_of (is_named n.host) whole ≡ o → ((u : ResourceUnit) → node_has u n ≡ true → has_unit whole u ≡ true) → lies_on whole n ≡ true
 lies_at whole n None a e f = ap₂ (λ x y. (x && y) || list_any (λ m. has_units_of m n) whole) (empty false n.cores (λ id t. f (made false n id) (own_unit false n id t))) (empty true n.gpus (λ id t. f (made true n id) (own_unit true n id t)))
   where
     nowhere : (gpu : Bool) (id : ℕ) → has_unit whole (made gpu n id) ≡ false
-    nowhere gpu id = none_so n.host (λ m. has (cond gpu m.gpus m.cores) id) whole (sym (is_some-place_of (is_named n.host) whole) ∙ ap is_some e)
+    nowhere gpu id = none_so n.host (λ m. has (kind gpu m) id) whole (sym (is_some-place_of (is_named n.host) whole) ∙ ap is_some e)
 
     empty : (gpu : Bool) (ids : List ℕ) → ((id : ℕ) → has ids id ≡ true → has_unit whole (made gpu n id) ≡ true) → eqb (length ids) 0 ≡ true
     empty gpu [] g = refl
     empty gpu (x ∷ xs) g =
-        let met : eqb x x ≡ true = grind (arith, nat_tests) in
-        let clash : true ≡ false = sym (g x (ap (λ b. b || has xs x) met)) ∙ nowhere gpu x in
+        let clash : true ≡ false = sym (g x (ap (λ b. b || has xs x) (itself x))) ∙ nowhere gpu x in
         cc
 lies_at whole n (Some i) a e f =
     let inside = place_of-inside (is_named n.host) whole i e in
@@ -181,13 +170,13 @@ lies_at whole n (Some i) a e f =
     let cores : list_all (has there.cores) n.cores ≡ true = all_if (has there.cores) n.cores (λ id t. sym (only_there n.host (λ m. has m.cores id) whole i n a inside at) ∙ f (made false n id) (own_unit false n id t)) in
     let gpus : list_all (has there.gpus) n.gpus ≡ true = all_if (has there.gpus) n.gpus (λ id t. sym (only_there n.host (λ m. has m.gpus id) whole i n a inside at) ∙ f (made true n id) (own_unit true n id t)) in
     let some : list_any (λ m. has_units_of m n) whole ≡ true = only_there n.host (λ m. has_ids_of m n) whole i n a inside at ∙ ap₂ (λ x y. x && y) cores gpus in
-    ap (λ b. (eqb (length n.cores) 0 && eqb (length n.gpus) 0) || b) some ∙ or_true (eqb (length n.cores) 0 && eqb (length n.gpus) 0)
+    ap (λ b. (eqb (length n.cores) 0 && eqb (length n.gpus) 0) || b) some ∙ or-true (eqb (length n.cores) 0 && eqb (length n.gpus) 0)
 
 lies_from : (whole part : List Node) → AreDistinct (host_names whole) → ((u : ResourceUnit) → has_unit part u ≡ true → has_unit whole u ≡ true) → list_all (lies_on whole) part ≡ true
 lies_from whole [] a f = refl
 lies_from whole (n ∷ ns) a f = ap₂ (λ x y. x && y)
     (lies_at whole n (place_of (is_named n.host) whole) a refl (λ u t. f u (ap (λ b. b || has_unit ns u) t)))
-    (lies_from whole ns a (λ u t. f u (ap (λ b. node_has u n || b) t ∙ or_true (node_has u n))))
+    (lies_from whole ns a (λ u t. f u (ap (λ b. node_has u n || b) t ∙ or-true (node_has u n))))
 
 -- hosts lie in others just where their units do
 pub lies_in : (whole part : List Node) → list_all (lies_on whole) part ≡ true → LiesIn part whole
@@ -202,18 +191,11 @@ has_without : (ids taken : List ℕ) (id : ℕ) → has (without_ids ids taken) 
 has_without [] taken id = refl
 has_without (x ∷ xs) taken id = go (has taken x) (eqb x id) refl refl (has_without xs taken id)
   where
-    last : (a b : Bool) → (a && not b) ≡ ((false || a) && not b)
-    last a b = refl
-
     go : (a b : Bool) → has taken x ≡ a → eqb x id ≡ b → has (without_ids xs taken) id ≡ (has xs id && not (has taken id)) → has (cond (not a) (x ∷ without_ids xs taken) (without_ids xs taken)) id ≡ ((b || has xs id) && not (has taken id))
     go true true ae be h =
         let is : x ≡ id = grind (arith, nat_tests) in
         let gone : has taken id ≡ true = sym (ap (has taken) is) ∙ ae in
-        h ∙ ap (λ c. has xs id && not c) gone ∙ no (has xs id) ∙ sym (ap not gone)
-      where
-        no : (c : Bool) → (c && false) ≡ false
-        no true = refl
-        no false = refl
+        h ∙ ap (λ c. has xs id && not c) gone ∙ and-false (has xs id) ∙ sym (ap not gone)
     go true false ae be h = h
     go false true ae be h =
         let is : x ≡ id = grind (arith, nat_tests) in
@@ -229,23 +211,20 @@ has_flat f name (t ∷ ts) id = go (bytes_eq t.host name) (has_flat f name ts id
     go true h = list_any-append (λ i. eqb i id) (f t) (flat_map f (filter (is_named name) ts)) ∙ ap (λ b. has (f t) id || b) h
     go false h = h
 
+kind_without : (gpu : Bool) (taken : List Node) (n : Node) → kind gpu (without_nodes taken n) ≡ without_ids (kind gpu n) (flat_map (kind gpu) (filter (is_named n.host) taken))
+kind_without true taken n = refl
+kind_without false taken n = refl
+
 node_without : (taken : List Node) (n : Node) (u : ResourceUnit) → node_has u (without_nodes taken n) ≡ (node_has u n && not (has_unit taken u))
-node_without taken n u = go (bytes_eq n.host u.host) refl u.is_gpu refl
+node_without taken n u = go (bytes_eq n.host u.host) refl
   where
-    go : (b : Bool) → bytes_eq n.host u.host ≡ b → (g : Bool) → u.is_gpu ≡ g → node_has u (without_nodes taken n) ≡ (node_has u n && not (has_unit taken u))
-    go false e g k = ap (λ b. b && has (cond u.is_gpu (without_nodes taken n).gpus (without_nodes taken n).cores) u.id) e ∙ sym (ap (λ b. (b && has (cond u.is_gpu n.gpus n.cores) u.id) && not (has_unit taken u)) e)
-    go true e true k =
-        let host : n.host ≡ u.host = same_host n.host u.host e in
-        ap₂ (λ b c. b && has (cond c (without_nodes taken n).gpus (without_nodes taken n).cores) u.id) e k
-        ∙ has_without n.gpus (flat_map (λ t. t.gpus) (filter (is_named n.host) taken)) u.id
-        ∙ ap (λ b. has n.gpus u.id && not b) (has_flat (λ t. t.gpus) n.host taken u.id ∙ ap (λ h. list_any (λ t. bytes_eq t.host h && has t.gpus u.id) taken) host ∙ ap (λ c. list_any (λ t. bytes_eq t.host u.host && has (cond c t.gpus t.cores) u.id) taken) (sym k))
-        ∙ sym (ap₂ (λ b c. (b && has (cond c n.gpus n.cores) u.id) && not (has_unit taken u)) e k)
-    go true e false k =
-        let host : n.host ≡ u.host = same_host n.host u.host e in
-        ap₂ (λ b c. b && has (cond c (without_nodes taken n).gpus (without_nodes taken n).cores) u.id) e k
-        ∙ has_without n.cores (flat_map (λ t. t.cores) (filter (is_named n.host) taken)) u.id
-        ∙ ap (λ b. has n.cores u.id && not b) (has_flat (λ t. t.cores) n.host taken u.id ∙ ap (λ h. list_any (λ t. bytes_eq t.host h && has t.cores u.id) taken) host ∙ ap (λ c. list_any (λ t. bytes_eq t.host u.host && has (cond c t.gpus t.cores) u.id) taken) (sym k))
-        ∙ sym (ap₂ (λ b c. (b && has (cond c n.gpus n.cores) u.id) && not (has_unit taken u)) e k)
+    go : (b : Bool) → bytes_eq n.host u.host ≡ b → node_has u (without_nodes taken n) ≡ (node_has u n && not (has_unit taken u))
+    go false e = ap (λ b. b && has (kind u.is_gpu (without_nodes taken n)) u.id) e ∙ sym (ap (λ b. (b && has (kind u.is_gpu n) u.id) && not (has_unit taken u)) e)
+    go true e =
+        ap₂ (λ b ids. b && has ids u.id) e (kind_without u.is_gpu taken n)
+        ∙ has_without (kind u.is_gpu n) (flat_map (kind u.is_gpu) (filter (is_named n.host) taken)) u.id
+        ∙ ap (λ b. has (kind u.is_gpu n) u.id && not b) (has_flat (kind u.is_gpu) n.host taken u.id ∙ ap (λ h. list_any (λ t. bytes_eq t.host h && has (kind u.is_gpu t) u.id) taken) (same_name n.host u.host e))
+        ∙ sym (ap (λ b. (b && has (kind u.is_gpu n) u.id) && not (has_unit taken u)) e)
 
 apart_or : (a b c : Bool) → ((a && c) || (b && c)) ≡ ((a || b) && c)
 apart_or true true true = refl

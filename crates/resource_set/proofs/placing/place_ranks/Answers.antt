@@ -4,7 +4,7 @@ use Rattle.std.specs.BTreeMap.{get}
 use Rattle.idset.specs.Ids.{has}
 use Rattle.std.proofs.lemmas.List.Folds.{list_any_more}
 use Rattle.resource_set.specs.Reading.{unless_twice}
-use Rattle.resource_set.proofs.Ranks.{is_eq-nat_cmp, not_before, cond_twice, cond_no, find_here, find_behind}
+use Rattle.resource_set.proofs.Ranks.{is_eq-nat_cmp, unplaced, cond_twice, find_here, find_behind}
 use Rattle.resource_set.proofs.placing.place_ranks.Goals as goal
 
 pub returns-then-is_some-clause-once : goal.returns-then-is_some-clause-once
@@ -12,10 +12,8 @@ returns-then-is_some-clause-once c =
     let ranks = c.args.ranks.now in
     let i = c.loop-rank.rank-index in
     let inside : i < length ranks = omega arith in
-    let rank = get_or ranks i 0 in
-    let fresh : has (take i ranks) rank ≡ false = not_before ranks i c.requires inside in
-    let was : get nat_cmp c.loop-rank.places rank ≡ get nat_cmp c.args.places.now rank = c.loop-rank.invariant.placed rank ∙ cond_no (has (take i ranks) rank) (Some c.args.place) (get nat_cmp c.args.places.now rank) fresh in
-    let met : is_some (get nat_cmp c.args.places.now rank) ≡ true = sym (ap is_some (c.in_ok-insert.ensures.old ∙ was)) ∙ sym c.if-is_some.ensures in
+    let was = unplaced ranks i c.args.place (λ r. get nat_cmp c.loop-rank.places r) (λ r. get nat_cmp c.args.places.now r) c.requires inside c.loop-rank.invariant.placed in
+    let met : is_some (get nat_cmp c.args.places.now (get_or ranks i 0)) ≡ true = sym (ap is_some (c.in_ok-insert.ensures.old ∙ was)) ∙ sym c.if-is_some.ensures in
     ap unless_twice (c.loop-rank.invariant.once ∙ find_here (λ r. is_some (get nat_cmp c.args.places.now r)) ranks i inside met)
 
 pub loop-rank-preserved : goal.loop-rank-preserved
@@ -24,8 +22,7 @@ loop-rank-preserved c =
     let i = c.loop-rank.rank-index in
     let inside : i < length ranks = omega arith in
     let rank = get_or ranks i 0 in
-    let fresh : has (take i ranks) rank ≡ false = not_before ranks i c.requires inside in
-    let was : get nat_cmp c.loop-rank.places rank ≡ get nat_cmp c.args.places.now rank = c.loop-rank.invariant.placed rank ∙ cond_no (has (take i ranks) rank) (Some c.args.place) (get nat_cmp c.args.places.now rank) fresh in
+    let was = unplaced ranks i c.args.place (λ r. get nat_cmp c.loop-rank.places r) (λ r. get nat_cmp c.args.places.now r) c.requires inside c.loop-rank.invariant.placed in
     let unmet : is_some (get nat_cmp c.args.places.now rank) ≡ false = sym (ap is_some (c.in_ok-insert.ensures.old ∙ was)) ∙ sym c.if-is_some.ensures in
     record {
       placed = λ r.

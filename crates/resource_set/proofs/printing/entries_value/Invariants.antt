@@ -6,6 +6,6 @@ use Rattle.resource_set.proofs.printing.entries_value.Given as goal
 
 abbrev pub invariant-loop-group : goal.invariant-loop-group
 invariant-loop-group l = record {
-  values : map view l.values.items ≡ take l.group-index (map entry_data (entries_of l.nodes));
+  values : map view l.values.items ≡ map entry_data (take l.group-index (entries_of l.nodes));
   spelled : AllByRecursion (λ entry. IsSpelled entry.ranks) (take l.group-index (entries_of l.nodes));
 }

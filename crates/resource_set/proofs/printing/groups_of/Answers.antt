@@ -19,9 +19,10 @@ pub add_rank-requires : goal.add_rank-requires
 add_rank-requires c =
     let node = c.node-item.result in
     let groups = c.loop-node.groups.items in
-    let at : place_of (has_texts (printed node.cores) (printed node.gpus)) groups ≡ Some c.in-Some.place =
+    let its_texts = has_texts (printed node.cores) (printed node.gpus) in
+    let at : place_of its_texts groups ≡ Some c.in-Some.place =
     sym (c.in-Some.ensures ∙ c.get.ensures.value ∙ ap (get (slice_cmp (slice_cmp nat_cmp)) c.loop-node.places) c.in_ok-texts.ensures.texts ∙ c.loop-node.invariant.placed (printed node.cores) (printed node.gpus)) in
-    place_of-inside (has_texts (printed node.cores) (printed node.gpus)) groups c.in-Some.place at
+    place_of-inside its_texts groups c.in-Some.place at
 
 pub loop-node-preserved : goal.loop-node-preserved
 loop-node-preserved c =
@@ -30,12 +31,13 @@ loop-node-preserved c =
     let inside : i < length nodes = omega arith in
     let node = c.node-item.result in
     let groups = c.loop-node.groups.items in
+    let its_texts = has_texts (printed node.cores) (printed node.gpus) in
     let entries = entries_of (take i nodes) in
     let spelled = c.in_ok-texts.ensures.spelled in
     let before = c.loop-node.invariant in
     let more : entries_of (take (i + 1) nodes) ≡ with_node entries node = fold_more with_node [] nodes i node inside ∙ ap (with_node entries) (sym c.node-item.is) in
     let there = c.get.ensures.value ∙ ap (get (slice_cmp (slice_cmp nat_cmp)) c.loop-node.places) c.in_ok-texts.ensures.texts ∙ before.placed (printed node.cores) (printed node.gpus) in
-    let alike : place_of (fits_in node) entries ≡ place_of (has_texts (printed node.cores) (printed node.gpus)) groups = sym (place_alike node entries spelled.0 spelled.1 before.spelled) ∙ ap (place_of (has_texts (printed node.cores) (printed node.gpus))) (sym before.grouped) in
+    let alike : place_of (fits_in node) entries ≡ place_of its_texts groups = sym (place_alike node entries spelled.0 spelled.1 before.spelled) ∙ ap (place_of its_texts) (sym before.grouped) in
     let written_all : AllByRecursion IsWritten (entries_of (take (i + 1) nodes)) = subst (AllByRecursion IsWritten) (sym more) (written-with_node entries node spelled.0 spelled.1 before.spelled) in
     elim c.match-copied.branch [
       | in-Some+in_ok-add_rank-in-Some w ↦
@@ -49,7 +51,7 @@ loop-node-preserved c =
           }
       | in-None+in_ok-insert-in-None+in_ok-group_of-in-None+in_ok-push-in-None w ↦
           let group = w.in_ok-group_of-in-None.field-0 in
-          let none : place_of (has_texts (printed node.cores) (printed node.gpus)) groups ≡ None = sym (w.in-None.ensures ∙ there) in
+          let none : place_of its_texts groups ≡ None = sym (w.in-None.ensures ∙ there) in
           let pushed : c.match-copied.groups.items ≡ groups ++ group ∷ [] = ap (λ v. v.items) w.groups-is ∙ w.in_ok-push-in-None.ensures.items in
           let new : c.match-copied.groups.items ≡ map written (with_node entries node) = group_added entries groups c.match-copied.groups.items group node before.grouped (alike ∙ none) w.in_ok-group_of-in-None.ensures pushed in
           let len : w.len.result ≡ length groups = grind (arith, common_steps) in

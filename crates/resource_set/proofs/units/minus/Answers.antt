@@ -1,6 +1,7 @@
 use Rattle.std.proofs.Common.{◌≡◌, ◌<◌, ◌≤◌, ◌∷◌, [], ◌++◌, length, get_or, map, sym, ap, ap₂, ◌∙◌, subst, arith}
 use Rattle.std.specs.Prelude.{Contains}
 use Rattle.std.proofs.lemmas.List.{map_more, take_all}
+use Rattle.resource_set.specs.declared.node.Resources.{Resources}
 use Rattle.resource_set.specs.Units.{without_nodes, units_of}
 use Rattle.resource_set.proofs.UnitTests.{units_left, units_left_back}
 use Rattle.resource_set.proofs.LeftOver.{left_valid}
@@ -20,8 +21,8 @@ loop-node-preserved c =
     ∙ ap₂ (λ l x. l ++ x ∷ []) c.loop-node.invariant (c.in_ok-node_left.ensures ∙ ap₂ (λ t n. without_nodes t n) c.as_slice-taken.ensures is)
     ∙ sym (map_more (without_nodes taken) nodes i node inside)
 
-pub returns-clause-units : goal.returns-clause-units
-returns-clause-units c =
+pub returns : goal.returns
+returns c =
     let nodes = c.args.a.now.nodes in
     let taken = c.args.b.now.nodes in
     let i = c.loop-node.node-index in
@@ -29,15 +30,8 @@ returns-clause-units c =
     let whole : length c.as_slice-node-items.result.now ≤ i = omega arith in
     let done : length nodes ≤ i = subst (λ l. length l ≤ i) same whole in
     let all : c.loop-node.nodes ≡ map (without_nodes taken) nodes = c.loop-node.invariant ∙ ap (map (without_nodes taken)) (take_all i nodes done) in
-    λ u. ((λ h. units_left taken nodes u (subst (λ l. Contains (units_of l) u) all h)), (λ h. subst (λ l. Contains (units_of l) u) (sym all) (units_left_back taken nodes u h)))
-
-pub returns-clause-valid : goal.returns-clause-valid
-returns-clause-valid c =
-    let nodes = c.args.a.now.nodes in
-    let taken = c.args.b.now.nodes in
-    let i = c.loop-node.node-index in
-    let same : c.as_slice-node-items.result.now ≡ nodes = c.as_slice-node-items.ensures in
-    let whole : length c.as_slice-node-items.result.now ≤ i = omega arith in
-    let done : length nodes ≤ i = subst (λ l. length l ≤ i) same whole in
-    let all : c.loop-node.nodes ≡ map (without_nodes taken) nodes = c.loop-node.invariant ∙ ap (map (without_nodes taken)) (take_all i nodes done) in
-    λ v. left_valid c.args.a.now taken c.loop-node.nodes all v
+    record {
+      left = ap (λ left. let r : Resources = record c.args.a.now { nodes = left } in r) all;
+      units = λ u. ((λ h. units_left taken nodes u (subst (λ l. Contains (units_of l) u) all h)), (λ h. subst (λ l. Contains (units_of l) u) (sym all) (units_left_back taken nodes u h)));
+      valid = λ v. left_valid c.args.a.now taken c.loop-node.nodes all v;
+    }
