@@ -48,12 +48,12 @@ pub few : (r : Resources) → IsR r → length r.nodes ≤ 65536
 few r v = let all : length (map (λ (n : Node). n.rank) r.nodes) ≤ 65536 = length-rising (map (λ (n : Node). n.rank) r.nodes) v.hosts.rising (All-map (λ id. id < 65536) (λ (n : Node). n.rank) r.nodes v.hosts.small) in omega (arith, length-map r.nodes (λ (n : Node). n.rank))
 
 -- and can be printed
-pub numbered_valid : (r : Resources) (nodes : List Node) → IsR r → nodes ≡ numbered 0 r.nodes → IsR (let granted : Resources = record r { nodes = nodes } in granted)
-numbered_valid r nodes v is = record {
+pub numbered_valid : (r granted : Resources) → IsR r → granted.nodes ≡ numbered 0 r.nodes → IsR granted
+numbered_valid r granted v is = record {
   hosts = subst AreHosts (sym is) (record {
     rising = subst IsStrictlyIncreasing (sym (ranks-numbered r.nodes 0)) (rising_range 0 (length r.nodes));
     small = small-numbered r.nodes 0 (omega (arith, few r v));
     hosts = subst AreDistinct (sym (hosts-numbered r.nodes 0)) v.hosts.hosts;
   });
-  named = let same : map (λ (n : Node). n.host) nodes ≡ map (λ (n : Node). n.host) r.nodes = ap (map (λ (n : Node). n.host)) is ∙ hosts-numbered r.nodes 0 in rw same v.named;
+  named = let same : map (λ (n : Node). n.host) granted.nodes ≡ map (λ (n : Node). n.host) r.nodes = ap (map (λ (n : Node). n.host)) is ∙ hosts-numbered r.nodes 0 in rw same v.named;
 }

@@ -28,7 +28,8 @@ fn at_rank(node: &Node, rank: u32) -> Result<Node, AllocError>
 /// The resources of a child of the job that has these: its hosts in their order at the ranks from 0 on, with their cores and GPUs, from the same second on and until the same.
 pub fn child(alloc: Global, r: &Resources) -> Result<Resources, AllocError>
     requires { IsR r.now }
-    ensures value { IfOk result (λ granted. granted ≡ record r.now { nodes = numbered 0 r.now.nodes }) }
+    ensures value { IfOk result (λ granted. granted
+        ≡ record r.now { nodes = numbered 0 r.now.nodes }) }
     ensures units { IfOk result (λ granted. units_of granted.nodes ≡ units_of r.now.nodes) }
     ensures valid { IfOk result IsR }
 {

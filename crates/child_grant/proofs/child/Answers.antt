@@ -42,4 +42,4 @@ returns-clause-valid c =
     let nodes = c.args.r.now.nodes in
     let i = c.loop-node.node-index in
     let whole : length nodes ≤ i = omega (arith, ap length c.as_slice-node-items.ensures) in
-    numbered_valid c.args.r.now c.loop-node.nodes c.requires (c.loop-node.invariant.granted ∙ ap (numbered 0) (take_all i nodes whole))
+    numbered_valid c.args.r.now _ c.requires (c.loop-node.invariant.granted ∙ ap (numbered 0) (take_all i nodes whole))
