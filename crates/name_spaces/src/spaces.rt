@@ -1,5 +1,5 @@
 // The table of namespaces.
-ghost use Rattle.std.specs.Prelude.{◌≡◌, ◌≢◌, ◌↔◌, ◌≤◌, [], ◌∷◌, Some, None, true, false, is_some, IsTrue, IfOk, OnOk, OnErr, IfErr, IsErrOf, IsNone, IsSome};
+ghost use Rattle.std.specs.Prelude.{◌≡◌, ◌≢◌, ◌↔◌, ◌+◌, ◌≤◌, [], ◌∷◌, Some, None, true, false, is_some, IsTrue, IfOk, OnOk, OnErr, IfErr, IsErrOf, IsNone, IsSome};
 ghost use Rattle.std.specs.Map.{set_value};
 ghost use Rattle.name_spaces.specs.Table.{Table, entry_of, root_of, was_created, live_count, most_live, primary, same_name, Changes, IsOfCreate, IsOfRemove};
 ghost use Rattle.name_spaces.specs.declared.faults.SpaceFault.TheVariants as fault;
@@ -45,6 +45,40 @@ fn rewrite<R: Copy>(roots: &mut BTreeMap<Bytes, Option<R>>, name: &Bytes, root: 
     }
 }
 
+/// Adds a name that never was.
+fn add_name<R: Copy>(
+    roots: &mut BTreeMap<Bytes, Option<R>>,
+    name: &Bytes,
+    root: R,
+) -> Result<(), AllocError>
+    requires { was_created roots.old.entries name.now ≡ false }
+    ensures added { OnOk result (Changes roots.old.entries roots.new.entries name.now (Some root)) }
+    ensures count { OnOk result (live_count roots.new.entries ≡ live_count roots.old.entries + 1) }
+    ensures kept { OnErr result (roots.new.entries ≡ roots.old.entries) }
+{
+    let key = name.copy()?;
+    roots.insert(key, Some(root))?;
+    Ok(())
+}
+
+/// Gives a live name another root.
+fn replace_root<R: Copy>(roots: &mut BTreeMap<Bytes, Option<R>>, name: &Bytes, root: R)
+    requires { IsSome (root_of roots.old.entries name.now) }
+    ensures changed { Changes roots.old.entries roots.new.entries name.now (Some root) }
+    ensures count { live_count roots.new.entries ≡ live_count roots.old.entries }
+{
+    rewrite(roots, name, Some(root));
+}
+
+/// Takes the root of a live name away.
+fn take_root<R: Copy>(roots: &mut BTreeMap<Bytes, Option<R>>, name: &Bytes)
+    requires { IsSome (root_of roots.old.entries name.now) }
+    ensures changed { Changes roots.old.entries roots.new.entries name.now None }
+    ensures count { live_count roots.new.entries + 1 ≡ live_count roots.old.entries }
+{
+    rewrite(roots, name, None);
+}
+
 impl<R: Copy> Spaces<R> {
     /// The table with `primary` alone, at this root.
     pub fn new(alloc: Global, first: R) -> Result<Spaces<R>, AllocError>
@@ -65,6 +99,7 @@ impl<R: Copy> Spaces<R> {
     /// Creates a name that never was, at this root.
     pub fn create(&mut self, name: &Bytes, root: R) -> Result<(), SpaceFault>
         ensures created { OnOk result (Changes self.old self.new name.now (Some root) × (was_created self.old name.now ≡ false)) }
+        ensures count { OnOk result (live_count self.new ≡ live_count self.old + 1) }
         ensures kept { OnErr result (self.new ≡ self.old) }
         ensures exists { IsErrOf result fault.Exists ↔ IsTrue (was_created self.old name.now) }
         ensures full { IsErrOf result fault.TooMany ↔ ((was_created self.old name.now ≡ false) × (most_live ≤ live_count self.old)) }
@@ -76,8 +111,7 @@ impl<R: Copy> Spaces<R> {
         if MOST_LIVE <= self.live {
             return Err(SpaceFault::TooMany);
         }
-        let key = name.copy()?;
-        self.roots.insert(key, Some(root))?;
+        add_name(&mut self.roots, name, root)?;
         self.live += 1;
         Ok(())
     }
@@ -85,6 +119,7 @@ impl<R: Copy> Spaces<R> {
     /// Removes a live name, which is then never created again. It takes no memory.
     pub fn remove(&mut self, name: &Bytes) -> Result<(), SpaceFault>
         ensures removed { OnOk result (Changes self.old self.new name.now None × IsSome (root_of self.old name.now)) }
+        ensures count { OnOk result (live_count self.new + 1 ≡ live_count self.old) }
         ensures kept { OnErr result (self.new ≡ self.old) }
         ensures primary { IsErrOf result fault.IsPrimary ↔ (name.now ≡ primary) }
         ensures missing { IsErrOf result fault.NoNamespace ↔ ((name.now ≢ primary) × (root_of self.old name.now ≡ None)) }
@@ -96,7 +131,7 @@ impl<R: Copy> Spaces<R> {
         if self.root(name).is_none() {
             return Err(SpaceFault::NoNamespace);
         }
-        rewrite(&mut self.roots, name, None);
+        take_root(&mut self.roots, name);
         self.live -= 1;
         Ok(())
     }
@@ -115,12 +150,13 @@ impl<R: Copy> Spaces<R> {
     pub fn set(&mut self, name: &Bytes, root: R) -> bool
         ensures live { result ≡ is_some (root_of self.old name.now) }
         ensures changed { IsTrue result → Changes self.old self.new name.now (Some root) }
+        ensures count { live_count self.new ≡ live_count self.old }
         ensures kept { result ≡ false → self.new ≡ self.old }
     {
         if self.root(name).is_none() {
             return false;
         }
-        rewrite(&mut self.roots, name, Some(root));
+        replace_root(&mut self.roots, name, root);
         true
     }
 }
