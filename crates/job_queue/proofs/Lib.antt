@@ -1,1 +1,2 @@
+mod OpenTables
 mod Ranking

@@ -1,6 +1,9 @@
 -- When dependencies are decided.
-use Rattle.std.specs.Prelude.{ℕ, Bool, true, not, ◌==◌, Option, Some, None, cond}
-use Rattle.std.specs.Option.{is_some, option_map}
+use Rattle.std.specs.Prelude.{◌≡◌, ℕ, Bool, true, not, ◌==◌, List, [], Option, Some, None, cond}
+use Rattle.std.specs.Option.{is_some, option_map, unwrap_or}
+use Rattle.std.specs.Ordering.{nat_cmp}
+use Rattle.std.specs.BTreeMap.{is_at}
+use Rattle.std.specs.Map.{lookup}
 use Rattle.job_queue.specs.declared.dependencies.Scheme.{Scheme}
 use Rattle.job_queue.specs.declared.dependencies.Scheme.TheVariants.{After, AfterAny, AfterOk, AfterNotOk}
 use Rattle.job_queue.specs.declared.dependencies.Outcome.{Outcome}
@@ -26,3 +29,15 @@ settled_of job outcome o = cond (o.on == job) (option_map (λ met. record { id =
 -- the outcome of the job leaves the dependency open
 abbrev pub stays_open : ℕ → Outcome → Open → Bool
 stays_open job outcome o = not (is_some (settled_of job outcome o))
+
+-- the open dependencies by the job that is waited for, those on one job in order of their arrival
+abbrev pub Table : Type 0
+Table = List (ℕ × List Open)
+
+-- the open dependencies on a job, in order of their arrival
+abbrev pub open_on : Table → ℕ → List Open
+open_on table job = unwrap_or (lookup (is_at (nat_cmp job)) table) []
+
+-- these are the open dependencies on the job afterwards, and those on each other job stay
+abbrev pub ChangesOpen : Table → Table → ℕ → List Open → Type 0
+ChangesOpen old new job list = (other : ℕ) → open_on new other ≡ cond (job == other) list (open_on old other)

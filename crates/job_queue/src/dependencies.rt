@@ -92,7 +92,7 @@ pub(crate) fn sort_by_id(list: &mut Vec<Settled>) -> Result<(), AllocError>
 }
 
 /// Drops the dependencies that the outcome of a job decides.
-pub(crate) fn keep_undecided(dependencies: &mut Vec<Open>, job: u64, outcome: Outcome)
+pub(crate) fn drop_decided(dependencies: &mut Vec<Open>, job: u64, outcome: Outcome)
     ensures { dependencies.new.items ≡ filter (stays_open job outcome) dependencies.old.items }
 {
     dependencies.retain(|dependency| decide(dependency, job, outcome).is_none());

@@ -2,9 +2,10 @@
 ghost use Rattle.std.specs.Prelude.{◌≡◌, ◌++◌, ◌∷◌, [], ◌↔◌, false, Some, None, is_some, IsTrue, IfSome, IsNone, OnOk, OnErr, IfOk, filter, filter_map};
 ghost use Rattle.std.specs.List.Sorted.{IsPermutation, IsNonDecreasingBy};
 ghost use Rattle.job_queue.specs.Queue.{priority_of, Changes, IsHead, AreHeld};
-ghost use Rattle.job_queue.specs.Dependencies.{settled_of, stays_open};
+ghost use Rattle.job_queue.specs.Dependencies.{settled_of, stays_open, open_on, ChangesOpen};
 
-use crate::dependencies::{Open, Outcome, Scheme, Settled, decided, keep_undecided, sort_by_id};
+use crate::dependencies::{Open, Outcome, Scheme, Settled, decided, sort_by_id};
+use crate::open_table::{OpenTable, add, keep_undecided, waiting_on};
 use crate::ranks::{Priorities, Ranks, drop_outdated, rank};
 use std::alloc::{AllocError, Global};
 use std::cmp::Reverse;
@@ -12,12 +13,13 @@ use std::marker::Model;
 
 /// The waiting jobs with their priorities, and the open dependencies.
 ///
-/// Contracts see the list of the jobs, each with its priority, and the list of the open dependencies in order of their arrival.
+/// Contracts see the list of the jobs, each with its priority, and the open dependencies by the job that is waited for.
 #[derive(Drop)]
 pub struct Queue {
     priorities: Priorities,
     ranks: Ranks,
-    dependencies: Vec<Open>,
+    dependencies: OpenTable,
+    alloc: Global,
 }
 
 impl Model for Queue {
@@ -26,11 +28,11 @@ impl Model for Queue {
     ghost use Rattle.std.specs.BTreeMap.{btree_map_len};
     ghost use Rattle.job_queue.specs.declared.dependencies.Open.{Open};
 
-    ghost Value = { List (ℕ × ℕ) × List Open };
+    ghost Value = { List (ℕ × ℕ) × List (ℕ × List Open) };
 
     ghost use Rattle.job_queue.specs.Ranks.{IsRanked, IsInOrder, IsTopLive};
 
-    ghost view = { λ q. (q.priorities.entries, q.dependencies.items) };
+    ghost view = { λ q. (q.priorities.entries, q.dependencies.entries) };
 
     ghost invariant = { λ q. (btree_map_len q.priorities ≤ heap_capacity q.ranks) × IsRanked q.priorities (heap_items q.ranks) × IsInOrder (heap_items q.ranks) × IsTopLive q.priorities (heap_items q.ranks) };
 }
@@ -42,7 +44,8 @@ impl Queue {
         Queue {
             priorities: Priorities::new(alloc),
             ranks: Ranks::new(alloc),
-            dependencies: Vec::new(alloc),
+            dependencies: OpenTable::new(alloc),
+            alloc,
         }
     }
 
@@ -103,30 +106,25 @@ impl Queue {
 
     /// Notes that the job `id` waits for the job `on`.
     pub fn depend(&mut self, id: u64, on: u64, scheme: Scheme) -> Result<(), AllocError>
-        ensures added { OnOk result (self.new.1 ≡ self.old.1 ++ record { id = id; on = on; scheme = scheme } ∷ []) }
+        ensures added { OnOk result (ChangesOpen self.old.1 self.new.1 on (open_on self.old.1 on ++ record { id = id; on = on; scheme = scheme } ∷ [])) }
         ensures kept { OnErr result (self.new.1 ≡ self.old.1) }
         ensures jobs { self.new.0 ≡ self.old.0 }
     {
-        self.dependencies.push(Open { id, on, scheme })?;
-        Ok(())
+        add(self.alloc, &mut self.dependencies, Open { id, on, scheme })
     }
 
     /// Removes and lists, by id, the open dependencies that the outcome of a job decides.
     pub fn settle(&mut self, job: u64, outcome: Outcome) -> Result<Vec<Settled>, AllocError>
-        ensures listed { IfOk result (λ list. IsPermutation (filter_map (settled_of job outcome) self.old.1) list.items) }
+        ensures listed { IfOk result (λ list. IsPermutation (filter_map (settled_of job outcome) (open_on self.old.1 job)) list.items) }
         ensures by_id { IfOk result (λ list. IsNonDecreasingBy (λ s. s.id) list.items) }
-        ensures rest { OnOk result (self.new.1 ≡ filter (stays_open job outcome) self.old.1) }
+        ensures rest { OnOk result (ChangesOpen self.old.1 self.new.1 job (filter (stays_open job outcome) (open_on self.old.1 job))) }
         ensures kept { OnErr result (self.new.1 ≡ self.old.1) }
         ensures jobs { self.new.0 ≡ self.old.0 }
     {
-        let mut list = decided(
-            *self.dependencies.allocator(),
-            &self.dependencies,
-            job,
-            outcome,
-        )?;
+        let waiting = waiting_on(&self.dependencies, job);
+        let mut list = decided(self.alloc, waiting, job, outcome)?;
         sort_by_id(&mut list)?;
-        keep_undecided(&mut self.dependencies, job, outcome);
+        keep_undecided(self.alloc, &mut self.dependencies, job, outcome);
         Ok(list)
     }
 }
