@@ -43,7 +43,8 @@ impl HostList {
         }
     }
 
-    /// The list of hosts that a text spells (Flux RFC 29).
+    /// The list of hosts that a text spells (Flux RFC 29), or the text's first fault with its place in bytes. `TooMany`
+    /// where it spells more than 65,536 hosts.
     pub fn read(alloc: Global, text: &[u8]) -> Result<HostList, HostFault>
         ensures read { Reads (first_fault text.now) (λ hosts. hosts ≡ spelled text.now) result }
         ensures named { IfOk result AreHostNames }
@@ -82,6 +83,7 @@ impl HostList {
         self.names.len()
     }
 
+    /// Whether there are no hosts.
     pub fn is_empty(&self) -> bool
         ensures { IsTrue result ↔ (self.now ≡ []) }
     {

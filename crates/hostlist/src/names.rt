@@ -42,6 +42,7 @@ impl HostName {
         Ok(HostName { bytes })
     }
 
+    /// The bytes of the name.
     pub fn as_slice(&self) -> &[u8]
         ensures { result.now ≡ self.now }
     {

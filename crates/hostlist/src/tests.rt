@@ -2,75 +2,74 @@ ghost use Rattle.std.specs.Prelude.{◌≡◌};
 
 use crate::{HostFault, HostList, HostName, is_host_name};
 use std::alloc::Global;
+use std::test::Fail;
 
-/// What the canonical text of a text's hosts must be, or the fault.
-type Row<'a> = (&'a str, Result<&'a str, HostFault>);
+/// Texts and the canonical texts of their hosts: the empty list, single hosts and groups.
+const LISTS: [(&str, &str); 27] = [
+    ("", ""),
+    ("foo", "foo"),
+    ("foo0", "foo0"),
+    ("foo[0]", "foo0"),
+    ("foo[0-2,4]", "foo[0-2,4]"),
+    ("foo0,foo1,foo2,foo4", "foo[0-2,4]"),
+    ("n[08-11],n12,x", "n[08-12],x"),
+    ("n9,n10", "n[9-10]"),
+    ("n08,n9", "n[08,9]"),
+    ("n08,n09,n10", "n[08-10]"),
+    ("n99,n100", "n[99-100]"),
+    ("n099,n100", "n[099-100]"),
+    ("n[9-0012]", "n[9-12]"),
+    ("n[0001-3]", "n[0001-0003]"),
+    ("a,b,a", "a,b,a"),
+    ("n1,n1,n2", "n[1,1-2]"),
+    ("n2,n1", "n[2,1]"),
+    ("n2,m1,n1", "n2,m1,n1"),
+    ("n1,m2,m3", "n1,m[2-3]"),
+    ("n[1-2],n[4-5],n6", "n[1-2,4-6]"),
+    ("a-b.c_d1,a-b.c_d2", "a-b.c_d[1-2]"),
+    ("n1-5,n1-6", "n1-[5-6]"),
+    ("08,09", "08,09"),
+    ("n123456789,n123456790", "n[123456789-123456790]"),
+    ("n1234567890,n1234567891", "n1234567890,n1234567891"),
+    ("n999999999,n1000000000", "n999999999,n1000000000"),
+    ("n1[2-3]", "n[12-13]"),
+];
+
+/// Texts that spell no list, and their faults.
+const FAULTS: [(&str, HostFault); 17] = [
+    ("n[1-2]b", HostFault::BadText { place: 6 }),
+    ("n[1]]", HostFault::BadText { place: 4 }),
+    ("n[1-2][3]", HostFault::BadText { place: 6 }),
+    (",a", HostFault::BadText { place: 0 }),
+    ("a,", HostFault::BadText { place: 2 }),
+    ("a,,b", HostFault::BadText { place: 2 }),
+    ("a b", HostFault::BadText { place: 1 }),
+    ("[1]", HostFault::BadText { place: 0 }),
+    ("n[", HostFault::BadText { place: 2 }),
+    ("n[]", HostFault::BadText { place: 2 }),
+    ("n[1,2", HostFault::BadText { place: 5 }),
+    ("n[1-", HostFault::BadText { place: 4 }),
+    ("n[0123456789]", HostFault::BadText { place: 11 }),
+    ("n[5-3]", HostFault::Backwards { place: 2 }),
+    ("n[1,5-3]b", HostFault::Backwards { place: 4 }),
+    ("n[5-0000000003]", HostFault::BadText { place: 13 }),
+    ("n[0-999999999],n[2-1]", HostFault::Backwards { place: 17 }),
+];
 
 #[test]
-fn texts_are_read_and_printed(rt: HostRuntime) {
-    let rows: [Row; 44] = [
-        // The empty list, single hosts and groups.
-        ("", Ok("")),
-        ("foo", Ok("foo")),
-        ("foo0", Ok("foo0")),
-        ("foo[0]", Ok("foo0")),
-        ("foo[0-2,4]", Ok("foo[0-2,4]")),
-        ("foo0,foo1,foo2,foo4", Ok("foo[0-2,4]")),
-        ("n[08-11],n12,x", Ok("n[08-12],x")),
-        ("n9,n10", Ok("n[9-10]")),
-        ("n08,n9", Ok("n[08,9]")),
-        ("n08,n09,n10", Ok("n[08-10]")),
-        ("n99,n100", Ok("n[99-100]")),
-        ("n099,n100", Ok("n[099-100]")),
-        ("n[9-0012]", Ok("n[9-12]")),
-        ("n[0001-3]", Ok("n[0001-0003]")),
-        ("a,b,a", Ok("a,b,a")),
-        ("n1,n1,n2", Ok("n[1,1-2]")),
-        ("n2,n1", Ok("n[2,1]")),
-        ("n2,m1,n1", Ok("n2,m1,n1")),
-        ("n1,m2,m3", Ok("n1,m[2-3]")),
-        ("n[1-2],n[4-5],n6", Ok("n[1-2,4-6]")),
-        ("a-b.c_d1,a-b.c_d2", Ok("a-b.c_d[1-2]")),
-        ("n1-5,n1-6", Ok("n1-[5-6]")),
-        ("08,09", Ok("08,09")),
-        ("n123456789,n123456790", Ok("n[123456789-123456790]")),
-        ("n1234567890,n1234567891", Ok("n1234567890,n1234567891")),
-        ("n999999999,n1000000000", Ok("n999999999,n1000000000")),
-        ("n1[2-3]", Ok("n[12-13]")),
-        // Faults at their places.
-        ("n[1-2]b", Err(HostFault::BadText { place: 6 })),
-        ("n[1]]", Err(HostFault::BadText { place: 4 })),
-        ("n[1-2][3]", Err(HostFault::BadText { place: 6 })),
-        (",a", Err(HostFault::BadText { place: 0 })),
-        ("a,", Err(HostFault::BadText { place: 2 })),
-        ("a,,b", Err(HostFault::BadText { place: 2 })),
-        ("a b", Err(HostFault::BadText { place: 1 })),
-        ("[1]", Err(HostFault::BadText { place: 0 })),
-        ("n[", Err(HostFault::BadText { place: 2 })),
-        ("n[]", Err(HostFault::BadText { place: 2 })),
-        ("n[1,2", Err(HostFault::BadText { place: 5 })),
-        ("n[1-", Err(HostFault::BadText { place: 4 })),
-        ("n[0123456789]", Err(HostFault::BadText { place: 11 })),
-        ("n[5-3]", Err(HostFault::Backwards { place: 2 })),
-        ("n[1,5-3]b", Err(HostFault::Backwards { place: 4 })),
-        ("n[5-0000000003]", Err(HostFault::BadText { place: 13 })),
-        (
-            "n[0-999999999],n[2-1]",
-            Err(HostFault::Backwards { place: 17 }),
-        ),
-    ];
-    for (text, want) in rows {
-        match (HostList::read(rt.alloc(), text.as_bytes()), want) {
-            (Ok(hosts), Ok(want)) => {
-                let printed = hosts.print();
-                assert!(rt;
-                    printed.is_ok_and(|own| own.as_slice() == want.as_bytes()),
-                    "{text}"
-                );
-            }
-            (Err(fault), Err(want)) => assert_eq!(rt; fault, want, "{text}"),
-            (_, _) => panic!(rt; "{text}"),
-        }
+fn texts_are_read_and_printed(rt: HostRuntime) -> Result<(), Fail> {
+    for (text, want) in LISTS {
+        let printed = HostList::read(rt.alloc(), text.as_bytes())?.print()?;
+        assert_eq!(rt; printed.as_slice(), want.as_bytes(), "{text}");
+    }
+    Ok(())
+}
+
+#[test]
+fn other_texts_have_their_faults(rt: HostRuntime) {
+    for (text, want) in FAULTS {
+        let fault = HostList::read(rt.alloc(), text.as_bytes()).err();
+        assert_eq!(rt; fault, Some(want), "{text}");
     }
 }
 
