@@ -1,10 +1,11 @@
 ghost use Rattle.std.specs.Prelude.{◌≡◌};
+ghost use Rattle.job_states.specs.Names.{state_name};
 ghost use Rattle.job_states.specs.declared.job.ReplayFault.TheVariants.{NoMemory};
 
 use lists::{Bytes, ListOf};
 use std::alloc::AllocError;
+use std::error::Error;
 use std::fmt;
-use thiserror::Error;
 
 /// The states of a job, in their usual order.
 #[derive(Clone, Copy, Debug, PartialEq, Eq)]
@@ -18,14 +19,12 @@ pub enum State {
     Inactive,
 }
 
-impl fmt::Display for State {
-    ghost use Rattle.std.specs.Prelude.{Some};
-    ghost use Rattle.job_states.specs.Names.{state_name};
-
-    ghost output = { λ s. Some (state_name s) };
-
-    fn fmt<W: fmt::Write>(&self, f: &mut fmt::Formatter<W>) -> fmt::Result {
-        f.write_str(match self {
+impl State {
+    /// The name of a state (Flux RFC 21).
+    pub fn name(self) -> &'static str
+        ensures { result.now ≡ state_name self }
+    {
+        match self {
             State::New => "NEW",
             State::Depend => "DEPEND",
             State::Priority => "PRIORITY",
@@ -33,7 +32,18 @@ impl fmt::Display for State {
             State::Run => "RUN",
             State::Cleanup => "CLEANUP",
             State::Inactive => "INACTIVE",
-        })
+        }
+    }
+}
+
+impl fmt::Display for State {
+    ghost use Rattle.std.specs.Prelude.{Some};
+    ghost use Rattle.job_states.specs.Names.{state_name};
+
+    ghost output = { λ s. Some (state_name s) };
+
+    fn fmt<W: fmt::Write>(&self, f: &mut fmt::Formatter<W>) -> fmt::Result {
+        f.write_str(self.name())
     }
 }
 
@@ -83,14 +93,32 @@ pub enum Change {
 }
 
 /// Why a log tells no job.
-#[derive(Clone, Copy, Debug, PartialEq, Eq, Error)]
+#[derive(Clone, Copy, Debug, PartialEq, Eq)]
 pub enum ReplayFault {
-    #[error("out of memory")]
     NoMemory,
     /// The event at this place, counted from 0, may not stand in this state; before the first event there is none.
-    #[error("event {index} is not allowed in {state:?}")]
     NotAllowed { index: u64, state: Option<State> },
 }
+
+/// The fault's event, and the state that refuses it.
+impl fmt::Display for ReplayFault {
+    ghost use Rattle.std.specs.Prelude.{Some};
+    ghost use Rattle.job_states.specs.Names.{fault_text};
+
+    ghost output = { λ fault. Some (fault_text fault) };
+
+    fn fmt<W: fmt::Write>(&self, f: &mut fmt::Formatter<W>) -> fmt::Result {
+        match *self {
+            ReplayFault::NoMemory => f.write_str("out of memory"),
+            ReplayFault::NotAllowed { index, state } => match state {
+                None => write!(f, "event {index} is not allowed in no state"),
+                Some(state) => write!(f, "event {index} is not allowed in {state}"),
+            },
+        }
+    }
+}
+
+impl Error for ReplayFault {}
 
 impl From<AllocError> for ReplayFault {
     ghost from_gives = { λ _ e. e ≡ NoMemory };

@@ -8,7 +8,7 @@ use crate::table::{can_stand, make, submitted};
 use event_log::Event;
 use std::alloc::Global;
 
-/// The job that the first event of a log begins. `NotAllowed` where it is no submission.
+/// The job that the first event of a log begins (Flux RFC 21). `NotAllowed` where it is no submission.
 pub fn begin(alloc: Global, event: &Event) -> Result<Job, ReplayFault>
     ensures { Gives result (begun event.now) }
 {
@@ -21,7 +21,8 @@ pub fn begin(alloc: Global, event: &Event) -> Result<Job, ReplayFault>
     }
 }
 
-/// Does the event at this place of a log. A job whose event is refused stays as it was.
+/// Does the event at this place of a log, counted from 0. `NotAllowed` where its name is unknown, its context lacks what
+/// is needed, or it may not stand in the job's state. A job whose event isn't done stays as it was.
 pub fn step(alloc: Global, job: &mut Job, event: &Event, index: u64) -> Result<(), ReplayFault>
     ensures done { OnOk result (stepped index job.old event.now ≡ Ok job.new) }
     ensures refused { IfErr result (λ fault. Fails fault (stepped index job.old event.now)) }
