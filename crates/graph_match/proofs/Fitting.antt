@@ -1,6 +1,6 @@
 -- What first fit gives lies within the free hosts, by rank and name, and stays free of what live jobs hold.
 use Rattle.std.proofs.Common.{◌≡◌, ◌≢◌, ℕ, suc, ◌+◌, ◌-◌, ◌<◌, ◌≤◌, min, Bool, true, false, cond, not, ◌&&◌, ◌||◌, eqb, ltb, inl, inr, List, [], ◌∷◌, ◌++◌, length, get_or, take, drop, map, Some, refl, sym, ap, ◌∙◌, subst, arith}
-use Rattle.std.specs.Prelude.{◌↔◌, All, filter}
+use Rattle.std.specs.Prelude.{◌↔◌, All, filter, IfOk, Result, Ok, Err}
 use Rattle.std.specs.List.{AllByRecursion as Each, HoldsAt}
 use Rattle.std.specs.Str.{bytes_eq}
 use Rattle.std.proofs.lemmas.Bool.{cases_lt, and_parts, lt-ltb, ltb-true, not-true}
@@ -19,7 +19,10 @@ use Rattle.job_rules.proofs.Sets.{IsFree, IsPiece, among_picked, can_fit_enough,
 use Rattle.graph_match.specs.declared.place.Place.{Place}
 use Rattle.graph_match.specs.declared.spot.Spot.{Spot}
 use Rattle.graph_match.specs.Allotment.{Allotment}
-use Rattle.graph_match.specs.Answers.{AreFirstFit, IsBlocked}
+use Rattle.resource_set.specs.declared.node.Resources.{Resources}
+use Rattle.graph_match.specs.Answers.{Answers, AreFirstFit, IsBlocked, NamesBlockers}
+use Rattle.graph_match.specs.declared.fit.Fit.{Fit}
+use Rattle.graph_match.specs.declared.fit.Fit.TheVariants.{Units, Busy, Never}
 use Rattle.graph_match.specs.Holds.{IsNew, with_hold, without_hold}
 use Rattle.graph_match.specs.Kept.{IsKept, IsMarked}
 use Rattle.graph_match.specs.Places.{after_each, free_node, fresh_place, marked_place, node_of}
@@ -278,8 +281,8 @@ abbrev pub new_hold : ℕ → List Node → Hold
 new_hold id nodes = record { id = id; nodes = nodes }
 
 -- ---- what fit answers
-pub blocked_is : (spec : JobSpec) (places seen seen' : List Place) (live live' : List Hold) (expiration : ℕ) (v : Allotment) (ids : List ℕ) (busy : Bool) → seen ≡ places → seen' ≡ places → live' ≡ live → allot (map node_of places) expiration live ≡ v → IsKept places live → busy ≡ ltb (total (worth spec (map node_of seen)) (map free_node seen)) (wanted spec) → busy ≡ true → (NeverFits spec v.grant → ⊥) → AreBlockers spec (map node_of seen') live' ids → IsBlocked v spec ids
-blocked_is spec places seen seen' live live' expiration v ids busy s s' l is k b t some blockers = subst (λ x. IsBlocked x spec ids) is (record {
+pub blocked_is : (spec : JobSpec) (places seen seen' : List Place) (live live' : List Hold) (expiration : ℕ) (v : Allotment) (fit : Fit) (now : ℕ) (busy : Bool) → seen ≡ places → seen' ≡ places → live' ≡ live → allot (map node_of places) expiration live ≡ v → IsKept places live → busy ≡ ltb (total (worth spec (map node_of seen)) (map free_node seen)) (wanted spec) → busy ≡ true → (NeverFits spec v.grant → ⊥) → NamesBlockers spec (map node_of seen') live' fit → Answers v spec now fit
+blocked_is spec places seen seen' live live' expiration v (Busy ids) now busy s s' l is k b t some blockers = subst (λ x. IsBlocked x spec ids) is (record {
   none = not_found spec (map node_of places) (map (without_nodes (nodes_of live)) (map node_of places)) few;
   some = subst (λ x. NeverFits spec x.grant → ⊥) (sym is) some;
   blockers = subst (λ hs. AreBlockers spec (map node_of places) hs ids) l (subst (λ ps. AreBlockers spec (map node_of ps) live' ids) s' blockers);
@@ -287,14 +290,21 @@ blocked_is spec places seen seen' live live' expiration v ids busy s s' l is k b
   where
     few : total (worth spec (map node_of places)) (map (without_nodes (nodes_of live)) (map node_of places)) < wanted spec
     few = ltb-true _ (wanted spec) (sym (ap (λ fs. ltb (total (worth spec (map node_of places)) fs) (wanted spec)) (free_places (nodes_of live) places k.marks)) ∙ sym (ap (λ ps. ltb (total (worth spec (map node_of ps)) (map free_node ps)) (wanted spec)) s) ∙ sym b ∙ t)
+blocked_is spec places seen seen' live live' expiration v (Units units) now busy s s' l is k b t some blockers = absurd blockers
+blocked_is spec places seen seen' live live' expiration v Never now busy s s' l is k b t some blockers = absurd blockers
 
-pub fitting_is : (spec : JobSpec) (places seen : List Place) (live : List Hold) (expiration now end ending : ℕ) (v : Allotment) (nodes : List Node) → seen ≡ places → allot (map node_of places) expiration live ≡ v → IsKept places live → first_fit spec (map node_of seen) (map free_node seen) ≡ Some nodes → end ≡ sooner ending expiration → ending ≡ end_of spec now → AreFirstFit v spec now (record { nodes = nodes; starttime = now; expiration = end })
-fitting_is spec places seen live expiration now end ending v nodes s is k f e e' = subst (λ x. AreFirstFit x spec now (record { nodes = nodes; starttime = now; expiration = end })) is (record {
+-- what holds of a value, if there is one, follows from what is known of it
+pub ok_so : {T E : Type 0} (P Q : T → Type 0) → ((x : T) → P x → Q x) → (r : Result T E) → IfOk r P → IfOk r Q
+ok_so P Q by (Ok x) p = by x p
+ok_so P Q by (Err e) p = p
+
+pub fitting_is : (spec : JobSpec) (places seen : List Place) (live : List Hold) (expiration now : ℕ) (v : Allotment) (nodes : List Node) (units : Resources) → seen ≡ places → allot (map node_of places) expiration live ≡ v → IsKept places live → first_fit spec (map node_of seen) (map free_node seen) ≡ Some nodes → units ≡ record { nodes = nodes; starttime = now; expiration = sooner (end_of spec now) expiration } → AreFirstFit v spec now units
+fitting_is spec places seen live expiration now v nodes units s is k f e = subst (λ x. AreFirstFit v spec now x) (sym e) (subst (λ x. AreFirstFit x spec now (record { nodes = nodes; starttime = now; expiration = sooner (end_of spec now) expiration })) is (record {
   nodes = fit;
   start = refl;
-  end = e ∙ ap (λ n. sooner n expiration) e';
+  end = refl;
   free = subst (λ ns. AreWithin ns (map (without_nodes (nodes_of live)) (map node_of places))) (sym (enough spec (map node_of places) (map (without_nodes (nodes_of live)) (map node_of places)) nodes fit).1) (picks_within spec (map node_of places) (nodes_of live) (wanted spec) k.grant);
-})
+}))
   where
     fit : first_fit spec (map node_of places) (map (without_nodes (nodes_of live)) (map node_of places)) ≡ Some nodes
     fit = ap (first_fit spec (map node_of places)) (sym (free_places (nodes_of live) places k.marks)) ∙ ap (λ ps. first_fit spec (map node_of ps) (map free_node ps)) (sym s) ∙ f

@@ -1,4 +1,4 @@
-ghost use Rattle.std.specs.Prelude.{◌≡◌, ◌<◌, ◌≤◌, ◌↔◌, ◌+◌, ◌-◌, ◌^◌, ◌++◌, List, [], length, map, take, drop, IfNone, IfSome, nat_le, nat_lt, Contains, IfOk, OnOk, OnErr, IsTrue, Some, None, All};
+ghost use Rattle.std.specs.Prelude.{◌≡◌, slice_index_or, ◌<◌, ◌≤◌, ◌↔◌, ◌+◌, ◌-◌, ◌^◌, ◌++◌, List, [], length, map, take, drop, IfNone, IfSome, nat_le, nat_lt, Contains, IfOk, OnOk, OnErr, IsTrue, Some, None, All, remove};
 ghost use Rattle.std.specs.Bool.{OnFalse};
 ghost use Rattle.std.specs.List.{HoldsAt, AllByRecursion as Each};
 ghost use Rattle.std.specs.List.Sorted.{IsStrictlyIncreasing};
@@ -7,6 +7,7 @@ ghost use Rattle.job_rules.specs.Fits.{AreWithin, HasIdSets, IsGrant, IsSpec, Is
 ghost use Rattle.job_rules.specs.Worths.{total, wanted as wanted_of, worth as worth_of};
 ghost use Rattle.resource_set.specs.declared.node.Node.{Node as Taken};
 ghost use Rattle.job_rules.specs.Fits.{AreApart, AreBlockers, nodes_of};
+ghost use Rattle.graph_match.specs.Answers.{NamesBlockers};
 ghost use Rattle.graph_match.specs.Holds.{IsNew, with_hold, without_hold};
 ghost use Rattle.graph_match.specs.Kept.{IsKept};
 ghost use Rattle.graph_match.specs.Places.{after_each, free_node, fresh_place, node_of};
@@ -69,6 +70,13 @@ fn place_of(places: &[Place], rank: u32) -> usize
     places.partition_point(|p| p.rank < rank)
 }
 
+/// Whether a job's id is lower.
+fn is_before(hold: &Hold, id: u64) -> bool
+    ensures { result ≡ nat_lt hold.now.id id }
+{
+    hold.id < id
+}
+
 /// Where a job stands by its id, or would stand.
 fn hold_of(live: &[Hold], id: u64) -> usize
     requires { IsStrictlyIncreasing (map (λ hold. hold.id) live.now) }
@@ -76,7 +84,7 @@ fn hold_of(live: &[Hold], id: u64) -> usize
     ensures before { Each (λ hold. hold.id < id) (take result live.now) }
     ensures after { Each (λ hold. id ≤ hold.id) (drop result live.now) }
 {
-    live.partition_point(|h| h.id < id)
+    live.partition_point(|hold| is_before(hold, id))
 }
 
 /// Where a job stands, if it is live.
@@ -305,21 +313,16 @@ fn sift(
     Ok(list)
 }
 
-/// The live jobs that stand in a job's way.
-fn blockers(
-    alloc: Global,
-    places: &[Place],
-    live: &[Hold],
-    spec: &JobSpec,
-) -> Result<JobList, AllocError>
+/// That live jobs stand in a job's way, and which.
+fn busy(alloc: Global, places: &[Place], live: &[Hold], spec: &JobSpec) -> Result<Fit, AllocError>
     requires spec { IsSpec spec.now }
     requires kept { IsKept places.now live.now }
     requires few { total (worth_of spec.now (map node_of places.now)) (map free_node places.now) < wanted_of spec.now }
-    ensures { IfOk result (AreBlockers spec.now (map node_of places.now) live.now) }
+    ensures { IfOk result (NamesBlockers spec.now (map node_of places.now) live.now) }
 {
     let mut rooms = rooms(alloc, places)?;
     let sum = brings(places, spec);
-    sift(alloc, places, live, spec, &mut rooms, sum)
+    Ok(Fit::Busy(sift(alloc, places, live, spec, &mut rooms, sum)?))
 }
 
 /// The second at which a job ends that starts now, or 0.
@@ -344,6 +347,26 @@ fn sooner_of(a: u64, b: u64) -> u64
     } else {
         a.min(b)
     }
+}
+
+/// The units of a job that starts now, until it ends or the grant does.
+fn units_from(nodes: NodeList, spec: &JobSpec, now: u64, expiration: u64) -> Resources
+    ensures { result ≡ record { nodes = nodes; starttime = now; expiration = sooner (end_of spec.now now) expiration } }
+{
+    Resources {
+        nodes,
+        starttime: now,
+        expiration: sooner_of(ending(spec, now), expiration),
+    }
+}
+
+/// Takes out the job that stands there.
+fn leave(live: &mut Vec<Hold>, at: usize) -> Hold
+    requires { at < length live.old.items }
+    ensures job { result ≡ slice_index_or live.old.items at result }
+    ensures rest { live.new.items ≡ remove live.old.items at }
+{
+    live.remove(at)
 }
 
 impl Graph {
@@ -372,13 +395,10 @@ impl Graph {
             return Ok(Fit::Never);
         }
         if is_busy(&self.places, spec) {
-            return Ok(Fit::Busy(blockers(alloc, &self.places, &self.live, spec)?));
+            return busy(alloc, &self.places, &self.live, spec);
         }
-        Ok(Fit::Units(Resources {
-            nodes: take_first(alloc, &self.places, spec)?,
-            starttime: now,
-            expiration: sooner_of(ending(spec, now), self.expiration),
-        }))
+        let nodes = take_first(alloc, &self.places, spec)?;
+        Ok(Fit::Units(units_from(nodes, spec, now, self.expiration)))
     }
 
     /// Whether no units of the whole grant satisfy a job. It takes no memory.
@@ -413,7 +433,7 @@ impl Graph {
         match find_hold(&self.live, id) {
             None => false,
             Some(at) => {
-                let hold = self.live.remove(at);
+                let hold = leave(&mut self.live, at);
                 mark_nodes(&mut self.places, hold.nodes.as_slice(), true);
                 true
             }
