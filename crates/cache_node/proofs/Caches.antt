@@ -1,5 +1,5 @@
 -- Dirty contents beside clean ones, after each change.
-use Rattle.std.proofs.Common.{◌≡◌, ℕ, ◌-◌, ◌^◌, ◌<◌, ◌≤◌, length, is_some, arith, Bool, true, false, cond, List, [], ◌∷◌, ◌++◌, Option, Some, None, refl, sym, ap, ◌∙◌, subst, reverse, filter, option_map, Bor, Result, Ok, Err, OnOk, OnErr}
+use Rattle.std.proofs.Common.{◌≡◌, ℕ, ◌-◌, ◌^◌, ◌<◌, ◌≤◌, length, is_some, arith, Bool, true, false, List, [], ◌∷◌, Option, Some, None, refl, sym, ap, ◌∙◌, subst, reverse, filter, option_map, Bor, Result, Ok, Err, OnOk, OnErr}
 use Rattle.std.specs.Prelude.{IsSome, IfSome, option_copied}
 use Rattle.std.specs.List.{AllByRecursion, IsDistinct}
 use Rattle.std.specs.Option.{option_map_or}
@@ -7,7 +7,7 @@ use Rattle.std.specs.Map.{keys_of, lookup, remove_entry, set_value}
 use Rattle.fl_digest.specs.declared.BlobRef.{BlobRef}
 use Rattle.fl_digest.specs.Reference.{same_reference}
 use Rattle.cache_node.specs.declared.content.Held.{Held}
-use Rattle.cache_node.specs.Order.{Names, is_pinned, unpinned, pinned, released, used, filled, staying, remaining, stays_within}
+use Rattle.cache_node.specs.Order.{Names, is_pinned, unpinned, pinned, released, used, filled, staying, remaining}
 use Rattle.std.proofs.lemmas.Map.Steps.{set_value_same}
 use Rattle.lru.specs.LruCache.{LruCache, lru_cache, put_entries}
 use Rattle.cache_node.specs.Cache.{Cache, IsSound, dirty_at, held_at, any_at, stored, acknowledged}

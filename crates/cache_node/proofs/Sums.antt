@@ -1,5 +1,5 @@
 -- The sums beside the clean contents, after each change.
-use Rattle.std.proofs.Common.{◌≡◌, ℕ, ◌+◌, ◌-◌, ◌<◌, ◌≤◌, ◌^◌, nat_lt, min, Bool, true, false, cond, List, [], ◌∷◌, length, Option, Some, None, refl, sym, ap, ◌∙◌, subst, sum_by, arith, Bor, option_map, unwrap_or, zero-add}
+use Rattle.std.proofs.Common.{◌≡◌, ℕ, ◌+◌, ◌-◌, ◌<◌, ◌≤◌, ◌^◌, min, Bool, true, false, cond, List, [], ◌∷◌, length, Option, Some, None, refl, sym, ap, ◌∙◌, subst, sum_by, arith, Bor, option_map, unwrap_or}
 use Rattle.std.specs.Prelude.{IfSome, option_copied}
 use Rattle.std.specs.Option.{option_map_or}
 use Rattle.std.specs.List.{AllByRecursion, IsDistinct}
@@ -14,7 +14,7 @@ use Rattle.cache_node.specs.declared.content.Held.{Held}
 use Rattle.cache_node.specs.Order.{Names, is_pinned, unpinned, pinned, released, filled, dropped, remaining, without, unpinned_size, unpinned_bytes, used}
 use Rattle.cache_node.specs.Kept.{IsKept}
 use Rattle.std.proofs.lemmas.Bool.{lt-ltb}
-use Rattle.cache_node.proofs.Entries.{none_head, remove-none, put-new, entry-none, all-remove, all-set, all-lookup, once-remove, once-cons, lookup-remove-same}
+use Rattle.cache_node.proofs.Entries.{remove-none, put-new, entry-none, all-remove, all-set, all-lookup, once-remove, once-cons, lookup-remove-same}
 use Rattle.cache_node.proofs.Orders.{without-dropped}
 use Rattle.fl_digest.specs.contracts.BlobRefPartialEq.TheImpl.{eq-value as derived}
 use Rattle.cache_node.proofs.Same.{same_laws, same_true, same_refl, derived_is}

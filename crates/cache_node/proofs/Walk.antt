@@ -1,13 +1,13 @@
 -- The walk from the least recently used entry, which lists what goes.
 use Rattle.std.proofs.Common.{◌≡◌, ℕ, ◌+◌, ◌-◌, ◌<◌, ◌≤◌, Bool, true, false, List, [], ◌∷◌, ◌++◌, length, reverse, not, refl, sym, ap, ◌∙◌, subst, filter, arith, append_assoc, append-nil}
 use Rattle.std.specs.List.{IsDistinct}
-use Rattle.std.specs.Map.{keys_of, remove_entry}
+use Rattle.std.specs.Map.{keys_of}
 use Rattle.std.proofs.lemmas.List.Elements.{filter-append}
 use Rattle.std.proofs.lemmas.List.{reverse-append}
 use Rattle.fl_digest.specs.declared.BlobRef.{BlobRef}
 use Rattle.fl_digest.specs.Reference.{same_reference}
 use Rattle.cache_node.specs.declared.content.Held.{Held}
-use Rattle.cache_node.specs.Order.{is_pinned, unpinned_size, unpinned_bytes, used, stays_within, staying, leaving, dropped, remaining, without}
+use Rattle.cache_node.specs.Order.{is_pinned, unpinned_bytes, used, stays_within, staying, leaving, dropped, without}
 use Rattle.cache_node.proofs.Orders.{ahead, ahead-same, ahead-other, ahead-none, ahead-all, unpinned-cons, unpinned-reverse, size_of_pinned, size_of_unpinned, pinned_stays, unpinned_goes, nothing_goes, without-dropped, reverse-reverse}
 
 -- so many unpinned bytes are left in front of the walk, and what goes is what was listed and what goes of these

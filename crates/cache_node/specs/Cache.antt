@@ -1,12 +1,12 @@
 -- What a broker keeps of contents.
-use Rattle.std.specs.Prelude.{ℕ, ◌≡◌, ◌^◌, ◌-◌, List, [], ◌∷◌, Option, Some, None, option_map, IsSome}
+use Rattle.std.specs.Prelude.{ℕ, ◌≡◌, List, [], ◌∷◌, Option, Some, None, option_map, IsSome}
 use Rattle.std.specs.Option.{option_map_or}
 use Rattle.std.specs.List.{AllByRecursion, IsDistinct}
 use Rattle.std.specs.Map.{keys_of, lookup, remove_entry, set_value}
 use Rattle.fl_digest.specs.declared.BlobRef.{BlobRef}
 use Rattle.fl_digest.specs.Reference.{same_reference}
 use Rattle.cache_node.specs.declared.content.Held.{Held}
-use Rattle.cache_node.specs.Order.{Names, unpinned, pinned, released, used, filled, remaining}
+use Rattle.cache_node.specs.Order.{Names, unpinned, pinned, released, used}
 
 -- contents by their references: the dirty ones, the last put first, and the clean ones, the most recently used first
 pub record Cache : Type 0 where

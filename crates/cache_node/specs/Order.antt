@@ -1,5 +1,5 @@
 -- Clean contents in the order of their use.
-use Rattle.std.specs.Prelude.{ℕ, ◌+◌, ◌-◌, ◌^◌, ◌≡◌, ◌||◌, ◌==◌, List, [], ◌∷◌, Bool, true, nat_lt, nat_le, unwrap_or, fold, length, min, reverse, sum_by, if◌then◌else◌}
+use Rattle.std.specs.Prelude.{ℕ, ◌+◌, ◌-◌, ◌^◌, ◌≡◌, ◌||◌, ◌==◌, List, [], ◌∷◌, Bool, nat_lt, nat_le, unwrap_or, fold, length, min, reverse, sum_by, if◌then◌else◌}
 use Rattle.std.specs.Map.{keys_of, values_of, lookup, remove_entry}
 use Rattle.fl_digest.specs.declared.BlobRef.{BlobRef}
 use Rattle.fl_digest.specs.declared.Hash.{Hash}

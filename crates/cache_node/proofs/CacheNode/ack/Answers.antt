@@ -1,5 +1,5 @@
 use Rattle.std.proofs.Common.{rules, ◌≡◌, ◌∷◌, ◌∙◌, Some, None, sym, ap}
-use Rattle.std.specs.Map.{lookup, remove_entry, set_value}
+use Rattle.std.specs.Map.{lookup, remove_entry}
 use Rattle.lru.specs.LruCache.{lru_cache}
 use Rattle.fl_digest.specs.Reference.{same_reference}
 use Rattle.cache_node.specs.Order.{unpinned}

@@ -1,6 +1,3 @@
-use Rattle.std.proofs.Common.{rules, ◌≡◌, filter}
-use Rattle.fl_digest.specs.Reference.{same_reference}
-use Rattle.cache_node.specs.Order.{is_pinned}
 use Rattle.cache_node.proofs.Caches.{sound_dropped}
 use Rattle.cache_node.proofs.CacheNode.drop_clean.Goals as goal
 

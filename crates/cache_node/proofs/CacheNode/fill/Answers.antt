@@ -1,4 +1,4 @@
-use Rattle.std.proofs.Common.{rules, ◌≡◌, ◌≤◌, ◌∙◌, sym, ap, subst}
+use Rattle.std.proofs.Common.{rules, ◌≡◌, ◌≤◌, sym, subst}
 use Rattle.std.specs.Map.{remove_entry}
 use Rattle.lru.specs.LruCache.{lru_cache}
 use Rattle.fl_digest.specs.Reference.{same_reference}

@@ -1,4 +1,4 @@
-use Rattle.std.proofs.Common.{arith, rules, ◌≡◌, ◌∙◌, sym, ap, false, is_some}
+use Rattle.std.proofs.Common.{arith, rules, ◌≡◌, ◌∙◌, ap, false, is_some}
 use Rattle.lru.specs.LruCache.{lru_cache, put_entries}
 use Rattle.fl_digest.specs.Reference.{same_reference}
 use Rattle.cache_node.specs.Cache.{dirty_at, held_at}

@@ -1,4 +1,4 @@
-use Rattle.std.proofs.Common.{arith, rules, ◌≡◌, ◌∙◌, ap, refl, ◌∷◌, None}
+use Rattle.std.proofs.Common.{arith, rules, ◌≡◌, ◌∙◌, ap, refl, ◌∷◌}
 use Rattle.std.specs.Map.{lookup}
 use Rattle.lru.specs.LruCache.{lru_cache, put_entries}
 use Rattle.fl_digest.specs.Reference.{same_reference}

@@ -1,4 +1,4 @@
-use Rattle.std.proofs.Common.{rules, ◌≡◌, ◌∙◌, ap, subst, List, reverse, filter, not}
+use Rattle.std.proofs.Common.{rules, ◌≡◌, ◌∙◌, ap, subst, reverse, filter, not}
 use Rattle.std.specs.List.{IsDistinct}
 use Rattle.std.specs.Map.{keys_of}
 use Rattle.fl_digest.specs.Reference.{same_reference}

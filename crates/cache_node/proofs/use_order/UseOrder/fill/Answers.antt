@@ -2,7 +2,7 @@ use Rattle.std.proofs.Common.{rules, ◌≡◌, ◌+◌, ◌∷◌, Some, None}
 use Rattle.std.specs.Map.{lookup}
 use Rattle.fl_digest.specs.Reference.{same_reference}
 use Rattle.cache_node.specs.declared.TheConstants.{UNPINNED_LIMIT}
-use Rattle.cache_node.specs.Order.{unpinned, used, stays_within, dropped, without}
+use Rattle.cache_node.specs.Order.{unpinned, used, stays_within, dropped}
 use Rattle.cache_node.proofs.Sums.{used_sum, new_sum, refilled_rest, filled_rest}
 use Rattle.cache_node.proofs.use_order.UseOrder.fill.Goals as goal
 

@@ -1,4 +1,4 @@
-use Rattle.std.proofs.Common.{rules, ◌≡◌, ◌∙◌, ap, ◌++◌, ◌∷◌, [], true, false}
+use Rattle.std.proofs.Common.{rules, ◌≡◌, ◌∙◌, ◌++◌, ◌∷◌, [], true, false}
 use Rattle.fl_digest.specs.Reference.{same_reference}
 use Rattle.cache_node.specs.Order.{is_pinned}
 use Rattle.cache_node.specs.declared.TheConstants.{UNPINNED_LIMIT}
