@@ -1,8 +1,0 @@
-use Rattle.std.proofs.Common.{◌≡◌, Some}
-use Rattle.kvs_txn.specs.declared.txn.Scope.TheVariants as scope
-use Rattle.kvs_model.specs.Store.{Store as Contents}
-use Rattle.kvs_model.specs.History.{after}
-use Rattle.kvs_core.proofs.stores.catch_up.Given as goal
-
-abbrev pub invariant-loop-number : goal.invariant-loop-number
-invariant-loop-number l = (first : Contents) → after scope.Primary l.history.items l.from first ≡ Some l.initial.store → after scope.Primary l.history.items l.number first ≡ Some l.store
