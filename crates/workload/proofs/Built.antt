@@ -9,11 +9,12 @@ use Rattle.kvs_txn.specs.Keys.{components}
 use Rattle.workload.specs.Limits.{most_commands, most_value}
 use Rattle.workload.specs.Words.{first_word, behind_word}
 use Rattle.workload.specs.Actors.{place_of}
-use Rattle.workload.specs.Verbs.{first_of, faults_of, is_past_key, is_past_value, said, verb_of}
+use Rattle.workload.specs.Verbs.{first_of, faults_of, is_past_key, is_past_value, one_key, key_and_text, two_keys, said, verb_of}
 use Rattle.workload.specs.Reading.{first_fault, spelled, with_command, command_faults, verb_faults}
 use Rattle.workload.specs.Laws.{IsBuilt, IsKeyPath}
 use Rattle.workload.proofs.Along.{none_applies, one_by_one, text_keeps}
 use Rattle.workload.specs.declared.work.Command.{Command}
+use Rattle.workload.specs.declared.work.Command.TheVariants as command
 use Rattle.workload.specs.declared.work.Line.{Line}
 use Rattle.workload.specs.declared.work.Workload.{Workload}
 use Rattle.workload.specs.declared.faults.LineFault.TheVariants as line_fault
@@ -27,14 +28,31 @@ key_within key h = record { key = key; short = grind (arith, nat_tests); spelled
 value_within : (text : List ℕ) → is_past_value text ≡ false → length text ≤ most_value
 value_within text h = grind (arith, nat_tests)
 
-verb_built : (work : Workload) (number : ℕ) (tail : List ℕ) (v : Verb) → first_of (faults_of number (said work v tail)) ≡ None → IsBuilt (said work v tail).command
-verb_built work number tail verb.Put none =
-    let tests = none_applies (faults_of number (said work verb.Put tail)) none in
+one_key_built : (number : ℕ) (tail : List ℕ) → first_of (faults_of number (one_key command.Get tail)) ≡ None → IsKeyPath (components (first_word tail))
+one_key_built number tail none = key_within (first_word tail) (none_applies (faults_of number (one_key command.Get tail)) none).1.1.1.0
+
+key_and_text_built : (number : ℕ) (tail : List ℕ) → first_of (faults_of number (key_and_text command.Put tail)) ≡ None
+    → IsKeyPath (components (first_word tail)) × (length (behind_word tail) ≤ most_value)
+key_and_text_built number tail none =
+    let tests = none_applies (faults_of number (key_and_text command.Put tail)) none in
     (key_within (first_word tail) tests.1.1.1.0, value_within (behind_word tail) tests.1.1.1.1.0)
+
+two_keys_built : (number : ℕ) (tail : List ℕ) → first_of (faults_of number (two_keys command.Symlink tail)) ≡ None
+    → IsKeyPath (components (first_word tail)) × IsKeyPath (components (first_word (behind_word tail)))
+two_keys_built number tail none =
+    let tests = none_applies (faults_of number (two_keys command.Symlink tail)) none in
+    (key_within (first_word tail) tests.1.1.1.0, key_within (first_word (behind_word tail)) tests.1.1.1.1.0)
+
+verb_built : (work : Workload) (number : ℕ) (tail : List ℕ) (v : Verb) → first_of (faults_of number (said work v tail)) ≡ None → IsBuilt (said work v tail).command
+verb_built work number tail verb.Put none = key_and_text_built number tail none
+verb_built work number tail verb.Append none = key_and_text_built number tail none
+verb_built work number tail verb.Unlink none = one_key_built number tail none
+verb_built work number tail verb.Mkdir none = one_key_built number tail none
+verb_built work number tail verb.Symlink none = two_keys_built number tail none
 verb_built work number tail verb.Commit none = tt
-verb_built work number tail verb.Get none =
-    let tests = none_applies (faults_of number (said work verb.Get tail)) none in
-    key_within (first_word tail) tests.1.1.1.0
+verb_built work number tail verb.Get none = one_key_built number tail none
+verb_built work number tail verb.Ls none = one_key_built number tail none
+verb_built work number tail verb.Readlink none = one_key_built number tail none
 
 said_built : (work : Workload) (number : ℕ) (tail : List ℕ) (o : Option Verb) → first_of (option_map_or (λ v. faults_of number (said work v tail)) o ((true, line_fault.BadCommand number) ∷ [])) ≡ None
     → IfSome (option_map (λ v. (said work v tail).command) o) IsBuilt
@@ -50,6 +68,7 @@ one_built lines actor None h built = rw (append-nil lines) h
 one_built lines actor (Some c) h built = All-push (λ l. IsBuilt l.command) lines (record { actor = actor; command = c }) h built
 
 command_built : (work : Workload) (number : ℕ) (line : List ℕ) → AreBuilt work.lines → first_of (command_faults work number line) ≡ None → AreBuilt (with_command work line).lines
+unfolding verb_faults
 command_built work number line h none =
     let known = one_by_one (nat_le most_commands (length work.lines)) (line_fault.Limit number which.Commands) ((is_none (place_of (first_word line) work.actors), line_fault.NoActor number) ∷ verb_faults work number (behind_word line)) none in
     let spoken = one_by_one (is_none (place_of (first_word line) work.actors)) (line_fault.NoActor number) (verb_faults work number (behind_word line)) known.1 in

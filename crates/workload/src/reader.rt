@@ -69,6 +69,7 @@ fn actor(
 }
 
 /// The command that a text spells, in the line of this number.
+#[tactic(auto, unfolding(crate::specs::Reading::verb_faults))]
 fn order(alloc: Global, work: &Workload, line: u64, text: &str) -> Result<Command, LineFault>
     ensures { Reads (first_of (verb_faults work.now line text.now)) (λ c. command_of work.now text.now ≡ Some c) result }
 {

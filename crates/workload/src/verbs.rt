@@ -1,6 +1,7 @@
 ghost use Rattle.std.specs.Prelude.{◌≡◌, [], ◌∷◌};
 ghost use Rattle.kvs_txn.specs.Keys.{components};
-ghost use Rattle.workload.specs.Verbs.{first_of, faults_of, verb_of, said, is_past_key, is_past_value, Reads};
+ghost use Rattle.workload.specs.Words.{first_word, behind_word};
+ghost use Rattle.workload.specs.Verbs.{first_of, faults_of, verb_of, said, one_key, key_and_text, two_keys, is_past_key, is_past_value, Reads};
 
 use crate::faults::{LineFault, Which};
 use crate::limits::MOST_VALUE;
@@ -14,8 +15,14 @@ use std::alloc::Global;
 #[derive(Clone, Copy, Debug, PartialEq, Eq)]
 pub enum Verb {
     Put,
+    Append,
+    Unlink,
+    Mkdir,
+    Symlink,
     Commit,
     Get,
+    Ls,
+    Readlink,
 }
 
 impl Verb {
@@ -23,14 +30,17 @@ impl Verb {
     pub fn of(word: &str) -> Option<Verb>
         ensures { result ≡ verb_of word.now }
     {
-        if word == "put" {
-            Some(Verb::Put)
-        } else if word == "commit" {
-            Some(Verb::Commit)
-        } else if word == "get" {
-            Some(Verb::Get)
-        } else {
-            None
+        match word {
+            "put" => Some(Verb::Put),
+            "append" => Some(Verb::Append),
+            "unlink" => Some(Verb::Unlink),
+            "mkdir" => Some(Verb::Mkdir),
+            "symlink" => Some(Verb::Symlink),
+            "commit" => Some(Verb::Commit),
+            "get" => Some(Verb::Get),
+            "ls" => Some(Verb::Ls),
+            "readlink" => Some(Verb::Readlink),
+            _ => None,
         }
     }
 }
@@ -63,9 +73,21 @@ fn value(alloc: Global, line: u64, text: &str) -> Result<Bytes, LineFault>
     Ok(bytes)
 }
 
-/// The command `put KEY TEXT`, of the text behind the verb.
-fn put(alloc: Global, work: &Workload, line: u64, tail: &str) -> Result<Command, LineFault>
-    ensures { Reads (first_of (faults_of line (said work.now Verb.Put tail.now))) (λ c. c ≡ (said work.now Verb.Put tail.now).command) result }
+/// The key that stands alone behind a verb.
+fn one_key(alloc: Global, line: u64, tail: &str) -> Result<Path, LineFault>
+    ensures { Reads (first_of (faults_of line (one_key Command.Get tail.now))) (λ path. path ≡ components (first_word tail.now)) result }
+{
+    let (word, rest) = cut(tail);
+    let (more, _) = cut(rest);
+    if word.is_empty() || !more.is_empty() {
+        return Err(LineFault::BadCommand { line });
+    }
+    key(alloc, line, word)
+}
+
+/// The key and the text behind a verb.
+fn key_and_text(alloc: Global, line: u64, tail: &str) -> Result<(Path, Bytes), LineFault>
+    ensures { Reads (first_of (faults_of line (key_and_text Command.Put tail.now))) (λ r. (r.0 ≡ components (first_word tail.now)) × (r.1 ≡ behind_word tail.now)) result }
 {
     let (word, text) = cut(tail);
     if word.is_empty() {
@@ -73,7 +95,62 @@ fn put(alloc: Global, work: &Workload, line: u64, tail: &str) -> Result<Command,
     }
     let path = key(alloc, line, word)?;
     let bytes = value(alloc, line, text)?;
+    Ok((path, bytes))
+}
+
+/// The two keys behind a verb.
+fn two_keys(alloc: Global, line: u64, tail: &str) -> Result<(Path, Path), LineFault>
+    ensures { Reads (first_of (faults_of line (two_keys Command.Symlink tail.now))) (λ r. (r.0 ≡ components (first_word tail.now)) × (r.1 ≡ components (first_word (behind_word tail.now)))) result }
+{
+    let (one, rest) = cut(tail);
+    let (other, rest) = cut(rest);
+    let (more, _) = cut(rest);
+    if other.is_empty() || !more.is_empty() {
+        return Err(LineFault::BadCommand { line });
+    }
+    let one = key(alloc, line, one)?;
+    let other = key(alloc, line, other)?;
+    Ok((one, other))
+}
+
+/// The command `put KEY TEXT`, of the text behind the verb.
+fn put(alloc: Global, work: &Workload, line: u64, tail: &str) -> Result<Command, LineFault>
+    ensures { Reads (first_of (faults_of line (said work.now Verb.Put tail.now))) (λ c. c ≡ (said work.now Verb.Put tail.now).command) result }
+{
+    let (path, bytes) = key_and_text(alloc, line, tail)?;
     Ok(Command::Put { path, bytes })
+}
+
+/// The command `append KEY TEXT`, of the text behind the verb.
+fn append(alloc: Global, work: &Workload, line: u64, tail: &str) -> Result<Command, LineFault>
+    ensures { Reads (first_of (faults_of line (said work.now Verb.Append tail.now))) (λ c. c ≡ (said work.now Verb.Append tail.now).command) result }
+{
+    let (path, bytes) = key_and_text(alloc, line, tail)?;
+    Ok(Command::Append { path, bytes })
+}
+
+/// The command `unlink KEY`, of the text behind the verb.
+fn unlink(alloc: Global, work: &Workload, line: u64, tail: &str) -> Result<Command, LineFault>
+    ensures { Reads (first_of (faults_of line (said work.now Verb.Unlink tail.now))) (λ c. c ≡ (said work.now Verb.Unlink tail.now).command) result }
+{
+    let path = one_key(alloc, line, tail)?;
+    Ok(Command::Unlink { path })
+}
+
+/// The command `mkdir KEY`, of the text behind the verb.
+fn mkdir(alloc: Global, work: &Workload, line: u64, tail: &str) -> Result<Command, LineFault>
+    ensures { Reads (first_of (faults_of line (said work.now Verb.Mkdir tail.now))) (λ c. c ≡ (said work.now Verb.Mkdir tail.now).command) result }
+{
+    let path = one_key(alloc, line, tail)?;
+    Ok(Command::Mkdir { path })
+}
+
+/// The command `symlink KEY TARGET`, of the text behind the verb.
+fn symlink(alloc: Global, work: &Workload, line: u64, tail: &str) -> Result<Command, LineFault>
+    ensures { Reads (first_of (faults_of line (said work.now Verb.Symlink tail.now))) (λ c. c ≡ (said work.now Verb.Symlink tail.now).command) result }
+{
+    let (path, target) = two_keys(alloc, line, tail)?;
+    Ok(Command::Symlink { path, target })
 }
 
 /// The command `commit`, behind which no word stands.
@@ -91,13 +168,24 @@ fn commit(work: &Workload, line: u64, tail: &str) -> Result<Command, LineFault>
 fn get(alloc: Global, work: &Workload, line: u64, tail: &str) -> Result<Command, LineFault>
     ensures { Reads (first_of (faults_of line (said work.now Verb.Get tail.now))) (λ c. c ≡ (said work.now Verb.Get tail.now).command) result }
 {
-    let (word, rest) = cut(tail);
-    let (more, _) = cut(rest);
-    if word.is_empty() || !more.is_empty() {
-        return Err(LineFault::BadCommand { line });
-    }
-    let path = key(alloc, line, word)?;
+    let path = one_key(alloc, line, tail)?;
     Ok(Command::Get { path })
+}
+
+/// The command `ls KEY`, of the text behind the verb.
+fn ls(alloc: Global, work: &Workload, line: u64, tail: &str) -> Result<Command, LineFault>
+    ensures { Reads (first_of (faults_of line (said work.now Verb.Ls tail.now))) (λ c. c ≡ (said work.now Verb.Ls tail.now).command) result }
+{
+    let path = one_key(alloc, line, tail)?;
+    Ok(Command::Ls { path })
+}
+
+/// The command `readlink KEY`, of the text behind the verb.
+fn readlink(alloc: Global, work: &Workload, line: u64, tail: &str) -> Result<Command, LineFault>
+    ensures { Reads (first_of (faults_of line (said work.now Verb.Readlink tail.now))) (λ c. c ≡ (said work.now Verb.Readlink tail.now).command) result }
+{
+    let path = one_key(alloc, line, tail)?;
+    Ok(Command::Readlink { path })
 }
 
 /// The command that a verb and the text behind it spell, in the line of this number.
@@ -112,7 +200,13 @@ pub fn command(
 {
     match verb {
         Verb::Put => put(alloc, work, line, tail),
+        Verb::Append => append(alloc, work, line, tail),
+        Verb::Unlink => unlink(alloc, work, line, tail),
+        Verb::Mkdir => mkdir(alloc, work, line, tail),
+        Verb::Symlink => symlink(alloc, work, line, tail),
         Verb::Commit => commit(work, line, tail),
         Verb::Get => get(alloc, work, line, tail),
+        Verb::Ls => ls(alloc, work, line, tail),
+        Verb::Readlink => readlink(alloc, work, line, tail),
     }
 }
