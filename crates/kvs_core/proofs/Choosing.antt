@@ -17,21 +17,25 @@ use Rattle.kvs_core.specs.Sound.{IsSound}
 use Rattle.kvs_core.specs.Space.{SpaceValue, has_news}
 use Rattle.kvs_core.specs.Steps.{parent, can_step, is_announced, is_message, is_on, is_ready}
 use Rattle.kvs_core.specs.Value.{CoreValue}
+use Rattle.kvs_core.proofs.Announced.{parent-below}
 use Rattle.kvs_core.proofs.Delivering.{coming}
+use Rattle.kvs_core.proofs.Ways.{parent-le}
 use Rattle.kvs_core.proofs.Finding.{and-left, and-right, both-true, eq-is, eq-true, lt-is, lt-true, false-or-else}
 use Rattle.kvs_core.proofs.Ordering.{any-at, first-behind, first-front, first-link, first-range, no-link, none-of}
 
 -- a message is between brokers of the tree
-on-within : (size : ℕ) (spaces : List SpaceValue) (from to : ℕ) (st : Stage) → is_message from to st ≡ true → AtPlace size spaces st → (from < size) × (to < size)
-on-within size spaces from to (stage.Rising a b asked) h at =
+on-within : (fanout size : ℕ) (spaces : List SpaceValue) (from to : ℕ) (st : Stage) → is_message from to st ≡ true → AtPlace fanout size spaces st → (from < size) × (to < size)
+on-within fanout size spaces from to (stage.Rising a b asked) h at =
+    let p : b < a = subst (λ n. n < a) (sym at.1) (parent-below fanout a at.0) in
     let e = eq-is a from (and-left (a == from) _ h) in
     let f = eq-is b to (and-right (a == from) _ h) in
     (omega (arith, at), omega (arith, at))
-on-within size spaces from to (stage.Falling a b given) h at =
+on-within fanout size spaces from to (stage.Falling a b given) h at =
+    let p : a < b = subst (λ n. n < b) (sym at.1) (parent-below fanout b at.0) in
     let e = eq-is a from (and-left (a == from) _ h) in
     let f = eq-is b to (and-right (a == from) _ h) in
     (omega (arith, at), omega (arith, at))
-on-within size spaces from to _ h at = cc
+on-within fanout size spaces from to _ h at = cc
 
 -- the search of a link found the first that can be used
 pub record IsFirstHop (v : CoreValue) (found : Option Hop) : Type 0 where
@@ -45,8 +49,8 @@ leads v found is from to h = by (is_announced v from to) refl
     by true e = let c = coming v from to e in subst (λ x. Leads found x to) (eq-is _ _ c.sender) (is.news to c.above c.within c.some)
     by false e = is.carried from to (sym (false-or-else (is_announced v from to) _ e) ∙ h)
 
-parent-below : (fanout to size : ℕ) → 0 < fanout → to < size → parent fanout to < size
-parent-below fanout to size pos l = grind arith
+parent-within : (fanout to size : ℕ) → to < size → parent fanout to < size
+parent-within fanout to size l = let p = parent-le fanout to in omega arith
 
 within : (v : CoreValue) → IsSound v → (from to : ℕ) → can_step v (kvs.Deliver from to) ≡ true → (from < v.size) × (to < v.size)
 within v sound from to h = by (is_announced v from to) refl
@@ -54,10 +58,10 @@ within v sound from to h = by (is_announced v from to) refl
     by : (b : Bool) → is_announced v from to ≡ b → (from < v.size) × (to < v.size)
     by true e =
         let c = coming v from to e in
-        (subst (λ x. x < v.size) (eq-is _ _ c.sender) (parent-below v.fanout to v.size sound.fanout c.within), c.within)
+        (subst (λ x. x < v.size) (eq-is _ _ c.sender) (parent-within v.fanout to v.size c.within), c.within)
     by false e =
         let at = any-at (is_on from to) v.rows (sym (false-or-else (is_announced v from to) _ e) ∙ h) in
-        on-within v.size v.spaces from to (row at.0).stage (at.2 any) (sound.placed at.0 any at.1).place
+        on-within v.fanout v.size v.spaces from to (row at.0).stage (at.2 any) (sound.placed at.0 any at.1).place
       where
         any : Row
         any = record { by = record { actor = 0; command = 0 }; broker = 0; namespace = []; stage = stage.Joined 0 work.Commit }
