@@ -1,0 +1,135 @@
+-- The step that is made next is the first that can be made.
+use Rattle.std.proofs.Common.{◌≡◌, ℕ, ◌+◌, ◌<◌, ◌≤◌, ◌⊎◌, inl, inr, ◌-◌, ◌/◌, ◌||◌, ◌==◌, List, [], ◌∷◌, ◌++◌, length, map, Bool, true, false, Option, Some, None, refl, sym, ap, ◌∙◌, subst, arith, true≢false, get_or}
+use Rattle.std.specs.Prelude.{slice_get, flat_map, nat_lt}
+use Rattle.std.specs.List.{filter, list_any, range_with_len}
+use Rattle.std.specs.Option.{option_map_or}
+use Rattle.std.proofs.lemmas.Option.{slice_get_within}
+use Rattle.kvs_rules.specs.declared.events.KvsStep.{KvsStep}
+use Rattle.kvs_rules.specs.declared.events.KvsStep.TheVariants as kvs
+use Rattle.kvs_core.specs.declared.order.Hop.{Hop}
+use Rattle.kvs_core.specs.declared.rows.Row.{Row}
+use Rattle.kvs_core.specs.declared.rows.Work.TheVariants as work
+use Rattle.kvs_core.specs.declared.rows.Stage.{Stage}
+use Rattle.kvs_core.specs.declared.rows.Stage.TheVariants as stage
+use Rattle.kvs_core.specs.Order.{IsAnnouncing, Leads, all_steps, possible}
+use Rattle.kvs_core.specs.Rows.{AtPlace}
+use Rattle.kvs_core.specs.Sound.{IsSound}
+use Rattle.kvs_core.specs.Space.{SpaceValue, has_news}
+use Rattle.kvs_core.specs.Steps.{parent, can_step, is_announced, is_message, is_on, is_ready}
+use Rattle.kvs_core.specs.Value.{CoreValue}
+use Rattle.kvs_core.proofs.Delivering.{coming}
+use Rattle.kvs_core.proofs.Finding.{and-left, and-right, both-true, eq-is, eq-true, lt-is, lt-true, false-or-else}
+use Rattle.kvs_core.proofs.Ordering.{any-at, first-behind, first-front, first-link, first-range, no-link, none-of}
+
+-- a message is between brokers of the tree
+on-within : (size : ℕ) (spaces : List SpaceValue) (from to : ℕ) (st : Stage) → is_message from to st ≡ true → AtPlace size spaces st → (from < size) × (to < size)
+on-within size spaces from to (stage.Rising a b asked) h at =
+    let e = eq-is a from (and-left (a == from) _ h) in
+    let f = eq-is b to (and-right (a == from) _ h) in
+    (omega (arith, at), omega (arith, at))
+on-within size spaces from to (stage.Falling a b given) h at =
+    let e = eq-is a from (and-left (a == from) _ h) in
+    let f = eq-is b to (and-right (a == from) _ h) in
+    (omega (arith, at), omega (arith, at))
+on-within size spaces from to _ h at = cc
+
+-- the search of a link found the first that can be used
+pub record IsFirstHop (v : CoreValue) (found : Option Hop) : Type 0 where
+  pub news : (to : ℕ) → 0 < to → to < v.size → list_any (has_news to) v.spaces ≡ true → Leads found (parent v.fanout to) to
+  pub carried : (from to : ℕ) → list_any (is_on from to) v.rows ≡ true → Leads found from to
+
+leads : (v : CoreValue) (found : Option Hop) → IsFirstHop v found → (from to : ℕ) → can_step v (kvs.Deliver from to) ≡ true → Leads found from to
+leads v found is from to h = by (is_announced v from to) refl
+  where
+    by : (b : Bool) → is_announced v from to ≡ b → Leads found from to
+    by true e = let c = coming v from to e in subst (λ x. Leads found x to) (eq-is _ _ c.sender) (is.news to c.above c.within c.some)
+    by false e = is.carried from to (sym (false-or-else (is_announced v from to) _ e) ∙ h)
+
+parent-below : (fanout to size : ℕ) → 0 < fanout → to < size → parent fanout to < size
+parent-below fanout to size pos l = grind arith
+
+within : (v : CoreValue) → IsSound v → (from to : ℕ) → can_step v (kvs.Deliver from to) ≡ true → (from < v.size) × (to < v.size)
+within v sound from to h = by (is_announced v from to) refl
+  where
+    by : (b : Bool) → is_announced v from to ≡ b → (from < v.size) × (to < v.size)
+    by true e =
+        let c = coming v from to e in
+        (subst (λ x. x < v.size) (eq-is _ _ c.sender) (parent-below v.fanout to v.size sound.fanout c.within), c.within)
+    by false e =
+        let at = any-at (is_on from to) v.rows (sym (false-or-else (is_announced v from to) _ e) ∙ h) in
+        on-within v.size v.spaces from to (row at.0).stage (at.2 any) (sound.placed at.0 any at.1).place
+      where
+        any : Row
+        any = record { by = record { actor = 0; command = 0 }; broker = 0; namespace = []; stage = stage.Joined 0 work.Commit }
+
+        row : ℕ → Row
+        row k = get_or v.rows k any
+
+delivers : (v : CoreValue) (from to : ℕ) → ((to < v.size) × IsAnnouncing v.fanout v.spaces from to) ⊎ (list_any (is_on from to) v.rows ≡ true) → can_step v (kvs.Deliver from to) ≡ true
+delivers v from to (inl h) = rw announced refl
+  where
+    announced : is_announced v from to ≡ true
+    announced = both-true _ _ (both-true _ _ (both-true _ _ (lt-true 0 to h.1.above) (lt-true to v.size h.0)) (eq-true _ _ h.1.sender)) h.1.some
+delivers v from to (inr h) = by (is_announced v from to)
+  where
+    by : (b : Bool) → (b || list_any (is_on from to) v.rows) ≡ true
+    by true = refl
+    by false = h
+
+no-delivery : (v : CoreValue) → IsFirstHop v None → (from to : ℕ) → can_step v (kvs.Deliver from to) ≡ false
+no-delivery v is from to = by (can_step v (kvs.Deliver from to)) refl
+  where
+    by : (b : Bool) → can_step v (kvs.Deliver from to) ≡ b → can_step v (kvs.Deliver from to) ≡ false
+    by false e = e
+    by true e = absurd (leads v None is from to e)
+
+-- the three parts of the list of all steps
+abbrev links : CoreValue → List KvsStep
+links v = flat_map (λ x. map (kvs.Deliver x) (range_with_len 0 v.size)) (range_with_len 0 v.size)
+
+abbrev services : CoreValue → List KvsStep
+services v = map kvs.Serve (range_with_len 0 v.size)
+
+abbrev landings : CoreValue → List KvsStep
+landings v = map kvs.Land (range_with_len 0 (length v.spaces))
+
+past-links : (v : CoreValue) → IsFirstHop v None → slice_get (possible v) 0 ≡ slice_get (filter (can_step v) (services v ++ landings v)) 0
+past-links v is = first-behind (can_step v) (links v) (services v ++ landings v) (no-link (can_step v) (no-delivery v is) (range_with_len 0 v.size) (range_with_len 0 v.size))
+
+past-services : (v : CoreValue) → ((broker : ℕ) → can_step v (kvs.Serve broker) ≡ false) → slice_get (filter (can_step v) (services v ++ landings v)) 0 ≡ slice_get (filter (can_step v) (landings v)) 0
+past-services v unserved = first-behind (can_step v) (services v) (landings v) (none-of (can_step v) kvs.Serve unserved (range_with_len 0 v.size))
+
+-- a delivery is made before all else
+pub delivery-first : (v : CoreValue) → IsSound v → (hop : Hop) → IsFirstHop v (Some hop) → ((hop.to < v.size) × IsAnnouncing v.fanout v.spaces hop.from hop.to) ⊎ (list_any (is_on hop.from hop.to) v.rows ≡ true)
+    → Some (kvs.Deliver hop.from hop.to) ≡ slice_get (possible v) 0
+delivery-first v sound hop is some =
+    let can = delivers v hop.from hop.to some in
+    let l = within v sound hop.from hop.to can in
+    sym (first-front (can_step v) (links v) (services v ++ landings v) (kvs.Deliver hop.from hop.to) (first-link (can_step v) v.size hop.from hop.to 0 v.size (omega arith) (omega (arith, l)) l.1 can (leads v (Some hop) is)))
+
+-- where none can be made, the lowest broker serves that can
+pub service-first : (v : CoreValue) (broker : ℕ) → IsFirstHop v None → can_step v (kvs.Serve broker) ≡ true → ((lower : ℕ) → lower < broker → can_step v (kvs.Serve lower) ≡ false)
+    → Some (kvs.Serve broker) ≡ slice_get (possible v) 0
+service-first v broker is can first =
+    let l = lt-is broker v.size (and-left (nat_lt broker v.size) _ can) in
+    sym (past-links v is ∙ first-front (can_step v) (services v) (landings v) (kvs.Serve broker) (first-range (can_step v) kvs.Serve broker 0 v.size (omega arith) (omega arith) can first))
+
+-- then the namespace lands that was opened first
+pub landing-first : (v : CoreValue) (number : ℕ) → IsFirstHop v None → ((broker : ℕ) → can_step v (kvs.Serve broker) ≡ false)
+    → can_step v (kvs.Land number) ≡ true → ((lower : ℕ) → lower < number → can_step v (kvs.Land lower) ≡ false)
+    → Some (kvs.Land number) ≡ slice_get (possible v) 0
+landing-first v number is unserved can first =
+    let l = named v.spaces number can in
+    sym (past-links v is ∙ past-services v unserved ∙ first-range (can_step v) kvs.Land number 0 (length v.spaces) (omega arith) (omega arith) can first)
+  where
+    named : (spaces : List SpaceValue) (k : ℕ) → option_map_or is_ready (slice_get spaces k) false ≡ true → k < length spaces
+    named spaces k h = by (slice_get spaces k) refl
+      where
+        by : (o : Option SpaceValue) → slice_get spaces k ≡ o → k < length spaces
+        by None e = absurd (true≢false (sym h ∙ ap (λ o. option_map_or is_ready o false) e))
+        by (Some s) e = slice_get_within spaces k s e
+
+-- and where nothing can be made, the list is empty
+pub no-step : (v : CoreValue) → IsFirstHop v None → ((broker : ℕ) → can_step v (kvs.Serve broker) ≡ false) → ((number : ℕ) → can_step v (kvs.Land number) ≡ false) → None ≡ slice_get (possible v) 0
+no-step v is unserved unlanded =
+    sym (past-links v is ∙ past-services v unserved ∙ ap (λ xs. slice_get xs 0) (none-of (can_step v) kvs.Land unlanded (range_with_len 0 (length v.spaces))))

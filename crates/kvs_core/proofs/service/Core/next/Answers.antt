@@ -1,0 +1,33 @@
+use Rattle.std.proofs.Common.{◌≡◌, ◌∙◌, ap, refl, subst, Option, None, Some}
+use Rattle.std.specs.Prelude.{slice_get}
+use Rattle.kvs_rules.specs.declared.events.KvsStep.{KvsStep}
+use Rattle.kvs_rules.specs.declared.events.KvsStep.TheVariants as kvs
+use Rattle.kvs_core.specs.Order.{possible}
+use Rattle.kvs_core.specs.Sound.{IsSound}
+use Rattle.kvs_core.specs.Value.{CoreValue}
+use Rattle.kvs_core.specs.View.{value_of}
+use Rattle.kvs_core.proofs.Choosing.{IsFirstHop, delivery-first, service-first, landing-first, no-step}
+use Rattle.kvs_core.proofs.service.Core.next.Goals as goal
+
+pub returns-in-Some-clause-first : goal.returns-in-Some-clause-first
+returns-in-Some-clause-first c =
+    subst (λ v. Some (kvs.Deliver c.in-Some.hop.from c.in-Some.hop.to) ≡ slice_get (possible v) 0) c.self.view_is
+    (delivery-first (value_of c.self.inside) sound c.in-Some.hop (record { news = c.in-Some.ensures.announced; carried = c.in-Some.ensures.carried }) c.in-Some.ensures.some)
+  where
+    sound : IsSound (value_of c.self.inside)
+    sound = c.self.invariant (ap (λ v. v.spent) c.self.view_is ∙ c.requires)
+
+pub returns-in-Some-first_answer-clause-first : goal.returns-in-Some-first_answer-clause-first
+returns-in-Some-first_answer-clause-first c =
+    service-first c.args.self.now c.in-Some-first_answer.broker (subst (λ v. IsFirstHop v None) c.self.view_is (record { news = c.in_default.ensures.announced; carried = c.in_default.ensures.carried }))
+    c.in-Some-first_answer.ensures.some c.in-Some-first_answer.ensures.first
+
+pub returns-in-Some-first_landing-clause-first : goal.returns-in-Some-first_landing-clause-first
+returns-in-Some-first_landing-clause-first c =
+    landing-first c.args.self.now c.in-Some-first_landing.namespace (subst (λ v. IsFirstHop v None) c.self.view_is (record { news = c.in_default.ensures.announced; carried = c.in_default.ensures.carried }))
+    (c.in_default-first_answer.ensures.none refl) c.in-Some-first_landing.ensures.some c.in-Some-first_landing.ensures.first
+
+pub returns-clause-first : goal.returns-clause-first
+returns-clause-first c =
+    no-step c.args.self.now (subst (λ v. IsFirstHop v None) c.self.view_is (record { news = c.in_default.ensures.announced; carried = c.in_default.ensures.carried }))
+    (c.in_default-first_answer.ensures.none refl) (c.in_default-first_landing.ensures.none refl)
