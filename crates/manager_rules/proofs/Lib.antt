@@ -1,0 +1,16 @@
+pub mod Telling
+pub mod Texts
+pub mod Allowed
+pub mod Keys
+pub mod Stores
+pub mod Landing
+pub mod Submitting
+pub mod Apart
+pub mod Waiting
+pub mod Soundness
+pub mod Others
+pub mod Unique
+pub mod Posting
+pub mod Staying
+pub mod Rows
+pub mod Accepted

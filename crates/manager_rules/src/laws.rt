@@ -1,0 +1,122 @@
+ghost use Rattle.std.specs.Prelude.{◌≡◌, ◌++◌, ◌<◌, ◌^◌, ℕ, List, [], Some, Contains, IfSome, Ok};
+ghost use Rattle.std.specs.List.{AllByRecursion as Each};
+ghost use Rattle.job_states.specs.Changes.{change_of};
+ghost use Rattle.job_states.specs.declared.job.Change.TheVariants.{Submit as Begun};
+ghost use Rattle.event_log.specs.declared.event.Event.{Event};
+ghost use Rattle.job_rules.specs.Fits.{IsGrant, IsSpec};
+ghost use Rattle.job_spec.specs.declared.spec.JobSpec.{JobSpec};
+ghost use Rattle.job_spec.specs.Specs.{spec_reading};
+ghost use Rattle.job_states.specs.Replay.{stepped};
+ghost use Rattle.job_states.specs.Table.{made};
+ghost use Rattle.kvs_model.specs.History.{first_store};
+ghost use Rattle.kvs_model.specs.Operation.{effect};
+ghost use Rattle.kvs_model.specs.Store.{IsStore, Store};
+ghost use Rattle.kvs_txn.specs.declared.txn.Scope.TheVariants.{Primary};
+ghost use Rattle.kvs_txn.specs.declared.txn.Txn.{Txn};
+ghost use Rattle.resource_set.specs.Units.{AreHosts};
+ghost use Rattle.resource_set.specs.declared.node.Node.{Node};
+ghost use Rattle.store_laws.specs.Reserved.{IsUsers};
+ghost use Rattle.manager_rules.specs.Deeds.{Deed, change_by, due_of, event_of};
+ghost use Rattle.manager_rules.specs.declared.due.Due.{Due};
+ghost use Rattle.manager_rules.specs.Due.{IsDue, IsLike, MayDo, StillWaits};
+ghost use Rattle.manager_rules.specs.Jobs.{AreJobsOf, AreNeeds, IsLogged, StoredJob, ids_of};
+ghost use Rattle.manager_rules.specs.Posts.{Desk, Does, IsDesk, IsDuePost, IsOpenSubmit, IsSubmission, Post, Submission, Submit, Submits, job_of, txn_of, with_event, with_job};
+ghost use Rattle.manager_rules.specs.Scene.{IsScene, Scene};
+ghost use Rattle.manager_rules.specs.Sound.{AreInTime, IsSound, IsSoundStore};
+
+/// The table of events and states allows what is due, and its event makes the change of its row.
+pub fn what_is_due_is_allowed()
+    ensures { (s : Scene) (j : StoredJob) (deed : Deed) (index : ℕ) → IsScene s → IfSome j.r (λ r. AreHosts r.nodes) → MayDo s j deed
+        → stepped index j.job (event_of s.now j deed) ≡ Ok (made (change_by deed) j.job) }
+{}
+
+/// The first store of a grant has no jobs.
+pub fn first_stores_have_no_jobs()
+    ensures { (grant : List ℕ) → AreJobsOf (first_store grant) [] }
+{}
+
+/// A user's transaction leaves the jobs as they are, through links too.
+pub fn users_leave_jobs()
+    ensures { (st new : Store) (txn : Txn) (jobs : List StoredJob) → IsUsers txn → effect st txn Primary ≡ Ok new
+        → AreJobsOf st jobs → AreJobsOf new jobs }
+{}
+
+/// Where a due event lands, its job is one event further, and the other jobs stay.
+pub fn due_events_do_one_step()
+    ensures { (s : Scene) (st new : Store) (j : StoredJob) (deed : Deed) → IsScene s → IsStore st → AreJobsOf st s.jobs
+        → IfSome j.r (λ r. AreHosts r.nodes) → Contains s.jobs j → MayDo s j deed → effect st (txn_of (Does (due_of s.now j deed))) Primary ≡ Ok new
+        → AreJobsOf new (with_event (due_of s.now j deed) s.jobs) }
+{}
+
+/// Where a due submission lands, its job is new, and the others stay.
+pub fn due_submissions_add_a_job()
+    ensures { (s : Scene) (birth : ℕ) (submits : List Submit) (x : Submission) (due : IsSubmission s birth submits x) (st new : Store) → IsScene s → IsOpenSubmit due.from
+        → IsStore st → AreJobsOf st s.jobs → effect st (txn_of (Submits x)) Primary ≡ Ok new
+        → AreJobsOf new (with_job (job_of x due.from.by.actor due.from.urgency) s.jobs) }
+{}
+
+/// A due event leaves live jobs with satisfying units of the grant, no two of them one in common.
+pub fn due_events_keep_jobs_sound()
+    ensures { (s : Scene) (st : Store) (j : StoredJob) (deed : Deed) → IsScene s → AreJobsOf st s.jobs → IsSound s.grant.nodes s.jobs → IsGrant s.grant.nodes
+        → Contains s.jobs j → MayDo s j deed → IsSpec j.spec → IsSound s.grant.nodes (with_event (due_of s.now j deed) s.jobs) }
+{}
+
+/// The same of a list of jobs with no store beside it, which hold resources in time and go on doing so.
+pub fn due_events_keep_lists_sound()
+    ensures sound { (s : Scene) (j : StoredJob) (deed : Deed) → IsScene s → AreInTime s.jobs → IsSound s.grant.nodes s.jobs → IsGrant s.grant.nodes
+        → Contains s.jobs j → MayDo s j deed → IsSpec j.spec → IsSound s.grant.nodes (with_event (due_of s.now j deed) s.jobs) }
+    ensures in_time { (s : Scene) (j : StoredJob) (deed : Deed) → IsScene s → AreInTime s.jobs → IsSound s.grant.nodes s.jobs → IsGrant s.grant.nodes
+        → Contains s.jobs j → MayDo s j deed → IsSpec j.spec → AreInTime (with_event (due_of s.now j deed) s.jobs) }
+{}
+
+/// The event of a due submission tells its user, its urgency and its dependencies.
+pub fn due_submissions_tell_themselves()
+    ensures asks { (s : Scene) (birth : ℕ) (submits : List Submit) (x : Submission) (due : IsSubmission s birth submits x) → IsScene s → IsOpenSubmit due.from
+        → change_of x.event ≡ Some (Begun due.from.by.actor due.from.urgency) }
+    ensures needs { (s : Scene) (birth : ℕ) (submits : List Submit) (x : Submission) (due : IsSubmission s birth submits x) → IsScene s → IsOpenSubmit due.from
+        → Each (λ j. j.id < 2 ^ 64) s.jobs → AreNeeds x.spec x.event x.needs }
+    ensures known { (s : Scene) (birth : ℕ) (submits : List Submit) (x : Submission) → IsSubmission s birth submits x
+        → Each (λ need. Contains (ids_of s.jobs) need.on) x.needs }
+{}
+
+/// A new job holds nothing, and leaves the others as sound as they were.
+pub fn submissions_keep_jobs_sound()
+    ensures { (grant : List Node) (x : Submission) (userid urgency : ℕ) (jobs : List StoredJob) → IsSound grant jobs
+        → IsSound grant (with_job (job_of x userid urgency) jobs) }
+{}
+
+/// A log is only added to: by users not at all, and by a due event at its end.
+pub fn logs_only_grow()
+    ensures users { (st new : Store) (txn : Txn) (id : ℕ) (log : List Event) → IsUsers txn → effect st txn Primary ≡ Ok new
+        → IsLogged st id log → IsLogged new id log }
+    ensures manager { (s : Scene) (st new : Store) (j : StoredJob) (deed : Deed) (id : ℕ) (log : List Event) → IsScene s → IsStore st → AreJobsOf st s.jobs
+        → IfSome j.r (λ r. AreHosts r.nodes) → Contains s.jobs j → MayDo s j deed → effect st (txn_of (Does (due_of s.now j deed))) Primary ≡ Ok new
+        → id < 2 ^ 64 → IsLogged st id log → (more : List Event) × IsLogged new id (log ++ more) }
+{}
+
+/// A store has one list of jobs.
+pub fn a_store_has_one_list_of_jobs()
+    ensures { (st : Store) (jobs others : List StoredJob) → AreJobsOf st jobs → AreJobsOf st others → jobs ≡ others }
+{}
+
+/// A user's transaction leaves a sound store sound.
+pub fn users_keep_stores_sound()
+    ensures { (grant : List Node) (st new : Store) (txn : Txn) → IsUsers txn → effect st txn Primary ≡ Ok new
+        → IsSoundStore grant st → IsSoundStore grant new }
+{}
+
+/// What is due leaves a sound store sound.
+pub fn due_posts_keep_stores_sound()
+    ensures { (d : Desk) (post : Post) (st new : Store) → IsDesk d → IsGrant d.scene.grant.nodes → IsStore st → AreJobsOf st d.scene.jobs
+        → IsSoundStore d.scene.grant.nodes st → IsDuePost d post → effect st (txn_of post) Primary ≡ Ok new → IsSoundStore d.scene.grant.nodes new }
+{}
+
+/// What is due stays due while its command waits, whatever other commands come and go.
+pub fn what_is_due_stays_due()
+    ensures { (s later : Scene) (due : Due) → IsLike s later → StillWaits s later due → IsDue s due → IsDue later due }
+{}
+
+/// A text that is accepted tells a jobspec, with at least one slot and one core.
+pub fn accepted_texts_tell_jobspecs()
+    ensures { (text : List ℕ) (spec : JobSpec) → spec_reading text ≡ Ok spec → IsSpec spec }
+{}
