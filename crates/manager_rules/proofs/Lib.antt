@@ -14,3 +14,5 @@ pub mod Posting
 pub mod Staying
 pub mod Rows
 pub mod Accepted
+pub mod Below
+pub mod Taking

@@ -1,4 +1,4 @@
-ghost use Rattle.std.specs.Prelude.{◌≡◌, ◌++◌, ◌<◌, ◌^◌, ℕ, List, [], Some, Contains, IfSome, Ok};
+ghost use Rattle.std.specs.Prelude.{◌≡◌, ◌++◌, ◌<◌, ◌^◌, ℕ, List, [], ◌∷◌, length, Some, Contains, IfSome, Ok};
 ghost use Rattle.std.specs.List.{AllByRecursion as Each};
 ghost use Rattle.job_states.specs.Changes.{change_of};
 ghost use Rattle.job_states.specs.declared.job.Change.TheVariants.{Submit as Begun};
@@ -15,12 +15,13 @@ ghost use Rattle.kvs_txn.specs.declared.txn.Scope.TheVariants.{Primary};
 ghost use Rattle.kvs_txn.specs.declared.txn.Txn.{Txn};
 ghost use Rattle.resource_set.specs.Units.{AreHosts};
 ghost use Rattle.resource_set.specs.declared.node.Node.{Node};
+ghost use Rattle.store_laws.specs.Posts.{AreTaken};
 ghost use Rattle.store_laws.specs.Reserved.{IsUsers};
 ghost use Rattle.manager_rules.specs.Deeds.{Deed, change_by, due_of, event_of};
 ghost use Rattle.manager_rules.specs.declared.due.Due.{Due};
 ghost use Rattle.manager_rules.specs.Due.{IsDue, IsLike, MayDo, StillWaits};
-ghost use Rattle.manager_rules.specs.Jobs.{AreJobsOf, AreNeeds, IsLogged, StoredJob, ids_of};
-ghost use Rattle.manager_rules.specs.Posts.{Desk, Does, IsDesk, IsDuePost, IsOpenSubmit, IsSubmission, Post, Submission, Submit, Submits, job_of, txn_of, with_event, with_job};
+ghost use Rattle.manager_rules.specs.Jobs.{AreJobsOf, AreNeeds, HasOnlyJobs, IsLogged, StoredJob, ids_of};
+ghost use Rattle.manager_rules.specs.Posts.{Desk, Does, IsDesk, IsDuePost, IsOpenSubmit, IsSubmission, Post, StillSubmits, Submission, Submit, Submits, group_of, job_of, jobs_after, txn_of, with_event, with_job};
 ghost use Rattle.manager_rules.specs.Scene.{IsScene, Scene};
 ghost use Rattle.manager_rules.specs.Sound.{AreInTime, IsSound, IsSoundStore};
 
@@ -85,13 +86,16 @@ pub fn submissions_keep_jobs_sound()
         → IsSound grant (with_job (job_of x userid urgency) jobs) }
 {}
 
-/// A log is only added to: by users not at all, and by a due event at its end.
+/// A log is only added to: by users and by submissions not at all, and by a due event at its end.
 pub fn logs_only_grow()
     ensures users { (st new : Store) (txn : Txn) (id : ℕ) (log : List Event) → IsUsers txn → effect st txn Primary ≡ Ok new
         → IsLogged st id log → IsLogged new id log }
     ensures manager { (s : Scene) (st new : Store) (j : StoredJob) (deed : Deed) (id : ℕ) (log : List Event) → IsScene s → IsStore st → AreJobsOf st s.jobs
         → IfSome j.r (λ r. AreHosts r.nodes) → Contains s.jobs j → MayDo s j deed → effect st (txn_of (Does (due_of s.now j deed))) Primary ≡ Ok new
         → id < 2 ^ 64 → IsLogged st id log → (more : List Event) × IsLogged new id (log ++ more) }
+    ensures submissions { (s : Scene) (birth : ℕ) (submits : List Submit) (x : Submission) → IsSubmission s birth submits x
+        → (st new : Store) → IsStore st → AreJobsOf st s.jobs → effect st (txn_of (Submits x)) Primary ≡ Ok new
+        → (id : ℕ) (log : List Event) → id < 2 ^ 64 → IsLogged st id log → IsLogged new id log }
 {}
 
 /// A store has one list of jobs.
@@ -111,9 +115,29 @@ pub fn due_posts_keep_stores_sound()
         → IsSoundStore d.scene.grant.nodes st → IsDuePost d post → effect st (txn_of post) Primary ≡ Ok new → IsSoundStore d.scene.grant.nodes new }
 {}
 
-/// What is due stays due while its command waits, whatever other commands come and go.
+/// What is due stays due while its command waits, whatever other commands come and go, and whatever other jobs' children do.
 pub fn what_is_due_stays_due()
-    ensures { (s later : Scene) (due : Due) → IsLike s later → StillWaits s later due → IsDue s due → IsDue later due }
+    ensures events { (s later : Scene) (due : Due) → IsLike s later due.job → StillWaits s later due
+        → IsDue s due → IsDue later due }
+    ensures submissions { (s later : Scene) (birth : ℕ) (submits more : List Submit) (x : Submission)
+        → StillSubmits s later submits more x → IsSubmission s birth submits x → IsSubmission later birth more x }
+{}
+
+/// Below `job` stands nothing but jobs: in the first store, and after each user's and each due transaction.
+pub fn only_jobs_stand_below_job()
+    ensures begin { (grant : List ℕ) → HasOnlyJobs (first_store grant) [] }
+    ensures users { (st new : Store) (txn : Txn) (ids : List ℕ) → IsUsers txn → effect st txn Primary ≡ Ok new
+        → HasOnlyJobs st ids → HasOnlyJobs new ids }
+    ensures posts { (d : Desk) (post : Post) (st new : Store) → IsDesk d → IsStore st → AreJobsOf st d.scene.jobs
+        → HasOnlyJobs st (ids_of d.scene.jobs) → IsDuePost d post → effect st (txn_of post) Primary ≡ Ok new
+        → HasOnlyJobs new (ids_of (jobs_after post d.scene.jobs)) }
+{}
+
+/// What is due takes effect, where there are fewer than 2,000 jobs: no directory is full then.
+pub fn due_posts_take_effect()
+    ensures { (d : Desk) (post : Post) (st : Store) → IsDesk d → IsStore st → AreJobsOf st d.scene.jobs
+        → HasOnlyJobs st (ids_of d.scene.jobs) → length d.scene.jobs < 2000 → IsDuePost d post
+        → AreTaken (group_of post ∷ []) st }
 {}
 
 /// A text that is accepted tells a jobspec, with at least one slot and one core.
