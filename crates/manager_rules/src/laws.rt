@@ -1,9 +1,10 @@
-ghost use Rattle.std.specs.Prelude.{◌≡◌, ◌++◌, ◌<◌, ◌^◌, ℕ, List, [], ◌∷◌, length, Some, Contains, IfSome, Ok};
+ghost use Rattle.std.specs.Prelude.{◌≡◌, ◌++◌, ◌<◌, ◌≤◌, ◌^◌, ◌⊎◌, ℕ, List, [], ◌∷◌, length, true, false, Some, Contains, IfSome, Ok};
 ghost use Rattle.std.specs.List.{AllByRecursion as Each};
 ghost use Rattle.job_states.specs.Changes.{change_of};
 ghost use Rattle.job_states.specs.declared.job.Change.TheVariants.{Submit as Begun};
 ghost use Rattle.event_log.specs.declared.event.Event.{Event};
 ghost use Rattle.job_rules.specs.Fits.{IsGrant, IsSpec};
+ghost use Rattle.job_spec.specs.declared.spec.Depend.{Depend};
 ghost use Rattle.job_spec.specs.declared.spec.JobSpec.{JobSpec};
 ghost use Rattle.job_spec.specs.Specs.{spec_reading};
 ghost use Rattle.job_states.specs.Replay.{stepped};
@@ -15,15 +16,18 @@ ghost use Rattle.kvs_txn.specs.declared.txn.Scope.TheVariants.{Primary};
 ghost use Rattle.kvs_txn.specs.declared.txn.Txn.{Txn};
 ghost use Rattle.resource_set.specs.Units.{AreHosts};
 ghost use Rattle.resource_set.specs.declared.node.Node.{Node};
+ghost use Rattle.resource_set.specs.declared.node.Resources.{Resources};
 ghost use Rattle.store_laws.specs.Posts.{AreTaken};
 ghost use Rattle.store_laws.specs.Reserved.{IsUsers};
-ghost use Rattle.manager_rules.specs.Deeds.{Deed, change_by, due_of, event_of};
+ghost use Rattle.manager_rules.specs.Deeds.{Deed, Depends, Expires, Finishes, Removes, Takes, change_by, due_of, event_of};
+ghost use Rattle.manager_rules.specs.Dependencies.{is_added, is_met, is_removed};
 ghost use Rattle.manager_rules.specs.declared.due.Due.{Due};
 ghost use Rattle.manager_rules.specs.Due.{IsDue, IsLike, MayDo, StillWaits};
-ghost use Rattle.manager_rules.specs.Jobs.{AreJobsOf, AreNeeds, HasOnlyJobs, IsLogged, StoredJob, ids_of};
+ghost use Rattle.manager_rules.specs.Jobs.{AreJobsOf, AreNeeds, HasOnlyJobs, IsLogged, StoredJob, ids_of, is_live};
 ghost use Rattle.manager_rules.specs.Posts.{Desk, Does, IsDesk, IsDuePost, IsOpenSubmit, IsSubmission, Post, StillSubmits, Submission, Submit, Submits, group_of, job_of, jobs_after, txn_of, with_event, with_job};
-ghost use Rattle.manager_rules.specs.Scene.{IsScene, Scene};
+ghost use Rattle.manager_rules.specs.Scene.{IsScene, Scene, has_living_child, has_shut_child};
 ghost use Rattle.manager_rules.specs.Sound.{AreInTime, IsSound, IsSoundStore};
+ghost use Rattle.manager_rules.specs.Times.{seconds_of};
 
 /// The table of events and states allows what is due, and its event makes the change of its row.
 pub fn what_is_due_is_allowed()
@@ -143,4 +147,33 @@ pub fn due_posts_take_effect()
 /// A text that is accepted tells a jobspec, with at least one slot and one core.
 pub fn accepted_texts_tell_jobspecs()
     ensures { (text : List ℕ) (spec : JobSpec) → spec_reading text ≡ Ok spec → IsSpec spec }
+{}
+
+/// One job at a time takes resources: the head of the queue, which nobody passes.
+pub fn one_job_at_a_time_takes()
+    ensures { (s : Scene) (j k : StoredJob) (r q : Resources) → MayDo s j (Takes r) → MayDo s k (Takes q) → j.id ≡ k.id }
+{}
+
+/// While its child lives, a job isn't released and keeps its units.
+pub fn jobs_of_living_children_keep_their_units()
+    ensures { (s : Scene) (j : StoredJob) (deed : Deed) → MayDo s j deed → has_living_child s.asked j.id ≡ true
+        → j.job.released ≡ false → ((made (change_by deed) j.job).released ≡ false)
+        × (is_live j.job ≡ true → is_live (made (change_by deed) j.job) ≡ true) }
+{}
+
+/// A command ends at a second that was ahead, or with its child; resources end at such a second or later.
+pub fn jobs_end_at_their_seconds()
+    ensures finish { (s : Scene) (j : StoredJob) (status : ℕ) → MayDo s j (Finishes status)
+        → (has_shut_child s.asked j.id ≡ true) ⊎ Contains (seconds_of j) s.now }
+    ensures timeout { (s : Scene) (j : StoredJob) → MayDo s j Expires
+        → (second : ℕ) × Contains (seconds_of j) second × (second ≤ s.now) }
+{}
+
+/// A dependency is removed once all are added and it is met, and a job goes on once all are removed.
+pub fn dependencies_are_removed_once_met()
+    ensures removed { (s : Scene) (j : StoredJob) (need : Depend) → MayDo s j (Removes need)
+        → Each (λ n. is_added j n ≡ true) j.needs × Contains j.needs need
+        × (is_removed j need ≡ false) × (is_met s.jobs need ≡ true) }
+    ensures done { (s : Scene) (j : StoredJob) → MayDo s j Depends
+        → Each (λ n. (is_added j n ≡ true) × (is_removed j n ≡ true)) j.needs }
 {}
