@@ -1,5 +1,5 @@
 -- What a source and a sink in memory are, and what a call makes of them.
-use Rattle.std.specs.Prelude.{ℕ, ◌+◌, ◌-◌, ◌^◌, min, List, ◌++◌, length, take, drop, Bool, nat_eq, Result, Ok, Err}
+use Rattle.std.specs.Prelude.{◌≡◌, ◌⊎◌, [], IsTrue, ℕ, ◌+◌, ◌-◌, ◌^◌, min, List, ◌++◌, length, take, drop, Bool, nat_eq, Result, Ok, Err}
 use Rattle.std.specs.List.{list_any}
 
 -- a source: the bytes left, the most that a call gives, the numbers of the calls that fail, and the calls and the faults
@@ -20,9 +20,28 @@ pub record Vessel : Type 0 where
   pub calls : ℕ
   pub faults : ℕ
 
+-- a source of these bytes before its first call
+abbrev pub new_supply : List ℕ → ℕ → List ℕ → Supply
+new_supply bytes most fails = record { left = bytes; most = most; fails = fails; calls = 0; faults = 0 }
+
+-- an empty sink before its first call
+abbrev pub new_vessel : ℕ → ℕ → List ℕ → Vessel
+new_vessel room most fails = record {
+  taken = [];
+  room = room;
+  most = most;
+  fails = fails;
+  calls = 0;
+  faults = 0;
+}
+
 -- whether the call of this number is listed among those that fail
 abbrev pub is_listed : List ℕ → ℕ → Bool
 is_listed fails call = list_any (λ listed. nat_eq listed call) fails
+
+-- the sink's next call fails: it is listed, or there is no room left
+abbrev pub RefusesNext : Vessel → Type 0
+RefusesNext s = IsTrue (is_listed s.fails s.calls) ⊎ (length s.taken ≡ s.room)
 
 -- one more, up to the last value of a count
 abbrev pub one_more : ℕ → ℕ
