@@ -45,6 +45,7 @@ pub record HasRun (input : Side) (run : Run) (text : List ℕ) : Type 0 where
   pub stretches : AreStretches work run.steps.items run.ends.items run.chronicle
 
 -- what a command writes: a run the answers of its one chronicle, a tool the text that it prints
-pub record IsOutput (words : List (List ℕ)) (input : Side) (run : Run) (text : List ℕ) : Type 0 where
+pub record IsOutput
+    (words : List (List ℕ)) (input : Side) (run : Run) (text : List ℕ) : Type 0 where
   pub answers : AreRunWords words → HasRun input run text
   pub line : AreToolWords words → HasAnswer words input.before input.after (Ok text)

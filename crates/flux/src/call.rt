@@ -105,7 +105,8 @@ fn run_workload<S: Source, K: Sink>(alloc: Global, source: &mut S, sink: &mut K)
     ensures cut { result.status ≡ 5 → (text : List ℕ)
         × HasRun (side S.left S.faults source.old source.new) result text
         × IsTaken (side K.held K.faults sink.old sink.new) text result.fault }
-    ensures refused { result.status ≡ 1 → HasReadCause (side S.left S.faults source.old source.new) result.fault }
+    ensures refused { result.status ≡ 1
+        → HasReadCause (side S.left S.faults source.old source.new) result.fault }
     ensures source { FailsAt 3 (side S.left S.faults source.old source.new) result.status }
     ensures sink { FailsAt 5 (side K.held K.faults sink.old sink.new) result.status }
     ensures unwritten { (1 ≤ result.status) → (result.status ≤ 4) → sink.new ≡ sink.old }

@@ -18,12 +18,15 @@ const MOST_TEXT: usize = 16_777_216;
 /// Reads the source to its end, for the workload that it spells. A text of more than 16 MiB is refused at the first byte
 /// past them.
 pub fn read_work<S: Source>(alloc: Global, source: &mut S) -> Result<Workload, Fault>
-    ensures work { IfOk result (λ work. IsSpelled (side S.left S.faults source.old source.new) work) }
+    ensures work { IfOk result (λ work.
+        IsSpelled (side S.left S.faults source.old source.new) work) }
     ensures within { IfOk result (λ work. IsWithin brokers work) }
     ensures built { IfOk result (λ work. All (λ line. IsBuilt line.command) work.lines) }
-    ensures cause { IfErr result (λ fault. HasReadCause (side S.left S.faults source.old source.new) fault) }
+    ensures cause { IfErr result (λ fault.
+        HasReadCause (side S.left S.faults source.old source.new) fault) }
     ensures steady { OnOk result (IsSteady (side S.left S.faults source.old source.new)) }
-    ensures count { IfErr result (λ fault. FailsAt 3 (side S.left S.faults source.old source.new) (status_of fault)) }
+    ensures count { IfErr result (λ fault.
+        FailsAt 3 (side S.left S.faults source.old source.new) (status_of fault)) }
 {
     let text = match read_all(alloc, source, MOST_TEXT) {
         Ok(text) => text,

@@ -4,5 +4,6 @@ ghost use Rattle.job_queue.specs.Queue.{IsHead};
 
 /// A queue has at most one head.
 pub fn a_queue_has_one_head()
-    ensures { (jobs : List (ℕ × ℕ)) (id other : ℕ) → IsHead jobs id → IsHead jobs other → other ≡ id }
+    ensures { (jobs : List (ℕ × ℕ)) (id other : ℕ)
+        → IsHead jobs id → IsHead jobs other → other ≡ id }
 {}

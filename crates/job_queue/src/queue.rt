@@ -114,7 +114,8 @@ impl Queue {
 
     /// Forgets the open dependencies of the job `id` on the job `on`, as where it ends while it waits. It takes no memory.
     pub fn forget(&mut self, id: u64, on: u64)
-        ensures gone { ChangesOpen self.old.1 self.new.1 on (filter (is_of_another id) (open_on self.old.1 on)) }
+        ensures gone { ChangesOpen self.old.1 self.new.1 on
+            (filter (is_of_another id) (open_on self.old.1 on)) }
         ensures jobs { self.new.0 ≡ self.old.0 }
     {
         forget(self.alloc, &mut self.dependencies, id, on);
@@ -123,7 +124,8 @@ impl Queue {
     /// Removes and lists the open dependencies that the outcome of a job decides: by id, and those of one job in the order
     /// in which they were added.
     pub fn settle(&mut self, job: u64, outcome: Outcome) -> Result<Vec<Settled>, AllocError>
-        ensures listed { IfOk result (λ list. AreInOrder (decided_by self.old.1 job outcome) list.items) }
+        ensures listed { IfOk result (λ list.
+            AreInOrder (decided_by self.old.1 job outcome) list.items) }
         ensures rest { OnOk result (ChangesOpen self.old.1 self.new.1 job (filter (stays_open job outcome) (open_on self.old.1 job))) }
         ensures kept { OnErr result (self.new.1 ≡ self.old.1) }
         ensures jobs { self.new.0 ≡ self.old.0 }

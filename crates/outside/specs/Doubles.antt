@@ -22,7 +22,13 @@ pub record Vessel : Type 0 where
 
 -- a source of these bytes before its first call
 abbrev pub new_supply : List ℕ → ℕ → List ℕ → Supply
-new_supply bytes most fails = record { left = bytes; most = most; fails = fails; calls = 0; faults = 0 }
+new_supply bytes most fails = record {
+  left = bytes;
+  most = most;
+  fails = fails;
+  calls = 0;
+  faults = 0;
+}
 
 -- an empty sink before its first call
 abbrev pub new_vessel : ℕ → ℕ → List ℕ → Vessel
