@@ -1,11 +1,12 @@
 -- What the faults of a run mean.
-use Rattle.std.specs.Prelude.{◌≡◌, ℕ, ◌<◌, List, Option, Some, Err, length, take}
-use Rattle.std.specs.Io.KnownBytes.{Consumes, Appends}
-use Rattle.outside.specs.Causes.{Rose}
+use Rattle.std.specs.Prelude.{◌≡◌, ◌⊎◌, ℕ, ◌<◌, List, Some, length, take}
+use Rattle.std.specs.Io.KnownBytes.{Appends}
+use Rattle.workload.specs.declared.faults.LineFault.{LineFault}
 use Rattle.workload.specs.Reading.{first_fault}
 use Rattle.flux.specs.declared.call.Fault.{Fault}
 use Rattle.flux.specs.declared.call.Fault.TheVariants as fault
 use Rattle.flux.specs.Runs.{AreRunWords, brokers}
+use Rattle.flux.specs.Sides.{Side, HasFailed, IsRead, IsWritten}
 use Rattle.flux_tools.specs.Tools.{IsRefused as RefusesTool}
 
 -- the status that a run with this fault ends with
@@ -18,25 +19,37 @@ status_of fault.Read = 3
 status_of fault.Memory = 4
 status_of (fault.Write n) = 5
 
--- why the source gave no workload: its text is none, with this first fault, or its count of faults rose
-abbrev pub HasReadCause : Option (List ℕ) → Option (List ℕ) → ℕ → ℕ → Fault → Type 0
-HasReadCause before after old new (fault.Line f) = (text : List ℕ) × Consumes before after text × (first_fault brokers text ≡ Some f)
-HasReadCause before after old new fault.Read = Rose old new
-HasReadCause before after old new fault.Memory = Unit {0}
-HasReadCause before after old new _ = ⊥
+-- a text was read of which this is the first fault as a workload's
+pub record HasFirstFault (input : Side) (fault : LineFault) : Type 0 where
+  pub text : List ℕ
+  pub read : IsRead input text
+  pub first : first_fault brokers text ≡ Some fault
 
--- what the sink took of the output: all of it, or a part of it where its count of faults rose
-abbrev pub IsTaken : Option (List ℕ) → Option (List ℕ) → ℕ → ℕ → List ℕ → Fault → Type 0
-IsTaken held later old new output fault.Nothing = Appends held later output
-IsTaken held later old new output (fault.Write n) = (n < length output) × Appends held later (take n output) × Rose old new
-IsTaken held later old new output _ = ⊥
+-- why the source gave no workload: its text is none, it failed, or there was no memory
+abbrev pub HasReadCause : Side → Fault → Type 0
+HasReadCause input (fault.Line f) = HasFirstFault input f
+HasReadCause input fault.Read = HasFailed input
+HasReadCause input fault.Memory = Unit {0}
+HasReadCause input _ = ⊥
+
+-- what the sink took of the text: all of it, or a part of it where it failed
+abbrev pub IsTaken : Side → List ℕ → Fault → Type 0
+IsTaken output text fault.Nothing = IsWritten output text
+IsTaken output text (fault.Write n) =
+    (n < length text) × Appends output.before output.after (take n text) × HasFailed output
+IsTaken output text _ = ⊥
 
 -- a tool refuses the text that it is given
-abbrev pub IsToolFault : List (List ℕ) → Option (List ℕ) → Option (List ℕ) → Fault → Type 0
-IsToolFault words before after (fault.Tool f) = RefusesTool words before after f
-IsToolFault words before after _ = ⊥
+abbrev pub IsToolFault : List (List ℕ) → Side → Fault → Type 0
+IsToolFault words input (fault.Tool f) = RefusesTool words input.before input.after f
+IsToolFault words input _ = ⊥
 
 -- why a command was refused: the text that a run read is no workload's, or a tool refuses the text that it is given
-abbrev pub IsRefused : List (List ℕ) → Option (List ℕ) → Option (List ℕ) → Fault → Type 0
-IsRefused words before after (fault.Line f) = AreRunWords words × (text : List ℕ) × Consumes before after text × (first_fault brokers text ≡ Some f)
-IsRefused words before after fault = IsToolFault words before after fault
+abbrev pub IsRefused : List (List ℕ) → Side → Fault → Type 0
+IsRefused words input (fault.Line f) = AreRunWords words × HasFirstFault input f
+IsRefused words input fault = IsToolFault words input fault
+
+-- where neither the source nor the sink failed, a command ends well, is refused, or lacks memory
+abbrev pub IsComplete : Side → Side → ℕ → Type 0
+IsComplete input output status =
+    ¬ HasFailed input → ¬ HasFailed output → (status ≡ 0) ⊎ (status ≡ 1) ⊎ (status ≡ 4)

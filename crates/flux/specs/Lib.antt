@@ -1,3 +1,4 @@
+pub mod Sides
 pub mod Runs
 pub mod Faults
 pub mod Notices

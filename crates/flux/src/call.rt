@@ -1,10 +1,9 @@
 //! The call that `main` makes.
-ghost use Rattle.std.specs.Prelude.{◌≡◌, ◌≢◌, ◌≤◌, ◌↔◌, ◌⊎◌, ℕ, map, string_bytes, IsTrue, List, Ok, Some};
-ghost use Rattle.outside.specs.Causes.{Rose};
-ghost use Rattle.std.specs.Io.KnownBytes.{Appends};
+ghost use Rattle.std.specs.Prelude.{◌≡◌, ◌≢◌, ◌≤◌, ◌↔◌, map, string_bytes, IsTrue, List, ℕ, Ok};
 ghost use Rattle.flux_tools.specs.Tools.{AreReaderWords, AreToolWords, HasAnswer};
+ghost use Rattle.flux.specs.Sides.{side, FailsAt, IsWritten};
 ghost use Rattle.flux.specs.Runs.{AreRunWords, AreWords, HasRun, IsOutput};
-ghost use Rattle.flux.specs.Faults.{status_of, HasReadCause, IsRefused, IsTaken, IsToolFault};
+ghost use Rattle.flux.specs.Faults.{status_of, HasReadCause, IsComplete, IsRefused, IsTaken, IsToolFault};
 
 use crate::playing::{Played, play};
 use crate::reading::read_work;
@@ -45,7 +44,7 @@ pub struct Run {
 
 impl Run {
     /// A run that made no step.
-    fn without_steps(alloc: Global, fault: Fault) -> Run
+    pub(crate) fn without_steps(alloc: Global, fault: Fault) -> Run
         ensures status { result.status ≡ status_of fault }
         ensures fault { result.fault ≡ fault }
     {
@@ -85,7 +84,8 @@ fn is_run(words: &[String]) -> bool
 
 /// Writes the output, and says what the sink took of it.
 fn tell<K: Sink>(sink: &mut K, output: &[u8]) -> Fault
-    ensures { IsTaken (K.held sink.old) (K.held sink.new) (K.faults sink.old) (K.faults sink.new) output.now result }
+    ensures taken { IsTaken (side K.held K.faults sink.old sink.new) output.now result }
+    ensures count { FailsAt 5 (side K.held K.faults sink.old sink.new) (status_of result) }
 {
     match write_all(sink, output) {
         Ok(()) => Fault::Nothing,
@@ -99,12 +99,21 @@ fn tell<K: Sink>(sink: &mut K, output: &[u8]) -> Fault
 fn run_workload<S: Source, K: Sink>(alloc: Global, source: &mut S, sink: &mut K) -> Run
     ensures status { result.status ≡ status_of result.fault }
     ensures known { result.status ≢ 2 }
-    ensures done { result.status ≡ 0 → (output : List ℕ) × HasRun (S.left source.old) (S.left source.new) result.chronicle result.steps.items result.ends.items output × Appends (K.held sink.old) (K.held sink.new) output }
-    ensures cut { result.status ≡ 5 → (output : List ℕ) × HasRun (S.left source.old) (S.left source.new) result.chronicle result.steps.items result.ends.items output × IsTaken (K.held sink.old) (K.held sink.new) (K.faults sink.old) (K.faults sink.new) output result.fault }
-    ensures refused { result.status ≡ 1 → HasReadCause (S.left source.old) (S.left source.new) (S.faults source.old) (S.faults source.new) result.fault }
-    ensures read { result.status ≡ 3 → Rose (S.faults source.old) (S.faults source.new) }
+    ensures done { result.status ≡ 0 → (text : List ℕ)
+        × HasRun (side S.left S.faults source.old source.new) result text
+        × IsWritten (side K.held K.faults sink.old sink.new) text }
+    ensures cut { result.status ≡ 5 → (text : List ℕ)
+        × HasRun (side S.left S.faults source.old source.new) result text
+        × IsTaken (side K.held K.faults sink.old sink.new) text result.fault }
+    ensures refused { result.status ≡ 1
+        → HasReadCause (side S.left S.faults source.old source.new) result.fault }
+    ensures source { FailsAt 3 (side S.left S.faults source.old source.new) result.status }
+    ensures sink { FailsAt 5 (side K.held K.faults sink.old sink.new) result.status }
     ensures unwritten { (1 ≤ result.status) → (result.status ≤ 4) → sink.new ≡ sink.old }
-    ensures complete { (Rose (S.faults source.old) (S.faults source.new) → ⊥) → (Rose (K.faults sink.old) (K.faults sink.new) → ⊥) → (result.status ≡ 0) ⊎ (result.status ≡ 1) ⊎ (result.status ≡ 4) }
+    ensures complete { IsComplete
+        (side S.left S.faults source.old source.new)
+        (side K.held K.faults sink.old sink.new)
+        result.status }
 {
     let work = match read_work(alloc, source) {
         Ok(work) => work,
@@ -133,13 +142,33 @@ fn run_tool<S: Source, K: Sink>(
     requires { AreToolWords (map string_bytes words.now) }
     ensures status { result.status ≡ status_of result.fault }
     ensures known { result.status ≢ 2 }
-    ensures done { result.status ≡ 0 → (output : List ℕ) × HasAnswer (map string_bytes words.now) (S.left source.old) (S.left source.new) (Ok output) × Appends (K.held sink.old) (K.held sink.new) output }
-    ensures cut { result.status ≡ 5 → (output : List ℕ) × HasAnswer (map string_bytes words.now) (S.left source.old) (S.left source.new) (Ok output) × IsTaken (K.held sink.old) (K.held sink.new) (K.faults sink.old) (K.faults sink.new) output result.fault }
+    ensures done { result.status ≡ 0 → (text : List ℕ)
+        × HasAnswer
+        (map string_bytes words.now)
+        (S.left source.old)
+        (S.left source.new)
+        (Ok text)
+        × IsWritten (side K.held K.faults sink.old sink.new) text }
+    ensures cut { result.status ≡ 5 → (text : List ℕ)
+        × HasAnswer
+        (map string_bytes words.now)
+        (S.left source.old)
+        (S.left source.new)
+        (Ok text)
+        × IsTaken (side K.held K.faults sink.old sink.new) text result.fault }
     ensures unread { ¬ AreReaderWords (map string_bytes words.now) → source.new ≡ source.old }
-    ensures refused { result.status ≡ 1 → IsToolFault (map string_bytes words.now) (S.left source.old) (S.left source.new) result.fault }
-    ensures read { result.status ≡ 3 → Rose (S.faults source.old) (S.faults source.new) }
+    ensures refused { result.status ≡ 1
+        → IsToolFault
+        (map string_bytes words.now)
+        (side S.left S.faults source.old source.new)
+        result.fault }
+    ensures source { FailsAt 3 (side S.left S.faults source.old source.new) result.status }
+    ensures sink { FailsAt 5 (side K.held K.faults sink.old sink.new) result.status }
     ensures unwritten { (1 ≤ result.status) → (result.status ≤ 4) → sink.new ≡ sink.old }
-    ensures complete { (Rose (S.faults source.old) (S.faults source.new) → ⊥) → (Rose (K.faults sink.old) (K.faults sink.new) → ⊥) → (result.status ≡ 0) ⊎ (result.status ≡ 1) ⊎ (result.status ≡ 4) }
+    ensures complete { IsComplete
+        (side S.left S.faults source.old source.new)
+        (side K.held K.faults sink.old sink.new)
+        result.status }
 {
     let line = match tool(alloc, words, source) {
         Ok(line) => line,
@@ -165,16 +194,40 @@ pub fn flux<S: Source, K: Sink>(
 ) -> Run
     ensures status { result.status ≡ status_of result.fault }
     // the headline: what was written prints the one chronicle, which is legal, whole and settled, or is a tool's line
-    ensures true_run { result.status ≡ 0 → (output : List ℕ) × IsOutput (map string_bytes words.now) (S.left source.old) (S.left source.new) result.chronicle result.steps.items result.ends.items output × Appends (K.held sink.old) (K.held sink.new) output }
+    ensures true_run { result.status ≡ 0 → (text : List ℕ)
+        × IsOutput
+        (map string_bytes words.now)
+        (side S.left S.faults source.old source.new)
+        result
+        text
+        × IsWritten (side K.held K.faults sink.old sink.new) text }
     // a sink that failed took a part of such an output
-    ensures cut { result.status ≡ 5 → (output : List ℕ) × IsOutput (map string_bytes words.now) (S.left source.old) (S.left source.new) result.chronicle result.steps.items result.ends.items output × IsTaken (K.held sink.old) (K.held sink.new) (K.faults sink.old) (K.faults sink.new) output result.fault }
+    ensures cut { result.status ≡ 5 → (text : List ℕ)
+        × IsOutput
+        (map string_bytes words.now)
+        (side S.left S.faults source.old source.new)
+        result
+        text
+        × IsTaken (side K.held K.faults sink.old sink.new) text result.fault }
     ensures words { (result.status ≡ 2) ↔ ¬ AreWords (map string_bytes words.now) }
-    ensures unread { ¬ AreRunWords (map string_bytes words.now) → ¬ AreReaderWords (map string_bytes words.now) → source.new ≡ source.old }
-    ensures refused { result.status ≡ 1 → IsRefused (map string_bytes words.now) (S.left source.old) (S.left source.new) result.fault }
-    ensures read { result.status ≡ 3 → Rose (S.faults source.old) (S.faults source.new) }
+    ensures unread { ¬ AreRunWords (map string_bytes words.now)
+        → ¬ AreReaderWords (map string_bytes words.now)
+        → source.new ≡ source.old }
+    // the text that was refused was read to its end, or is longer than any may be
+    ensures refused { result.status ≡ 1
+        → IsRefused
+        (map string_bytes words.now)
+        (side S.left S.faults source.old source.new)
+        result.fault }
+    // a source that failed is told at status 3, and a sink that failed at status 5, and neither is told else
+    ensures source { FailsAt 3 (side S.left S.faults source.old source.new) result.status }
+    ensures sink { FailsAt 5 (side K.held K.faults sink.old sink.new) result.status }
     ensures unwritten { (1 ≤ result.status) → (result.status ≤ 4) → sink.new ≡ sink.old }
-    // completeness: only a refused text, a fault of the source or the sink, or want of memory keep a command from status 0
-    ensures complete { AreWords (map string_bytes words.now) → (Rose (S.faults source.old) (S.faults source.new) → ⊥) → (Rose (K.faults sink.old) (K.faults sink.new) → ⊥) → (result.status ≡ 0) ⊎ (result.status ≡ 1) ⊎ (result.status ≡ 4) }
+    // only a refused text, a fault of the source or the sink, or want of memory keep a command from status 0
+    ensures complete { AreWords (map string_bytes words.now) → IsComplete
+        (side S.left S.faults source.old source.new)
+        (side K.held K.faults sink.old sink.new)
+        result.status }
 {
     if is_run(words) {
         return run_workload(alloc, source, sink);

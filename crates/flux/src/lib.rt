@@ -2,6 +2,7 @@
 #![tactic(auto)]
 
 mod call;
+mod ending;
 mod notices;
 mod playing;
 mod reading;
@@ -9,4 +10,5 @@ mod reading;
 mod tests;
 
 pub use call::{Fault, Run, flux};
+pub use ending::{closing_notice, command_words, exit_status, run_without_memory};
 pub use notices::notice;

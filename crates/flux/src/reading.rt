@@ -1,8 +1,9 @@
 //! What the source is read for.
-ghost use Rattle.std.specs.Prelude.{◌≤◌, ◌≡◌, All, IfOk, IfErr};
+ghost use Rattle.std.specs.Prelude.{◌≡◌, All, IfOk, IfErr, OnOk};
 ghost use Rattle.workload.specs.Laws.{IsWithin, IsBuilt};
 ghost use Rattle.flux.specs.Runs.{IsSpelled, brokers};
-ghost use Rattle.flux.specs.Faults.{HasReadCause};
+ghost use Rattle.flux.specs.Sides.{side, FailsAt, IsSteady};
+ghost use Rattle.flux.specs.Faults.{HasReadCause, status_of};
 
 use crate::call::Fault;
 use crate::playing::SETTING;
@@ -14,13 +15,18 @@ use workload::{LineFault, Workload, read};
 /// The most bytes of an input.
 const MOST_TEXT: usize = 16_777_216;
 
-/// Reads the source to its end, for the workload that it spells.
+/// Reads the source to its end, for the workload that it spells. A text of more than 16 MiB is refused at the first byte
+/// past them.
 pub fn read_work<S: Source>(alloc: Global, source: &mut S) -> Result<Workload, Fault>
-    ensures work { IfOk result (λ work. IsSpelled (S.left source.old) (S.left source.new) work) }
+    ensures work { IfOk result (λ work.
+        IsSpelled (side S.left S.faults source.old source.new) work) }
     ensures within { IfOk result (λ work. IsWithin brokers work) }
     ensures built { IfOk result (λ work. All (λ line. IsBuilt line.command) work.lines) }
-    ensures cause { IfErr result (λ fault. HasReadCause (S.left source.old) (S.left source.new) (S.faults source.old) (S.faults source.new) fault) }
-    ensures later { S.faults source.old ≤ S.faults source.new }
+    ensures cause { IfErr result (λ fault.
+        HasReadCause (side S.left S.faults source.old source.new) fault) }
+    ensures steady { OnOk result (IsSteady (side S.left S.faults source.old source.new)) }
+    ensures count { IfErr result (λ fault.
+        FailsAt 3 (side S.left S.faults source.old source.new) (status_of fault)) }
 {
     let text = match read_all(alloc, source, MOST_TEXT) {
         Ok(text) => text,

@@ -3,7 +3,7 @@ use Rattle.std.specs.Prelude.{◌≡◌, ◌≢◌, ◌⊎◌, ℕ, List, [], �
 use Rattle.std.specs.Option.{option_map_or}
 use Rattle.std.specs.Str.{bytes_eq}
 use Rattle.std.specs.Io.KnownBytes.{Consumes, IsAtEnd}
-use Rattle.outside.specs.Causes.{Rose}
+use Rattle.outside.specs.Causes.{Rose, HasReadCount}
 use Rattle.outside.specs.declared.reading.ReadFault.{ReadFault}
 use Rattle.outside.specs.declared.reading.ReadFault.TheVariants as read
 use Rattle.idset.specs.declared.faults.IdFault.{IdFault}
@@ -168,3 +168,15 @@ abbrev pub HasCause : List (List ℕ) → Option (List ℕ) → Option (List ℕ
 HasCause words before after old new NoMemory = Unit {0}
 HasCause words before after old new (Read read.Failed) = AreReaderWords words × Rose old new
 HasCause words before after old new fault = IsRefused words before after fault
+
+-- the source's count of faults behind a tool's call: it rose where the source failed, and else it stayed
+abbrev pub HasCount : {T : Type 0} → ℕ → ℕ → Result T ToolFault → Type 0
+HasCount old new (Ok x) = new ≡ old
+HasCount old new (Err (Read fault)) = HasReadCount {T = ℕ} old new (Err fault)
+HasCount old new (Err NoMemory) = new ≡ old
+HasCount old new (Err (Id fault)) = new ≡ old
+HasCount old new (Err (Host fault)) = new ≡ old
+HasCount old new (Err (Fluid fault)) = new ≡ old
+HasCount old new (Err (R fault)) = new ≡ old
+HasCount old new (Err (Log fault)) = new ≡ old
+HasCount old new (Err (Replay fault)) = new ≡ old

@@ -1,6 +1,6 @@
-ghost use Rattle.std.specs.Prelude.{◌≡◌, ◌≤◌, IfErr, IfOk, IsTrue, Ok, Some, length, map, string_bytes, ◌↔◌};
+ghost use Rattle.std.specs.Prelude.{◌≡◌, IfErr, IfOk, IsTrue, Ok, Some, length, map, string_bytes, ◌↔◌};
 ghost use Rattle.std.specs.Io.KnownBytes.{Consumes, IsAtEnd};
-ghost use Rattle.flux_tools.specs.Tools.{AreReaderWords, AreToolWords, Gives, HasAnswer, HasCause, answer, asked, reader_named, tool_named};
+ghost use Rattle.flux_tools.specs.Tools.{AreReaderWords, AreToolWords, Gives, HasAnswer, HasCause, HasCount, answer, asked, reader_named, tool_named};
 
 use crate::faults::ToolFault;
 use crate::lines::line_of;
@@ -73,7 +73,7 @@ pub fn tool<S: Source>(
     ensures answer { IfOk result (λ line. HasAnswer (map string_bytes words.now) (S.left source.old) (S.left source.new) (Ok line.items)) }
     ensures cause { IfErr result (λ fault. HasCause (map string_bytes words.now) (S.left source.old) (S.left source.new) (S.faults source.old) (S.faults source.new) fault) }
     ensures unread { ¬ AreReaderWords (map string_bytes words.now) → source.new ≡ source.old }
-    ensures later { S.faults source.old ≤ S.faults source.new }
+    ensures count { HasCount (S.faults source.old) (S.faults source.new) result }
 {
     let Some(name) = asked(words) else {
         unreachable!()

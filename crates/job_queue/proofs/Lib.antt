@@ -1,2 +1,3 @@
 mod OpenTables
 mod Ranking
+mod Sorting

@@ -1,8 +1,9 @@
 -- When dependencies are decided.
-use Rattle.std.specs.Prelude.{◌≡◌, ℕ, Bool, true, not, ◌==◌, List, [], Option, Some, None, cond}
+use Rattle.std.specs.Prelude.{◌≡◌, ℕ, Bool, true, not, ◌==◌, List, [], Option, Some, None, cond, filter, filter_map}
 use Rattle.std.specs.Option.{is_some, option_map, unwrap_or}
 use Rattle.std.specs.Ordering.{nat_cmp}
 use Rattle.std.specs.BTreeMap.{is_at}
+use Rattle.std.specs.List.Sorted.{IsPermutation, IsNonDecreasingBy}
 use Rattle.std.specs.Map.{lookup}
 use Rattle.job_queue.specs.declared.dependencies.Scheme.{Scheme}
 use Rattle.job_queue.specs.declared.dependencies.Scheme.TheVariants.{After, AfterAny, AfterOk, AfterNotOk}
@@ -30,6 +31,12 @@ settled_of job outcome o = cond (o.on == job) (option_map (λ met. record { id =
 abbrev pub stays_open : ℕ → Outcome → Open → Bool
 stays_open job outcome o = not (is_some (settled_of job outcome o))
 
+-- the settled ones in order: by id, and those of one job as they were found
+pub record AreInOrder (found list : List Settled) : Type 0 where
+  pub same : IsPermutation found list
+  pub by_id : IsNonDecreasingBy (λ s. s.id) list
+  pub arrival : (id : ℕ) → filter (λ s. s.id == id) list ≡ filter (λ s. s.id == id) found
+
 -- the open dependencies by the job that is waited for, those on one job in order of their arrival
 abbrev pub Table : Type 0
 Table = List (ℕ × List Open)
@@ -37,6 +44,14 @@ Table = List (ℕ × List Open)
 -- the open dependencies on a job, in order of their arrival
 abbrev pub open_on : Table → ℕ → List Open
 open_on table job = unwrap_or (lookup (is_at (nat_cmp job)) table) []
+
+-- the open dependencies that the outcome of the job decides, as it decides them, in order of their arrival
+abbrev pub decided_by : Table → ℕ → Outcome → List Settled
+decided_by table job outcome = filter_map (settled_of job outcome) (open_on table job)
+
+-- the dependency is of another job
+abbrev pub is_of_another : ℕ → Open → Bool
+is_of_another id o = not (o.id == id)
 
 -- these are the open dependencies on the job afterwards, and those on each other job stay
 abbrev pub ChangesOpen : Table → Table → ℕ → List Open → Type 0

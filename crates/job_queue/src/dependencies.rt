@@ -1,7 +1,6 @@
 // Dependencies of jobs on others (Flux RFC 26, "dependencies").
 ghost use Rattle.std.specs.Prelude.{◌≡◌, OnOk, IfOk, filter, filter_map};
-ghost use Rattle.std.specs.List.Sorted.{IsPermutation, IsNonDecreasingBy};
-ghost use Rattle.job_queue.specs.Dependencies.{verdict, settled_of, stays_open};
+ghost use Rattle.job_queue.specs.Dependencies.{is_of_another, verdict, settled_of, stays_open, AreInOrder};
 
 use std::alloc::{AllocError, Global};
 
@@ -83,10 +82,9 @@ pub(crate) fn decided(
         .collect(alloc)
 }
 
-/// Orders them by the ids of the jobs that waited.
+/// Orders them by the ids of the jobs that waited, and leaves those of one job in their order.
 pub(crate) fn sort_by_id(list: &mut Vec<Settled>) -> Result<(), AllocError>
-    ensures same { IsPermutation list.old.items list.new.items }
-    ensures by_id { OnOk result (IsNonDecreasingBy (λ s. s.id) list.new.items) }
+    ensures { OnOk result (AreInOrder list.old.items list.new.items) }
 {
     list.sort_by_key(|settled| settled.id)
 }
@@ -96,4 +94,11 @@ pub(crate) fn drop_decided(dependencies: &mut Vec<Open>, job: u64, outcome: Outc
     ensures { dependencies.new.items ≡ filter (stays_open job outcome) dependencies.old.items }
 {
     dependencies.retain(|dependency| decide(dependency, job, outcome).is_none());
+}
+
+/// Drops the dependencies of a job.
+pub(crate) fn drop_of(dependencies: &mut Vec<Open>, id: u64)
+    ensures { dependencies.new.items ≡ filter (is_of_another id) dependencies.old.items }
+{
+    dependencies.retain(|dependency| dependency.id != id);
 }

@@ -2,6 +2,7 @@
 #![tactic(auto)]
 
 pub mod dependencies;
+pub mod laws;
 mod open_table;
 pub mod queue;
 mod ranks;

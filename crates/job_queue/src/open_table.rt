@@ -3,9 +3,9 @@ ghost use Rattle.std.specs.Prelude.{◌≡◌, ℕ, ◌++◌, ◌∷◌, [], IsS
 ghost use Rattle.std.specs.Ordering.{nat_cmp};
 ghost use Rattle.std.specs.BTreeMap.{is_at};
 ghost use Rattle.std.specs.Map.{lookup};
-ghost use Rattle.job_queue.specs.Dependencies.{open_on, stays_open, ChangesOpen};
+ghost use Rattle.job_queue.specs.Dependencies.{is_of_another, open_on, stays_open, ChangesOpen};
 
-use crate::dependencies::{Open, Outcome, drop_decided};
+use crate::dependencies::{Open, Outcome, drop_decided, drop_of};
 use lists::ListOf;
 use std::alloc::{AllocError, Global};
 use std::collections::BTreeMap;
@@ -78,6 +78,29 @@ fn drop_decided_on(alloc: Global, table: &mut OpenTable, job: u64, outcome: Outc
     shorten(alloc, list, job, outcome);
 }
 
+/// Drops a job's dependencies of a list.
+fn drop_job(alloc: Global, list: &mut ListOf<Open>, id: u64)
+    ensures { list.new ≡ filter (is_of_another id) list.old }
+{
+    let mut items = mem::replace(list, ListOf::new(alloc)).into_vec();
+    drop_of(&mut items, id);
+    *list = ListOf::from_vec(items);
+}
+
+/// Drops a job's dependencies on another one.
+fn drop_job_on(alloc: Global, table: &mut OpenTable, id: u64, on: u64)
+    ensures { ChangesOpen
+        table.old.entries
+        table.new.entries
+        on
+        (filter (is_of_another id) (open_on table.old.entries on)) }
+{
+    let Some(list) = table.get_mut(&on) else {
+        return;
+    };
+    drop_job(alloc, list, id);
+}
+
 /// Forgets a list that is empty, so that the table has no more lists than jobs that are waited for.
 fn drop_empty(table: &mut OpenTable, job: u64)
     ensures { (other : ℕ) → open_on table.new.entries other ≡ open_on table.old.entries other }
@@ -94,4 +117,16 @@ pub(crate) fn keep_undecided(alloc: Global, table: &mut OpenTable, job: u64, out
 {
     drop_decided_on(alloc, table, job, outcome);
     drop_empty(table, job);
+}
+
+/// Forgets a job's dependencies on another one. It takes no memory.
+pub(crate) fn forget(alloc: Global, table: &mut OpenTable, id: u64, on: u64)
+    ensures { ChangesOpen
+        table.old.entries
+        table.new.entries
+        on
+        (filter (is_of_another id) (open_on table.old.entries on)) }
+{
+    drop_job_on(alloc, table, id, on);
+    drop_empty(table, on);
 }

@@ -1,11 +1,10 @@
 // The queue of waiting jobs.
-ghost use Rattle.std.specs.Prelude.{◌≡◌, ◌++◌, ◌∷◌, [], ◌↔◌, false, Some, None, is_some, IsTrue, IfSome, IsNone, OnOk, OnErr, IfOk, filter, filter_map};
-ghost use Rattle.std.specs.List.Sorted.{IsPermutation, IsNonDecreasingBy};
+ghost use Rattle.std.specs.Prelude.{◌≡◌, ◌++◌, ◌∷◌, [], ◌↔◌, false, Some, None, is_some, IsTrue, IfSome, IsNone, OnOk, OnErr, IfOk, filter};
 ghost use Rattle.job_queue.specs.Queue.{priority_of, Changes, IsHead, AreHeld};
-ghost use Rattle.job_queue.specs.Dependencies.{settled_of, stays_open, open_on, ChangesOpen};
+ghost use Rattle.job_queue.specs.Dependencies.{decided_by, is_of_another, stays_open, open_on, AreInOrder, ChangesOpen};
 
 use crate::dependencies::{Open, Outcome, Scheme, Settled, decided, sort_by_id};
-use crate::open_table::{OpenTable, add, keep_undecided, waiting_on};
+use crate::open_table::{OpenTable, add, forget, keep_undecided, waiting_on};
 use crate::ranks::{Priorities, Ranks, drop_outdated, rank};
 use std::alloc::{AllocError, Global};
 use std::cmp::Reverse;
@@ -113,10 +112,20 @@ impl Queue {
         add(self.alloc, &mut self.dependencies, Open { id, on, scheme })
     }
 
-    /// Removes and lists, by id, the open dependencies that the outcome of a job decides.
+    /// Forgets the open dependencies of the job `id` on the job `on`, as where it ends while it waits. It takes no memory.
+    pub fn forget(&mut self, id: u64, on: u64)
+        ensures gone { ChangesOpen self.old.1 self.new.1 on
+            (filter (is_of_another id) (open_on self.old.1 on)) }
+        ensures jobs { self.new.0 ≡ self.old.0 }
+    {
+        forget(self.alloc, &mut self.dependencies, id, on);
+    }
+
+    /// Removes and lists the open dependencies that the outcome of a job decides: by id, and those of one job in the order
+    /// in which they were added.
     pub fn settle(&mut self, job: u64, outcome: Outcome) -> Result<Vec<Settled>, AllocError>
-        ensures listed { IfOk result (λ list. IsPermutation (filter_map (settled_of job outcome) (open_on self.old.1 job)) list.items) }
-        ensures by_id { IfOk result (λ list. IsNonDecreasingBy (λ s. s.id) list.items) }
+        ensures listed { IfOk result (λ list.
+            AreInOrder (decided_by self.old.1 job outcome) list.items) }
         ensures rest { OnOk result (ChangesOpen self.old.1 self.new.1 job (filter (stays_open job outcome) (open_on self.old.1 job))) }
         ensures kept { OnErr result (self.new.1 ≡ self.old.1) }
         ensures jobs { self.new.0 ≡ self.old.0 }

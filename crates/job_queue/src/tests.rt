@@ -69,6 +69,8 @@ fn outcomes_settle_dependencies(rt: HostRuntime) -> Result<(), Fail> {
         assert!(rt; queue.settle(5, Outcome::Ended { ok, started })?.is_empty());
     }
     queue.depend(3, 4, Scheme::After)?;
+    queue.depend(7, 4, Scheme::After)?;
+    queue.forget(7, 4);
     let started = queue.settle(4, Outcome::Started)?;
     let ids: Vec<u64> = started.iter().map(|one| one.id).collect(rt.alloc())?;
     assert_eq!(rt; ids.as_slice(), [3, 9, 9].as_slice());

@@ -1,5 +1,5 @@
 -- What an event asks of a job, by its name and its context.
-use Rattle.std.specs.Prelude.{ℕ, ◌-◌, ◌^◌, List, [], ◌∷◌, Bool, Option, Some, None, codes, option_and_then, option_map, nat_le, if◌then◌else◌}
+use Rattle.std.specs.Prelude.{ℕ, ◌-◌, ◌^◌, List, [], ◌∷◌, Bool, ◌||◌, Option, Some, None, is_none, is_some, codes, option_and_then, option_map, nat_le, if◌then◌else◌}
 use Rattle.std.specs.Str.{bytes_eq}
 use Rattle.std.specs.Result.{result_ok}
 use Rattle.serde_json.specs.Data.{Data}
@@ -27,6 +27,10 @@ number_at key context = part as_natural key context
 -- a number that is at most this one
 abbrev pub number_to : ℕ → List ℕ → Data → Option ℕ
 number_to most key context = number_at key context >>= λ n. if nat_le n most then Some n else None
+
+-- what a context has under a key, if anything, is a number that is at most this one
+abbrev pub allows : ℕ → List ℕ → Data → Bool
+allows most key context = is_none (get key context) || is_some (number_to most key context)
 
 -- a text
 abbrev pub text_at : List ℕ → Data → Option (List ℕ)
@@ -70,11 +74,12 @@ urging context = do
   userid ← number_to (2 ^ 32 - 1) (codes "userid") context
   Some (Urge urgency)
 
+-- the user may lack
 abbrev pub exception : Data → Option Change
 exception context = do
   severity ← number_to 7 (codes "severity") context
   type ← text_at (codes "type") context
-  Some (Except severity)
+  if allows (2 ^ 32 - 1) (codes "userid") context then Some (Except severity) else None
 
 abbrev pub releasing : Data → Option Change
 releasing context = do

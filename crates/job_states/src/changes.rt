@@ -2,7 +2,7 @@
 ghost use Rattle.std.specs.Prelude.{◌≡◌, IfOk, codes, option_map};
 ghost use Rattle.std.specs.Str.{bytes_eq};
 ghost use Rattle.serde_json.specs.View.{view};
-ghost use Rattle.job_states.specs.Changes.{number_at, number_to, text_at, truth_at, plain_change, submission, urging, exception, releasing, change_by, change_of};
+ghost use Rattle.job_states.specs.Changes.{allows, number_at, number_to, text_at, truth_at, plain_change, submission, urging, exception, releasing, change_by, change_of};
 
 use crate::job::Change;
 use event_log::Event;
@@ -31,6 +31,13 @@ fn number_within(context: &Value, key: &str, most: u32) -> Option<u32>
     } else {
         None
     }
+}
+
+/// Whether what a context has under a key, if anything, is a number that is at most this one.
+fn allows(context: &Value, key: &str, most: u32) -> bool
+    ensures { result ≡ allows most key.now (view context.now) }
+{
+    context.get(key).is_none() || number_within(context, key, most).is_some()
 }
 
 /// The text that a context has under a key.
@@ -100,7 +107,11 @@ fn exception_in(context: &Value) -> Option<Change>
 {
     let severity = number_within(context, "severity", MOST_SEVERITY)?;
     text_in(context, "type")?;
-    Some(Change::Except(severity))
+    if allows(context, "userid", u32::MAX) {
+        Some(Change::Except(severity))
+    } else {
+        None
+    }
 }
 
 fn release_in(context: &Value) -> Option<Change>

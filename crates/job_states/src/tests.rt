@@ -79,7 +79,7 @@ const ROWS: [(&str, &str, &str); 19] = [
 ];
 
 /// How many events of `PATH` stand before an event, its name and context, and whether it may stand there.
-const CONTEXTS: [(usize, &str, &str, bool); 46] = [
+const CONTEXTS: [(usize, &str, &str, bool); 49] = [
     (0, "submit", "", false),
     (0, "submit", "{}", false),
     (0, "submit", "not JSON", false),
@@ -186,6 +186,24 @@ const CONTEXTS: [(usize, &str, &str, bool); 46] = [
     (5, "exception", "{\"severity\":0}", false),
     (5, "exception", "{\"type\":\"a\"}", false),
     (5, "exception", "{\"severity\":0,\"type\":0}", false),
+    (
+        5,
+        "exception",
+        "{\"severity\":0,\"type\":\"a\",\"userid\":4294967295}",
+        true,
+    ),
+    (
+        5,
+        "exception",
+        "{\"severity\":0,\"type\":\"a\",\"userid\":4294967296}",
+        false,
+    ),
+    (
+        5,
+        "exception",
+        "{\"severity\":0,\"type\":\"a\",\"userid\":\"0\"}",
+        false,
+    ),
     (6, "release", "{\"final\":true}", false),
     (6, "release", "{\"ranks\":\"0\"}", false),
     (6, "release", "{\"final\":1,\"ranks\":\"0\"}", false),

@@ -36,3 +36,19 @@ fn sixteen_names_live_at_once_and_none_twice(rt: HostRuntime) -> Result<(), Fail
     assert_eq!(rt; spaces.root(&other), Some(8));
     Ok(())
 }
+
+#[test]
+fn each_refusal_says_its_cause(rt: HostRuntime) -> Result<(), Fail> {
+    let texts = [
+        (SpaceFault::NoMemory, "out of memory"),
+        (SpaceFault::Exists, "the namespace exists or existed"),
+        (SpaceFault::TooMany, "too many namespaces"),
+        (SpaceFault::IsPrimary, "the primary namespace stays"),
+        (SpaceFault::NoNamespace, "no such namespace"),
+    ];
+    for (fault, text) in texts {
+        let said = format!(in rt.alloc(); "{fault}")?;
+        assert_eq!(rt; said.as_str(), text);
+    }
+    Ok(())
+}

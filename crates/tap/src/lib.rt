@@ -3,7 +3,9 @@
 
 ghost use Rattle.std.specs.Prelude.{◌≡◌, ℕ};
 ghost use Rattle.std.specs.Fn.{FnReturnsAt};
-ghost use Rattle.tap.specs.Priorities.{IsPriority};
+ghost use Rattle.tap.specs.Priorities.{AnswersOnce, IsPriority};
+
+use std::marker::Model;
 
 #[cfg(test)]
 mod tests;
@@ -17,26 +19,36 @@ pub struct Ask {
     pub cores: u64,
 }
 
-/// A kept callback. Each call asks again that it may be called and answers in range, since no type can keep that of a closure.
+/// A kept callback. Contracts see the callback itself. Each call asks again that it may be called and answers once and in
+/// range, since no type can keep that of a closure.
 #[derive(Drop)]
 pub struct Tap<F> {
-    pub f: F,
+    f: F,
+}
+
+impl<F> Model for Tap<F> {
+    ghost Value = { F };
+
+    ghost view = { λ tap. tap.f };
 }
 
 impl<F: Fn(&Ask) -> u32> Tap<F> {
+    /// Keeps a callback.
     pub fn new(f: F) -> Tap<F>
         requires callable { F.IsAlwaysCallable f }
-        requires in_range { (ask : _) (answer : ℕ) → FnReturnsAt F.Fn f ask answer → IsPriority answer }
-        ensures { result.f ≡ f }
+        requires once { AnswersOnce (λ ask n. FnReturnsAt F.Fn f ask n) }
+        ensures { result ≡ f }
     {
         Tap { f }
     }
 
-    /// What the callback answers, which is 1 to 4,294,967,294. It takes no memory of its own.
+    /// What the callback answers, which is 1 to 4,294,967,294, and the only answer that it has. It takes no memory of its
+    /// own.
     pub fn answer(&self, ask: &Ask) -> u32
-        requires callable { F.IsAlwaysCallable self.now.f }
-        requires in_range { (ask : _) (answer : ℕ) → FnReturnsAt F.Fn self.now.f ask answer → IsPriority answer }
-        ensures said { FnReturnsAt F.Fn self.now.f ask.now result }
+        requires callable { F.IsAlwaysCallable self.now }
+        requires once { AnswersOnce (λ ask n. FnReturnsAt F.Fn self.now ask n) }
+        ensures said { FnReturnsAt F.Fn self.now ask.now result }
+        ensures only { (n : ℕ) → FnReturnsAt F.Fn self.now ask.now n → n ≡ result }
         ensures in_range { IsPriority result }
     {
         (self.f)(ask)

@@ -5,4 +5,4 @@ use Rattle.flux.proofs.call.flux.Goals as goal
 pub returns-then-is_tool-clause-cut : goal.returns-then-is_tool-clause-cut
 returns-then-is_tool-clause-cut g c = λ five.
     let h = c.run_tool.ensures.cut five in
-    (h.0, record { run = λ words. absurd (true≢false (sym (c.is_run.ensures.1 words) ∙ c.if-is_run.false)); tool = λ words. h.1 }, h.2)
+    (h.0, record { answers = λ words. absurd (true≢false (sym (c.is_run.ensures.1 words) ∙ c.if-is_run.false)); line = λ words. h.1 }, h.2)

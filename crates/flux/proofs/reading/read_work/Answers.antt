@@ -1,4 +1,4 @@
-use Rattle.std.proofs.Common.{refl}
+use Rattle.std.proofs.Common.{inr, refl}
 use Rattle.flux.proofs.TooLong.{too_long}
 use Rattle.flux.specs.Runs.{brokers}
 use Rattle.flux.proofs.reading.read_work.Goals as goal
@@ -6,4 +6,8 @@ use Rattle.flux.proofs.reading.read_work.Goals as goal
 pub returns-in-Err-TooLong-clause-cause : goal.returns-in-Err-TooLong-clause-cause
 returns-in-Err-TooLong-clause-cause g c =
     let long = (rw c.in-Err-TooLong.field-0-is at c.in-Err-TooLong.ensures.long) refl in
-    (long.0, long.1, too_long brokers long.0 long.2)
+    record {
+      text = long.0;
+      read = record { read = long.1; whole = inr long.2 };
+      first = too_long brokers long.0 long.2;
+    }

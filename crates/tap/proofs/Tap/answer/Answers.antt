@@ -4,4 +4,10 @@ use Rattle.tap.proofs.Tap.answer.Goals as goal
 
 pub returns-clause-in_range : goal.returns-clause-in_range
 returns-clause-in_range g c =
-    let said : FnReturnsAt g.F.Fn c.args.self.now.f c.args.ask.now c.f.result = search rules in c.requires.in_range _ _ said
+    let said : FnReturnsAt g.F.Fn c.args.self.now c.args.ask.now c.call.result = search rules in
+    c.requires.once.in_range _ _ said
+
+pub returns-clause-only : goal.returns-clause-only
+returns-clause-only g c =
+    let said : FnReturnsAt g.F.Fn c.args.self.now c.args.ask.now c.call.result = search rules in
+    λ n answers. c.requires.once.one _ _ _ said answers

@@ -1,0 +1,11 @@
+//! What follows from the words of the contracts.
+ghost use Rattle.std.specs.Prelude.{◌≡◌, ◌++◌, List, []};
+ghost use Rattle.std.specs.List.{AllByRecursion as Each};
+ghost use Rattle.kvs_txn.specs.declared.txn.Group.{Group};
+ghost use Rattle.kvs_rules.specs.declared.events.KvsEvent.{KvsEvent};
+ghost use Rattle.kvs_core.specs.Posted.{LandsUsers, posts_landed};
+
+/// Where the job manager has no transaction that waits, each transaction that lands is a user's.
+pub fn users_land_where_nothing_is_posted()
+    ensures { (events : List KvsEvent) (left : List Group) → posts_landed events ++ left ≡ [] → Each LandsUsers events }
+{}
