@@ -31,7 +31,8 @@ ghost use Rattle.manager_rules.specs.Times.{seconds_of};
 
 /// The table of events and states allows what is due, and its event makes the change of its row.
 pub fn what_is_due_is_allowed()
-    ensures { (s : Scene) (j : StoredJob) (deed : Deed) (index : ℕ) → IsScene s → IfSome j.r (λ r. AreHosts r.nodes) → MayDo s j deed
+    ensures { (s : Scene) (j : StoredJob) (deed : Deed) (index : ℕ) → IsScene s
+        → IfSome j.r (λ r. AreHosts r.nodes) → MayDo s j deed
         → stepped index j.job (event_of s.now j deed) ≡ Ok (made (change_by deed) j.job) }
 {}
 
@@ -42,104 +43,137 @@ pub fn first_stores_have_no_jobs()
 
 /// A user's transaction leaves the jobs as they are, through links too.
 pub fn users_leave_jobs()
-    ensures { (st new : Store) (txn : Txn) (jobs : List StoredJob) → IsUsers txn → effect st txn Primary ≡ Ok new
+    ensures { (st new : Store) (txn : Txn) (jobs : List StoredJob) → IsUsers txn
+        → effect st txn Primary ≡ Ok new
         → AreJobsOf st jobs → AreJobsOf new jobs }
 {}
 
 /// Where a due event lands, its job is one event further, and the other jobs stay.
 pub fn due_events_do_one_step()
-    ensures { (s : Scene) (st new : Store) (j : StoredJob) (deed : Deed) → IsScene s → IsStore st → AreJobsOf st s.jobs
-        → IfSome j.r (λ r. AreHosts r.nodes) → Contains s.jobs j → MayDo s j deed → effect st (txn_of (Does (due_of s.now j deed))) Primary ≡ Ok new
+    ensures { (s : Scene) (st new : Store) (j : StoredJob) (deed : Deed) → IsScene s → IsStore st
+        → AreJobsOf st s.jobs
+        → IfSome j.r (λ r. AreHosts r.nodes) → Contains s.jobs j → MayDo s j deed
+        → effect st (txn_of (Does (due_of s.now j deed))) Primary ≡ Ok new
         → AreJobsOf new (with_event (due_of s.now j deed) s.jobs) }
 {}
 
 /// Where a due submission lands, its job is new, and the others stay.
 pub fn due_submissions_add_a_job()
-    ensures { (s : Scene) (birth : ℕ) (submits : List Submit) (x : Submission) (due : IsSubmission s birth submits x) (st new : Store) → IsScene s → IsOpenSubmit due.from
+    ensures { (s : Scene) (birth : ℕ) (submits : List Submit) (x : Submission)
+        (due : IsSubmission s birth submits x) (st new : Store)
+        → IsScene s → IsOpenSubmit due.from
         → IsStore st → AreJobsOf st s.jobs → effect st (txn_of (Submits x)) Primary ≡ Ok new
         → AreJobsOf new (with_job (job_of x due.from.by.actor due.from.urgency) s.jobs) }
 {}
 
 /// A due event leaves live jobs with satisfying units of the grant, no two of them one in common.
 pub fn due_events_keep_jobs_sound()
-    ensures { (s : Scene) (st : Store) (j : StoredJob) (deed : Deed) → IsScene s → AreJobsOf st s.jobs → IsSound s.grant.nodes s.jobs → IsGrant s.grant.nodes
-        → Contains s.jobs j → MayDo s j deed → IsSpec j.spec → IsSound s.grant.nodes (with_event (due_of s.now j deed) s.jobs) }
+    ensures { (s : Scene) (st : Store) (j : StoredJob) (deed : Deed) → IsScene s
+        → AreJobsOf st s.jobs → IsSound s.grant.nodes s.jobs → IsGrant s.grant.nodes
+        → Contains s.jobs j → MayDo s j deed → IsSpec j.spec
+        → IsSound s.grant.nodes (with_event (due_of s.now j deed) s.jobs) }
 {}
 
 /// The same of a list of jobs with no store beside it, which hold resources in time and go on doing so.
 pub fn due_events_keep_lists_sound()
-    ensures sound { (s : Scene) (j : StoredJob) (deed : Deed) → IsScene s → AreInTime s.jobs → IsSound s.grant.nodes s.jobs → IsGrant s.grant.nodes
-        → Contains s.jobs j → MayDo s j deed → IsSpec j.spec → IsSound s.grant.nodes (with_event (due_of s.now j deed) s.jobs) }
-    ensures in_time { (s : Scene) (j : StoredJob) (deed : Deed) → IsScene s → AreInTime s.jobs → IsSound s.grant.nodes s.jobs → IsGrant s.grant.nodes
-        → Contains s.jobs j → MayDo s j deed → IsSpec j.spec → AreInTime (with_event (due_of s.now j deed) s.jobs) }
+    ensures sound { (s : Scene) (j : StoredJob) (deed : Deed) → IsScene s → AreInTime s.jobs
+        → IsSound s.grant.nodes s.jobs → IsGrant s.grant.nodes
+        → Contains s.jobs j → MayDo s j deed → IsSpec j.spec
+        → IsSound s.grant.nodes (with_event (due_of s.now j deed) s.jobs) }
+    ensures in_time { (s : Scene) (j : StoredJob) (deed : Deed) → IsScene s → AreInTime s.jobs
+        → IsSound s.grant.nodes s.jobs → IsGrant s.grant.nodes
+        → Contains s.jobs j → MayDo s j deed → IsSpec j.spec
+        → AreInTime (with_event (due_of s.now j deed) s.jobs) }
 {}
 
 /// The event of a due submission tells its user, its urgency and its dependencies.
 pub fn due_submissions_tell_themselves()
-    ensures asks { (s : Scene) (birth : ℕ) (submits : List Submit) (x : Submission) (due : IsSubmission s birth submits x) → IsScene s → IsOpenSubmit due.from
+    ensures asks { (s : Scene) (birth : ℕ) (submits : List Submit) (x : Submission)
+        (due : IsSubmission s birth submits x)
+        → IsScene s → IsOpenSubmit due.from
         → change_of x.event ≡ Some (Begun due.from.by.actor due.from.urgency) }
-    ensures needs { (s : Scene) (birth : ℕ) (submits : List Submit) (x : Submission) (due : IsSubmission s birth submits x) → IsScene s → IsOpenSubmit due.from
+    ensures needs { (s : Scene) (birth : ℕ) (submits : List Submit) (x : Submission)
+        (due : IsSubmission s birth submits x)
+        → IsScene s → IsOpenSubmit due.from
         → Each (λ j. j.id < 2 ^ 64) s.jobs → AreNeeds x.spec x.event x.needs }
-    ensures known { (s : Scene) (birth : ℕ) (submits : List Submit) (x : Submission) → IsSubmission s birth submits x
+    ensures known { (s : Scene) (birth : ℕ) (submits : List Submit) (x : Submission)
+        → IsSubmission s birth submits x
         → Each (λ need. Contains (ids_of s.jobs) need.on) x.needs }
 {}
 
 /// A new job holds nothing, and leaves the others as sound as they were.
 pub fn submissions_keep_jobs_sound()
-    ensures { (grant : List Node) (x : Submission) (userid urgency : ℕ) (jobs : List StoredJob) → IsSound grant jobs
+    ensures { (grant : List Node) (x : Submission) (userid urgency : ℕ) (jobs : List StoredJob)
+        → IsSound grant jobs
         → IsSound grant (with_job (job_of x userid urgency) jobs) }
 {}
 
 /// A log is only added to: by users and by submissions not at all, and by a due event at its end.
 pub fn logs_only_grow()
-    ensures users { (st new : Store) (txn : Txn) (id : ℕ) (log : List Event) → IsUsers txn → effect st txn Primary ≡ Ok new
+    ensures users { (st new : Store) (txn : Txn) (id : ℕ) (log : List Event) → IsUsers txn
+        → effect st txn Primary ≡ Ok new
         → IsLogged st id log → IsLogged new id log }
-    ensures manager { (s : Scene) (st new : Store) (j : StoredJob) (deed : Deed) (id : ℕ) (log : List Event) → IsScene s → IsStore st → AreJobsOf st s.jobs
-        → IfSome j.r (λ r. AreHosts r.nodes) → Contains s.jobs j → MayDo s j deed → effect st (txn_of (Does (due_of s.now j deed))) Primary ≡ Ok new
+    ensures manager { (s : Scene) (st new : Store) (j : StoredJob) (deed : Deed)
+        (id : ℕ) (log : List Event)
+        → IsScene s → IsStore st → AreJobsOf st s.jobs
+        → IfSome j.r (λ r. AreHosts r.nodes) → Contains s.jobs j → MayDo s j deed
+        → effect st (txn_of (Does (due_of s.now j deed))) Primary ≡ Ok new
         → id < 2 ^ 64 → IsLogged st id log → (more : List Event) × IsLogged new id (log ++ more) }
-    ensures submissions { (s : Scene) (birth : ℕ) (submits : List Submit) (x : Submission) → IsSubmission s birth submits x
-        → (st new : Store) → IsStore st → AreJobsOf st s.jobs → effect st (txn_of (Submits x)) Primary ≡ Ok new
+    ensures submissions { (s : Scene) (birth : ℕ) (submits : List Submit) (x : Submission)
+        → IsSubmission s birth submits x
+        → (st new : Store) → IsStore st → AreJobsOf st s.jobs
+        → effect st (txn_of (Submits x)) Primary ≡ Ok new
         → (id : ℕ) (log : List Event) → id < 2 ^ 64 → IsLogged st id log → IsLogged new id log }
 {}
 
 /// A store has one list of jobs.
 pub fn a_store_has_one_list_of_jobs()
-    ensures { (st : Store) (jobs others : List StoredJob) → AreJobsOf st jobs → AreJobsOf st others → jobs ≡ others }
+    ensures { (st : Store) (jobs others : List StoredJob) → AreJobsOf st jobs → AreJobsOf st others
+        → jobs ≡ others }
 {}
 
 /// A user's transaction leaves a sound store sound.
 pub fn users_keep_stores_sound()
-    ensures { (grant : List Node) (st new : Store) (txn : Txn) → IsUsers txn → effect st txn Primary ≡ Ok new
+    ensures { (grant : List Node) (st new : Store) (txn : Txn) → IsUsers txn
+        → effect st txn Primary ≡ Ok new
         → IsSoundStore grant st → IsSoundStore grant new }
 {}
 
 /// What is due leaves a sound store sound.
 pub fn due_posts_keep_stores_sound()
-    ensures { (d : Desk) (post : Post) (st new : Store) → IsDesk d → IsGrant d.scene.grant.nodes → IsStore st → AreJobsOf st d.scene.jobs
-        → IsSoundStore d.scene.grant.nodes st → IsDuePost d post → effect st (txn_of post) Primary ≡ Ok new → IsSoundStore d.scene.grant.nodes new }
+    ensures { (d : Desk) (post : Post) (st new : Store) → IsDesk d → IsGrant d.scene.grant.nodes
+        → IsStore st → AreJobsOf st d.scene.jobs
+        → IsSoundStore d.scene.grant.nodes st → IsDuePost d post
+        → effect st (txn_of post) Primary ≡ Ok new → IsSoundStore d.scene.grant.nodes new }
 {}
 
 /// What is due stays due while its command waits, whatever other commands come and go, and whatever other jobs' children do.
 pub fn what_is_due_stays_due()
     ensures events { (s later : Scene) (due : Due) → IsLike s later due.job → StillWaits s later due
         → IsDue s due → IsDue later due }
-    ensures submissions { (s later : Scene) (birth : ℕ) (submits more : List Submit) (x : Submission)
-        → StillSubmits s later submits more x → IsSubmission s birth submits x → IsSubmission later birth more x }
+    ensures submissions { (s later : Scene) (birth : ℕ) (submits more : List Submit)
+        (x : Submission)
+        → StillSubmits s later submits more x → IsSubmission s birth submits x
+        → IsSubmission later birth more x }
 {}
 
 /// Below `job` stands nothing but jobs: in the first store, and after each user's and each due transaction.
 pub fn only_jobs_stand_below_job()
     ensures begin { (grant : List ℕ) → HasOnlyJobs (first_store grant) [] }
-    ensures users { (st new : Store) (txn : Txn) (ids : List ℕ) → IsUsers txn → effect st txn Primary ≡ Ok new
+    ensures users { (st new : Store) (txn : Txn) (ids : List ℕ) → IsUsers txn
+        → effect st txn Primary ≡ Ok new
         → HasOnlyJobs st ids → HasOnlyJobs new ids }
-    ensures posts { (d : Desk) (post : Post) (st new : Store) → IsDesk d → IsStore st → AreJobsOf st d.scene.jobs
-        → HasOnlyJobs st (ids_of d.scene.jobs) → IsDuePost d post → effect st (txn_of post) Primary ≡ Ok new
+    ensures posts { (d : Desk) (post : Post) (st new : Store) → IsDesk d → IsStore st
+        → AreJobsOf st d.scene.jobs
+        → HasOnlyJobs st (ids_of d.scene.jobs) → IsDuePost d post
+        → effect st (txn_of post) Primary ≡ Ok new
         → HasOnlyJobs new (ids_of (jobs_after post d.scene.jobs)) }
 {}
 
 /// What is due takes effect, where there are fewer than 2,000 jobs: no directory is full then.
 pub fn due_posts_take_effect()
-    ensures { (d : Desk) (post : Post) (st : Store) → IsDesk d → IsStore st → AreJobsOf st d.scene.jobs
+    ensures { (d : Desk) (post : Post) (st : Store) → IsDesk d → IsStore st
+        → AreJobsOf st d.scene.jobs
         → HasOnlyJobs st (ids_of d.scene.jobs) → length d.scene.jobs < 2000 → IsDuePost d post
         → AreTaken (group_of post ∷ []) st }
 {}
@@ -151,12 +185,14 @@ pub fn accepted_texts_tell_jobspecs()
 
 /// One job at a time takes resources: the head of the queue, which nobody passes.
 pub fn one_job_at_a_time_takes()
-    ensures { (s : Scene) (j k : StoredJob) (r q : Resources) → MayDo s j (Takes r) → MayDo s k (Takes q) → j.id ≡ k.id }
+    ensures { (s : Scene) (j k : StoredJob) (r q : Resources) → MayDo s j (Takes r)
+        → MayDo s k (Takes q) → j.id ≡ k.id }
 {}
 
 /// While its child lives, a job isn't released and keeps its units.
 pub fn jobs_of_living_children_keep_their_units()
-    ensures { (s : Scene) (j : StoredJob) (deed : Deed) → MayDo s j deed → has_living_child s.asked j.id ≡ true
+    ensures { (s : Scene) (j : StoredJob) (deed : Deed) → MayDo s j deed
+        → has_living_child s.asked j.id ≡ true
         → j.job.released ≡ false → ((made (change_by deed) j.job).released ≡ false)
         × (is_live j.job ≡ true → is_live (made (change_by deed) j.job) ≡ true) }
 {}
