@@ -17,7 +17,7 @@ struct Case {
     notice: &'static str,
 }
 
-const CASES: [Case; 28] = [
+const CASES: [Case; 33] = [
     Case {
         words: &["run"],
         input: "",
@@ -30,6 +30,41 @@ const CASES: [Case; 28] = [
         input: "actor a 0\na put k hello\na commit\na get k\n",
         status: 0,
         output: "staged\ncommitted 1\nvalue 1 hello\n",
+        notice: "done",
+    },
+    Case {
+        words: &["run"],
+        input: "actor a 0\nactor b 0\nb put k v\nb commit\na get k\n",
+        status: 0,
+        output: "staged\ncommitted 1\nvalue 1 v\n",
+        notice: "done",
+    },
+    Case {
+        words: &["run"],
+        input: "actor a 0\na put d.k v\na unlink d.k\na commit\na ls .\na ls d\n",
+        status: 0,
+        output: "staged\nstaged\ncommitted 1\nnames 1 d. job. resource.\nnames 1\n",
+        notice: "done",
+    },
+    Case {
+        words: &["run"],
+        input: "actor a 0\na symlink x job\na append x.0000.0000.0000.0000.eventlog evil\na commit\na get x\n",
+        status: 0,
+        output: "staged\nstaged\nrefused 2 Reserved\nNotFound 0\n",
+        notice: "done",
+    },
+    Case {
+        words: &["run"],
+        input: "actor a 2\na mkdir d\na symlink l d\na put l.k 1\na append l.k 2\na commit\na ls .\na get d.k\na readlink l\na readlink d\na ls d.k\n",
+        status: 0,
+        output: "staged\nstaged\nstaged\nstaged\ncommitted 1\nnames 1 d. job. l@ resource.\nvalue 1 12\ntarget 1 d\nNotLink 1\nNotDir 1\n",
+        notice: "done",
+    },
+    Case {
+        words: &["run"],
+        input: "actor a 0\na symlink here there\na symlink there here\na append d x\na append d.k x\na append d x\na commit\na get here\n",
+        status: 0,
+        output: "staged\nstaged\nstaged\nstaged\nstaged\nrefused 5 IsDir\nNotFound 0\n",
         notice: "done",
     },
     Case {
