@@ -1,13 +1,16 @@
 -- Before the end the run goes on, and no command has a closing reply.
-use Rattle.std.proofs.Common.{◌≡◌, List, [], ◌∷◌, Bool, true, false, ◌&&◌, ◌||◌, refl, true≢false, Option}
+use Rattle.std.proofs.Common.{◌≡◌, List, [], ◌∷◌, Bool, true, false, ◌&&◌, ◌||◌, ◌++◌, ◌∙◌, refl, sym, ap, true≢false, Option}
 use Rattle.std.specs.List.{AllByRecursion as Each}
+use Rattle.std.proofs.lemmas.List.Folds.{list_any-append}
 use Rattle.kvs_txn.specs.declared.txn.By.{By}
 use Rattle.kvs_rules.specs.Log.{same_command}
 use Rattle.kvs_rules.specs.Landings.{commands_of}
 use Rattle.answers.specs.declared.chronicle.Entry.{Entry}
 use Rattle.answers.specs.declared.chronicle.Entry.TheVariants as entry
+use Rattle.answers.specs.Chronicle.{Setup}
 use Rattle.answers.specs.Legal.{AreUnclosed}
 use Rattle.answers.specs.Whole.{closes_off, is_closed_off, is_closing, is_end, has_ended, IsEarlierEntry}
+use Rattle.world.specs.Sound.{EndsSo}
 
 neither : (a b : Bool) → a ≡ false → b ≡ false → (a || b) ≡ false
 neither true b e f = absurd (true≢false e)
@@ -33,6 +36,16 @@ unended (e ∷ c) h = neither (is_end e) (has_ended c) (no_end e h.0) (unended c
 unclosed : (by : By) (c : List Entry) → Each IsEarlierEntry c → is_closed_off by c ≡ false
 unclosed by [] h = refl
 unclosed by (e ∷ c) h = neither (closes_off by e) (is_closed_off by c) (closes_none by e h.0) (unclosed by c h.1)
+
+ends_at : (a : Bool) → (a || true) ≡ true
+ends_at true = refl
+ends_at false = refl
+
+-- the world is closed exactly where its chronicle has the end
+pub ended_so : (set : Setup) (c : List Entry) (closed : Bool) → EndsSo set c closed → closed ≡ has_ended c
+ended_so set c false h = sym (unended c h)
+ended_so set c true h =
+    sym (ap has_ended h.split ∙ list_any-append is_end (h.earlier ++ h.closings) (entry.Closed ∷ []) ∙ ends_at (has_ended (h.earlier ++ h.closings)))
 
 pub all_unclosed : (c : List Entry) → Each IsEarlierEntry c → (authors : List (Option By)) → AreUnclosed c authors
 all_unclosed c h authors = each_so (commands_of authors)
