@@ -7,7 +7,10 @@ use Rattle.job_rules.proofs.Among.{among_from, each_at}
 use Rattle.job_rules.specs.Fits.{AreWithin, IsGrant, IsSpec}
 use Rattle.job_spec.specs.declared.faults.SpecFault.{SpecFault}
 use Rattle.job_spec.specs.declared.spec.JobSpec.{JobSpec}
+use Rattle.job_spec.specs.Sound as read
+use Rattle.job_spec.specs.Sound.{IsCount}
 use Rattle.job_spec.specs.Specs.{spec_reading}
+use Rattle.job_spec.proofs.Accepted.{accepted_tells}
 use Rattle.kvs_model.specs.Operation.{effect}
 use Rattle.kvs_model.specs.Store.{Store, IsStore}
 use Rattle.kvs_txn.specs.declared.txn.Scope.TheVariants as scope
@@ -23,7 +26,6 @@ use Rattle.manager_rules.specs.Jobs.{AreJobsOf, IsStored, StoredJob}
 use Rattle.manager_rules.specs.Keys.{spec_path, value_at}
 use Rattle.manager_rules.specs.Posts.{Desk, Post, Submits, Does, IsDesk, IsDuePost, IsOpenSubmit, job_of, txn_of, with_event, with_job}
 use Rattle.manager_rules.specs.Sound.{IsSound, IsSoundStore, holds_of}
-use Rattle.manager_rules.proofs.Accepted.{accepted_tells}
 use Rattle.manager_rules.proofs.Landing.{event_lands}
 use Rattle.manager_rules.proofs.Others.{new_jobs_sound}
 use Rattle.manager_rules.proofs.Soundness.{in_time, jobs_within, stays_sound}
@@ -34,13 +36,16 @@ use Rattle.manager_rules.proofs.Unique.{jobs_are_one}
 pub users_keep_sound : (grant : List Node) (st new : Store) (txn : Txn) → IsUsers txn → effect st txn scope.Primary ≡ Ok new → IsSoundStore grant st → IsSoundStore grant new
 users_keep_sound grant st new txn user e h = record { jobs = h.jobs; are = users_leave_jobs st new txn h.jobs user e h.are; sound = h.sound }
 
+as_rules : (spec : JobSpec) → read.IsSpec spec → IsSpec spec
+as_rules spec h = record { slots = h.slots; cores = h.cores; gpus = h.gpus; nodes = λ count e. (subst (λ o. IfSome o IsCount) e h.nodes).0 }
+
 -- a jobspec that stands in the store was read
 read_from : (r : Option (List ℕ)) (spec : JobSpec) → option_and_then (λ text. result_ok (spec_reading text)) r ≡ Some spec → IsSpec spec
 read_from None spec e = cc
 read_from (Some text) spec e = by (spec_reading text) refl e
   where
     by : (r : Result JobSpec SpecFault) → spec_reading text ≡ r → result_ok r ≡ Some spec → IsSpec spec
-    by (Ok x) is e = let same : x ≡ spec = cc in accepted_tells text spec (is ∙ ap Ok same)
+    by (Ok x) is e = let same : x ≡ spec = cc in as_rules spec (accepted_tells text spec (is ∙ ap Ok same))
     by (Err fault) is e = cc
 
 module _ (d : Desk) (desk : IsDesk d) (grant : IsGrant d.scene.grant.nodes) (st new : Store) (is : IsStore st) (are : AreJobsOf st d.scene.jobs) (h : IsSoundStore d.scene.grant.nodes st) where
