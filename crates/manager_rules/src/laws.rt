@@ -168,6 +168,14 @@ pub fn only_jobs_stand_below_job()
         → HasOnlyJobs new (ids_of (jobs_after post d.scene.jobs)) }
 {}
 
+/// Where a due post lands, the store's jobs are those that it leaves.
+pub fn due_posts_change_the_jobs()
+    ensures { (d : Desk) (post : Post) (st new : Store) → IsDesk d → IsGrant d.scene.grant.nodes
+        → IsStore st → AreJobsOf st d.scene.jobs → IsSoundStore d.scene.grant.nodes st
+        → IsDuePost d post → effect st (txn_of post) Primary ≡ Ok new
+        → AreJobsOf new (jobs_after post d.scene.jobs) }
+{}
+
 /// What is due takes effect, where there are fewer than 2,000 jobs: no directory is full then.
 pub fn due_posts_take_effect()
     ensures { (d : Desk) (post : Post) (st : Store) → IsDesk d → IsStore st
