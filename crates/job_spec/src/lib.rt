@@ -3,6 +3,7 @@
 
 pub mod faults;
 mod fields;
+pub mod laws;
 mod limits;
 pub mod reading;
 mod resources;
@@ -12,5 +13,6 @@ mod tests;
 mod works;
 
 pub use faults::{Place, SpecFault};
+pub use laws::accepted_texts_tell_jobspecs;
 pub use reading::read;
 pub use spec::{Depend, JobSpec, Needs, Scheme, Tasks, WordList};

@@ -13,7 +13,6 @@ pub mod Unique
 pub mod Posting
 pub mod Staying
 pub mod Rows
-pub mod Accepted
 pub mod Below
 pub mod Taking
 pub mod Rules

@@ -5,8 +5,6 @@ ghost use Rattle.job_states.specs.declared.job.Change.TheVariants.{Submit as Beg
 ghost use Rattle.event_log.specs.declared.event.Event.{Event};
 ghost use Rattle.job_rules.specs.Fits.{IsGrant, IsSpec};
 ghost use Rattle.job_spec.specs.declared.spec.Depend.{Depend};
-ghost use Rattle.job_spec.specs.declared.spec.JobSpec.{JobSpec};
-ghost use Rattle.job_spec.specs.Specs.{spec_reading};
 ghost use Rattle.job_states.specs.Replay.{stepped};
 ghost use Rattle.job_states.specs.Table.{made};
 ghost use Rattle.kvs_model.specs.History.{first_store};
@@ -170,17 +168,20 @@ pub fn only_jobs_stand_below_job()
         → HasOnlyJobs new (ids_of (jobs_after post d.scene.jobs)) }
 {}
 
+/// Where a due post lands, the store's jobs are those that it leaves.
+pub fn due_posts_change_the_jobs()
+    ensures { (d : Desk) (post : Post) (st new : Store) → IsDesk d → IsGrant d.scene.grant.nodes
+        → IsStore st → AreJobsOf st d.scene.jobs → IsSoundStore d.scene.grant.nodes st
+        → IsDuePost d post → effect st (txn_of post) Primary ≡ Ok new
+        → AreJobsOf new (jobs_after post d.scene.jobs) }
+{}
+
 /// What is due takes effect, where there are fewer than 2,000 jobs: no directory is full then.
 pub fn due_posts_take_effect()
     ensures { (d : Desk) (post : Post) (st : Store) → IsDesk d → IsStore st
         → AreJobsOf st d.scene.jobs
         → HasOnlyJobs st (ids_of d.scene.jobs) → length d.scene.jobs < 2000 → IsDuePost d post
         → AreTaken (group_of post ∷ []) st }
-{}
-
-/// A text that is accepted tells a jobspec, with at least one slot and one core.
-pub fn accepted_texts_tell_jobspecs()
-    ensures { (text : List ℕ) (spec : JobSpec) → spec_reading text ≡ Ok spec → IsSpec spec }
 {}
 
 /// One job at a time takes resources: the head of the queue, which nobody passes.

@@ -10,8 +10,8 @@ pub mod why;
 pub use asked::{Asked, OpenList};
 pub use due::Due;
 pub use laws::{
-    a_store_has_one_list_of_jobs, accepted_texts_tell_jobspecs, dependencies_are_removed_once_met,
-    due_events_do_one_step, due_events_keep_jobs_sound, due_events_keep_lists_sound,
+    a_store_has_one_list_of_jobs, dependencies_are_removed_once_met, due_events_do_one_step,
+    due_events_keep_jobs_sound, due_events_keep_lists_sound, due_posts_change_the_jobs,
     due_posts_keep_stores_sound, due_posts_take_effect, due_submissions_add_a_job,
     due_submissions_tell_themselves, first_stores_have_no_jobs, jobs_end_at_their_seconds,
     jobs_of_living_children_keep_their_units, logs_only_grow, one_job_at_a_time_takes,
