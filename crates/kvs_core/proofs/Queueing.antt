@@ -48,7 +48,7 @@ elsewhere {v} s k within old read ne = by (subst (IsSoundSpace v.fanout v.grant)
     by (inl here) =
         let low = primary-there v.spaces s.first in
         let first : (get_or v.spaces 0 old).name ≡ primary =
-            (let n : Some (get_or v.spaces 0 old).name ≡ Some primary = sym (ap (option_map (λ x. x.name)) (slice_get-get_or v.spaces 0 old low)) ∙ s.first in cc) in
+        (let n : Some (get_or v.spaces 0 old).name ≡ Some primary = sym (ap (option_map (λ x. x.name)) (slice_get-get_or v.spaces 0 old low)) ∙ s.first in cc) in
         absurd (other-names v.spaces s.apart k within 0 old low (λ e. ne (sym e)) (first ∙ sym (ap (λ x. x.name) (sym read) ∙ (bytes_decides old.name primary).0 here.0)))
     by (inr h) = h.1
 
