@@ -1,5 +1,5 @@
 -- The step that is made next is the first that can be made.
-use Rattle.std.proofs.Common.{◌≡◌, ℕ, ◌+◌, ◌<◌, ◌≤◌, ◌⊎◌, inl, inr, ◌-◌, ◌/◌, ◌||◌, ◌==◌, List, [], ◌∷◌, ◌++◌, length, map, Bool, true, false, Option, Some, None, refl, sym, ap, ◌∙◌, subst, arith, true≢false, get_or}
+use Rattle.std.proofs.Common.{◌≡◌, ℕ, ◌<◌, ◌⊎◌, inl, inr, ◌||◌, ◌==◌, List, [], ◌++◌, length, map, Bool, true, false, Option, Some, None, refl, sym, ap, ◌∙◌, subst, arith, true≢false, get_or}
 use Rattle.std.specs.Prelude.{slice_get, flat_map, nat_lt}
 use Rattle.std.specs.List.{filter, list_any, range_with_len}
 use Rattle.std.specs.Option.{option_map_or}
@@ -11,7 +11,7 @@ use Rattle.kvs_core.specs.declared.rows.Row.{Row}
 use Rattle.kvs_core.specs.declared.rows.Work.TheVariants as work
 use Rattle.kvs_core.specs.declared.rows.Stage.{Stage}
 use Rattle.kvs_core.specs.declared.rows.Stage.TheVariants as stage
-use Rattle.kvs_core.specs.Order.{IsAnnouncing, Leads, all_steps, possible}
+use Rattle.kvs_core.specs.Order.{IsAnnouncing, Leads, possible}
 use Rattle.kvs_core.specs.Rows.{AtPlace}
 use Rattle.kvs_core.specs.Sound.{IsSound}
 use Rattle.kvs_core.specs.Space.{SpaceValue, has_news}

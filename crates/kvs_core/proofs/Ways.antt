@@ -1,5 +1,5 @@
 -- The way down the tree to a broker.
-use Rattle.std.proofs.Common.{◌≡◌, ◌≢◌, ℕ, zero, suc, ◌<◌, ◌≤◌, ◌∙◌, ap, arith, refl, sym}
+use Rattle.std.proofs.Common.{◌≡◌, ◌≢◌, ℕ, zero, suc, ◌<◌, ◌≤◌, ◌∙◌, ap, arith, refl}
 use Rattle.kvs_core.specs.Refused.{ancestor, IsAbove}
 use Rattle.kvs_core.specs.Steps.{parent}
 use Rattle.kvs_core.proofs.Announced.{parent-below}

@@ -1,10 +1,8 @@
-use Rattle.std.proofs.Common.{◌≡◌, ◌∙◌, ap, refl, subst, Option, None, Some}
+use Rattle.std.proofs.Common.{◌≡◌, ◌∙◌, ap, refl, subst, None, Some}
 use Rattle.std.specs.Prelude.{slice_get}
-use Rattle.kvs_rules.specs.declared.events.KvsStep.{KvsStep}
 use Rattle.kvs_rules.specs.declared.events.KvsStep.TheVariants as kvs
 use Rattle.kvs_core.specs.Order.{possible}
 use Rattle.kvs_core.specs.Sound.{IsSound}
-use Rattle.kvs_core.specs.Value.{CoreValue}
 use Rattle.kvs_core.specs.View.{value_of}
 use Rattle.kvs_core.proofs.Choosing.{IsFirstHop, delivery-first, service-first, landing-first, no-step}
 use Rattle.kvs_core.proofs.service.Core.next.Goals as goal
