@@ -184,8 +184,9 @@ fn run_tool<S: Source, K: Sink>(
 /// the text in the words, `R` and `replay` of the text that the source has. The whole output is made before the first
 /// byte is written.
 ///
-/// The status is 0 where all went well; 1 exactly where the text is refused; 2 exactly where the words are no
-/// command's, and then nothing was read; 3 where the source failed; 4 for want of memory; 5 where the sink failed.
+/// The status is 0 where all went well; 1 where the text was read whole, or is too long, and is refused; 2 exactly
+/// where the words are no command's, and then nothing was read; 3 where the source failed; 4 for want of memory; 5
+/// where the sink failed.
 pub fn flux<S: Source, K: Sink>(
     alloc: Global,
     words: &[String],
