@@ -27,3 +27,21 @@ fn one_content_under_each_reference(rt: HostRuntime) -> Result<(), Fail> {
     }
     Ok(())
 }
+
+#[test]
+fn a_thousand_contents_stand_at_once(rt: HostRuntime) -> Result<(), Fail> {
+    let alloc = rt.alloc();
+    let mut store = BlobStore::new(alloc);
+    for number in 0..1000u32 {
+        let text = format!(in alloc; "{number}")?;
+        let reference = BlobRef::of(Hash::Sha1, text.as_bytes());
+        let put = store.put(reference, Bytes::of(alloc, text.as_bytes())?);
+        assert!(rt; put.is_ok());
+    }
+    for number in 0..1000u32 {
+        let text = format!(in alloc; "{number}")?;
+        let kept = store.get(&BlobRef::of(Hash::Sha1, text.as_bytes()));
+        assert!(rt; kept.is_some_and(|kept| kept.as_slice() == text.as_bytes()));
+    }
+    Ok(())
+}

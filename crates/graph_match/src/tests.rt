@@ -319,3 +319,19 @@ fn units_end_with_the_job_or_the_grant(rt: HostRuntime) -> Result<(), Fail> {
     check(&rt, alloc, &mut graph, &bounded)?;
     Ok(())
 }
+
+#[test]
+fn two_hundred_and_fifty_six_jobs_hold_units_at_once(rt: HostRuntime) -> Result<(), Fail> {
+    let alloc = rt.alloc();
+    let mut graph = free_graph(alloc, 2, 128, 0)?;
+    for id in 1..257u64 {
+        let host = (id - 1) / 128;
+        let core = (id - 1) % 128;
+        let wanted = format!(in alloc; "{host}:{core}-{core} 7-0")?;
+        let answer = answered(&rt, alloc, &mut graph, id, PLAIN)?;
+        assert_eq!(rt; answer.as_str(), wanted.as_str());
+    }
+    let answer = answered(&rt, alloc, &mut graph, 257, slots(256))?;
+    assert_eq!(rt; answer.as_str(), "busy 256");
+    Ok(())
+}

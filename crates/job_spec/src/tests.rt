@@ -295,3 +295,19 @@ fn a_text_has_at_most_65536_bytes(rt: HostRuntime) -> Result<(), Fail> {
     assert_eq!(rt; SpecFault::BadCount(Place::Gpu).number(), Some(5));
     Ok(())
 }
+
+#[test]
+fn a_job_waits_for_a_hundred_others(rt: HostRuntime) -> Result<(), Fail> {
+    let alloc = rt.alloc();
+    let mut list = String::from_str(alloc, "\"duration\":0,\"dependencies\":[")?;
+    for number in 0..100u32 {
+        let comma = if number == 0 { "" } else { "," };
+        let one = format!(in alloc; "{comma}{{\"scheme\":\"after\",\"value\":\"{number}\"}}")?;
+        list.push_str(one.as_str())?;
+    }
+    list.push(']')?;
+    let text = edited(&rt, J1, "\"duration\":0", list.as_str())?;
+    let spec = read(alloc, text.as_bytes()).ok().ok_or("no jobspec")?;
+    assert_eq!(rt; spec.depends.as_slice().len(), 100);
+    Ok(())
+}
