@@ -178,7 +178,7 @@ const FILLED: [(Act, u8, bool, &[u8]); 29] = [
 /// References of other contents, as many as there are values.
 fn others(alloc: Global) -> Result<Vec<BlobRef>, AllocError> {
     let mut others = vec![in alloc]?;
-    for value in 0..10u8 {
+    for value in 0..210u8 {
         others.push(BlobRef::of(Hash::Sha256, &[value]))?;
     }
     Ok(others)
@@ -202,5 +202,29 @@ fn contents_are_stored_refused_and_dropped(rt: HostRuntime) -> Result<(), Fail> 
             assert!(rt; agreed, "{place}");
         }
     }
+    Ok(())
+}
+
+#[test]
+fn two_hundred_contents_are_kept_at_once(rt: HostRuntime) -> Result<(), Fail> {
+    let alloc = rt.alloc();
+    let mut known = others(alloc)?;
+    let mut cache = CacheNode::new(alloc)?;
+    let mut values = vec![in alloc]?;
+    for value in 10..210u8 {
+        let filled = agrees(&mut cache, &mut known, alloc, Act::Fill, value, true, &[])?;
+        assert!(rt; filled, "{value}");
+        values.push(value)?;
+    }
+    let dropped = agrees(
+        &mut cache,
+        &mut known,
+        alloc,
+        Act::DropClean,
+        0,
+        true,
+        values.as_slice(),
+    )?;
+    assert!(rt; dropped);
     Ok(())
 }

@@ -50,8 +50,13 @@ const LOG: &str =
     "{\"context\":{\"flags\":0,\"urgency\":16,\"userid\":0,\"version\":1},\"name\":\"submit\",\"timestamp\":0}\n{\"name\":\"validate\",\"timestamp\":0}\n{\"context\":{\"severity\":0,\"type\":\"cancel\"},\"name\":\"exception\",\"timestamp\":10}\n{\"name\":\"clean\",\"timestamp\":10}\n";
 
 /// Tools that read the source: what it has, and what they print; a refusal is told by its notice.
-const READERS: [(&str, &str, &str); 13] = [
+const READERS: [(&str, &str, &str); 14] = [
     ("R", R, R),
+    (
+        "R",
+        "{\"version\":1,\"execution\":{\"R_lite\":[{\"rank\":\"0-999\",\"children\":{\"core\":\"0-127\"}}],\"nodelist\":[\"n[0-999]\"]}}",
+        "{\"execution\":{\"R_lite\":[{\"children\":{\"core\":\"0-127\"},\"rank\":\"0-999\"}],\"expiration\":0,\"nodelist\":[\"n[0-999]\"],\"starttime\":0},\"version\":1}\n",
+    ),
     ("R", "{ \"version\" : 2, \"execution\": {} }", "BadVersion"),
     ("R", "{\"version\":1}", "BadField"),
     ("R", "{\"version\":1.5}", "BadNumber at 11"),

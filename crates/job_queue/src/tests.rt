@@ -76,3 +76,21 @@ fn outcomes_settle_dependencies(rt: HostRuntime) -> Result<(), Fail> {
     assert_eq!(rt; ids.as_slice(), [3, 9, 9].as_slice());
     Ok(())
 }
+
+#[test]
+fn a_thousand_jobs_wait_at_once(rt: HostRuntime) -> Result<(), Fail> {
+    let mut queue = Queue::new(rt.alloc());
+    for id in 0..1000u64 {
+        queue.put(id, 16)?;
+        queue.depend(id, 5000, Scheme::AfterAny)?;
+    }
+    let (ok, started) = (true, true);
+    let settled = queue.settle(5000, Outcome::Ended { ok, started })?;
+    assert_eq!(rt; settled.len(), 1000);
+    for id in 0..1000u64 {
+        assert_eq!(rt; queue.head(), Some(id));
+        assert!(rt; queue.take(id));
+    }
+    assert_eq!(rt; queue.head(), None);
+    Ok(())
+}
