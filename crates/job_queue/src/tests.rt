@@ -81,6 +81,7 @@ fn outcomes_settle_dependencies(rt: HostRuntime) -> Result<(), Fail> {
 fn a_thousand_jobs_wait_at_once(rt: HostRuntime) -> Result<(), Fail> {
     let mut queue = Queue::new(rt.alloc());
     for id in 0..1000u64 {
+        assert!(rt; !queue.take(id));
         queue.put(id, 16)?;
         queue.depend(id, 5000, Scheme::AfterAny)?;
     }
