@@ -14,16 +14,13 @@ mod tests;
 mod use_order;
 
 pub use content::Held;
-use fl_digest::BlobRef;
-use lists::{Bytes, ListOf};
+use fl_digest::{BlobRef, RefList};
+use lists::Bytes;
 use lru::LruCache;
 use std::alloc::{AllocError, Global};
 use std::marker::Model;
 use std::mem;
 use use_order::UseOrder;
-
-/// References in an order.
-pub type RefList = ListOf<BlobRef>;
 
 /// The most bytes of clean contents that aren't pinned, after each fill.
 pub const UNPINNED_LIMIT: u64 = 4 * 1024 * 1024;

@@ -1,8 +1,8 @@
 ghost use Rattle.std.specs.Prelude.{IfOk};
 ghost use Rattle.cache_node.specs.Order.{Names};
 
-use crate::{CacheNode, RefList, UNPINNED_LIMIT};
-use fl_digest::{BlobRef, Hash};
+use crate::{CacheNode, UNPINNED_LIMIT};
+use fl_digest::{BlobRef, Hash, RefList};
 use lists::Bytes;
 use std::alloc::{AllocError, Global};
 use std::test::Fail;

@@ -5,9 +5,9 @@ ghost use Rattle.std.specs.Map.{keys_of, lookup, remove_entry, set_value};
 ghost use Rattle.fl_digest.specs.Reference.{same_reference};
 ghost use Rattle.cache_node.specs.Order.{Names, unpinned, pinned, released, is_pinned, used, unpinned_bytes, filled, stays_within, remaining, dropped, without};
 
+use crate::UNPINNED_LIMIT;
 use crate::content::Held;
-use crate::{RefList, UNPINNED_LIMIT};
-use fl_digest::BlobRef;
+use fl_digest::{BlobRef, RefList};
 use lists::Bytes;
 use lru::LruCache;
 use std::alloc::{AllocError, AllocFailed, Global};
