@@ -1,0 +1,14 @@
+//! Tree objects (Flux RFC 11): values, directories, links and references to blobs, and their JSON texts.
+#![tactic(auto)]
+
+pub mod faults;
+pub mod object;
+pub mod printing;
+pub mod reading;
+#[cfg(test)]
+mod tests;
+
+pub use faults::ObjectFault;
+pub use object::{Object, ObjectMap};
+pub use printing::print;
+pub use reading::read;

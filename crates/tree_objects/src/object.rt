@@ -1,0 +1,193 @@
+// Objects and directories of objects.
+ghost use Rattle.std.specs.Prelude.{◌≡◌, ◌++◌, ◌∷◌, [], length, option_map, IsTrue, IfOk, OnOk, OnErr};
+ghost use Rattle.std.specs.FinMap.Entries as finite;
+ghost use Rattle.std.specs.Str.{IsUtf8};
+ghost use Rattle.tree_rules.specs.Objects.{no_entries, listed};
+ghost use Rattle.tree_objects.specs.Directories.{names_of, with_last, IsDirectory};
+ghost use Rattle.tree_rules.specs.Names.{name_cmp};
+ghost use Rattle.tree_objects.specs.Level.{tree_of, paired};
+
+use fl_digest::{BlobRef, RefList};
+use kvs_txn::Path;
+use lists::{Bytes, Copied};
+use std::alloc::{AllocError, Global};
+use std::marker::Model;
+
+/// An object: a value or references to its bytes, a directory or the reference of its text, or a link to a path.
+#[cycle(object)]
+#[derive(Drop)]
+pub enum Object {
+    Val(Bytes),
+    Valref(RefList),
+    Dir(ObjectMap),
+    Dirref(BlobRef),
+    Symlink(Path),
+}
+
+/// Objects by their names, which contracts see as entries in the byte order of the names.
+#[cycle(object)]
+#[derive(Drop)]
+pub struct ObjectMap {
+    names: Vec<Bytes>,
+    objects: Vec<Object>,
+}
+
+impl Model for ObjectMap {
+    ghost use Rattle.std.specs.Prelude.{◌≡◌, length};
+    ghost use Rattle.tree_rules.specs.Objects.{Entries};
+    ghost use Rattle.tree_objects.specs.Codes.{entries_code};
+
+    ghost Value = { Entries };
+
+    ghost coded = { entries_code };
+
+    ghost use Rattle.tree_objects.specs.Directories.{entries_size, IsDirectory};
+    ghost use Rattle.tree_objects.specs.Level.{paired};
+
+    ghost view = { λ m. paired m.names.items m.objects.items };
+
+    ghost invariant = { λ m. (length m.names.items ≡ length m.objects.items) × IsDirectory (paired m.names.items m.objects.items) };
+
+    ghost size = { entries_size };
+
+    ghost use Rattle.std.proofs.Common.{arith};
+    ghost use Rattle.tree_objects.specs.Falls.{falls};
+
+    ghost size_decreases = { λ m h. Prim.omega (arith, falls m.names.items m.objects.items h.0) };
+}
+
+impl ObjectMap {
+    /// The directory without names.
+    pub fn new(alloc: Global) -> ObjectMap
+        ensures { result ≡ no_entries }
+    {
+        ObjectMap {
+            names: Vec::new(alloc),
+            objects: Vec::new(alloc),
+        }
+    }
+
+    /// The object under a name. It takes no memory.
+    pub fn get(&self, name: &Bytes) -> Option<&Object>
+        ensures { option_map (λ o. tree_of o.now) result ≡ finite.find name_cmp name.now (listed self.now) }
+    {
+        match self.names.binary_search(name) {
+            Ok(place) => Some(&self.objects[place]),
+            Err(_) => None,
+        }
+    }
+
+    /// Puts an object under a name, in the place of one that is there.
+    pub fn put(&mut self, name: &Bytes, object: Object) -> Result<(), AllocError>
+        requires { IsUtf8 name.now }
+        ensures put { OnOk result (listed self.new ≡ finite.put name_cmp name.now (tree_of object) (listed self.old)) }
+        ensures kept { OnErr result (self.new ≡ self.old) }
+    {
+        match self.names.binary_search(name) {
+            Ok(place) => {
+                self.objects[place] = object;
+                Ok(())
+            }
+            Err(place) => {
+                let name = name.copy()?;
+                self.objects.reserve(1)?;
+                self.names.insert(place, name)?;
+                if self.objects.insert(place, object).is_err() {
+                    unreachable!()
+                }
+                Ok(())
+            }
+        }
+    }
+
+    /// Adds an object under a name behind the others.
+    pub(crate) fn push(&mut self, name: Bytes, object: Object) -> Result<(), AllocError>
+        requires sorted { IsTrue (finite.is_sorted name_cmp (listed self.old ++ (name, tree_of object) ∷ [])) }
+        requires text { IsUtf8 name }
+        ensures added { OnOk result (self.new ≡ with_last self.old name (tree_of object)) }
+        ensures kept { OnErr result (self.new ≡ self.old) }
+    {
+        self.objects.reserve(1)?;
+        self.names.push(name)?;
+        self.objects.push_reserved(object);
+        Ok(())
+    }
+
+    /// The names in byte order.
+    pub fn names(&self) -> &[Bytes]
+        ensures { result.now ≡ names_of self.now }
+    {
+        self.names.as_slice()
+    }
+
+    /// The objects in the byte order of their names.
+    pub fn objects(&self) -> &[Object]
+        ensures objects { paired (names_of self.now) result.now ≡ self.now }
+        ensures length { length result.now ≡ length (names_of self.now) }
+    {
+        self.objects.as_slice()
+    }
+
+    /// The names rise, and are texts.
+    pub fn is_directory(&self)
+        ensures { IsDirectory self.now }
+    {
+        let _names = &self.names;
+    }
+}
+
+/// An equal object.
+#[cycle(copied)]
+fn copy_object(object: &Object) -> Result<Object, AllocError>
+    ensures { IfOk result (λ twin. twin ≡ object.now) }
+{
+    Ok(match object {
+        Object::Val(bytes) => Object::Val(bytes.copy()?),
+        Object::Valref(references) => Object::Valref(references.copy()?),
+        Object::Dir(map) => Object::Dir(copy_map(map)?),
+        Object::Dirref(reference) => Object::Dirref(*reference),
+        Object::Symlink(path) => Object::Symlink(path.copy()?),
+    })
+}
+
+/// An equal directory.
+#[cycle(copied)]
+fn copy_map(map: &ObjectMap) -> Result<ObjectMap, AllocError>
+    ensures { IfOk result (λ twin. twin ≡ map.now) }
+{
+    map.is_directory();
+    let alloc = *map.names.allocator();
+    let names = copy_names(alloc, map.names())?;
+    let objects = map.objects();
+    let mut twins = Vec::new(alloc);
+    for index in 0..objects.len() {
+        twins.push(copy_object(&objects[index])?)?;
+    }
+    Ok(ObjectMap {
+        names,
+        objects: twins,
+    })
+}
+
+/// Equal names.
+fn copy_names(alloc: Global, names: &[Bytes]) -> Result<Vec<Bytes>, AllocError>
+    ensures { IfOk result (λ twins. twins.items ≡ names.now) }
+{
+    let mut twins = Vec::new(alloc);
+    for name in names {
+        twins.push(name.copy()?)?;
+    }
+    Ok(twins)
+}
+
+impl Copied for Object {
+    fn copy(&self) -> Result<Object, AllocError> {
+        copy_object(self)
+    }
+}
+
+impl Copied for ObjectMap {
+    fn copy(&self) -> Result<ObjectMap, AllocError> {
+        copy_map(self)
+    }
+}
