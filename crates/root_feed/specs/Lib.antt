@@ -1,0 +1,4 @@
+pub mod Looks
+pub mod Numbers
+pub mod Rule
+pub mod Values
