@@ -14,13 +14,14 @@ use Rattle.kvs_core.specs.declared.rows.Stage.TheVariants as stage
 use Rattle.kvs_core.specs.Order.{IsAnnouncing, Leads, possible}
 use Rattle.kvs_core.specs.Rows.{AtPlace}
 use Rattle.kvs_core.specs.Sound.{IsSound}
-use Rattle.kvs_core.specs.Space.{SpaceValue, has_news}
-use Rattle.kvs_core.specs.Steps.{parent, can_step, is_announced, is_message, is_on, is_ready}
+use Rattle.kvs_space.specs.Space.{SpaceValue, has_news, is_ready}
+use Rattle.kvs_rules.specs.Brokers.{parent}
+use Rattle.kvs_core.specs.Steps.{can_step, is_announced, is_message, is_on}
 use Rattle.kvs_core.specs.Value.{CoreValue}
-use Rattle.kvs_core.proofs.Announced.{parent-below}
+use Rattle.kvs_space.proofs.Announced.{parent-below}
 use Rattle.kvs_core.proofs.Delivering.{coming}
 use Rattle.kvs_core.proofs.Ways.{parent-le}
-use Rattle.kvs_core.proofs.Finding.{and-left, and-right, both-true, eq-is, eq-true, lt-is, lt-true, false-or-else}
+use Rattle.kvs_space.proofs.Finding.{and-left, and-right, both-true, eq-is, eq-true, lt-is, lt-true, false-or-else}
 use Rattle.kvs_core.proofs.Ordering.{any-at, first-behind, first-front, first-link, first-range, no-link, none-of}
 
 -- a message is between brokers of the tree

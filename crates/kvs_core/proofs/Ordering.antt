@@ -8,7 +8,7 @@ use Rattle.kvs_rules.specs.declared.events.KvsStep.{KvsStep}
 use Rattle.kvs_rules.specs.declared.events.KvsStep.TheVariants as kvs
 use Rattle.kvs_core.specs.declared.order.Hop.{Hop}
 use Rattle.kvs_core.specs.Order.{Leads}
-use Rattle.kvs_core.proofs.Finding.{none-passes, found-within, found-passes}
+use Rattle.kvs_space.proofs.Finding.{none-passes, found-within, found-passes}
 
 -- what led a link still leads what that led
 pub leads-past : (new old : Option Hop) (from to : ℕ) → IfSome old (λ hop. Leads new hop.from hop.to) → Leads old from to → Leads new from to

@@ -14,14 +14,15 @@ use Rattle.kvs_rules.specs.declared.events.KvsEvent.{KvsEvent}
 use Rattle.kvs_rules.specs.declared.events.KvsEvent.TheVariants as event
 use Rattle.store_laws.specs.Posts.{is_manager, posts_in}
 use Rattle.kvs_core.specs.Posted.{LandsUsers, groups_in, posts_landed}
-use Rattle.kvs_core.specs.Rulings.{IsLanding, IsRefusing}
-use Rattle.kvs_core.specs.Sound.{ArePosted, IsSound, IsSoundSpace}
-use Rattle.kvs_core.specs.Space.{SpaceValue}
-use Rattle.kvs_core.specs.Told.{hearing, landing, denial}
+use Rattle.kvs_space.specs.Rulings.{IsLanding, IsRefusing}
+use Rattle.kvs_space.specs.Sound.{ArePosted, IsSoundSpace}
+use Rattle.kvs_core.specs.Sound.{IsSound}
+use Rattle.kvs_space.specs.Space.{SpaceValue}
+use Rattle.kvs_space.specs.Told.{hearing, landing, denial}
 use Rattle.kvs_core.specs.Value.{CoreValue}
 use Rattle.kvs_core.proofs.Delivering.{other-names}
 use Rattle.kvs_core.proofs.Landing.{primary-there}
-use Rattle.kvs_core.proofs.Posting.{is-user, no-manager, none-left, none-right, posts-append, with-post, with-user}
+use Rattle.kvs_space.proofs.Posting.{is-user, no-manager, none-left, none-right, posts-append, with-post, with-user}
 use Rattle.kvs_core.proofs.Respacing.{get-other, get-here, got-here}
 
 abbrev pub posts-at : Option SpaceValue → List Group

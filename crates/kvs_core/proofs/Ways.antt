@@ -1,8 +1,8 @@
 -- The way down the tree to a broker.
 use Rattle.std.proofs.Common.{◌≡◌, ◌≢◌, ℕ, zero, suc, ◌<◌, ◌≤◌, ◌∙◌, ap, arith, refl}
 use Rattle.kvs_core.specs.Refused.{ancestor, IsAbove}
-use Rattle.kvs_core.specs.Steps.{parent}
-use Rattle.kvs_core.proofs.Announced.{parent-below}
+use Rattle.kvs_rules.specs.Brokers.{parent}
+use Rattle.kvs_space.proofs.Announced.{parent-below}
 
 pub parent-le : (fanout b : ℕ) → parent fanout b ≤ b
 parent-le fanout zero = grind arith

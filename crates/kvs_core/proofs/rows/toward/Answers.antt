@@ -1,6 +1,6 @@
 use Rattle.std.proofs.Common.{arith, inl, inr}
 use Rattle.std.proofs.lemmas.Bool.{cases_lt}
-use Rattle.kvs_core.proofs.Announced.{parent-below}
+use Rattle.kvs_space.proofs.Announced.{parent-below}
 use Rattle.kvs_core.proofs.Ways.{above-le, climbed, passed}
 use Rattle.kvs_core.proofs.rows.toward.Goals as goal
 

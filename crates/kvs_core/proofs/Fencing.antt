@@ -1,0 +1,83 @@
+-- A member of a fence joins it in the namespace of its name.
+use Rattle.std.proofs.Common.{◌≡◌, ℕ, ◌<◌, ◌≤◌, ◌+◌, List, [], ◌∷◌, ◌++◌, length, Bool, true, false, Some, None, inl, inr, option_map, refl, sym, ap, ◌∙◌, subst, arith, get_or, set, append-nil}
+use Rattle.std.specs.List.{position, AllByRecursion as Each}
+use Rattle.kvs_txn.specs.declared.txn.By.{By}
+use Rattle.kvs_txn.specs.declared.txn.Txn.{Txn}
+use Rattle.fence_merge.specs.declared.member.Member.{Member}
+use Rattle.fence_merge.specs.Groups.{group_of}
+use Rattle.fence_merge.specs.Fences.{AreFences, fence_of}
+use Rattle.fence_merge.specs.Merging.{MergerValue, joined, pushed}
+use Rattle.kvs_rules.specs.declared.events.KvsAsk.TheVariants as ask
+use Rattle.kvs_rules.specs.Log.{Log}
+use Rattle.kvs_rules.specs.Namespaces.{Setting}
+use Rattle.kvs_rules.specs.Landings.{IsUser, IsUsers}
+use Rattle.kvs_core.specs.declared.rows.Row.{Row}
+use Rattle.kvs_core.specs.declared.rows.Stage.TheVariants as stage
+use Rattle.kvs_core.specs.declared.rows.Work.TheVariants as work
+use Rattle.kvs_core.specs.Agrees.{Agrees, AreJoining, IsWaiting, SpaceAgrees}
+use Rattle.kvs_core.specs.Rows.{IsRisingAsk, with_stage}
+use Rattle.kvs_core.specs.Sound.{IsSound}
+use Rattle.kvs_core.specs.Steps.{all_services, is_arrived_stage, other_than}
+use Rattle.kvs_core.specs.Value.{CoreValue}
+use Rattle.kvs_space.specs.Sound.{ArePosted, IsSoundSpace}
+use Rattle.kvs_space.specs.Space.{SpaceValue, is_named, members_in, queued}
+use Rattle.kvs_space.proofs.Posting.{no-manager, posted-user, user-behind}
+use Rattle.store_laws.specs.Posts.{posts_in}
+use Rattle.kvs_core.proofs.Carried.{waiting, each-join}
+use Rattle.kvs_core.proofs.Counting.{times, one_if, pushed-times, joined-times}
+use Rattle.kvs_core.proofs.Moving.{found-there}
+use Rattle.kvs_core.proofs.Queueing.{waiting-posts}
+use Rattle.kvs_core.proofs.Joining.{joined-users, joined-posts, joined-taken, joined-joining, joined-kinds, whole-user}
+use Rattle.kvs_core.proofs.Taking.{joined-sound, joined-order, joined-fewer, joined-agrees, arrived-staged, asks-there, named-so, placed-ask}
+
+module _ {v : CoreValue} (s : IsSound v) (i : ℕ) (within : i < length v.rows) (row : Row) (read : row ≡ get_or v.rows i row) (k : ℕ) (found : Some k ≡ position (is_named row.namespace) v.spaces) (name : List ℕ) (count : ℕ) (txn : Txn)
+    (is : row.stage ≡ stage.Arrived (ask.Fence name count txn)) (old new : SpaceValue) (read-space : old ≡ get_or v.spaces k old)
+    (now : new ≡ record { name = old.name; removed = old.removed; history = old.history; known = old.known; stores = old.stores; links = old.links; merger = joined old.merger name count (record { actor = row.by.actor; command = row.by.command; txn = txn }) })
+    (fences : AreFences new.merger.fences) where
+  abbrev member : Member
+  member = record { actor = row.by.actor; command = row.by.command; txn = txn }
+
+  sound-old : IsSoundSpace v.fanout v.grant old
+  sound-old = subst (IsSoundSpace v.fanout v.grant) (sym read-space) (s.spaces k old (found-there s row.namespace k found))
+
+  risen : IsRisingAsk (ask.Fence name count txn)
+  risen = placed-ask s i within row read (ask.Fence name count txn) is
+
+  arrived : is_arrived_stage row.stage ≡ true
+  arrived = ap is_arrived_stage is
+
+  more : (x : By) → times x (waiting (queued (joined old.merger name count member))) ≡ times x (waiting (queued old.merger)) + one_if x row.by
+  more x = joined-times x name old.merger count member
+
+  fences-now : AreFences (joined old.merger name count member).fences
+  fences-now = subst (λ x. AreFences x.merger.fences) now fences
+
+  members : Each (λ m. IsUser m.txn.author) (members_in (joined old.merger name count member).fences)
+  members = joined-users name old.merger count member risen.0 sound-old.members
+
+  posts : posts_in (joined old.merger name count member).ready ≡ posts_in old.merger.ready
+  posts = joined-posts name old.merger count member risen.0 sound-old.members
+
+  taken : ArePosted old.name (joined old.merger name count member).ready (get_or old.stores 0 [])
+  taken = joined-taken name old.merger count member risen.0 sound-old.members old.name (get_or old.stores 0 []) sound-old.posts
+
+  pub fence-sound : (rows : List Row) → rows ≡ set v.rows i (with_stage (stage.Joined k work.Fence) row) → (spent : Bool) → IsSound (record { spent = spent; size = v.size; fanout = v.fanout; grant = v.grant; spaces = set v.spaces k new; rows = rows })
+  fence-sound = joined-sound s i within row read k found work.Fence arrived old new read-space (joined old.merger name count member) now more fences-now members posts taken
+
+  pub fence-order : waiting-posts (set v.spaces k new) ≡ waiting-posts v.spaces
+  fence-order = joined-order s i within row read k found work.Fence arrived old new read-space (joined old.merger name count member) now more fences-now members posts taken
+
+  pub fence-fewer : (rows : List Row) → rows ≡ set v.rows i (with_stage (stage.Joined k work.Fence) row) → all_services rows < all_services v.rows
+  fence-fewer = joined-fewer s i within row read k found work.Fence arrived old new read-space (joined old.merger name count member) now more fences-now members posts taken
+
+  module _ (same : other_than (option_map (λ f. f.count) (fence_of name old.merger.fences)) count ≡ None) {set₀ : Setting} {log : Log} (a : Agrees v set₀ log) where
+    there : SpaceAgrees set₀ log v.size old
+    there = subst (SpaceAgrees set₀ log v.size) (sym read-space) (a.spaces k old (found-there s row.namespace k found))
+
+    pub fence-agrees : (rows : List Row) → rows ≡ set v.rows i (with_stage (stage.Joined k work.Fence) row) → Agrees (record { spent = false; size = v.size; fanout = v.fanout; grant = v.grant; spaces = set v.spaces k new; rows = rows }) set₀ log
+    fence-agrees =
+        let staged = arrived-staged s i within row read a (ask.Fence name count txn) is in
+        let asks = asks-there s i within row read a (ask.Fence name count txn) is old.name (named-so s i within row read k found old read-space) in
+        joined-agrees s i within row read k found work.Fence arrived old new read-space (joined old.merger name count member) now more fences-now members posts taken a staged.0 (name, count, txn, staged.1)
+        (joined-kinds name set₀ old.name old.merger count member asks there.joining same risen.1 (whole-user name old.merger count member risen.0 sound-old.members) there.kinds)
+        (joined-joining name set₀ old.name old.merger count member asks there.joining same)

@@ -1,0 +1,5 @@
+pub mod Space
+pub mod Links
+pub mod Rulings
+pub mod Sound
+pub mod Told

@@ -1,0 +1,121 @@
+//! The numbers of landings on their way down the tree.
+ghost use Rattle.std.specs.Prelude.{◌≡◌, ℕ, ◌+◌, ◌<◌, ◌≤◌, ◌==◌, List, [], ◌∷◌, ◌++◌, nat_lt, length, OnOk, IfOk, option_to_list, slice_index, slice_set, IsSome, ◌↔◌};
+ghost use Rattle.kvs_space.specs.Space.{link_at};
+ghost use Rattle.kvs_space.specs.Links.{AreTold, IsAnnounced, IsAnnouncedBut, IsNext};
+
+use std::alloc::{AllocError, Global};
+use std::collections::VecDeque;
+use std::marker::Model;
+
+/// The numbers that are on the way to one broker, the oldest first.
+#[derive(Drop)]
+pub struct Link {
+    numbers: VecDeque<u64>,
+}
+
+impl Model for Link {
+    ghost use Rattle.std.specs.Prelude.{List, ℕ};
+
+    ghost Value = { List ℕ };
+
+    ghost view = { λ l. l.numbers.items };
+}
+
+impl Link {
+    pub fn new(alloc: Global) -> Link
+        ensures { result ≡ [] }
+    {
+        Link {
+            numbers: VecDeque::new(alloc),
+        }
+    }
+
+    pub fn push(&mut self, number: u64) -> Result<(), AllocError>
+        ensures { OnOk result (self.new ≡ self.old ++ number ∷ []) }
+    {
+        self.numbers.push_back(number)?;
+        Ok(())
+    }
+
+    pub fn pop(&mut self) -> Option<u64>
+        ensures first { self.old ≡ option_to_list result ++ self.new }
+        ensures some { IsSome result ↔ (0 < length self.old) }
+    {
+        self.numbers.pop_front()
+    }
+
+    pub fn is_empty(&self) -> bool
+        ensures { result ≡ (length self.now == 0) }
+    {
+        self.numbers.is_empty()
+    }
+}
+
+/// Sends a number to each child of a broker.
+pub fn announce(
+    links: &mut Vec<Link>,
+    fanout: usize,
+    from: usize,
+    number: u64,
+) -> Result<(), AllocError>
+    requires { 0 < fanout }
+    ensures { OnOk result (AreTold fanout from number links.old.items links.new.items) }
+{
+    for child in 1..links.len() {
+        if (child - 1) / fanout == from {
+            let link = &mut links[child];
+            link.push(number)?;
+        }
+    }
+    Ok(())
+}
+
+/// A broker hears a landing, and sends its number to its children.
+pub fn hear(
+    heard: &mut Vec<u64>,
+    links: &mut Vec<Link>,
+    fanout: usize,
+    broker: usize,
+    number: u64,
+) -> Result<(), AllocError>
+    requires fanout { 0 < fanout }
+    requires announced { IsAnnouncedBut broker number fanout heard.old.items links.old.items }
+    ensures heard { OnOk result (heard.new.items ≡ slice_set heard.old.items broker number) }
+    ensures announced { OnOk result (IsAnnounced fanout heard.new.items links.new.items) }
+    ensures told { OnOk result (AreTold fanout broker number links.old.items links.new.items) }
+{
+    heard[broker] = number;
+    announce(links, fanout, broker, number)?;
+    Ok(())
+}
+
+/// Delivers the oldest number on a link, which the broker hears where it is higher than its own. Gives the number that it has heard then.
+pub fn deliver(
+    heard: &mut Vec<u64>,
+    links: &mut Vec<Link>,
+    fanout: usize,
+    broker: usize,
+) -> Result<u64, AllocError>
+    requires fanout { 0 < fanout }
+    requires above { 0 < broker }
+    requires broker { broker < length heard.old.items }
+    requires announced { IsAnnounced fanout heard.old.items links.old.items }
+    requires some { 0 < length (link_at links.old.items broker) }
+    ensures heard { IfOk result (λ r. heard.new.items ≡ slice_set heard.old.items broker r) }
+    ensures next { IfOk result (λ r. IsNext fanout heard.old.items broker r) }
+    ensures announced { OnOk result (IsAnnounced fanout heard.new.items links.new.items) }
+    ensures shorter { OnOk result (length (link_at links.new.items broker) < length (link_at links.old.items broker)) }
+{
+    let link = &mut links[broker];
+    match link.pop() {
+        Some(number) => {
+            if number > heard[broker] {
+                hear(heard, links, fanout, broker, number)?;
+                Ok(number)
+            } else {
+                Ok(heard[broker])
+            }
+        }
+        None => unreachable!(),
+    }
+}
