@@ -1,15 +1,15 @@
 -- What a text spells is built, with its keys and values within their limits.
-use Rattle.std.proofs.Common.{◌≡◌, ℕ, ◌≤◌, true, false, List, [], ◌∷◌, ◌++◌, length, refl, arith}
+use Rattle.std.proofs.Common.{◌≡◌, ℕ, ◌≤◌, true, false, List, [], ◌∷◌, ◌++◌, length, not, refl, arith}
 use Rattle.std.specs.Prelude.{Option, Some, None, IfSome, All, is_none, unwrap_or, nat_le}
 use Rattle.std.specs.Option.{option_map, option_map_or, option_to_list}
 use Rattle.std.proofs.lemmas.Bool.Decides.{nat_tests}
 use Rattle.std.proofs.lemmas.List.{append-nil}
 use Rattle.std.proofs.lemmas.List.Elements.{All-nil, All-push}
 use Rattle.kvs_txn.specs.Keys.{components}
-use Rattle.workload.specs.Limits.{most_commands, most_value}
-use Rattle.workload.specs.Words.{first_word, behind_word}
+use Rattle.workload.specs.Limits.{most_commands, most_members, most_value}
+use Rattle.workload.specs.Words.{first_word, behind_word, is_number_within, number_value}
 use Rattle.workload.specs.Actors.{place_of}
-use Rattle.workload.specs.Verbs.{first_of, faults_of, is_past_key, is_past_value, one_key, key_and_text, two_keys, said, verb_of}
+use Rattle.workload.specs.Verbs.{first_of, faults_of, is_past_key, is_past_value, name_and_number, one_key, key_and_text, two_keys, said, verb_of}
 use Rattle.workload.specs.Reading.{first_fault, spelled, with_command, command_faults, verb_faults}
 use Rattle.workload.specs.Laws.{IsBuilt, IsKeyPath}
 use Rattle.workload.proofs.Along.{none_applies, one_by_one, text_keeps}
@@ -43,6 +43,13 @@ two_keys_built number tail none =
     let tests = none_applies (faults_of number (two_keys command.Symlink tail)) none in
     (key_within (first_word tail) tests.1.1.1.0, key_within (first_word (behind_word tail)) tests.1.1.1.1.0)
 
+number_within : (word : List ℕ) → not (is_number_within 1 most_members word) ≡ false → (1 ≤ number_value word) × (number_value word ≤ most_members)
+number_within word h = (grind (arith, nat_tests), grind (arith, nat_tests))
+
+fence_built : (number : ℕ) (tail : List ℕ) → first_of (faults_of number (name_and_number 1 most_members command.Fence tail)) ≡ None
+    → (1 ≤ number_value (first_word (behind_word tail))) × (number_value (first_word (behind_word tail)) ≤ most_members)
+fence_built number tail none = number_within (first_word (behind_word tail)) (none_applies (faults_of number (name_and_number 1 most_members command.Fence tail)) none).1.1.0
+
 verb_built : (work : Workload) (number : ℕ) (tail : List ℕ) (v : Verb) → first_of (faults_of number (said work v tail)) ≡ None → IsBuilt (said work v tail).command
 verb_built work number tail verb.Put none = key_and_text_built number tail none
 verb_built work number tail verb.Append none = key_and_text_built number tail none
@@ -50,6 +57,7 @@ verb_built work number tail verb.Unlink none = one_key_built number tail none
 verb_built work number tail verb.Mkdir none = one_key_built number tail none
 verb_built work number tail verb.Symlink none = two_keys_built number tail none
 verb_built work number tail verb.Commit none = tt
+verb_built work number tail verb.Fence none = fence_built number tail none
 verb_built work number tail verb.Get none = one_key_built number tail none
 verb_built work number tail verb.Ls none = one_key_built number tail none
 verb_built work number tail verb.Readlink none = one_key_built number tail none

@@ -32,3 +32,7 @@ most_components = 32
 -- the most bytes of a value
 abbrev pub most_value : ℕ
 most_value = 65536
+
+-- the most members of a fence
+abbrev pub most_members : ℕ
+most_members = 256

@@ -17,3 +17,6 @@ pub const MOST_NAME: usize = 64;
 
 /// The most bytes of a value.
 pub const MOST_VALUE: usize = 65_536;
+
+/// The most members of a fence.
+pub const MOST_MEMBERS: u64 = 256;

@@ -4,8 +4,8 @@ ghost use Rattle.workload.specs.Words.{first_word, behind_word};
 ghost use Rattle.workload.specs.Verbs.{first_of, faults_of, verb_of, said, one_key, key_and_text, two_keys, is_past_key, is_past_value, Reads};
 
 use crate::faults::{LineFault, Which};
-use crate::limits::MOST_VALUE;
-use crate::words::cut;
+use crate::limits::{MOST_MEMBERS, MOST_VALUE};
+use crate::words::{can_name, cut, number_within};
 use crate::work::{Command, Workload};
 use kvs_txn::{Path, PathFault};
 use lists::Bytes;
@@ -20,6 +20,7 @@ pub enum Verb {
     Mkdir,
     Symlink,
     Commit,
+    Fence,
     Get,
     Ls,
     Readlink,
@@ -37,6 +38,7 @@ impl Verb {
             "mkdir" => Some(Verb::Mkdir),
             "symlink" => Some(Verb::Symlink),
             "commit" => Some(Verb::Commit),
+            "fence" => Some(Verb::Fence),
             "get" => Some(Verb::Get),
             "ls" => Some(Verb::Ls),
             "readlink" => Some(Verb::Readlink),
@@ -164,6 +166,29 @@ fn commit(work: &Workload, line: u64, tail: &str) -> Result<Command, LineFault>
     Ok(Command::Commit)
 }
 
+/// The command `fence NAME COUNT`, of the text behind the verb.
+fn fence(alloc: Global, work: &Workload, line: u64, tail: &str) -> Result<Command, LineFault>
+    ensures { Reads
+        (first_of (faults_of line (said work.now Verb.Fence tail.now)))
+        (λ c. c ≡ (said work.now Verb.Fence tail.now).command)
+        result }
+{
+    let (name, rest) = cut(tail);
+    let (count, rest) = cut(rest);
+    let (more, _) = cut(rest);
+    if !can_name(name) || count.is_empty() || !more.is_empty() {
+        return Err(LineFault::BadCommand { line });
+    }
+    let Some(count) = number_within(count, 1, MOST_MEMBERS) else {
+        return Err(LineFault::BadNumber { line });
+    };
+    let name = Bytes::of(alloc, name.as_bytes())?;
+    Ok(Command::Fence {
+        name,
+        count: count as u32,
+    })
+}
+
 /// The command `get KEY`, of the text behind the verb.
 fn get(alloc: Global, work: &Workload, line: u64, tail: &str) -> Result<Command, LineFault>
     ensures { Reads (first_of (faults_of line (said work.now Verb.Get tail.now))) (λ c. c ≡ (said work.now Verb.Get tail.now).command) result }
@@ -205,6 +230,7 @@ pub fn command(
         Verb::Mkdir => mkdir(alloc, work, line, tail),
         Verb::Symlink => symlink(alloc, work, line, tail),
         Verb::Commit => commit(work, line, tail),
+        Verb::Fence => fence(alloc, work, line, tail),
         Verb::Get => get(alloc, work, line, tail),
         Verb::Ls => ls(alloc, work, line, tail),
         Verb::Readlink => readlink(alloc, work, line, tail),

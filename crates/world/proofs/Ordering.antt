@@ -1,5 +1,5 @@
 -- The step that a world makes next is the first that it can make.
-use Rattle.std.proofs.Common.{◌≡◌, ℕ, suc, zero, ◌+◌, ◌<◌, ◌≤◌, inl, inr, ◌==◌, ◌&&◌, List, [], ◌∷◌, ◌++◌, length, map, Bool, true, false, Option, Some, None, refl, sym, ap, ◌∙◌, subst, arith, true≢false, get_or}
+use Rattle.std.proofs.Common.{◌≡◌, ℕ, suc, zero, ◌+◌, ◌<◌, ◌≤◌, inl, inr, ◌==◌, ◌&&◌, List, [], ◌∷◌, ◌++◌, length, map, Bool, true, false, Option, Some, None, refl, sym, ap, ◌∙◌, subst, arith, true≢false}
 use Rattle.std.specs.Prelude.{slice_get, filter_map, option_and_then, nat_lt, if◌then◌else◌}
 use Rattle.std.specs.List.{range_with_len}
 use Rattle.std.specs.Option.{option_map_or}
@@ -140,7 +140,7 @@ module _ (v : WorldValue) where
           let any : Line = record { actor = 0; command = command.Commit } in
           let parts = both (is_free seat.waiting) (nat_lt seat.next (length v.set.work.lines)) h in
           let within = is_less seat.next (length v.set.work.lines) parts.1 in
-          let stands = subst (ActorStands v.set (log_of v.set.work top v.chronicle) v.chronicle actor) e (sound.actors actor) in
+          let stands = subst (ActorStands v.set (log_of v.set.work top v.chronicle) v.chronicle actor) e (sound.actors runs actor) in
           let next-is : next_of v.seats actor ≡ seat.next = ap (λ o. option_map_or (λ x. x.next) o 0) e in
           let is-next : is_next_line v.seats actor seat.next ≡ true =
           ap (λ o. option_map_or (λ x. is_free x.waiting && (x.next == seat.next)) o false) e ∙ and_true (is_free seat.waiting) _ parts.0 (equal seat.next) in

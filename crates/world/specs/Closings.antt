@@ -1,0 +1,60 @@
+-- What the commands that did not finish are told at the end.
+use Rattle.std.specs.Prelude.{ℕ, ◌-◌, List, [], ◌∷◌, Bool, true, false, Option, Some, None, count_by, filter, flat_map, length, map, option_and_then, slice_get, if◌then◌else◌}
+use Rattle.std.specs.List.{range_with_len}
+use Rattle.std.specs.Option.{option_map, option_map_or}
+use Rattle.std.specs.Str.{bytes_eq}
+use Rattle.kvs_model.specs.Store.{Name}
+use Rattle.workload.specs.declared.work.Command.{Command}
+use Rattle.workload.specs.declared.work.Command.TheVariants as command
+use Rattle.workload.specs.declared.work.Line.{Line}
+use Rattle.answers.specs.declared.chronicle.Entry.{Entry}
+use Rattle.answers.specs.declared.chronicle.Entry.TheVariants as entry
+use Rattle.answers.specs.declared.chronicle.Reply.TheVariants as reply
+use Rattle.world.specs.declared.seats.Seat.{Seat}
+use Rattle.world.specs.declared.seats.Waiting.{Waiting}
+use Rattle.world.specs.declared.seats.Waiting.TheVariants as waiting
+use Rattle.world.specs.Sound.{is_of}
+
+-- the actor's command that was issued last
+abbrev pub open_command : List Line → Seat → Option Command
+open_command lines seat = option_map (λ line. line.command) (slice_get lines seat.last)
+
+-- whether the actor waits for the service
+abbrev pub is_served : Waiting → Bool
+is_served waiting.Service = true
+is_served _ = false
+
+-- the fence that a command joins, with its count
+abbrev pub fence_of : Command → Option (Name × ℕ)
+fence_of (command.Fence name count) = Some (name, count)
+fence_of _ = None
+
+-- the fence in which the actor at this seat waits, with its count
+abbrev pub fence_at : List Line → Seat → Option (Name × ℕ)
+fence_at lines seat = if is_served seat.waiting then option_and_then fence_of (open_command lines seat) else None
+
+-- whether the actor waits in this fence
+abbrev pub waits_in : List Line → List Seat → Name → ℕ → Bool
+waits_in lines seats name actor = option_map_or (λ seat. option_map_or (λ fence. bytes_eq name fence.0) (fence_at lines seat) false) (slice_get seats actor) false
+
+-- the actors that wait in this fence
+abbrev pub waiting_in : List Line → List Seat → Name → List ℕ
+waiting_in lines seats name = filter (waits_in lines seats name) (range_with_len 0 (length seats))
+
+-- the closing replies to so many commands that were not reached, from this number on
+abbrev pub not_reached : ℕ → ℕ → ℕ → List Entry
+not_reached actor from count = map (λ number. entry.Replied actor number reply.NotReached None) (range_with_len from count)
+
+-- the closing replies to the actor at this seat, which waits in a fence: that the fence waits for members, and that the commands behind were not reached
+abbrev pub closings_at : List Line → List Seat → ℕ → Seat → Name × ℕ → List Entry
+closings_at lines seats actor seat fence =
+    entry.Replied actor (seat.issued - 1) (reply.UnfinishedFence (length (waiting_in lines seats fence.0)) fence.1) None
+    ∷ not_reached actor seat.issued (count_by (is_of actor) lines - seat.issued)
+
+-- the closing replies to an actor
+abbrev pub closings_of : List Line → List Seat → ℕ → List Entry
+closings_of lines seats actor = option_map_or (λ seat. option_map_or (closings_at lines seats actor seat) (fence_at lines seat) []) (slice_get seats actor) []
+
+-- the closing replies, by actor
+abbrev pub closings : List Line → List Seat → List Entry
+closings lines seats = flat_map (closings_of lines seats) (range_with_len 0 (length seats))
