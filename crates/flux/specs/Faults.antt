@@ -5,7 +5,8 @@ use Rattle.workload.specs.declared.faults.LineFault.{LineFault}
 use Rattle.workload.specs.Reading.{first_fault}
 use Rattle.flux.specs.declared.call.Fault.{Fault}
 use Rattle.flux.specs.declared.call.Fault.TheVariants as fault
-use Rattle.flux.specs.Runs.{AreRunWords, brokers}
+use Rattle.run_options.specs.declared.Options.{Options}
+use Rattle.flux.specs.Runs.{run_options}
 use Rattle.flux.specs.Sides.{Side, HasFailed, IsRead, IsWritten}
 use Rattle.flux_tools.specs.Tools.{IsRefused as RefusesTool}
 
@@ -19,18 +20,18 @@ status_of fault.Read = 3
 status_of fault.Memory = 4
 status_of (fault.Write n) = 5
 
--- a text was read of which this is the first fault as a workload's
-pub record HasFirstFault (input : Side) (fault : LineFault) : Type 0 where
+-- a text was read of which this is the first fault as a workload's for so many brokers
+pub record HasFirstFault (size : ℕ) (input : Side) (fault : LineFault) : Type 0 where
   pub text : List ℕ
   pub read : IsRead input text
-  pub first : first_fault brokers text ≡ Some fault
+  pub first : first_fault size text ≡ Some fault
 
 -- why the source gave no workload: its text is none, it failed, or there was no memory
-abbrev pub HasReadCause : Side → Fault → Type 0
-HasReadCause input (fault.Line f) = HasFirstFault input f
-HasReadCause input fault.Read = HasFailed input
-HasReadCause input fault.Memory = Unit {0}
-HasReadCause input _ = ⊥
+abbrev pub HasReadCause : ℕ → Side → Fault → Type 0
+HasReadCause size input (fault.Line f) = HasFirstFault size input f
+HasReadCause size input fault.Read = HasFailed input
+HasReadCause size input fault.Memory = Unit {0}
+HasReadCause size input _ = ⊥
 
 -- what the sink took of the text: all of it, or a part of it where it failed
 abbrev pub IsTaken : Side → List ℕ → Fault → Type 0
@@ -46,7 +47,7 @@ IsToolFault words input _ = ⊥
 
 -- why a command was refused: the text that a run read is no workload's, or a tool refuses the text that it is given
 abbrev pub IsRefused : List (List ℕ) → Side → Fault → Type 0
-IsRefused words input (fault.Line f) = AreRunWords words × HasFirstFault input f
+IsRefused words input (fault.Line f) = (o : Options) × (run_options words ≡ Some o) × HasFirstFault o.size input f
 IsRefused words input fault = IsToolFault words input fault
 
 -- where neither the source nor the sink failed, a command ends well, is refused, or lacks memory

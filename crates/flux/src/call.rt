@@ -1,8 +1,9 @@
 //! The call that `main` makes.
-ghost use Rattle.std.specs.Prelude.{◌≡◌, ◌≢◌, ◌≤◌, ◌↔◌, map, string_bytes, IsTrue, List, ℕ, Ok};
+ghost use Rattle.std.specs.Prelude.{◌≡◌, ◌≢◌, ◌≤◌, ◌↔◌, map, string_bytes, List, ℕ, Ok, IfSome};
+ghost use Rattle.run_options.specs.Given.{AreWithin};
 ghost use Rattle.flux_tools.specs.Tools.{AreReaderWords, AreToolWords, HasAnswer};
 ghost use Rattle.flux.specs.Sides.{side, FailsAt, IsWritten};
-ghost use Rattle.flux.specs.Runs.{AreRunWords, AreWords, HasRun, IsOutput};
+ghost use Rattle.flux.specs.Runs.{AreRunWords, AreWords, HasRun, IsOutput, run_options};
 ghost use Rattle.flux.specs.Faults.{status_of, HasReadCause, IsComplete, IsRefused, IsTaken, IsToolFault};
 
 use crate::playing::{Played, play};
@@ -11,6 +12,7 @@ use answers::{Chronicle, Step};
 use flux_tools::{ToolFault, is_tool, tool};
 use lists::ListOf;
 use outside::{ReadFault, Sink, Source, write_all};
+use run_options::{Options, read_options};
 use std::alloc::Global;
 use workload::LineFault;
 
@@ -72,13 +74,18 @@ fn status(fault: &Fault) -> u8
     }
 }
 
-/// Whether the words are a run's.
-fn is_run(words: &[String]) -> bool
-    ensures { IsTrue result ↔ AreRunWords (map string_bytes words.now) }
+/// The options of a run, where the words are a run's.
+fn options_of_run(words: &[String]) -> Option<Options>
+    ensures value { result ≡ run_options (map string_bytes words.now) }
+    ensures within { IfSome result AreWithin }
 {
     match words {
-        [word] => word.as_str() == "run",
-        _ => false,
+        [word, options @ ..] => if word.as_str() == "run" {
+            read_options(options)
+        } else {
+            None
+        },
+        [] => None,
     }
 }
 
@@ -96,17 +103,23 @@ fn tell<K: Sink>(sink: &mut K, output: &[u8]) -> Fault
 }
 
 /// Runs the workload that the source spells, and writes its answers.
-fn run_workload<S: Source, K: Sink>(alloc: Global, source: &mut S, sink: &mut K) -> Run
+fn run_workload<S: Source, K: Sink>(
+    alloc: Global,
+    options: Options,
+    source: &mut S,
+    sink: &mut K,
+) -> Run
+    requires { AreWithin options }
     ensures status { result.status ≡ status_of result.fault }
     ensures known { result.status ≢ 2 }
     ensures done { result.status ≡ 0 → (text : List ℕ)
-        × HasRun (side S.left S.faults source.old source.new) result text
+        × HasRun options (side S.left S.faults source.old source.new) result text
         × IsWritten (side K.held K.faults sink.old sink.new) text }
     ensures cut { result.status ≡ 5 → (text : List ℕ)
-        × HasRun (side S.left S.faults source.old source.new) result text
+        × HasRun options (side S.left S.faults source.old source.new) result text
         × IsTaken (side K.held K.faults sink.old sink.new) text result.fault }
     ensures refused { result.status ≡ 1
-        → HasReadCause (side S.left S.faults source.old source.new) result.fault }
+        → HasReadCause options.size (side S.left S.faults source.old source.new) result.fault }
     ensures source { FailsAt 3 (side S.left S.faults source.old source.new) result.status }
     ensures sink { FailsAt 5 (side K.held K.faults sink.old sink.new) result.status }
     ensures unwritten { (1 ≤ result.status) → (result.status ≤ 4) → sink.new ≡ sink.old }
@@ -115,11 +128,11 @@ fn run_workload<S: Source, K: Sink>(alloc: Global, source: &mut S, sink: &mut K)
         (side K.held K.faults sink.old sink.new)
         result.status }
 {
-    let work = match read_work(alloc, source) {
+    let work = match read_work(alloc, options.size, source) {
         Ok(work) => work,
         Err(fault) => return Run::without_steps(alloc, fault),
     };
-    let Ok(Played { text, ended }) = play(alloc, work) else {
+    let Ok(Played { text, ended }) = play(alloc, options, work) else {
         return Run::without_steps(alloc, Fault::Memory);
     };
     let fault = tell(sink, &text);
@@ -179,8 +192,9 @@ fn run_tool<S: Source, K: Sink>(
     Run::without_steps(alloc, tell(sink, &line))
 }
 
-/// Carries out the command of the words. `run` reads a workload from the source, runs it, and writes its answers to the
-/// sink: one line for each command, in the workload's order. A tool writes one line: `idset`, `hostlist` and `fluid` of
+/// Carries out the command of the words. `run` reads a workload from the source, runs it in an instance as its options
+/// say, and writes its answers to the sink: one line for each command, in the workload's order, and with `--journal`
+/// the chronicle behind a line `--`. A tool writes one line: `idset`, `hostlist` and `fluid` of
 /// the text in the words, `R` and `replay` of the text that the source has. The whole output is made before the first
 /// byte is written.
 ///
@@ -230,8 +244,8 @@ pub fn flux<S: Source, K: Sink>(
         (side K.held K.faults sink.old sink.new)
         result.status }
 {
-    if is_run(words) {
-        return run_workload(alloc, source, sink);
+    if let Some(options) = options_of_run(words) {
+        return run_workload(alloc, options, source, sink);
     }
     if is_tool(words) {
         return run_tool(alloc, words, source, sink);

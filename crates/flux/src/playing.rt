@@ -1,24 +1,18 @@
 //! A run of a workload: every step that can be made is made before the next command is issued.
 ghost use Rattle.std.specs.Prelude.{◌≡◌, true, false, All, IfOk, OnOk};
+ghost use Rattle.run_options.specs.Given.{AreWithin};
 ghost use Rattle.workload.specs.Laws.{IsWithin, IsBuilt};
-ghost use Rattle.answers.specs.Headline.{IsTrueRun};
+ghost use Rattle.answers.specs.Headline.{IsTrueRun, output_text};
 ghost use Rattle.answers.specs.Legal.{IsSettled};
 ghost use Rattle.answers.specs.Stretches.{AreStretches};
-ghost use Rattle.flux.specs.Runs.{brokers, setup_of};
+ghost use Rattle.flux.specs.Runs.{setup_of};
 
-use answers::print_answers;
-use fl_digest::Hash;
+use answers::{Chronicle, print_answers, print_journal};
 use kvs_core::CoreFault;
+use run_options::Options;
 use std::alloc::{AllocError, Global};
 use workload::Workload;
 use world::{Ended, Setting, World};
-
-/// The brokers of a run, and how many of them stand below one.
-pub const SETTING: Setting = Setting {
-    size: 4,
-    fanout: 2,
-    hash: Hash::Sha1,
-};
 
 /// What a run leaves, and the text of its answers.
 #[derive(Drop)]
@@ -45,18 +39,41 @@ fn settle(world: &mut World) -> Result<(), CoreFault>
     Err(CoreFault::NoMemory)
 }
 
+/// The answers of a run, and its journal behind a line of two dashes where it is asked for.
+fn output(
+    alloc: Global,
+    options: Options,
+    work: &Workload,
+    chronicle: &Chronicle,
+) -> Result<Vec<u8>, AllocError>
+    ensures { IfOk result (λ text. text.items ≡ output_text options.journal (setup_of options work.now) chronicle.now) }
+{
+    let mut text = print_answers(alloc, work, chronicle)?;
+    if options.journal {
+        text.extend_from_slice(b"--\n")?;
+        text.extend_from_slice(&print_journal(alloc, chronicle)?)?;
+    }
+    Ok(text)
+}
+
 /// Runs a workload to its end.
-pub fn play(alloc: Global, work: Workload) -> Result<Played, CoreFault>
-    requires within { IsWithin brokers work }
+pub fn play(alloc: Global, options: Options, work: Workload) -> Result<Played, CoreFault>
+    requires options { AreWithin options }
+    requires within { IsWithin options.size work }
     requires built { All (λ line. IsBuilt line.command) work.lines }
-    ensures run { IfOk result (λ played. IsTrueRun (setup_of work) true false played.ended.chronicle played.text.items) }
+    ensures run { IfOk result (λ played. IsTrueRun (setup_of options work) true options.journal played.ended.chronicle played.text.items) }
     ensures stretches { IfOk result (λ played. AreStretches work played.ended.steps.items played.ended.ends.items played.ended.chronicle) }
 {
-    let mut world = World::new(alloc, SETTING, work)?;
+    let setting = Setting {
+        size: options.size,
+        fanout: options.fanout,
+        hash: options.hash,
+    };
+    let mut world = World::new(alloc, setting, work)?;
     settle(&mut world)?;
     world.quiet();
     world.steps();
-    let text = print_answers(alloc, world.work(), world.chronicle())?;
+    let text = output(alloc, options, world.work(), world.chronicle())?;
     Ok(Played {
         text,
         ended: world.finish(),

@@ -1,12 +1,11 @@
 //! What the source is read for.
-ghost use Rattle.std.specs.Prelude.{◌≡◌, All, IfOk, IfErr, OnOk};
+ghost use Rattle.std.specs.Prelude.{◌≡◌, ◌≤◌, All, IfOk, IfErr, OnOk};
 ghost use Rattle.workload.specs.Laws.{IsWithin, IsBuilt};
-ghost use Rattle.flux.specs.Runs.{IsSpelled, brokers};
+ghost use Rattle.flux.specs.Runs.{IsSpelled};
 ghost use Rattle.flux.specs.Sides.{side, FailsAt, IsSteady};
 ghost use Rattle.flux.specs.Faults.{HasReadCause, status_of};
 
 use crate::call::Fault;
-use crate::playing::SETTING;
 use outside::{ReadFault, Source, read_all};
 use std::alloc::Global;
 use workload::laws::{spelled_commands_are_built, spelled_workloads_are_within};
@@ -15,15 +14,16 @@ use workload::{LineFault, Workload, read};
 /// The most bytes of an input.
 const MOST_TEXT: usize = 16_777_216;
 
-/// Reads the source to its end, for the workload that it spells. A text of more than 16 MiB is refused at the first byte
+/// Reads the source to its end, for the workload that it spells for so many brokers. A text of more than 16 MiB is refused at the first byte
 /// past them.
-pub fn read_work<S: Source>(alloc: Global, source: &mut S) -> Result<Workload, Fault>
+pub fn read_work<S: Source>(alloc: Global, size: u32, source: &mut S) -> Result<Workload, Fault>
+    requires { (1 ≤ size) × (size ≤ 32) }
     ensures work { IfOk result (λ work.
-        IsSpelled (side S.left S.faults source.old source.new) work) }
-    ensures within { IfOk result (λ work. IsWithin brokers work) }
+        IsSpelled size (side S.left S.faults source.old source.new) work) }
+    ensures within { IfOk result (λ work. IsWithin size work) }
     ensures built { IfOk result (λ work. All (λ line. IsBuilt line.command) work.lines) }
     ensures cause { IfErr result (λ fault.
-        HasReadCause (side S.left S.faults source.old source.new) fault) }
+        HasReadCause size (side S.left S.faults source.old source.new) fault) }
     ensures steady { OnOk result (IsSteady (side S.left S.faults source.old source.new)) }
     ensures count { IfErr result (λ fault.
         FailsAt 3 (side S.left S.faults source.old source.new) (status_of fault)) }
@@ -34,7 +34,7 @@ pub fn read_work<S: Source>(alloc: Global, source: &mut S) -> Result<Workload, F
         Err(ReadFault::Failed) => return Err(Fault::Read),
         Err(ReadFault::NoMemory) => return Err(Fault::Memory),
     };
-    match read(alloc, &text, SETTING.size) {
+    match read(alloc, &text, size) {
         Ok(work) => {
             spelled_workloads_are_within();
             spelled_commands_are_built();

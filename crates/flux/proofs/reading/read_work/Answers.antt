@@ -1,6 +1,5 @@
 use Rattle.std.proofs.Common.{inr, refl}
 use Rattle.flux.proofs.TooLong.{too_long}
-use Rattle.flux.specs.Runs.{brokers}
 use Rattle.flux.proofs.reading.read_work.Goals as goal
 
 pub returns-in-Err-TooLong-clause-cause : goal.returns-in-Err-TooLong-clause-cause
@@ -9,5 +8,5 @@ returns-in-Err-TooLong-clause-cause g c =
     record {
       text = long.0;
       read = record { read = long.1; whole = inr long.2 };
-      first = too_long brokers long.0 long.2;
+      first = too_long c.args.size long.0 long.2;
     }
