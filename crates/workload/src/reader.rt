@@ -71,6 +71,7 @@ fn actor(
 /// The command that a text spells, in the line of this number.
 #[tactic(auto, unfolding(crate::specs::Reading::verb_faults))]
 fn order(alloc: Global, work: &Workload, line: u64, text: &str) -> Result<Command, LineFault>
+    requires { length work.now.actors ≤ most_actors }
     ensures { Reads (first_of (verb_faults work.now line text.now)) (λ c. command_of work.now text.now ≡ Some c) result }
 {
     let (word, tail) = cut(text);

@@ -1,12 +1,13 @@
-ghost use Rattle.std.specs.Prelude.{◌≡◌, [], ◌∷◌};
+ghost use Rattle.std.specs.Prelude.{◌≡◌, ◌≤◌, [], ◌∷◌, length};
 ghost use Rattle.kvs_txn.specs.Keys.{components};
+ghost use Rattle.workload.specs.Limits.{most_actors};
 ghost use Rattle.workload.specs.Words.{first_word, behind_word};
 ghost use Rattle.workload.specs.Verbs.{first_of, faults_of, verb_of, said, one_key, key_and_text, two_keys, is_past_key, is_past_value, Reads};
 
 use crate::faults::{LineFault, Which};
 use crate::limits::{MOST_MEMBERS, MOST_VALUE};
-use crate::words::{can_name, cut, number_within};
-use crate::work::{Command, Workload};
+use crate::words::{can_name, cut, number, number_within};
+use crate::work::{Command, Workload, place};
 use kvs_txn::{Path, PathFault};
 use lists::Bytes;
 use std::alloc::Global;
@@ -24,6 +25,8 @@ pub enum Verb {
     Get,
     Ls,
     Readlink,
+    Wait,
+    Tell,
 }
 
 impl Verb {
@@ -42,6 +45,8 @@ impl Verb {
             "get" => Some(Verb::Get),
             "ls" => Some(Verb::Ls),
             "readlink" => Some(Verb::Readlink),
+            "wait" => Some(Verb::Wait),
+            "tell" => Some(Verb::Tell),
             _ => None,
         }
     }
@@ -213,6 +218,45 @@ fn readlink(alloc: Global, work: &Workload, line: u64, tail: &str) -> Result<Com
     Ok(Command::Readlink { path })
 }
 
+/// The command `wait NUMBER`, of the text behind the verb.
+fn wait(work: &Workload, line: u64, tail: &str) -> Result<Command, LineFault>
+    ensures { Reads
+        (first_of (faults_of line (said work.now Verb.Wait tail.now)))
+        (λ c. c ≡ (said work.now Verb.Wait tail.now).command)
+        result }
+{
+    let (word, rest) = cut(tail);
+    let (more, _) = cut(rest);
+    if !more.is_empty() || word.is_empty() {
+        return Err(LineFault::BadCommand { line });
+    }
+    match number(word) {
+        Some(number) => Ok(Command::Wait { number }),
+        None => Err(LineFault::BadNumber { line }),
+    }
+}
+
+/// The command `tell NAME`, of the text behind the verb.
+fn tell(work: &Workload, line: u64, tail: &str) -> Result<Command, LineFault>
+    requires { length work.now.actors ≤ most_actors }
+    ensures { Reads
+        (first_of (faults_of line (said work.now Verb.Tell tail.now)))
+        (λ c. c ≡ (said work.now Verb.Tell tail.now).command)
+        result }
+{
+    let (name, rest) = cut(tail);
+    let (more, _) = cut(rest);
+    let Some(actor) = place(&work.actors, name) else {
+        return Err(LineFault::NoActor { line });
+    };
+    if !more.is_empty() {
+        return Err(LineFault::BadCommand { line });
+    }
+    Ok(Command::Tell {
+        actor: actor as u32,
+    })
+}
+
 /// The command that a verb and the text behind it spell, in the line of this number.
 pub fn command(
     alloc: Global,
@@ -221,6 +265,7 @@ pub fn command(
     line: u64,
     tail: &str,
 ) -> Result<Command, LineFault>
+    requires { length work.now.actors ≤ most_actors }
     ensures { Reads (first_of (faults_of line (said work.now verb tail.now))) (λ c. c ≡ (said work.now verb tail.now).command) result }
 {
     match verb {
@@ -234,5 +279,7 @@ pub fn command(
         Verb::Get => get(alloc, work, line, tail),
         Verb::Ls => ls(alloc, work, line, tail),
         Verb::Readlink => readlink(alloc, work, line, tail),
+        Verb::Wait => wait(work, line, tail),
+        Verb::Tell => tell(work, line, tail),
     }
 }

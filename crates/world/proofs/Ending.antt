@@ -1,6 +1,6 @@
 -- A run that can end is whole with the closing replies behind it.
 use Rattle.std.proofs.Common.{◌≡◌, ◌≢◌, ℕ, suc, ◌+◌, ◌-◌, ◌<◌, ◌≤◌, ◌==◌, ◌⊎◌, inl, inr, List, [], ◌∷◌, ◌++◌, length, map, Bool, true, false, ◌&&◌, ◌||◌, cond, refl, sym, ap, ap₂, ◌∙◌, subst, arith, append-nil, append_assoc, count_by, take, drop, get_or, Option, Some, None, ne_eqb, eq-eqb, true≢false, Contains}
-use Rattle.std.specs.Prelude.{slice_get, nat_lt, IsSome, IsNone, IsTrue}
+use Rattle.std.specs.Prelude.{slice_get, nat_lt, IfSome, IsSome, IsNone, IsTrue, option_and_then, unwrap_or}
 use Rattle.std.specs.Option.{option_map_or, is_some}
 use Rattle.std.specs.List.{AllByRecursion as Each, cons_option, list_any, range_with_len}
 use Rattle.std.specs.Str.{bytes_eq}
@@ -12,35 +12,39 @@ use Rattle.std.proofs.lemmas.Option.{slice_get_cases, slice_get_past, slice_get_
 use Rattle.std.proofs.lemmas.Slice.Eq.{bytes_eq-Decides}
 use Rattle.kvs_txn.specs.declared.txn.By.{By}
 use Rattle.kvs_model.specs.Store.{Name}
-use Rattle.kvs_rules.specs.Sequence.{EachAfter}
-use Rattle.kvs_rules.specs.Log.{Log, is_asked, is_landed, is_denied}
+use Rattle.kvs_rules.specs.Sequence.{EachAfter, latest}
+use Rattle.kvs_rules.specs.declared.events.KvsEvent.TheVariants as event
+use Rattle.kvs_rules.specs.Log.{Log, Moment, Asked, Happened, is_asked, is_landed, is_denied}
 use Rattle.kvs_rules.specs.Namespaces.{landed, is_live, primary}
-use Rattle.kvs_rules.specs.Brokers.{heard}
+use Rattle.kvs_rules.specs.Brokers.{heard, number_heard}
 use Rattle.kvs_rules.specs.Quiet.{IsMember, IsQuiet}
 use Rattle.kvs_rules.proofs.Sequences.{each_joined, each_push}
+use Rattle.workload.specs.declared.work.Command.{Command}
+use Rattle.workload.specs.declared.work.Command.TheVariants as command
 use Rattle.workload.specs.declared.work.Line.{Line}
 use Rattle.answers.specs.declared.chronicle.Entry.{Entry}
 use Rattle.answers.specs.declared.chronicle.Entry.TheVariants as entry
+use Rattle.answers.specs.declared.chronicle.Reply.{Reply}
 use Rattle.answers.specs.declared.chronicle.Reply.TheVariants as reply
 use Rattle.answers.specs.declared.steps.Step.{Step}
 use Rattle.answers.specs.declared.steps.Step.TheVariants as step
 use Rattle.answers.specs.Chronicle.{top, issues, is_issued, replies_to}
-use Rattle.answers.specs.Commands.{command_at, commands_of, subject_at}
+use Rattle.answers.specs.Commands.{broker_of, command_at, commands_of, subject_at}
 use Rattle.answers.specs.Stretches.{AreStretches}
 use Rattle.answers.specs.Legal.{HasEntryGrounds, IsLegal, IsLegalEntry, IsSettled, IsToldAtIssue}
 use Rattle.answers.specs.Services.{setting_of, log_of, moment_of}
-use Rattle.answers.specs.Whole.{IsWhole, IsGrounded, IsClosingEntry, has_ended, is_end, joins, leaves_member, leaves_of}
+use Rattle.answers.specs.Whole.{IsWhole, IsGrounded, IsClosingEntry, has_ended, is_closing, is_end, is_unfinished, joins, leaves_member, leaves_of}
 use Rattle.answers.proofs.Services.{asked_issued, issued_below, log_push}
 use Rattle.world.specs.declared.seats.Seat.{Seat}
 use Rattle.world.specs.Seats.{is_free, replied_of}
-use Rattle.world.specs.Closings.{closings, closings_at, closings_of, fence_at, not_reached, waiting_in, waits_in}
+use Rattle.world.specs.Closings.{closings, closings_at, closings_of, is_served, left_reply, not_reached, open_command, unfinished_at, waiting_in, waits_in}
 use Rattle.world.specs.Sound.{is_of, command_of, Stands, ActorStands, EndsSo, IsSound}
 use Rattle.world.specs.Steps.{IsOver}
 use Rattle.world.specs.Value.{WorldValue}
 use Rattle.world.proofs.Listing.{any_left, count-append}
 use Rattle.world.proofs.Ranges.{counted_flat, counted_none, counted_one, counted_range, contained_flat, distinct_passed, each_flat, each_mapped, each_passed, no_more_than}
 use Rattle.world.proofs.Commanding.{own_length}
-use Rattle.world.proofs.Leaving.{IsDone, IsLeft}
+use Rattle.world.proofs.Leaving.{IsDone, IsLeft, IsStuckFence, IsStuckWait, in_fence, numbers_of, told_of}
 use Rattle.world.proofs.Unlanded.{unasked_uncarried}
 use Rattle.world.proofs.Closing.{IsStillQuiet, left_of, past_all, still_so}
 use Rattle.world.proofs.Going.{unended}
@@ -48,19 +52,29 @@ use Rattle.world.proofs.Stretching.{stretches_on}
 
 -- ---- closing replies, whatever the seats say
 
-told_closing : (lines : List Line) (seats : List Seat) (a : ℕ) → Each IsClosingEntry (closings_of lines seats a)
-told_closing lines seats a = on (slice_get seats a)
-  where
-    on : (o : Option Seat) → Each IsClosingEntry (option_map_or (λ seat. option_map_or (closings_at lines seats a seat) (fence_at lines seat) []) o [])
-    on None = tt
-    on (Some seat) = by (fence_at lines seat)
-      where
-        by : (f : Option (Name × ℕ)) → Each IsClosingEntry (option_map_or (closings_at lines seats a seat) f [])
-        by None = tt
-        by (Some fence) = ((refl, refl), each_mapped IsClosingEntry (λ number. entry.Replied a number reply.NotReached None) seat.issued (count_by (is_of a) lines - seat.issued) (λ k low. (refl, refl)))
+left_closes : (had : ℕ) (lines : List Line) (seats : List Seat) (c : Command) → IfSome (left_reply had lines seats c) (λ given. IsTrue (is_closing given))
+left_closes had lines seats (command.Fence name count) = refl
+left_closes had lines seats (command.Wait number) = refl
+left_closes had lines seats _ = tt
 
-pub all_closing : (lines : List Line) (seats : List Seat) → Each IsClosingEntry (closings lines seats)
-all_closing lines seats = each_flat IsClosingEntry (closings_of lines seats) (told_closing lines seats) (range_with_len 0 (length seats))
+told_closing : (numbers : ℕ → ℕ) (lines : List Line) (seats : List Seat) (a : ℕ) → Each IsClosingEntry (closings_of numbers lines seats a)
+told_closing numbers lines seats a = on (slice_get seats a)
+  where
+    on : (o : Option Seat) → Each IsClosingEntry (option_map_or (λ seat. option_map_or (closings_at lines a seat) (unfinished_at (numbers seat.broker) lines seats seat) []) o [])
+    on None = tt
+    on (Some seat) = by (unfinished_at (numbers seat.broker) lines seats seat) (closes (is_served seat.waiting) (open_command lines seat))
+      where
+        closes : (b : Bool) (c : Option Command) → IfSome (cond b (option_and_then (left_reply (numbers seat.broker) lines seats) c) None) (λ given. IsTrue (is_closing given))
+        closes false c = tt
+        closes true None = tt
+        closes true (Some c) = left_closes (numbers seat.broker) lines seats c
+
+        by : (f : Option Reply) → IfSome f (λ given. IsTrue (is_closing given)) → Each IsClosingEntry (option_map_or (closings_at lines a seat) f [])
+        by None h = tt
+        by (Some given) h = ((h, refl), each_mapped IsClosingEntry (λ number. entry.Replied a number reply.NotReached None) seat.issued (count_by (is_of a) lines - seat.issued) (λ k low. (refl, refl)))
+
+pub all_closing : (numbers : ℕ → ℕ) (lines : List Line) (seats : List Seat) → Each IsClosingEntry (closings numbers lines seats)
+all_closing numbers lines seats = each_flat IsClosingEntry (closings_of numbers lines seats) (told_closing numbers lines seats) (range_with_len 0 (length seats))
 
 -- closing replies issue nothing, so they leave a chronicle settled
 settled_closing : (set : _) (c es : List Entry) → Each IsClosingEntry es → EachAfter (IsToldAtIssue set) c es
@@ -75,13 +89,34 @@ settled_closing set c (entry.Dropped i b reference ∷ es) h = absurd h.0
 settled_closing set c (entry.Told from to ∷ es) h = absurd h.0
 settled_closing set c (entry.Closed ∷ es) h = absurd h.0
 
-pub close_settled : (v : WorldValue) (c : List Entry) → c ≡ (v.chronicle ++ closings v.set.work.lines v.seats) ++ entry.Closed ∷ [] → IsSettled v.set v.chronicle → IsSettled v.set c
+pub close_settled : (v : WorldValue) (c : List Entry) → c ≡ (v.chronicle ++ closings (numbers_of v) v.set.work.lines v.seats) ++ entry.Closed ∷ [] → IsSettled v.set v.chronicle → IsSettled v.set c
 close_settled v c ec settled =
-    let es = closings v.set.work.lines v.seats in
+    let es = closings (numbers_of v) v.set.work.lines v.seats in
     subst (IsSettled v.set) (sym ec) (each_push (IsToldAtIssue v.set) (v.chronicle ++ es) entry.Closed
-    (each_joined (IsToldAtIssue v.set) [] v.chronicle es settled (settled_closing v.set v.chronicle es (all_closing v.set.work.lines v.seats))) tt)
+    (each_joined (IsToldAtIssue v.set) [] v.chronicle es settled (settled_closing v.set v.chronicle es (all_closing (numbers_of v) v.set.work.lines v.seats))) tt)
 
 -- ---- small facts
+
+number_some : (broker : ℕ) (m : Moment) (first : Option ℕ) → IsSome first → IsSome (unwrap_or (number_heard broker primary m) first)
+number_some broker (Asked by floored) first h = h
+number_some broker (Happened (event.Heard other named number)) first h = on ((broker == other) && bytes_eq primary named)
+  where
+    on : (b : Bool) → IsSome (unwrap_or (cond b (Some (Some number)) None) first)
+    on true = refl
+    on false = h
+number_some broker (Happened (event.Landed space number authors groups)) first h = h
+number_some broker (Happened (event.Denied space authors group refusal)) first h = h
+number_some broker (Happened (event.Got other reference)) first h = h
+number_some broker (Happened (event.Dropped other reference)) first h = h
+number_some broker (Happened (event.Answered by number given)) first h = h
+
+-- of `primary` each broker has heard a number
+heard_some : (broker : ℕ) (log : Log) → IsSome (heard log broker primary)
+heard_some broker log = along log (Some 0) refl
+  where
+    along : (log : Log) (first : Option ℕ) → IsSome first → IsSome (latest (number_heard broker primary) first log)
+    along [] first h = h
+    along (m ∷ log) first h = along log (unwrap_or (number_heard broker primary m) first) (number_some broker m first h)
 
 or_no : (a b : Bool) → a ≡ false → b ≡ false → (a || b) ≡ false
 or_no true b e f = absurd (true≢false e)
@@ -131,7 +166,7 @@ module _ (v : WorldValue) (h : IsSound v) (open_still : v.closed ≡ false) (ove
   lines = v.set.work.lines
 
   abbrev left : List Entry
-  left = closings lines v.seats
+  left = closings (numbers_of v) lines v.seats
 
   abbrev told : List Entry
   told = v.chronicle ++ left
@@ -148,18 +183,28 @@ module _ (v : WorldValue) (h : IsSound v) (open_still : v.closed ≡ false) (ove
   stands : (a : ℕ) (seat : Seat) → slice_get v.seats a ≡ Some seat → ActorStands v.set log v.chronicle a (Some seat)
   stands a seat at = subst (ActorStands v.set log v.chronicle a) at (h.actors open_still a)
 
+  -- why an actor waits on, and what it is told
+  abbrev open_by : (a : ℕ) → IsLeft v a → By
+  open_by a l = command_of a (l.seat.issued - 1)
+
+  abbrev IsCause : By → Type 0
+  IsCause by = IsStuckFence v by ⊎ IsStuckWait v by
+
+  abbrev left_told : (a : ℕ) → IsLeft v a → Reply
+  left_told a l = told_of v (open_by a l) (numbers_of v l.seat.broker) l.stuck.cause
+
   -- a closing reply to the actor's command of this number
   abbrev member_told : (a : ℕ) → IsLeft v a → Entry
-  member_told a l = entry.Replied a (l.seat.issued - 1) (reply.UnfinishedFence (length (waiting_in lines v.seats l.stuck.name)) l.stuck.count) None
+  member_told a l = entry.Replied a (l.seat.issued - 1) (left_told a l) None
 
   abbrev rest_told : (a : ℕ) → IsLeft v a → List Entry
   rest_told a l = not_reached a l.seat.issued (count_by (is_of a) lines - l.seat.issued)
 
   -- what holds of each closing reply, if it holds of those of members and of commands behind
   each_told : (P : Entry → Type 0) → ((a : ℕ) (l : IsLeft v a) → P (member_told a l)) → ((a : ℕ) (l : IsLeft v a) (k : ℕ) → l.seat.issued ≤ k → P (entry.Replied a k reply.NotReached None)) → Each P left
-  each_told P members rest = each_flat P (closings_of lines v.seats) each_of (range_with_len 0 (length v.seats))
+  each_told P members rest = each_flat P (closings_of (numbers_of v) lines v.seats) each_of (range_with_len 0 (length v.seats))
     where
-      each_of : (a : ℕ) → Each P (closings_of lines v.seats a)
+      each_of : (a : ℕ) → Each P (closings_of (numbers_of v) lines v.seats a)
       each_of a = elim (ends a) [
         | inl d ↦ subst (Each P) (sym d.replies) tt
         | inr l ↦ subst (Each P) (sym l.replies) (members a l, each_mapped P (λ number. entry.Replied a number reply.NotReached None) l.seat.issued (count_by (is_of a) lines - l.seat.issued) (rest a l))
@@ -172,43 +217,52 @@ module _ (v : WorldValue) (h : IsSound v) (open_still : v.closed ≡ false) (ove
 
   -- as many closing replies are of members of this fence as actors wait in it
   counted : (name : Name) → count_by (leaves_member v.set.work primary name) left ≡ length (waiting_in lines v.seats name)
-  counted name = counted_flat p (waits_in lines v.seats name) (closings_of lines v.seats) each (range_with_len 0 (length v.seats))
+  counted name = counted_flat p (waits_in lines v.seats name) (closings_of (numbers_of v) lines v.seats) each (range_with_len 0 (length v.seats))
     where
       p : Entry → Bool
       p = leaves_member v.set.work primary name
 
-      each : (a : ℕ) → count_by p (closings_of lines v.seats a) ≡ cond (waits_in lines v.seats name a) 1 0
+      joined : (a k had : ℕ) → subject_at v.set.work (command_of a k) ≡ primary → (cause : IsCause (command_of a k)) → p (entry.Replied a k (told_of v (command_of a k) had cause) None) ≡ in_fence v (command_of a k) cause name
+      joined a k had subject (inl f) = ap₂ (λ s c. bytes_eq primary s && joins name c) subject f.command
+      joined a k had subject (inr w) = refl
+
+      each : (a : ℕ) → count_by p (closings_of (numbers_of v) lines v.seats a) ≡ cond (waits_in lines v.seats name a) 1 0
       each a = elim (ends a) [
         | inl d ↦ ap (count_by p) d.replies ∙ sym (ap (λ b. cond {A = ℕ} b 1 0) (d.waits name))
         | inr l ↦
             let none : count_by p (rest_told a l) ≡ 0 = none_counted_in p (λ number. entry.Replied a number reply.NotReached None) (λ k. refl) (range_with_len l.seat.issued (count_by (is_of a) lines - l.seat.issued)) in
-            let own : p (member_told a l) ≡ bytes_eq name l.stuck.name = ap₂ (λ s c. bytes_eq primary s && joins name c) l.stuck.subject l.stuck.command in
+            let own : p (member_told a l) ≡ in_fence v (open_by a l) l.stuck.cause name = joined a (l.seat.issued - 1) (numbers_of v l.seat.broker) l.stuck.subject l.stuck.cause in
             let one : ◌≡◌ {A = ℕ} (cond (p (member_told a l)) 1 0) (cond (waits_in lines v.seats name a) 1 0) = ap (λ b. cond {A = ℕ} b 1 0) (own ∙ sym (l.waits name)) in
             ap (count_by p) l.replies ∙ count-append p (member_told a l ∷ []) (rest_told a l) ∙ omega (arith, none, one)
       ]
 
   -- all of them have the count of one that is short of members
-  agreed : (a : ℕ) (l : IsLeft v a) → count_by (λ e. leaves_member v.set.work primary l.stuck.name e && leaves_of l.stuck.count e) left ≡ length (waiting_in lines v.seats l.stuck.name)
-  agreed a l = counted_flat p (waits_in lines v.seats l.stuck.name) (closings_of lines v.seats) each (range_with_len 0 (length v.seats))
+  agreed : {by : By} (f : IsStuckFence v by) → count_by (λ e. leaves_member v.set.work primary f.name e && leaves_of f.count e) left ≡ length (waiting_in lines v.seats f.name)
+  agreed f = counted_flat p (waits_in lines v.seats f.name) (closings_of (numbers_of v) lines v.seats) each (range_with_len 0 (length v.seats))
     where
       p : Entry → Bool
-      p = λ e. leaves_member v.set.work primary l.stuck.name e && leaves_of l.stuck.count e
+      p = λ e. leaves_member v.set.work primary f.name e && leaves_of f.count e
 
-      agrees : (b : ℕ) (m : IsLeft v b) (t : Bool) → bytes_eq l.stuck.name m.stuck.name ≡ t → (t && (l.stuck.count == m.stuck.count)) ≡ t
-      agrees b m false e = refl
-      agrees b m true e =
-          let name : l.stuck.name ≡ m.stuck.name = name_is l.stuck.name m.stuck.name e in
-          let count : m.stuck.count ≡ l.stuck.count = l.stuck.short.agreed (command_of b (m.seat.issued - 1)) m.stuck.count (subst (λ (n : Name). IsMember (setting_of v.set) log primary n m.stuck.count (command_of b (m.seat.issued - 1))) (sym name) m.stuck.member) in
-          eq-eqb l.stuck.count m.stuck.count (sym count)
+      agrees : {by : By} (g : IsStuckFence v by) (t : Bool) → bytes_eq f.name g.name ≡ t → (t && (f.count == g.count)) ≡ t
+      agrees g false e = refl
+      agrees {by} g true e =
+          let name : f.name ≡ g.name = name_is f.name g.name e in
+          let count : g.count ≡ f.count = f.short.agreed by g.count (subst (λ (n : Name). IsMember (setting_of v.set) log primary n g.count by) (sym name) g.member) in
+          eq-eqb f.count g.count (sym count)
 
-      each : (b : ℕ) → count_by p (closings_of lines v.seats b) ≡ cond (waits_in lines v.seats l.stuck.name b) 1 0
+      joined : (b k had : ℕ) → subject_at v.set.work (command_of b k) ≡ primary → (cause : IsCause (command_of b k)) → p (entry.Replied b k (told_of v (command_of b k) had cause) None) ≡ in_fence v (command_of b k) cause f.name
+      joined b k had subject (inl g) =
+          ap₂ (λ s c. (bytes_eq primary s && joins f.name c) && (f.count == g.count)) subject g.command
+          ∙ agrees g (bytes_eq f.name g.name) refl
+      joined b k had subject (inr w) = refl
+
+      each : (b : ℕ) → count_by p (closings_of (numbers_of v) lines v.seats b) ≡ cond (waits_in lines v.seats f.name b) 1 0
       each b = elim (ends b) [
-        | inl d ↦ ap (count_by p) d.replies ∙ sym (ap (λ b. cond {A = ℕ} b 1 0) (d.waits l.stuck.name))
+        | inl d ↦ ap (count_by p) d.replies ∙ sym (ap (λ b. cond {A = ℕ} b 1 0) (d.waits f.name))
         | inr m ↦
             let none : count_by p (rest_told b m) ≡ 0 = none_counted_in p (λ number. entry.Replied b number reply.NotReached None) (λ k. refl) (range_with_len m.seat.issued (count_by (is_of b) lines - m.seat.issued)) in
-            let own : p (member_told b m) ≡ bytes_eq l.stuck.name m.stuck.name =
-            ap₂ (λ s c. (bytes_eq primary s && joins l.stuck.name c) && (l.stuck.count == m.stuck.count)) m.stuck.subject m.stuck.command ∙ agrees b m (bytes_eq l.stuck.name m.stuck.name) refl in
-            let one : ◌≡◌ {A = ℕ} (cond (p (member_told b m)) 1 0) (cond (waits_in lines v.seats l.stuck.name b) 1 0) = ap (λ b. cond {A = ℕ} b 1 0) (own ∙ sym (m.waits l.stuck.name)) in
+            let own : p (member_told b m) ≡ in_fence v (open_by b m) m.stuck.cause f.name = joined b (m.seat.issued - 1) (numbers_of v m.seat.broker) m.stuck.subject m.stuck.cause in
+            let one : ◌≡◌ {A = ℕ} (cond (p (member_told b m)) 1 0) (cond (waits_in lines v.seats f.name b) 1 0) = ap (λ b. cond {A = ℕ} b 1 0) (own ∙ sym (m.waits f.name)) in
             ap (count_by p) m.replies ∙ count-append p (member_told b m ∷ []) (rest_told b m) ∙ omega (arith, none, one)
       ]
 
@@ -231,24 +285,27 @@ module _ (v : WorldValue) (h : IsSound v) (open_still : v.closed ≡ false) (ove
   opens_once a b e = sym (opens_actor a) ∙ ap (λ (by : By). by.actor) e ∙ opens_actor b
 
   -- fewer wait in such a fence than its count says
-  fewer : (a : ℕ) (l : IsLeft v a) → length (waiting_in lines v.seats l.stuck.name) < l.stuck.count
-  fewer a l =
-      let few : length (map opens (waiting_in lines v.seats l.stuck.name)) ≤ length l.stuck.short.members =
-      no_more_than (map opens (waiting_in lines v.seats l.stuck.name)) l.stuck.short.members
-      (distinct_passed opens (waits_in lines v.seats l.stuck.name) opens_once 0 (length v.seats))
-      (each_passed (Contains l.stuck.short.members) opens (waits_in lines v.seats l.stuck.name) (range_with_len 0 (length v.seats)) (λ b t. (l.stuck.short.come (opens b)).1 (members b t))) in
-      let long = length-map (waiting_in lines v.seats l.stuck.name) opens in
-      omega (arith, few, long, l.stuck.short.short)
+  fewer : {by : By} (f : IsStuckFence v by) → length (waiting_in lines v.seats f.name) < f.count
+  fewer f =
+      let few : length (map opens (waiting_in lines v.seats f.name)) ≤ length f.short.members =
+      no_more_than (map opens (waiting_in lines v.seats f.name)) f.short.members
+      (distinct_passed opens (waits_in lines v.seats f.name) opens_once 0 (length v.seats))
+      (each_passed (Contains f.short.members) opens (waits_in lines v.seats f.name) (range_with_len 0 (length v.seats)) (λ b t. (f.short.come (opens b)).1 (members b t))) in
+      let long = length-map (waiting_in lines v.seats f.name) opens in
+      omega (arith, few, long, f.short.short)
     where
-      members : (b : ℕ) → waits_in lines v.seats l.stuck.name b ≡ true → IsMember (setting_of v.set) log primary l.stuck.name l.stuck.count (opens b)
+      member_of : (by : By) (cause : IsCause by) → in_fence v by cause f.name ≡ true → IsMember (setting_of v.set) log primary f.name f.count by
+      member_of by (inr w) t = absurd (true≢false (sym t))
+      member_of by (inl g) t =
+          let name : f.name ≡ g.name = name_is f.name g.name t in
+          let named = subst (λ (n : Name). IsMember (setting_of v.set) log primary n g.count by) (sym name) g.member in
+          let count : g.count ≡ f.count = f.short.agreed by g.count named in
+          subst (λ (n : ℕ). IsMember (setting_of v.set) log primary f.name n by) count named
+
+      members : (b : ℕ) → waits_in lines v.seats f.name b ≡ true → IsMember (setting_of v.set) log primary f.name f.count (opens b)
       members b t = elim (ends b) [
-        | inl d ↦ absurd (true≢false (sym t ∙ d.waits l.stuck.name))
-        | inr m ↦
-            let name : l.stuck.name ≡ m.stuck.name = name_is l.stuck.name m.stuck.name (sym (m.waits l.stuck.name) ∙ t) in
-            let named = subst (λ (n : Name). IsMember (setting_of v.set) log primary n m.stuck.count (command_of b (m.seat.issued - 1))) (sym name) m.stuck.member in
-            let count : m.stuck.count ≡ l.stuck.count = l.stuck.short.agreed (command_of b (m.seat.issued - 1)) m.stuck.count named in
-            subst (IsMember (setting_of v.set) log primary l.stuck.name l.stuck.count) (ap (open_of b) (sym m.sits))
-            (subst (λ (n : ℕ). IsMember (setting_of v.set) log primary l.stuck.name n (command_of b (m.seat.issued - 1))) count named)
+        | inl d ↦ absurd (true≢false (sym t ∙ d.waits f.name))
+        | inr m ↦ subst (IsMember (setting_of v.set) log primary f.name f.count) (ap (open_of b) (sym m.sits)) (member_of (open_by b m) m.stuck.cause (sym (m.waits f.name) ∙ t))
       ]
 
   -- ---- closing replies make no moment and follow the chronicle
@@ -260,11 +317,14 @@ module _ (v : WorldValue) (h : IsSound v) (open_still : v.closed ≡ false) (ove
   IsUndone by l = (is_landed by l ≡ false) × (is_denied by l ≡ false)
 
   member_ending : (a : ℕ) (l : IsLeft v a) → IsEnding (member_told a l)
-  member_ending a l = (
-    λ c. refl,
-    refl,
-    λ c same. (refl, subst (IsUndone (command_of a (l.seat.issued - 1))) (sym same) (l.stuck.member.0.unlanded, l.stuck.member.0.undenied)),
-  )
+  member_ending a l = by_cause l.stuck.cause
+    where
+      undone : (c : Log) → c ≡ log → IsUndone (open_by a l) c
+      undone c same = subst (IsUndone (open_by a l)) (sym same) (l.stuck.pending.unlanded, l.stuck.pending.undenied)
+
+      by_cause : (cause : IsCause (open_by a l)) → IsEnding (entry.Replied a (l.seat.issued - 1) (told_of v (open_by a l) (numbers_of v l.seat.broker) cause) None)
+      by_cause (inl f) = (λ c. refl, refl, λ c same. (refl, undone (log_of v.set.work top c) same))
+      by_cause (inr w) = (λ c. refl, refl, λ c same. (refl, undone (log_of v.set.work top c) same))
 
   unissued : (a : ℕ) (l : IsLeft v a) (k : ℕ) → l.seat.issued ≤ k → is_issued (command_of a k) v.chronicle ≡ false
   unissued a l k low = on (is_issued (command_of a k) v.chronicle) refl
@@ -314,7 +374,7 @@ module _ (v : WorldValue) (h : IsSound v) (open_still : v.closed ≡ false) (ove
   earlier = unended v.chronicle (subst (EndsSo v.set v.chronicle) open_still h.ended)
 
   goes_told : has_ended told ≡ false
-  goes_told = list_any-append is_end v.chronicle left ∙ or_no (has_ended v.chronicle) (has_ended left) earlier (none_ended left (all_closing lines v.seats))
+  goes_told = list_any-append is_end v.chronicle left ∙ or_no (has_ended v.chronicle) (has_ended left) earlier (none_ended left (all_closing (numbers_of v) lines v.seats))
 
   issued_still : (by : By) → is_issued by v.chronicle ≡ true → is_issued by whole ≡ true
   issued_still by t = any_left (issues by) told (entry.Closed ∷ []) (any_left (issues by) v.chronicle left t)
@@ -322,26 +382,69 @@ module _ (v : WorldValue) (h : IsSound v) (open_still : v.closed ≡ false) (ove
   unissued_still : (by : By) → is_issued by v.chronicle ≡ false → is_issued by whole ≡ false
   unissued_still by f =
       list_any-append (issues by) told (entry.Closed ∷ [])
-      ∙ or_no (is_issued by told) false (list_any-append (issues by) v.chronicle left ∙ or_no (is_issued by v.chronicle) (is_issued by left) f (none_issued by left (all_closing lines v.seats))) refl
+      ∙ or_no (is_issued by told) false (list_any-append (issues by) v.chronicle left ∙ or_no (is_issued by v.chronicle) (is_issued by left) f (none_issued by left (all_closing (numbers_of v) lines v.seats))) refl
+
+  -- of `primary` each broker has heard the last landing
+  told_number : (b : ℕ) → b < v.set.size → heard log b primary ≡ Some (landed log primary)
+  told_number b low = quiet.told b primary low (heard_some b log)
 
   member_grounds : (a : ℕ) (l : IsLeft v a) → IsGrounded v.set whole left (member_told a l)
-  member_grounds a l =
-      let by = command_of a (l.seat.issued - 1) in
-      let some = l.stuck.some in
-      let begun = (stands a l.seat l.sits).0.begun (l.seat.issued - 1) (omega (arith, some)) in (
+  member_grounds a l = by_cause l.stuck.cause
+    where
+      by : By
+      by = open_by a l
+
+      begun : is_issued by v.chronicle ≡ true
+      begun = let some = l.stuck.some in (stands a l.seat l.sits).0.begun (l.seat.issued - 1) (omega (arith, some))
+
+      living_so : IsTrue (is_live log primary) → IsTrue (is_live (log_of v.set.work top whole) (subject_at v.set.work by))
+      living_so living = subst (λ (c : Log). IsTrue (is_live c (subject_at v.set.work by))) (sym log_whole) (subst (λ (s : Name). IsTrue (is_live log s)) (sym l.stuck.subject) living)
+
+      told_here : heard log l.seat.broker primary ≡ Some (landed log primary)
+      told_here = told_number l.seat.broker (stands a l.seat l.sits).1.inside
+
+      had_is : numbers_of v l.seat.broker ≡ landed log primary
+      had_is = ap (λ o. unwrap_or o 0) told_here
+
+      known_so : heard (log_of v.set.work top whole) (broker_of v.set.work a) (subject_at v.set.work by) ≡ Some (numbers_of v l.seat.broker)
+      known_so =
+          ap (λ (c : Log). heard c (broker_of v.set.work a) (subject_at v.set.work by)) log_whole
+          ∙ ap (heard log (broker_of v.set.work a)) l.stuck.subject
+          ∙ ap (λ b. heard log b primary) (sym (stands a l.seat l.sits).1.home)
+          ∙ told_here
+          ∙ ap Some (sym had_is)
+
+      by_cause : (cause : IsCause by) → IsGrounded v.set whole left (entry.Replied a (l.seat.issued - 1) (told_of v by (numbers_of v l.seat.broker) cause) None)
+      by_cause (inl f) = (
         refl,
         (
           issued_still by begun,
           record {
-            name = l.stuck.name;
-            asked = l.stuck.command;
-            living = subst (λ (c : Log). IsTrue (is_live c (subject_at v.set.work by))) (sym log_whole) (subst (λ (s : Name). IsTrue (is_live log s)) (sym l.stuck.subject) l.stuck.short.living);
-            short = fewer a l;
-            members = sym (ap (λ (s : Name). count_by (leaves_member v.set.work s l.stuck.name) left) l.stuck.subject ∙ counted l.stuck.name);
-            agreed = sym (ap (λ (s : Name). count_by (λ e. leaves_member v.set.work s l.stuck.name e && leaves_of l.stuck.count e) left) l.stuck.subject ∙ agreed a l);
+            name = f.name;
+            asked = f.command;
+            living = living_so f.short.living;
+            short = fewer f;
+            members = sym (ap (λ (s : Name). count_by (leaves_member v.set.work s f.name) left) l.stuck.subject ∙ counted f.name);
+            agreed = sym (ap (λ (s : Name). count_by (λ e. leaves_member v.set.work s f.name e && leaves_of f.count e) left) l.stuck.subject ∙ agreed f);
           },
         ),
       )
+      by_cause (inr w) = (
+        refl,
+        (
+          issued_still by begun,
+          record {
+            asked = w.command;
+            living = living_so w.living;
+            known = known_so;
+            short = let above = w.above in let is = had_is in omega arith;
+          },
+        ),
+      )
+
+  unfinished_so : (by : By) (had : ℕ) (cause : IsCause by) → IsTrue (is_unfinished (told_of v by had cause))
+  unfinished_so by had (inl f) = refl
+  unfinished_so by had (inr w) = refl
 
   rest_grounds : (a : ℕ) (l : IsLeft v a) (k : ℕ) → l.seat.issued ≤ k → IsGrounded v.set whole left (entry.Replied a k reply.NotReached None)
   rest_grounds a l k low =
@@ -353,10 +456,10 @@ module _ (v : WorldValue) (h : IsSound v) (open_still : v.closed ≡ false) (ove
           record {
             earlier = l.seat.issued - 1;
             before = omega (arith, some, low);
-            given = reply.UnfinishedFence (length (waiting_in lines v.seats l.stuck.name)) l.stuck.count;
-            left = contained_flat (closings_of lines v.seats) (member_told a l) a 0 (length v.seats) (omega arith) (omega (arith, within))
+            given = left_told a l;
+            left = contained_flat (closings_of (numbers_of v) lines v.seats) (member_told a l) a 0 (length v.seats) (omega arith) (omega (arith, within))
                 (subst (λ es. Contains es (member_told a l)) (sym l.replies) (Contains-get_or (member_told a l ∷ rest_told a l) 0 (member_told a l) (omega arith)));
-            unfinished = refl;
+            unfinished = unfinished_so (open_by a l) (numbers_of v l.seat.broker) l.stuck.cause;
           },
         ),
       )
@@ -370,7 +473,7 @@ module _ (v : WorldValue) (h : IsSound v) (open_still : v.closed ≡ false) (ove
     abbrev mine : Entry → Bool
     mine = replies_to by
 
-    other_replies : (a : ℕ) → a ≢ by.actor → count_by mine (closings_of lines v.seats a) ≡ 0
+    other_replies : (a : ℕ) → a ≢ by.actor → count_by mine (closings_of (numbers_of v) lines v.seats a) ≡ 0
     other_replies a apart = elim (ends a) [
       | inl d ↦ ap (count_by mine) d.replies
       | inr l ↦
@@ -380,24 +483,24 @@ module _ (v : WorldValue) (h : IsSound v) (open_still : v.closed ≡ false) (ove
           ap (count_by mine) l.replies ∙ count-append mine (member_told a l ∷ []) (rest_told a l) ∙ omega (arith, head, tail)
     ]
 
-    own_replies : count_by mine left ≡ count_by mine (closings_of lines v.seats by.actor)
+    own_replies : count_by mine left ≡ count_by mine (closings_of (numbers_of v) lines v.seats by.actor)
     own_replies = elim (cases_lt by.actor (length v.seats)) [
-      | inl low ↦ counted_one mine (closings_of lines v.seats) by.actor other_replies 0 (length v.seats) (omega arith) (omega (arith, low))
-      | inr high ↦ counted_none mine (closings_of lines v.seats) by.actor other_replies 0 (length v.seats) (omega (arith, high)) ∙ sym (nobody high (ends by.actor))
+      | inl low ↦ counted_one mine (closings_of (numbers_of v) lines v.seats) by.actor other_replies 0 (length v.seats) (omega arith) (omega (arith, low))
+      | inr high ↦ counted_none mine (closings_of (numbers_of v) lines v.seats) by.actor other_replies 0 (length v.seats) (omega (arith, high)) ∙ sym (nobody high (ends by.actor))
     ]
       where
-        nobody : length v.seats ≤ by.actor → IsDone v by.actor ⊎ IsLeft v by.actor → count_by mine (closings_of lines v.seats by.actor) ≡ 0
+        nobody : length v.seats ≤ by.actor → IsDone v by.actor ⊎ IsLeft v by.actor → count_by mine (closings_of (numbers_of v) lines v.seats by.actor) ≡ 0
         nobody high (inl d) = ap (count_by mine) d.replies
         nobody high (inr l) = let low = slice_get_within v.seats by.actor l.seat l.sits in absurd (omega (arith, low, high))
 
     abbrev total : ℕ
-    total = count_by mine v.chronicle + count_by mine (closings_of lines v.seats by.actor)
+    total = count_by mine v.chronicle + count_by mine (closings_of (numbers_of v) lines v.seats by.actor)
 
     replies_whole : count_by mine whole ≡ total
     replies_whole =
         let closed : count_by mine whole ≡ count_by mine told + 0 = count-append mine told (entry.Closed ∷ []) in
         let parts : count_by mine told ≡ count_by mine v.chronicle + count_by mine left = count-append mine v.chronicle left in
-        let own : count_by mine left ≡ count_by mine (closings_of lines v.seats by.actor) = own_replies in
+        let own : count_by mine left ≡ count_by mine (closings_of (numbers_of v) lines v.seats by.actor) = own_replies in
         omega (arith, closed, parts, own)
 
     abbrev HasOne : Type 0
@@ -423,7 +526,7 @@ module _ (v : WorldValue) (h : IsSound v) (open_still : v.closed ≡ false) (ove
     unseated at d =
         let nobody : Stands log v.chronicle by.actor 0 0 = subst (ActorStands v.set log v.chronicle by.actor) at (h.actors open_still by.actor) in
         let never : count_by mine v.chronicle ≡ 0 = nobody.ended by.command ∙ ap (λ b. cond {A = ℕ} b 1 0) (le-ltb by.command 0 (omega arith)) in
-        let own : count_by mine (closings_of lines v.seats by.actor) ≡ 0 = ap (count_by mine) d.replies in
+        let own : count_by mine (closings_of (numbers_of v) lines v.seats by.actor) ≡ 0 = ap (count_by mine) d.replies in
         inl (gone (subst (λ (n : ℕ). n ≤ by.command) (sym none) (omega arith)), omega (arith, never, own))
       where
         high : length v.set.work.actors ≤ by.actor
@@ -456,7 +559,7 @@ module _ (v : WorldValue) (h : IsSound v) (open_still : v.closed ≡ false) (ove
         let all : count_by (is_of by.actor) lines ≡ seat.issued = ap (count_by (is_of by.actor)) (sym (take_all seat.next lines past)) ∙ s.1.placed.passed in
         let replied : replied_of seat ≡ seat.issued = ap (λ b. cond b seat.issued (seat.issued - 1)) free in
         let had : count_by mine v.chronicle ≡ cond (nat_lt by.command seat.issued) 1 0 = s.0.ended by.command ∙ ap (λ n. cond {A = ℕ} (nat_lt by.command n) 1 0) replied in
-        let own : count_by mine (closings_of lines v.seats by.actor) ≡ 0 = ap (count_by mine) d.replies in
+        let own : count_by mine (closings_of (numbers_of v) lines v.seats by.actor) ≡ 0 = ap (count_by mine) d.replies in
         elim (cases_lt by.command seat.issued) [
           | inl low ↦
               let one : ◌≡◌ {A = ℕ} (cond (nat_lt by.command seat.issued) 1 0) 1 = ap (λ b. cond {A = ℕ} b 1 0) (lt-ltb by.command seat.issued low) in
@@ -466,7 +569,7 @@ module _ (v : WorldValue) (h : IsSound v) (open_still : v.closed ≡ false) (ove
               inl (gone (subst (λ (n : ℕ). n ≤ by.command) (sym all) high), omega (arith, had, own, zero_of))
         ]
 
-    -- an actor that waits in a fence has closing replies from its open command on
+    -- an actor that waits for what does not come has closing replies from its open command on
     stuck : IsLeft v by.actor → HasOne
     stuck l =
         let some = l.stuck.some in
@@ -478,7 +581,7 @@ module _ (v : WorldValue) (h : IsSound v) (open_still : v.closed ≡ false) (ove
         let rest = counted_range mine (λ number. entry.Replied by.actor number reply.NotReached None) by.command
         (λ k apart. ap₂ (λ x y. x && y) self (ne_eqb by.command k (λ same. apart (sym same))))
         (ap₂ (λ x y. x && y) self (eq-eqb by.command by.command refl)) l.seat.issued (count_by (is_of by.actor) lines - l.seat.issued) in
-        let own : count_by mine (closings_of lines v.seats by.actor) ≡ (0 + cond (mine (member_told by.actor l)) 1 0) + count_by mine (rest_told by.actor l) =
+        let own : count_by mine (closings_of (numbers_of v) lines v.seats by.actor) ≡ (0 + cond (mine (member_told by.actor l)) 1 0) + count_by mine (rest_told by.actor l) =
         ap (count_by mine) l.replies ∙ count-append mine (member_told by.actor l ∷ []) (rest_told by.actor l) in
         let member : ◌≡◌ {A = ℕ} (cond (mine (member_told by.actor l)) 1 0) (cond (by.command == l.seat.issued - 1) 1 0) = ap (λ b. cond {A = ℕ} (b && (by.command == l.seat.issued - 1)) 1 0) self in
         elim (cases_lt by.command l.seat.issued) [
@@ -568,17 +671,17 @@ module _ (v : WorldValue) (h : IsSound v) (open_still : v.closed ≡ false) (ove
     seated = h.seated;
     legal = legal_whole;
     stretches = subst (λ (c : List Entry). AreStretches v.set.work (v.steps ++ step.Close ∷ []) (v.ends ++ length c ∷ []) c) (sym (append_assoc v.chronicle left (entry.Closed ∷ [])))
-        (stretches_on v.set.work v.steps v.ends v.chronicle (left ++ entry.Closed ∷ []) step.Close h.stretches (record { closings = left; split = refl; closing = all_closing lines v.seats }));
+        (stretches_on v.set.work v.steps v.ends v.chronicle (left ++ entry.Closed ∷ []) step.Close h.stretches (record { closings = left; split = refl; closing = all_closing (numbers_of v) lines v.seats }));
     ended = whole_so;
     agrees = λ closed. absurd (true≢false closed);
     actors = λ closed. absurd (true≢false closed);
   }
 
 -- the same, with the chronicle, the steps and the ends as the code has them
-pub close_sound : (v : WorldValue) → IsSound v → IsOver v → IsStillQuiet v → v.closed ≡ false → (c : List Entry) (steps : List Step) (ends : List ℕ) → c ≡ (v.chronicle ++ closings v.set.work.lines v.seats) ++ entry.Closed ∷ [] → steps ≡ v.steps ++ step.Close ∷ [] → ends ≡ v.ends ++ length c ∷ [] →
+pub close_sound : (v : WorldValue) → IsSound v → IsOver v → IsStillQuiet v → v.closed ≡ false → (c : List Entry) (steps : List Step) (ends : List ℕ) → c ≡ (v.chronicle ++ closings (numbers_of v) v.set.work.lines v.seats) ++ entry.Closed ∷ [] → steps ≡ v.steps ++ step.Close ∷ [] → ends ≡ v.ends ++ length c ∷ [] →
     IsSound (record v { spent = false; chronicle = c; steps = steps; ends = ends; closed = true })
 close_sound v h over promise open_still c steps ends ec es ee =
-    let w = (v.chronicle ++ closings v.set.work.lines v.seats) ++ entry.Closed ∷ [] in
+    let w = (v.chronicle ++ closings (numbers_of v) v.set.work.lines v.seats) ++ entry.Closed ∷ [] in
     subst (λ x. IsSound (record v { spent = false; chronicle = x; steps = steps; ends = ends; closed = true })) (sym ec)
     (subst (λ x. IsSound (record v { spent = false; chronicle = w; steps = x; ends = ends; closed = true })) (sym es)
     (subst (λ x. IsSound (record v { spent = false; chronicle = w; steps = v.steps ++ step.Close ∷ []; ends = x; closed = true })) (sym (ee ∙ ap (λ x. v.ends ++ length x ∷ []) ec))

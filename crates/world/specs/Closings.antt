@@ -1,14 +1,18 @@
 -- What the commands that did not finish are told at the end.
-use Rattle.std.specs.Prelude.{ℕ, ◌-◌, List, [], ◌∷◌, Bool, true, false, Option, Some, None, count_by, filter, flat_map, length, map, option_and_then, slice_get, if◌then◌else◌}
+use Rattle.std.specs.Prelude.{ℕ, ◌-◌, List, [], ◌∷◌, Bool, true, false, Option, Some, None, unwrap_or, count_by, filter, flat_map, length, map, option_and_then, slice_get, if◌then◌else◌}
 use Rattle.std.specs.List.{range_with_len}
 use Rattle.std.specs.Option.{option_map, option_map_or}
 use Rattle.std.specs.Str.{bytes_eq}
 use Rattle.kvs_model.specs.Store.{Name}
+use Rattle.kvs_rules.specs.Log.{Log}
+use Rattle.kvs_rules.specs.Namespaces.{primary}
+use Rattle.kvs_rules.specs.Brokers.{heard}
 use Rattle.workload.specs.declared.work.Command.{Command}
 use Rattle.workload.specs.declared.work.Command.TheVariants as command
 use Rattle.workload.specs.declared.work.Line.{Line}
 use Rattle.answers.specs.declared.chronicle.Entry.{Entry}
 use Rattle.answers.specs.declared.chronicle.Entry.TheVariants as entry
+use Rattle.answers.specs.declared.chronicle.Reply.{Reply}
 use Rattle.answers.specs.declared.chronicle.Reply.TheVariants as reply
 use Rattle.world.specs.declared.seats.Seat.{Seat}
 use Rattle.world.specs.declared.seats.Waiting.{Waiting}
@@ -45,16 +49,37 @@ waiting_in lines seats name = filter (waits_in lines seats name) (range_with_len
 abbrev pub not_reached : ℕ → ℕ → ℕ → List Entry
 not_reached actor from count = map (λ number. entry.Replied actor number reply.NotReached None) (range_with_len from count)
 
--- the closing replies to the actor at this seat, which waits in a fence: that the fence waits for members, and that the commands behind were not reached
-abbrev pub closings_at : List Line → List Seat → ℕ → Seat → Name × ℕ → List Entry
-closings_at lines seats actor seat fence =
-    entry.Replied actor (seat.issued - 1) (reply.UnfinishedFence (length (waiting_in lines seats fence.0)) fence.1) None
+-- the number of `primary` that a broker has heard
+abbrev pub numbers_in : Log → ℕ → ℕ
+numbers_in log broker = unwrap_or (heard log broker primary) 0
+
+-- what is said of a command that did not finish, whose actor's broker has heard this number: how many members have come
+-- to its fence, or which number the broker has heard
+abbrev pub left_reply : ℕ → List Line → List Seat → Command → Option Reply
+left_reply had lines seats (command.Fence name count) =
+    Some (reply.UnfinishedFence (length (waiting_in lines seats name)) count)
+left_reply had lines seats (command.Wait number) = Some (reply.UnfinishedWait had number)
+left_reply had lines seats _ = None
+
+-- what the actor at this seat is told at the end of its open command, if that did not finish
+abbrev pub unfinished_at : ℕ → List Line → List Seat → Seat → Option Reply
+unfinished_at had lines seats seat =
+    if is_served seat.waiting
+    then option_and_then (left_reply had lines seats) (open_command lines seat)
+    else None
+
+-- the closing replies to the actor at this seat, whose open command is told so: the commands behind were not reached
+abbrev pub closings_at : List Line → ℕ → Seat → Reply → List Entry
+closings_at lines actor seat given =
+    entry.Replied actor (seat.issued - 1) given None
     ∷ not_reached actor seat.issued (count_by (is_of actor) lines - seat.issued)
 
 -- the closing replies to an actor
-abbrev pub closings_of : List Line → List Seat → ℕ → List Entry
-closings_of lines seats actor = option_map_or (λ seat. option_map_or (closings_at lines seats actor seat) (fence_at lines seat) []) (slice_get seats actor) []
+abbrev pub closings_of : (ℕ → ℕ) → List Line → List Seat → ℕ → List Entry
+closings_of numbers lines seats actor = option_map_or
+    (λ seat. option_map_or (closings_at lines actor seat) (unfinished_at (numbers seat.broker) lines seats seat) [])
+    (slice_get seats actor) []
 
 -- the closing replies, by actor
-abbrev pub closings : List Line → List Seat → List Entry
-closings lines seats = flat_map (closings_of lines seats) (range_with_len 0 (length seats))
+abbrev pub closings : (ℕ → ℕ) → List Line → List Seat → List Entry
+closings numbers lines seats = flat_map (closings_of numbers lines seats) (range_with_len 0 (length seats))

@@ -1,12 +1,16 @@
 //! What the commands that didn't finish are told at the end.
-ghost use Rattle.std.specs.Prelude.{◌≡◌, ◌≤◌, ◌++◌, ◌-◌, length, count_by, option_map, OnOk};
-ghost use Rattle.world.specs.Closings.{closings, closings_of, fence_at, is_served, not_reached, waiting_in, waits_in};
+ghost use Rattle.std.specs.Prelude.{◌≡◌, ◌<◌, ◌≤◌, ◌++◌, ◌-◌, false, length, count_by, option_map, All, IfOk, OnOk};
+ghost use Rattle.kvs_rules.specs.Log.{Log};
+ghost use Rattle.kvs_rules.specs.Namespaces.{Setting as Service};
+ghost use Rattle.kvs_core.specs.Agrees.{Agrees};
+ghost use Rattle.world.specs.Closings.{closings, closings_of, fence_at, is_served, not_reached, numbers_in, unfinished_at, waiting_in, waits_in};
 ghost use Rattle.world.specs.Sound.{is_of};
 
 use crate::seats::{Seat, Waiting};
 use answers::{Chronicle, Entry, Reply};
+use kvs_core::Core;
 use lists::Bytes;
-use std::alloc::AllocError;
+use std::alloc::{AllocError, Global};
 use workload::{Command, Line};
 
 /// Whether an actor waits for the service.
@@ -15,7 +19,7 @@ fn is_served(waiting: Waiting) -> bool
 {
     match waiting {
         Waiting::Service => true,
-        Waiting::Nothing | Waiting::Staged | Waiting::TxnFull => false,
+        Waiting::Nothing | Waiting::Staged | Waiting::TxnFull | Waiting::Tell { .. } => false,
     }
 }
 
@@ -82,46 +86,91 @@ fn pass_over(chronicle: &mut Chronicle, actor: u32, from: u32, to: u32) -> Resul
     Ok(())
 }
 
-/// Gives an actor its closing replies, if it waits in a fence.
+/// The number of `primary` that a broker has heard.
+fn heard_by(alloc: Global, core: &Core, broker: u32) -> Result<u64, AllocError>
+    requires ready { core.now.spent ≡ false }
+    requires within { broker < core.now.size }
+    ensures { IfOk result (λ number. (set : Service) (log : Log) → Agrees core.now set log
+        → number ≡ numbers_in log broker) }
+{
+    let primary = Bytes::of(alloc, b"primary")?;
+    Ok(core.heard(broker, &primary).unwrap_or(0))
+}
+
+/// What an actor is told at the end of its open command, if that didn't finish: how many have come of the members of its
+/// fence, or which number its broker has heard of those for which it waits.
+fn unfinished(lines: &[Line], seats: &[Seat], seat: &Seat, heard: u64) -> Option<Reply>
+    requires { length seats.now ≤ 256 }
+    ensures { result ≡ unfinished_at heard lines.now seats.now seat.now }
+{
+    let line = if is_served(seat.waiting) {
+        lines.get(seat.last)?
+    } else {
+        return None;
+    };
+    match &line.command {
+        Command::Fence { name, count } => Some(Reply::UnfinishedFence {
+            have: members(lines, seats, name),
+            want: *count,
+        }),
+        Command::Wait { number } => Some(Reply::UnfinishedWait {
+            heard,
+            number: *number,
+        }),
+        _ => None,
+    }
+}
+
+/// Gives an actor its closing replies, if its open command didn't finish.
 fn close_actor(
+    alloc: Global,
     chronicle: &mut Chronicle,
+    core: &Core,
     lines: &[Line],
     seats: &[Seat],
     actor: u32,
 ) -> Result<(), AllocError>
+    requires ready { core.now.spent ≡ false }
     requires few { length seats.now ≤ 256 }
     requires short { length lines.now ≤ 10000 }
-    ensures { OnOk result (chronicle.new ≡ chronicle.old ++ closings_of lines.now seats.now actor) }
+    requires within { All (λ seat. seat.broker < core.now.size) seats.now }
+    ensures { OnOk result ((set : Service) (log : Log) → Agrees core.now set log
+        → chronicle.new ≡ chronicle.old ++ closings_of (numbers_in log) lines.now seats.now actor) }
 {
     let Some(seat) = seats.get(actor as usize) else {
         return Ok(());
     };
-    let Some((name, want)) = fence_at(lines, seat) else {
+    let heard = heard_by(alloc, core, seat.broker)?;
+    let Some(reply) = unfinished(lines, seats, seat, heard) else {
         return Ok(());
     };
-    let have = members(lines, seats, name);
     chronicle.push(Entry::Replied {
         actor,
         command: seat.issued.saturating_sub(1),
-        reply: Reply::UnfinishedFence { have, want },
+        reply,
         number: None,
     })?;
     pass_over(chronicle, actor, seat.issued, commands(lines, actor))?;
     Ok(())
 }
 
-/// Gives each command that didn't finish its closing reply, by actor.
+/// Gives each command that didn't finish its closing reply, by actor, where the service is at rest.
 pub fn close_off(
+    alloc: Global,
     chronicle: &mut Chronicle,
+    core: &Core,
     lines: &[Line],
     seats: &[Seat],
 ) -> Result<(), AllocError>
+    requires ready { core.now.spent ≡ false }
     requires few { length seats.now ≤ 256 }
     requires short { length lines.now ≤ 10000 }
-    ensures { OnOk result (chronicle.new ≡ chronicle.old ++ closings lines.now seats.now) }
+    requires within { All (λ seat. seat.broker < core.now.size) seats.now }
+    ensures { OnOk result ((set : Service) (log : Log) → Agrees core.now set log
+        → chronicle.new ≡ chronicle.old ++ closings (numbers_in log) lines.now seats.now) }
 {
     for actor in 0..seats.len() as u32 {
-        close_actor(chronicle, lines, seats, actor)?;
+        close_actor(alloc, chronicle, core, lines, seats, actor)?;
     }
     Ok(())
 }
