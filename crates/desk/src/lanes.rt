@@ -1,7 +1,8 @@
 // A worker of some lanes.
 ghost use Rattle.std.specs.Prelude.{◌≡◌, ◌<◌, ◌==◌, ◌+◌, ◌*◌, ◌-◌, ◌^◌, length, min, take, count_by, slice_index};
 
-use crate::{Gate, Held, Machine};
+use crate::{Held, Machine};
+use outside::Gate;
 use std::alloc::AllocError;
 use std::sync::{Mutex, Wait};
 

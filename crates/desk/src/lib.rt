@@ -7,7 +7,7 @@ mod machine;
 
 pub use held::{Finished, Held};
 pub use lanes::work;
-pub use machine::{Gate, Machine};
+pub use machine::Machine;
 
 #[cfg(test)]
 mod tests;

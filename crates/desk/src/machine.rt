@@ -1,12 +1,7 @@
-// What makes steps, and what may hold it up.
+// What makes steps.
 ghost use Rattle.std.specs.Prelude.{◌≡◌, ◌↔◌, ◌∷◌, ◌++◌, ℕ, List, [], Bool, true, false, OnOk, IfOk, IfSome, IsNone, IsTrue};
 
 use std::alloc::AllocError;
-
-/// What may hold a worker before its turn. It answers nothing.
-pub trait Gate {
-    fn pass(&self, lane: u32, turn: u64);
-}
 
 /// Makes steps, one at a turn. Its meaning is the list of the steps made, in order, and whether it is spent.
 pub trait Machine {

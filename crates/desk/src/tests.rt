@@ -1,6 +1,7 @@
 ghost use Rattle.std.specs.Prelude.{◌≡◌, ◌<◌, ◌&&◌, false, length, nat_lt, not};
 
-use crate::{Finished, Gate, Held, Machine, work};
+use crate::{Finished, Held, Machine, work};
+use outside::Gate;
 use std::alloc::{AllocError, Global};
 use std::sync::atomic::{AtomicU64, Ordering};
 use std::sync::{Mutex, Wait};
