@@ -1,0 +1,23 @@
+-- The steps that can be made, by number.
+use Rattle.std.specs.Prelude.{ℕ, zero, suc, List, [], ◌∷◌, Result, Ok, Err, map, flat_map}
+use Rattle.std.specs.List.{range_with_len}
+use Rattle.kvs_rules.specs.declared.events.KvsStep.{KvsStep}
+use Rattle.kvs_rules.specs.declared.events.KvsStep.TheVariants as kvs
+use Rattle.kvs_core.specs.declared.service.walk.Strand.{Strand}
+use Rattle.kvs_core.specs.declared.service.walk.Strand.TheVariants as strand
+
+-- the item of this number, from 0, or what the number has left behind the list
+abbrev pub nth : {X : Type 0} → List X → ℕ → Result X ℕ
+nth [] number = Err number
+nth (x ∷ xs) zero = Ok x
+nth (x ∷ xs) (suc number) = nth xs number
+
+-- the step at a place of a strand
+abbrev pub step_of : Strand → ℕ → KvsStep
+step_of (strand.Deliveries from) at = kvs.Deliver from at
+step_of strand.Services at = kvs.Serve at
+step_of strand.Landings at = kvs.Land at
+
+-- the deliveries between so many brokers, by sender and then by receiver
+abbrev pub deliveries : ℕ → List KvsStep
+deliveries brokers = flat_map (λ from. map (kvs.Deliver from) (range_with_len 0 brokers)) (range_with_len 0 brokers)
