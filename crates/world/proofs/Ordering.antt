@@ -113,7 +113,7 @@ module _ (v : WorldValue) where
           )
 
   module _ (at : ℕ) (unissued : (actor : ℕ) → at < length v.set.work.lines → can_issue v actor ≡ true → next_of v.seats actor ≡ at → ⊥) where
-    no-issue : issue_of v.set.work.lines v.seats at ≡ None
+    pub no-issue : issue_of v.set.work.lines v.seats at ≡ None
     no-issue = by (slice_get v.set.work.lines at) refl
       where
         off : (line : Line) → at < length v.set.work.lines → (b : Bool) → is_next_line v.seats line.actor at ≡ b → (if is_next_line v.seats line.actor at then Some (step.Issue line.actor) else None) ≡ None
@@ -129,12 +129,12 @@ module _ (v : WorldValue) where
   past-all : None ≡ slice_get (possible v.core) 0 → ((actor : ℕ) → can_answer v actor ≡ false) → before_end v ≡ issues v
   past-all none unanswered = past-service none ∙ ap (λ steps. steps ++ issues v) (past-answers unanswered)
 
-  -- then the first line whose actor waits for nothing
-  pub issue-next : IsSound v → v.closed ≡ false → None ≡ slice_get (possible v.core) 0 → ((actor : ℕ) → can_answer v actor ≡ false)
-      → (actor : ℕ) → can_issue v actor ≡ true → ((other : ℕ) → can_issue v other ≡ true → next_of v.seats actor ≤ next_of v.seats other) → Some (step.Issue actor) ≡ slice_get (possible_steps v) 0
-  issue-next sound runs none unanswered actor can first = by (slice_get v.seats actor) refl can
+  -- the line of an actor that can be issued gives its issue
+  pub line-gives : IsSound v → v.closed ≡ false → (actor : ℕ) → can_issue v actor ≡ true → (next_of v.seats actor < length v.set.work.lines) × (issue_of v.set.work.lines v.seats (next_of v.seats actor) ≡ Some (step.Issue actor))
+  line-gives sound runs actor can = by (slice_get v.seats actor) refl can
     where
-      by : (o : Option Seat) → slice_get v.seats actor ≡ o → option_map_or (λ seat. is_free seat.waiting && nat_lt seat.next (length v.set.work.lines)) o false ≡ true → Some (step.Issue actor) ≡ slice_get (possible_steps v) 0
+      by : (o : Option Seat) → slice_get v.seats actor ≡ o → option_map_or (λ seat. is_free seat.waiting && nat_lt seat.next (length v.set.work.lines)) o false ≡ true →
+          (next_of v.seats actor < length v.set.work.lines) × (issue_of v.set.work.lines v.seats (next_of v.seats actor) ≡ Some (step.Issue actor))
       by None e h = absurd (true≢false (sym h))
       by (Some seat) e h =
           let any : Line = record { actor = 0; command = command.Commit } in
@@ -148,9 +148,17 @@ module _ (v : WorldValue) where
           ap (λ o. option_and_then (λ l. if is_next_line v.seats l.actor seat.next then Some (step.Issue l.actor) else None) o) (slice_get-get_or v.set.work.lines seat.next any within)
           ∙ ap (λ a. if is_next_line v.seats a seat.next then Some (step.Issue a) else None) (stands.1.placed.here any within)
           ∙ ap (λ b. if b then Some (step.Issue actor) else None) is-next in
-          going runs (step.Issue actor) (ap (λ steps. slice_get steps 0) (past-all none unanswered)
-          ∙ first_given (issue_of v.set.work.lines v.seats) (step.Issue actor) seat.next 0 (length v.set.work.lines) (omega arith) (omega arith) gives
-          (λ j l. no-issue j (λ other there issued is. let le = first other issued in omega (arith, le, is, next-is, l))))
+          (subst (λ at. at < length v.set.work.lines) (sym next-is) within, ap (issue_of v.set.work.lines v.seats) next-is ∙ gives)
+
+  -- then the first line whose actor waits for nothing
+  pub issue-next : IsSound v → v.closed ≡ false → None ≡ slice_get (possible v.core) 0 → ((actor : ℕ) → can_answer v actor ≡ false)
+      → (actor : ℕ) → can_issue v actor ≡ true → ((other : ℕ) → can_issue v other ≡ true → next_of v.seats actor ≤ next_of v.seats other) → Some (step.Issue actor) ≡ slice_get (possible_steps v) 0
+  issue-next sound runs none unanswered actor can first =
+      let there = line-gives sound runs actor can in
+      let below = there.0 in
+      going runs (step.Issue actor) (ap (λ steps. slice_get steps 0) (past-all none unanswered)
+      ∙ first_given (issue_of v.set.work.lines v.seats) (step.Issue actor) (next_of v.seats actor) 0 (length v.set.work.lines) (omega arith) (omega (arith, below)) there.1
+      (λ j l. no-issue j (λ other within issued is. let le = first other issued in omega (arith, le, is, l))))
 
   -- and the end where nothing else can be made
   pub close-next : v.closed ≡ false → None ≡ slice_get (possible v.core) 0 → ((actor : ℕ) → can_answer v actor ≡ false) → ((actor : ℕ) → can_issue v actor ≡ false) → Some step.Close ≡ slice_get (possible_steps v) 0

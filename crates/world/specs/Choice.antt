@@ -1,0 +1,25 @@
+-- Which of the steps that can be made comes next.
+use Rattle.std.specs.Prelude.{ℕ, ◌%◌, List, length, Option, slice_get}
+use Rattle.rand_pcg.specs.Pcg.{pcg32}
+use Rattle.workload.specs.Draws.{seeded}
+use Rattle.answers.specs.declared.steps.Step.{Step}
+use Rattle.world.specs.declared.order.Order.{Order}
+use Rattle.world.specs.declared.order.Order.TheVariants as order
+use Rattle.world.specs.declared.order.Schedule.{Schedule}
+use Rattle.world.specs.declared.order.Schedule.TheVariants as schedule
+
+-- of the steps that can be made, in their fixed order, the first,
+-- or in a shuffled run the one whose number is the drawn word modulo their count
+abbrev pub chosen : Order → List Step → Option Step
+chosen order.Settled steps = slice_get steps 0
+chosen (order.Shuffled draws word) steps = slice_get steps (word % length steps)
+
+-- the order behind a step: a shuffled run draws its next word
+abbrev pub behind : Order → Order
+behind order.Settled = order.Settled
+behind (order.Shuffled draws word) = order.Shuffled (pcg32 draws).1 (pcg32 draws).0
+
+-- the order of a run that has made no step
+abbrev pub order_of : Schedule → Order
+order_of schedule.Settled = order.Settled
+order_of (schedule.Shuffled seed) = order.Shuffled (pcg32 (seeded seed)).1 (pcg32 (seeded seed)).0
