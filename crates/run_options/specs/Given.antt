@@ -31,7 +31,7 @@ hash_of text = if bytes_eq text (codes "sha1") then Some Sha1
 
 -- no option is given
 abbrev pub nothing : Given
-nothing = record { size = None; fanout = None; hash = None; journal = false }
+nothing = record { size = None; fanout = None; hash = None; shuffle = None; journal = false }
 
 -- one option more, where it is not given yet
 abbrev pub with_size : Given → ℕ → Option Given
@@ -43,6 +43,9 @@ with_fanout g n = if is_some g.fanout then None else Some (record g { fanout = S
 abbrev pub with_hash : Given → Hash → Option Given
 with_hash g h = if is_some g.hash then None else Some (record g { hash = Some h })
 
+abbrev pub with_shuffle : Given → ℕ → Option Given
+with_shuffle g seed = if is_some g.shuffle then None else Some (record g { shuffle = Some seed })
+
 abbrev pub with_journal : Given → Option Given
 with_journal g = if g.journal then None else Some (record g { journal = true })
 
@@ -51,14 +54,16 @@ abbrev pub with_value : Given → List ℕ → List ℕ → Option Given
 with_value g name value = if bytes_eq name (codes "--size") then option_and_then (with_size g) (brokers_of value)
     else if bytes_eq name (codes "--fanout") then option_and_then (with_fanout g) (brokers_of value)
     else if bytes_eq name (codes "--hash") then option_and_then (with_hash g) (hash_of value)
+    else if bytes_eq name (codes "--shuffle") then option_and_then (with_shuffle g) (number_of value)
     else None
 
--- the options: four brokers, two below one, and SHA-1 where the words say nothing else
+-- the options: four brokers, two below one, SHA-1 and no drawn order where the words say nothing else
 abbrev pub options_from : Given → Options
 options_from g = record {
   size = unwrap_or g.size 4;
   fanout = unwrap_or g.fanout 2;
   hash = unwrap_or g.hash Sha1;
+  shuffle = g.shuffle;
   journal = g.journal;
 }
 

@@ -1,6 +1,6 @@
 // What words gave so far.
 ghost use Rattle.std.specs.Prelude.{◌≡◌, IfSome};
-ghost use Rattle.run_options.specs.Given.{nothing, brokers_of, hash_of, with_size, with_fanout, with_hash, with_journal, with_value, options_from, AreWithin, IsBrokers, IsWithin};
+ghost use Rattle.run_options.specs.Given.{nothing, brokers_of, hash_of, number_of, with_size, with_fanout, with_hash, with_shuffle, with_journal, with_value, options_from, AreWithin, IsBrokers, IsWithin};
 ghost use Rattle.run_options.specs.Words.{wants_value, with_word};
 
 use crate::Options;
@@ -16,18 +16,26 @@ pub struct Given {
     pub size: Option<u32>,
     pub fanout: Option<u32>,
     pub hash: Option<Hash>,
+    pub shuffle: Option<u64>,
     pub journal: bool,
 }
 
-/// A number of brokers, 1 to 32, in 1 to 20 decimal digits.
-fn brokers(text: &str) -> Option<u32>
-    ensures value { result ≡ brokers_of text.now }
-    ensures within { IfSome result IsBrokers }
+/// A number below 2^64, in 1 to 20 decimal digits.
+fn number_of(text: &str) -> Option<u64>
+    ensures { result ≡ number_of text.now }
 {
     if MOST_DIGITS < text.len() {
         return None;
     }
-    let number = number(text)?;
+    number(text)
+}
+
+/// A number of brokers, 1 to 32.
+fn brokers(text: &str) -> Option<u32>
+    ensures value { result ≡ brokers_of text.now }
+    ensures within { IfSome result IsBrokers }
+{
+    let number = number_of(text)?;
     if 1 <= number && number <= 32 {
         Some(number as u32)
     } else {
@@ -69,6 +77,7 @@ impl Given {
             size: None,
             fanout: None,
             hash: None,
+            shuffle: None,
             journal: false,
         }
     }
@@ -112,6 +121,19 @@ impl Given {
         }
     }
 
+    fn with_shuffle(self, seed: u64) -> Option<Given>
+        ensures value { result ≡ with_shuffle self seed }
+        ensures within { IsWithin self → IfSome result IsWithin }
+    {
+        match self.shuffle {
+            Some(_) => None,
+            None => Some(Given {
+                shuffle: Some(seed),
+                ..self
+            }),
+        }
+    }
+
     fn with_journal(self) -> Option<Given>
         ensures value { result ≡ with_journal self }
         ensures within { IsWithin self → IfSome result IsWithin }
@@ -134,6 +156,7 @@ impl Given {
             "--size" => self.with_size(brokers(value)?),
             "--fanout" => self.with_fanout(brokers(value)?),
             "--hash" => self.with_hash(hash(value)?),
+            "--shuffle" => self.with_shuffle(number_of(value)?),
             _ => None,
         }
     }
@@ -159,6 +182,7 @@ impl Given {
             size: self.size.unwrap_or(4),
             fanout: self.fanout.unwrap_or(2),
             hash: self.hash.unwrap_or(Hash::Sha1),
+            shuffle: self.shuffle,
             journal: self.journal,
         }
     }

@@ -24,6 +24,8 @@ pub struct Options {
     pub fanout: u32,
     /// The hash by which content is named.
     pub hash: Hash,
+    /// The seed by which the order of the run's steps is drawn, where it is: any number below 2^64.
+    pub shuffle: Option<u64>,
     /// Whether the journal is printed behind the answers.
     pub journal: bool,
 }

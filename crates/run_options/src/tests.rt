@@ -7,6 +7,7 @@ const DEFAULT: Options = Options {
     size: 4,
     fanout: 2,
     hash: Hash::Sha1,
+    shuffle: None,
     journal: false,
 };
 
@@ -16,7 +17,7 @@ struct Case {
     options: Option<Options>,
 }
 
-const CASES: [Case; 50] = [
+const CASES: [Case; 58] = [
     Case {
         words: &[],
         options: Some(DEFAULT),
@@ -157,6 +158,49 @@ const CASES: [Case; 50] = [
         options: None,
     },
     Case {
+        words: &["--shuffle", "0"],
+        options: Some(Options {
+            shuffle: Some(0),
+            ..DEFAULT
+        }),
+    },
+    Case {
+        words: &["--shuffle=18446744073709551615"],
+        options: Some(Options {
+            shuffle: Some(18446744073709551615),
+            ..DEFAULT
+        }),
+    },
+    Case {
+        words: &["--shuffle", "18446744073709551616"],
+        options: None,
+    },
+    Case {
+        words: &["--shuffle="],
+        options: None,
+    },
+    Case {
+        words: &["--shuffle"],
+        options: None,
+    },
+    Case {
+        words: &["--shuffle", "x"],
+        options: None,
+    },
+    Case {
+        words: &["--shuffle", "3", "--shuffle=3"],
+        options: None,
+    },
+    Case {
+        words: &["--shuffle", "3", "--journal", "--size=7"],
+        options: Some(Options {
+            size: 7,
+            shuffle: Some(3),
+            journal: true,
+            ..DEFAULT
+        }),
+    },
+    Case {
         words: &["--journal"],
         options: Some(Options {
             journal: true,
@@ -185,6 +229,7 @@ const CASES: [Case; 50] = [
             size: 5,
             fanout: 3,
             hash: Hash::Sha256,
+            shuffle: None,
             journal: true,
         }),
     },
