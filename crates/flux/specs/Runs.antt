@@ -1,5 +1,5 @@
 -- What a run promises.
-use Rattle.std.specs.Prelude.{◌≡◌, ◌≢◌, ◌⊎◌, ℕ, List, [], ◌∷◌, Option, Some, None, Ok, true, codes, if◌then◌else◌}
+use Rattle.std.specs.Prelude.{◌≡◌, ◌≢◌, ◌⊎◌, ℕ, List, [], ◌∷◌, Option, Some, None, Ok, Bool, not, is_some, codes, if◌then◌else◌}
 use Rattle.std.specs.Str.{bytes_eq}
 use Rattle.std.specs.Io.KnownBytes.{Consumes, IsAtEnd}
 use Rattle.run_options.specs.declared.Options.{Options}
@@ -9,6 +9,8 @@ use Rattle.workload.specs.Reading.{first_fault, spelled}
 use Rattle.answers.specs.Chronicle.{Setup}
 use Rattle.answers.specs.Headline.{IsTrueRun}
 use Rattle.answers.specs.Stretches.{AreStretches}
+use Rattle.world.specs.declared.order.Schedule.{Schedule}
+use Rattle.world.specs.declared.order.Schedule.TheVariants as schedule
 use Rattle.flux_tools.specs.Tools.{AreToolWords, HasAnswer}
 use Rattle.world.specs.Grant.{default_grant}
 use Rattle.flux.specs.declared.call.Run.{Run}
@@ -31,6 +33,18 @@ AreWords words = AreRunWords words ⊎ AreToolWords words
 abbrev pub setup_of : Options → Workload → Setup
 setup_of o work = record { size = o.size; fanout = o.fanout; hash = o.hash; grant = default_grant o.size; work = work }
 
+-- a run makes every step that can be made before the next command is issued, unless its words ask for a drawn order
+abbrev pub is_settled : Options → Bool
+is_settled o = not (is_some o.shuffle)
+
+-- the order in which a run makes its steps
+abbrev pub schedule_of : Options → Schedule
+schedule_of o = by o.shuffle
+  where
+    by : Option ℕ → Schedule
+    by None = schedule.Settled
+    by (Some seed) = schedule.Shuffled seed
+
 -- the source was read to its end, and the text that was read is the workload's, for so many brokers
 pub record IsSpelled (size : ℕ) (input : Side) (work : Workload) : Type 0 where
   pub text : List ℕ
@@ -39,12 +53,12 @@ pub record IsSpelled (size : ℕ) (input : Side) (work : Workload) : Type 0 wher
   pub sound : first_fault size text ≡ None
   pub means : work ≡ spelled text
 
--- the source was read to its end, its text is a workload's, the chronicle of that workload is legal, whole and settled,
--- the text prints it, and the steps made tell the whole of it
+-- the source was read to its end, its text is a workload's, the chronicle of that workload is legal and whole, and
+-- settled where no drawn order is asked for, the text prints it, and the steps made tell the whole of it
 pub record HasRun (o : Options) (input : Side) (run : Run) (text : List ℕ) : Type 0 where
   pub work : Workload
   pub spelled_so : IsSpelled o.size input work
-  pub true_run : IsTrueRun (setup_of o work) true o.journal run.chronicle text
+  pub true_run : IsTrueRun (setup_of o work) (is_settled o) o.journal run.chronicle text
   pub stretches : AreStretches work run.steps.items run.ends.items run.chronicle
 
 -- what a command writes: a run what its options ask for of its one chronicle, a tool the text that it prints

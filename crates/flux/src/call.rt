@@ -194,7 +194,8 @@ fn run_tool<S: Source, K: Sink>(
 
 /// Carries out the command of the words. `run` reads a workload from the source, runs it in an instance as its options
 /// say, and writes its answers to the sink: one line for each command, in the workload's order, and with `--journal`
-/// the chronicle behind a line `--`. A tool writes one line: `idset`, `hostlist` and `fluid` of
+/// the chronicle behind a line `--`. Each command is issued once nothing else can be made, or, with `--shuffle`, the
+/// next step is drawn. A tool writes one line: `idset`, `hostlist` and `fluid` of
 /// the text in the words, `R` and `replay` of the text that the source has. The whole output is made before the first
 /// byte is written.
 ///
@@ -208,7 +209,8 @@ pub fn flux<S: Source, K: Sink>(
     sink: &mut K,
 ) -> Run
     ensures status { result.status ≡ status_of result.fault }
-    // the headline: what was written prints the one chronicle, which is legal, whole and settled, or is a tool's line
+    // the headline: what was written prints the one chronicle, which is legal and whole, and settled where the words ask
+    // for no shuffle, or is a tool's line
     ensures true_run { result.status ≡ 0 → (text : List ℕ)
         × IsOutput
         (map string_bytes words.now)

@@ -1,18 +1,19 @@
-//! A run of a workload: every step that can be made is made before the next command is issued.
-ghost use Rattle.std.specs.Prelude.{◌≡◌, true, false, All, IfOk, OnOk};
+//! A run of a workload, to its end.
+ghost use Rattle.std.specs.Prelude.{◌≡◌, false, true, All, IfOk, OnOk};
 ghost use Rattle.run_options.specs.Given.{AreWithin};
 ghost use Rattle.workload.specs.Laws.{IsWithin, IsBuilt};
 ghost use Rattle.answers.specs.Headline.{IsTrueRun, output_text};
 ghost use Rattle.answers.specs.Legal.{IsSettled};
 ghost use Rattle.answers.specs.Stretches.{AreStretches};
-ghost use Rattle.flux.specs.Runs.{setup_of};
+ghost use Rattle.world.specs.declared.order.Order.TheVariants as order;
+ghost use Rattle.flux.specs.Runs.{is_settled, schedule_of, setup_of};
 
 use answers::{Chronicle, print_answers, print_journal};
 use kvs_core::CoreFault;
 use run_options::Options;
 use std::alloc::{AllocError, Global};
 use workload::Workload;
-use world::{Ended, Setting, World};
+use world::{Ended, Schedule, Setting, World};
 
 /// What a run leaves, and the text of its answers.
 #[derive(Drop)]
@@ -21,14 +22,25 @@ pub struct Played {
     pub ended: Ended,
 }
 
+/// The order in which a run makes its steps: drawn where its options have a seed.
+fn schedule_of(options: Options) -> Schedule
+    ensures { result ≡ schedule_of options }
+{
+    match options.shuffle {
+        Some(seed) => Schedule::Shuffled(seed),
+        None => Schedule::Settled,
+    }
+}
+
 /// Makes every step until the run has ended.
-fn settle(world: &mut World) -> Result<(), CoreFault>
+fn make_steps(world: &mut World) -> Result<(), CoreFault>
     requires ready { world.old.spent ≡ false }
     requires settled { IsSettled world.old.set world.old.chronicle }
     ensures ready { OnOk result (world.new.spent ≡ false) }
     ensures set { OnOk result (world.new.set ≡ world.old.set) }
     ensures closed { OnOk result (world.new.closed ≡ true) }
-    ensures settled { OnOk result (IsSettled world.new.set world.new.chronicle) }
+    ensures settled { world.old.order ≡ order.Settled
+        → OnOk result (IsSettled world.new.set world.new.chronicle) }
 {
     for _ in 0..u64::MAX {
         match world.next(0) {
@@ -61,7 +73,7 @@ pub fn play(alloc: Global, options: Options, work: Workload) -> Result<Played, C
     requires options { AreWithin options }
     requires within { IsWithin options.size work }
     requires built { All (λ line. IsBuilt line.command) work.lines }
-    ensures run { IfOk result (λ played. IsTrueRun (setup_of options work) true options.journal played.ended.chronicle played.text.items) }
+    ensures run { IfOk result (λ played. IsTrueRun (setup_of options work) (is_settled options) options.journal played.ended.chronicle played.text.items) }
     ensures stretches { IfOk result (λ played. AreStretches work played.ended.steps.items played.ended.ends.items played.ended.chronicle) }
 {
     let setting = Setting {
@@ -70,7 +82,8 @@ pub fn play(alloc: Global, options: Options, work: Workload) -> Result<Played, C
         hash: options.hash,
     };
     let mut world = World::new(alloc, setting, work)?;
-    settle(&mut world)?;
+    world.schedule(schedule_of(options));
+    make_steps(&mut world)?;
     world.quiet();
     world.steps();
     let text = output(alloc, options, world.work(), world.chronicle())?;

@@ -17,7 +17,7 @@ struct Case {
     notice: &'static str,
 }
 
-const CASES: [Case; 48] = [
+const CASES: [Case; 50] = [
     Case {
         words: &["run"],
         input: "actor a 1\nactor b 2\na put k x\na fence f 2\nb put k y\nb fence f 2\nb get k\n",
@@ -54,6 +54,20 @@ const CASES: [Case; 48] = [
         notice: "done",
     },
     Case {
+        words: &["run", "--shuffle", "3"],
+        input: "actor a 1\na put k hello\na commit\na get k\n",
+        status: 0,
+        output: "staged\ncommitted 1\nvalue 1 hello\n",
+        notice: "done",
+    },
+    Case {
+        words: &["run", "--shuffle=18446744073709551616"],
+        input: "",
+        status: 2,
+        output: "",
+        notice: "usage: flux_cli run|idset|hostlist|fluid|R|replay, and for run: --size N --fanout N --hash sha1|sha256 --shuffle SEED --journal",
+    },
+    Case {
         words: &["run", "--journal"],
         input: "",
         status: 0,
@@ -86,42 +100,42 @@ const CASES: [Case; 48] = [
         input: "actor a 0\n",
         status: 2,
         output: "",
-        notice: "usage: flux_cli run|idset|hostlist|fluid|R|replay, and for run: --size N --fanout N --hash sha1|sha256 --journal",
+        notice: "usage: flux_cli run|idset|hostlist|fluid|R|replay, and for run: --size N --fanout N --hash sha1|sha256 --shuffle SEED --journal",
     },
     Case {
         words: &["run", "--size=4", "--size=4"],
         input: "actor a 0\n",
         status: 2,
         output: "",
-        notice: "usage: flux_cli run|idset|hostlist|fluid|R|replay, and for run: --size N --fanout N --hash sha1|sha256 --journal",
+        notice: "usage: flux_cli run|idset|hostlist|fluid|R|replay, and for run: --size N --fanout N --hash sha1|sha256 --shuffle SEED --journal",
     },
     Case {
         words: &["run", "--"],
         input: "actor a 0\n",
         status: 2,
         output: "",
-        notice: "usage: flux_cli run|idset|hostlist|fluid|R|replay, and for run: --size N --fanout N --hash sha1|sha256 --journal",
+        notice: "usage: flux_cli run|idset|hostlist|fluid|R|replay, and for run: --size N --fanout N --hash sha1|sha256 --shuffle SEED --journal",
     },
     Case {
         words: &["run", "--help"],
         input: "actor a 0\n",
         status: 2,
         output: "",
-        notice: "usage: flux_cli run|idset|hostlist|fluid|R|replay, and for run: --size N --fanout N --hash sha1|sha256 --journal",
+        notice: "usage: flux_cli run|idset|hostlist|fluid|R|replay, and for run: --size N --fanout N --hash sha1|sha256 --shuffle SEED --journal",
     },
     Case {
         words: &["--size", "4"],
         input: "actor a 0\n",
         status: 2,
         output: "",
-        notice: "usage: flux_cli run|idset|hostlist|fluid|R|replay, and for run: --size N --fanout N --hash sha1|sha256 --journal",
+        notice: "usage: flux_cli run|idset|hostlist|fluid|R|replay, and for run: --size N --fanout N --hash sha1|sha256 --shuffle SEED --journal",
     },
     Case {
         words: &["run", "run"],
         input: "actor a 0\n",
         status: 2,
         output: "",
-        notice: "usage: flux_cli run|idset|hostlist|fluid|R|replay, and for run: --size N --fanout N --hash sha1|sha256 --journal",
+        notice: "usage: flux_cli run|idset|hostlist|fluid|R|replay, and for run: --size N --fanout N --hash sha1|sha256 --shuffle SEED --journal",
     },
     Case {
         words: &["run"],
@@ -247,28 +261,28 @@ const CASES: [Case; 48] = [
         input: "actor a 0\n",
         status: 2,
         output: "",
-        notice: "usage: flux_cli run|idset|hostlist|fluid|R|replay, and for run: --size N --fanout N --hash sha1|sha256 --journal",
+        notice: "usage: flux_cli run|idset|hostlist|fluid|R|replay, and for run: --size N --fanout N --hash sha1|sha256 --shuffle SEED --journal",
     },
     Case {
         words: &[""],
         input: "",
         status: 2,
         output: "",
-        notice: "usage: flux_cli run|idset|hostlist|fluid|R|replay, and for run: --size N --fanout N --hash sha1|sha256 --journal",
+        notice: "usage: flux_cli run|idset|hostlist|fluid|R|replay, and for run: --size N --fanout N --hash sha1|sha256 --shuffle SEED --journal",
     },
     Case {
         words: &[],
         input: "",
         status: 2,
         output: "",
-        notice: "usage: flux_cli run|idset|hostlist|fluid|R|replay, and for run: --size N --fanout N --hash sha1|sha256 --journal",
+        notice: "usage: flux_cli run|idset|hostlist|fluid|R|replay, and for run: --size N --fanout N --hash sha1|sha256 --shuffle SEED --journal",
     },
     Case {
         words: &["idset", "1", "2"],
         input: "",
         status: 2,
         output: "",
-        notice: "usage: flux_cli run|idset|hostlist|fluid|R|replay, and for run: --size N --fanout N --hash sha1|sha256 --journal",
+        notice: "usage: flux_cli run|idset|hostlist|fluid|R|replay, and for run: --size N --fanout N --hash sha1|sha256 --shuffle SEED --journal",
     },
     Case {
         words: &[
@@ -278,7 +292,7 @@ const CASES: [Case; 48] = [
         input: "",
         status: 2,
         output: "",
-        notice: "usage: flux_cli run|idset|hostlist|fluid|R|replay, and for run: --size N --fanout N --hash sha1|sha256 --journal",
+        notice: "usage: flux_cli run|idset|hostlist|fluid|R|replay, and for run: --size N --fanout N --hash sha1|sha256 --shuffle SEED --journal",
     },
     Case {
         words: &["idset", "[7,1-3,2]"],
@@ -394,6 +408,26 @@ fn runs_and_refusals(rt: HostRuntime) -> Result<(), Fail> {
             "{}",
             case.input
         );
+    }
+    Ok(())
+}
+
+#[test]
+fn a_seed_gives_one_order(rt: HostRuntime) -> Result<(), Fail> {
+    let alloc = rt.alloc();
+    let input =
+        "actor a 5\nactor b 6\na put k x\na fence f 2\nb put l y\nb fence f 2\nb get k\na get l\n";
+    let output = "staged\nfenced 1\nstaged\nfenced 1\nvalue 1 x\nvalue 1 y\n--\n";
+    for seed in 1..21 {
+        let option = format!(in alloc; "--shuffle={seed}")?;
+        let words = ["run", "--size=7", "--journal", option.as_str()];
+        let mut sink = MemSink::new(alloc, 8192, 8192, Vec::new(alloc))?;
+        let mut again = MemSink::new(alloc, 8192, 8192, Vec::new(alloc))?;
+        let first = run(alloc, &words, input, 4096, &[], &mut sink)?;
+        let _second = run(alloc, &words, input, 4096, &[], &mut again)?;
+        assert_eq!(rt; first.status, 0);
+        assert!(rt; sink.taken().starts_with(output.as_bytes()));
+        assert!(rt; sink.taken() == again.taken());
     }
     Ok(())
 }

@@ -1,0 +1,12 @@
+use Rattle.std.proofs.Common.{◌≡◌, false}
+use Rattle.answers.specs.Legal.{IsSettled}
+use Rattle.world.specs.declared.order.Order.TheVariants as order
+use Rattle.flux.proofs.playing.make_steps.Given as goal
+
+abbrev pub invariant-loop : goal.invariant-loop
+invariant-loop l = record {
+  ready : l.world.spent ≡ false;
+  set : l.world.set ≡ l.initial.world.set;
+  fixed : l.initial.world.order ≡ order.Settled → l.world.order ≡ order.Settled;
+  settled : l.initial.world.order ≡ order.Settled → IsSettled l.world.set l.world.chronicle;
+}
