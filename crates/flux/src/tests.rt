@@ -17,7 +17,7 @@ struct Case {
     notice: &'static str,
 }
 
-const CASES: [Case; 50] = [
+const CASES: [Case; 56] = [
     Case {
         words: &["run"],
         input: "actor a 1\nactor b 2\na put k x\na fence f 2\nb put k y\nb fence f 2\nb get k\n",
@@ -51,6 +51,48 @@ const CASES: [Case; 50] = [
         input: "actor a 0\na put k hello\na commit\na get k\n",
         status: 0,
         output: "staged\ncommitted 1\nvalue 1 hello\n--\nissued 0 0\nreplied 0 0 - staged\nissued 0 1\nlanded 0 primary 1 0.1\nheard 0 0 primary 1\nreplied 0 1 1 committed 1\nissued 0 2\nreplied 0 2 1 value 1 hello\nclosed\n",
+        notice: "done",
+    },
+    Case {
+        words: &["run", "--size=7", "--fanout", "2"],
+        input: "actor a 1\nactor b 6\na put k hello\na commit\na tell b\nb wait 1\nb get k\n",
+        status: 0,
+        output: "staged\ncommitted 1\ntold\nreached 1\nvalue 1 hello\n",
+        notice: "done",
+    },
+    Case {
+        words: &["run"],
+        input: "actor a 0\nactor b 3\nb wait 1\na put k v\na commit\nb wait 0\nb wait 2\nb get k\n",
+        status: 0,
+        output: "reached 1\nstaged\ncommitted 1\nreached 1\nUnfinished 1/2\nNotReached\n",
+        notice: "done",
+    },
+    Case {
+        words: &["run", "--size", "1", "--journal"],
+        input: "actor a 0\nactor b 0\na tell b\nb tell b\n",
+        status: 0,
+        output: "told\ntold\n--\nissued 0 0\ntold 0 1\nreplied 0 0 - told\nissued 1 0\ntold 1 1\nreplied 1 0 - told\nclosed\n",
+        notice: "done",
+    },
+    Case {
+        words: &["run"],
+        input: "actor a 0\na wait x\n",
+        status: 1,
+        output: "",
+        notice: "line 2: BadNumber",
+    },
+    Case {
+        words: &["run"],
+        input: "actor a 0\na tell z\n",
+        status: 1,
+        output: "",
+        notice: "line 2: NoActor",
+    },
+    Case {
+        words: &["run"],
+        input: "actor a 0\nactor b 1\na wait 1\nb fence f 2\nb get k\n",
+        status: 0,
+        output: "Unfinished 0/1\nUnfinished 1/2\nNotReached\n",
         notice: "done",
     },
     Case {
@@ -416,8 +458,9 @@ fn runs_and_refusals(rt: HostRuntime) -> Result<(), Fail> {
 fn a_seed_gives_one_order(rt: HostRuntime) -> Result<(), Fail> {
     let alloc = rt.alloc();
     let input =
-        "actor a 5\nactor b 6\na put k x\na fence f 2\nb put l y\nb fence f 2\nb get k\na get l\n";
-    let output = "staged\nfenced 1\nstaged\nfenced 1\nvalue 1 x\nvalue 1 y\n--\n";
+        "actor a 1\nactor b 6\na put k hello\na commit\na tell b\nb wait 1\nb get k\nb put l y\nb fence f 2\na put m z\na fence f 2\n";
+    let output =
+        "staged\ncommitted 1\ntold\nreached 1\nvalue 1 hello\nstaged\nfenced 2\nstaged\nfenced 2\n--\n";
     for seed in 1..21 {
         let option = format!(in alloc; "--shuffle={seed}")?;
         let words = ["run", "--size=7", "--journal", option.as_str()];
