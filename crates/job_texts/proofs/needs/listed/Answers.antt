@@ -1,0 +1,14 @@
+use Rattle.std.proofs.Common.{◌≡◌, None, ap, sym, ◌∙◌, codes, rules}
+use Rattle.std.specs.Prelude.{option_and_then}
+use Rattle.std.specs.Result.{result_ok}
+use Rattle.serde_json.specs.Find.{get}
+use Rattle.fl_json.specs.Reading.{reading}
+use Rattle.job_states.specs.Changes.{◌>>=◌}
+use Rattle.manager_rules.specs.Jobs.{texts_in}
+use Rattle.job_texts.proofs.Listing.{none_listed}
+use Rattle.job_texts.proofs.needs.listed.Goals as goal
+
+pub returns-in-None : goal.returns-in-None
+returns-in-None c = λ listed small e.
+    let none : c.args.event.now.context ≡ None = search rules in
+    c.new.ensures ∙ none_listed listed (sym (ap (λ o. texts_in (option_and_then (get (codes "depends")) (o >>= λ context. result_ok (reading context)))) none) ∙ e)
