@@ -1,0 +1,13 @@
+pub mod Ahead
+pub mod Chosen
+pub mod Fitting
+pub mod Heads
+pub mod Held
+pub mod Landed
+pub mod Lists
+pub mod Places
+pub mod Rest
+pub mod Stepping
+pub mod Submitted
+pub mod Trying
+pub mod Whys

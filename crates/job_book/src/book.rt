@@ -1,0 +1,231 @@
+ghost use Rattle.std.specs.Prelude.{◌≡◌, [], ℕ, All, Contains, IfNone, IfOk, IfSome, OnErr, OnOk, option_map};
+ghost use Rattle.std.specs.Option.{option_copied};
+ghost use Rattle.std.specs.Fn.{FnReturnsAt};
+ghost use Rattle.job_spec.specs.Sound.{IsSpec};
+ghost use Rattle.job_rules.specs.Fits.{HasIdSets};
+ghost use Rattle.resource_set.specs.Valid.{IsR};
+ghost use Rattle.tap.specs.Priorities.{AnswersOnce};
+ghost use Rattle.manager_rules.specs.Dependencies.{job_at};
+ghost use Rattle.manager_rules.specs.Jobs.{ids_of};
+ghost use Rattle.manager_rules.specs.Scene.{IsAsked};
+ghost use Rattle.manager_rules.specs.Times.{IsLeast};
+ghost use Rattle.manager_rules.specs.Whys.{IsWhy};
+ghost use Rattle.job_book.specs.Contract.{BeginsAsOne, Finds, Gains, IsFirstBirth, IsKept, IsNewJob};
+ghost use Rattle.job_book.specs.Contract.{KnowsNeeds, NoBirth, WasDue, after_event, r_at, seconds_left};
+
+use crate::action::due;
+use crate::decisions::{Desk, choice};
+use crate::landing::{change_at, hold, next_of};
+use crate::reasons::reason;
+use crate::row::{Row, find, place_in, place_of};
+use crate::seconds::{first_bearing, next_of_rows};
+use crate::waiting::head;
+use event_log::Event;
+use graph_match::Graph;
+use job_spec::JobSpec;
+use job_states::{Job, ReplayFault, begin};
+use job_texts::needs_of;
+use lists::Copied;
+use manager_rules::{Due, JobList, OpenList, Why};
+use resource_set::{Node, Resources};
+use std::alloc::{AllocError, Global};
+use std::marker::Model;
+use tap::{Ask, Tap};
+
+/// The jobs of an instance, and the grant that they share.
+#[derive(Drop)]
+pub struct Book {
+    grant: Resources,
+    /// The grant's units, and what live jobs hold of them.
+    graph: Graph,
+    /// By rising ids.
+    rows: Vec<Row>,
+}
+
+impl Model for Book {
+    ghost use Rattle.job_book.specs.Value.{BookValue};
+
+    ghost Value = { BookValue };
+
+    ghost use Rattle.job_book.specs.Kept.{IsBook};
+
+    ghost view = { λ b. record { grant = b.grant; jobs = b.rows.items } };
+
+    ghost invariant = { λ b. IsBook (record { grant = b.grant; jobs = b.rows.items }) b.graph };
+}
+
+/// The hosts of a grant have sets of cores and GPUs.
+fn have_sets(nodes: &[Node])
+    ensures { All HasIdSets nodes.now }
+{
+    for node in nodes {
+        has_sets(node);
+    }
+}
+
+fn has_sets(node: &Node)
+    ensures { HasIdSets node.now }
+{
+    let _ = node.cores.count();
+    let _ = node.gpus.count();
+}
+
+impl Book {
+    /// A book of a grant, without jobs.
+    pub fn new(alloc: Global, grant: &Resources) -> Result<Book, AllocError>
+        requires { IsR grant.now }
+        ensures { IfOk result (λ b. b ≡ record { grant = grant.now; jobs = [] }) }
+    {
+        have_sets(grant.nodes.as_slice());
+        Ok(Book {
+            grant: grant.copy()?,
+            graph: Graph::new(alloc, grant)?,
+            rows: Vec::new(alloc),
+        })
+    }
+
+    /// Adds a job whose submission has landed (Flux RFC 21 and 26). After want of memory the book is as before.
+    pub fn submitted(&mut self, id: u64, spec: JobSpec, event: &Event) -> Result<(), AllocError>
+        requires new { Contains (ids_of self.old.jobs) id → ⊥ }
+        requires spec { IsSpec spec }
+        requires begins { BeginsAsOne event.now }
+        requires known { KnowsNeeds self.old spec event.now }
+        ensures added { OnOk result (Gains self.old id spec event.now self.new) }
+        ensures kept { OnErr result (self.new ≡ self.old) }
+    {
+        let row = new_row(*self.rows.allocator(), id, spec, event)?;
+        let at = place_of(&self.rows, id);
+        self.rows.insert(at, row)?;
+        Ok(())
+    }
+
+    /// An event that is due at this second (Flux RFC 21, 26 and 27), if there is one: of the job with the least id that has
+    /// one, a command's before the manager's own.
+    pub fn due<F: Fn(&Ask) -> u32>(
+        &self,
+        now: u64,
+        asked: &OpenList,
+        tap: &Tap<F>,
+    ) -> Result<Option<Due>, AllocError>
+        requires callable { F.IsAlwaysCallable tap.now }
+        requires once { AnswersOnce (λ ask n. FnReturnsAt F.Fn tap.now ask n) }
+        requires asked { All IsAsked asked.now }
+        ensures { IfOk result (Finds self.now now asked.now (FnReturnsAt F.Fn tap.now)) }
+    {
+        let alloc = *self.rows.allocator();
+        let desk = Desk {
+            second: now,
+            graph: &self.graph,
+            rows: &self.rows,
+            head: head(&self.rows),
+            asked: asked.as_slice(),
+        };
+        for row in desk.rows {
+            if let Some(action) = choice(alloc, &desk, row, tap)? {
+                return Ok(Some(due(alloc, now, row, &action)?));
+            }
+        }
+        Ok(None)
+    }
+
+    /// Does an event that was due and has landed (Flux RFC 21). After want of memory the book is as before.
+    pub fn landed(&mut self, due: &Due) -> Result<(), AllocError>
+        requires { WasDue self.old due.now }
+        ensures done { OnOk result (self.new ≡ after_event due.now self.old) }
+        ensures kept { OnErr result (self.new ≡ self.old) }
+    {
+        let at = place_in(&self.rows, due.job);
+        let next = next_of(*self.rows.allocator(), &self.rows[at], due)?;
+        hold(&mut self.graph, due.job, &next.held)?;
+        change_at(&mut self.rows, at, next);
+        Ok(())
+    }
+
+    /// Why a job doesn't run at this second: no such job, its state, that it is held, the job before it, or those whose
+    /// resources are in its way.
+    pub fn why(&self, job: u64, now: u64) -> Result<Why, AllocError>
+        ensures { IfOk result (IsWhy self.now.grant.nodes self.now.jobs job) }
+    {
+        let alloc = *self.rows.allocator();
+        match find(&self.rows, job) {
+            Some(row) => reason(alloc, &self.graph, &self.rows, row, now),
+            None => Ok(Why::NoJob),
+        }
+    }
+
+    /// The first job whose child is to be born: it has started with a command that begins an instance, and has had none.
+    pub fn birth(&self, asked: &OpenList) -> Option<u64>
+        ensures some { IfSome result (IsFirstBirth self.now asked.now) }
+        ensures none { IfNone result (NoBirth self.now asked.now) }
+    {
+        first_bearing(&self.rows, asked.as_slice())
+    }
+
+    /// The next second, behind this one, at which a running job's command ends or its resources do.
+    pub fn next_second(&self, now: u64) -> Option<u64>
+        ensures some { IfSome result (IsLeast (seconds_left now self.now)) }
+        ensures none { IfNone result (seconds_left now self.now ≡ []) }
+    {
+        next_of_rows(&self.rows, now)
+    }
+
+    /// What the log of a job says of it.
+    pub fn job(&self, id: u64) -> Option<&Job>
+        ensures { option_copied result ≡ option_map (λ j. j.job) (job_at self.now.jobs id) }
+    {
+        Some(&find(&self.rows, id)?.job)
+    }
+
+    /// The ids of the jobs, rising.
+    pub fn ids(&self) -> Result<JobList, AllocError>
+        ensures { IfOk result (λ ids. ids ≡ ids_of self.now.jobs) }
+    {
+        ids(*self.rows.allocator(), &self.rows)
+    }
+
+    /// The resources of a job, while it is live.
+    pub fn r(&self, id: u64) -> Option<&Resources>
+        ensures found { option_copied result ≡ r_at self.now.jobs id }
+        ensures valid { IfSome result (λ r. IsR r.now) }
+    {
+        find(&self.rows, id)?.r.as_ref()
+    }
+
+    /// What every book keeps.
+    pub fn keeps(&self)
+        ensures { IsKept self.now }
+    {
+        let _ = &self.rows;
+    }
+}
+
+/// A job that is just submitted.
+fn new_row(alloc: Global, id: u64, spec: JobSpec, event: &Event) -> Result<Row, AllocError>
+    requires { BeginsAsOne event.now }
+    ensures { IfOk result (IsNewJob id spec event.now) }
+{
+    let needs = needs_of(alloc, &spec, event)?;
+    match begin(alloc, event) {
+        Ok(job) => Ok(Row {
+            id,
+            spec,
+            needs,
+            job,
+            start: None,
+            r: None,
+        }),
+        Err(ReplayFault::NoMemory) => Err(AllocError),
+        Err(ReplayFault::NotAllowed { .. }) => unreachable!(),
+    }
+}
+
+/// The ids of jobs.
+fn ids(alloc: Global, rows: &[Row]) -> Result<JobList, AllocError>
+    ensures { IfOk result (λ ids. ids ≡ ids_of rows.now) }
+{
+    let mut ids = JobList::new(alloc);
+    for row in rows {
+        ids.push(row.id)?;
+    }
+    Ok(ids)
+}
