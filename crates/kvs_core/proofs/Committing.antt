@@ -1,12 +1,11 @@
 -- A commit joins the namespace of its name.
-use Rattle.std.proofs.Common.{◌≡◌, ℕ, ◌<◌, ◌≤◌, ◌+◌, List, [], ◌∷◌, ◌++◌, length, Bool, true, false, Some, None, inl, inr, option_map, refl, sym, ap, ◌∙◌, subst, arith, get_or, set, append-nil}
-use Rattle.std.specs.List.{position, AllByRecursion as Each}
+use Rattle.std.proofs.Common.{◌≡◌, ℕ, ◌<◌, ◌+◌, List, [], ◌∷◌, length, Bool, true, false, Some, inl, refl, sym, ap, subst, get_or, set, append-nil}
+use Rattle.std.specs.List.{position}
 use Rattle.kvs_txn.specs.declared.txn.By.{By}
 use Rattle.kvs_txn.specs.declared.txn.Txn.{Txn}
 use Rattle.fence_merge.specs.declared.member.Member.{Member}
 use Rattle.fence_merge.specs.Groups.{group_of}
-use Rattle.fence_merge.specs.Fences.{AreFences, fence_of}
-use Rattle.fence_merge.specs.Merging.{MergerValue, joined, pushed}
+use Rattle.fence_merge.specs.Merging.{pushed}
 use Rattle.kvs_rules.specs.declared.events.KvsAsk.TheVariants as ask
 use Rattle.kvs_rules.specs.Log.{Log}
 use Rattle.kvs_rules.specs.Namespaces.{Setting, Asks}
@@ -14,17 +13,17 @@ use Rattle.kvs_rules.specs.Landings.{IsUser, IsUsers}
 use Rattle.kvs_core.specs.declared.rows.Row.{Row}
 use Rattle.kvs_core.specs.declared.rows.Stage.TheVariants as stage
 use Rattle.kvs_core.specs.declared.rows.Work.TheVariants as work
-use Rattle.kvs_core.specs.Agrees.{Agrees, AreJoining, IsWaiting, SpaceAgrees}
-use Rattle.kvs_core.specs.Rows.{IsRisingAsk, with_stage}
+use Rattle.kvs_core.specs.Agrees.{Agrees, IsWaiting, SpaceAgrees}
+use Rattle.kvs_core.specs.Rows.{with_stage}
 use Rattle.kvs_core.specs.Sound.{IsSound}
-use Rattle.kvs_core.specs.Steps.{all_services, is_arrived_stage, other_than}
+use Rattle.kvs_core.specs.Steps.{all_services, is_arrived_stage}
 use Rattle.kvs_core.specs.Value.{CoreValue}
 use Rattle.kvs_space.specs.Sound.{ArePosted, IsSoundSpace}
-use Rattle.kvs_space.specs.Space.{SpaceValue, is_named, members_in, queued}
+use Rattle.kvs_space.specs.Space.{SpaceValue, is_named, queued}
 use Rattle.kvs_space.proofs.Posting.{no-manager, posted-user, user-behind}
 use Rattle.store_laws.specs.Posts.{posts_in}
 use Rattle.kvs_core.proofs.Carried.{waiting, each-join}
-use Rattle.kvs_core.proofs.Counting.{times, one_if, pushed-times, joined-times}
+use Rattle.kvs_core.proofs.Counting.{times, one_if, pushed-times}
 use Rattle.kvs_core.proofs.Moving.{found-there}
 use Rattle.kvs_core.proofs.Queueing.{waiting-posts}
 use Rattle.kvs_core.proofs.Taking.{joined-sound, joined-order, joined-fewer, joined-agrees, arrived-staged, asks-there, named-so, placed-ask}

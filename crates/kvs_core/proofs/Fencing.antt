@@ -1,30 +1,28 @@
 -- A member of a fence joins it in the namespace of its name.
-use Rattle.std.proofs.Common.{◌≡◌, ℕ, ◌<◌, ◌≤◌, ◌+◌, List, [], ◌∷◌, ◌++◌, length, Bool, true, false, Some, None, inl, inr, option_map, refl, sym, ap, ◌∙◌, subst, arith, get_or, set, append-nil}
+use Rattle.std.proofs.Common.{◌≡◌, ℕ, ◌<◌, ◌+◌, List, [], length, Bool, true, false, Some, None, option_map, sym, ap, subst, get_or, set}
 use Rattle.std.specs.List.{position, AllByRecursion as Each}
 use Rattle.kvs_txn.specs.declared.txn.By.{By}
 use Rattle.kvs_txn.specs.declared.txn.Txn.{Txn}
 use Rattle.fence_merge.specs.declared.member.Member.{Member}
-use Rattle.fence_merge.specs.Groups.{group_of}
 use Rattle.fence_merge.specs.Fences.{AreFences, fence_of}
-use Rattle.fence_merge.specs.Merging.{MergerValue, joined, pushed}
+use Rattle.fence_merge.specs.Merging.{joined}
 use Rattle.kvs_rules.specs.declared.events.KvsAsk.TheVariants as ask
 use Rattle.kvs_rules.specs.Log.{Log}
 use Rattle.kvs_rules.specs.Namespaces.{Setting}
-use Rattle.kvs_rules.specs.Landings.{IsUser, IsUsers}
+use Rattle.kvs_rules.specs.Landings.{IsUser}
 use Rattle.kvs_core.specs.declared.rows.Row.{Row}
 use Rattle.kvs_core.specs.declared.rows.Stage.TheVariants as stage
 use Rattle.kvs_core.specs.declared.rows.Work.TheVariants as work
-use Rattle.kvs_core.specs.Agrees.{Agrees, AreJoining, IsWaiting, SpaceAgrees}
+use Rattle.kvs_core.specs.Agrees.{Agrees, SpaceAgrees}
 use Rattle.kvs_core.specs.Rows.{IsRisingAsk, with_stage}
 use Rattle.kvs_core.specs.Sound.{IsSound}
 use Rattle.kvs_core.specs.Steps.{all_services, is_arrived_stage, other_than}
 use Rattle.kvs_core.specs.Value.{CoreValue}
 use Rattle.kvs_space.specs.Sound.{ArePosted, IsSoundSpace}
 use Rattle.kvs_space.specs.Space.{SpaceValue, is_named, members_in, queued}
-use Rattle.kvs_space.proofs.Posting.{no-manager, posted-user, user-behind}
 use Rattle.store_laws.specs.Posts.{posts_in}
-use Rattle.kvs_core.proofs.Carried.{waiting, each-join}
-use Rattle.kvs_core.proofs.Counting.{times, one_if, pushed-times, joined-times}
+use Rattle.kvs_core.proofs.Carried.{waiting}
+use Rattle.kvs_core.proofs.Counting.{times, one_if, joined-times}
 use Rattle.kvs_core.proofs.Moving.{found-there}
 use Rattle.kvs_core.proofs.Queueing.{waiting-posts}
 use Rattle.kvs_core.proofs.Joining.{joined-users, joined-posts, joined-taken, joined-joining, joined-kinds, whole-user}

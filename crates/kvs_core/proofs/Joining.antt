@@ -1,14 +1,12 @@
 -- A member of a fence comes.
-use Rattle.std.proofs.Common.{◌≡◌, ◌≢◌, Contains, ℕ, zero, suc, ◌+◌, ◌<◌, ◌≤◌, ◌==◌, List, [], ◌∷◌, ◌++◌, length, Bool, true, false, cond, if◌then◌else◌, Option, Some, None, inl, inr, map, option_map, refl, sym, ap, ◌∙◌, subst, arith, bytes_eq, length-append, true≢false}
-use Rattle.std.specs.List.{flat_map, list_any, AllByRecursion as Each}
+use Rattle.std.proofs.Common.{◌≡◌, ◌≢◌, Contains, ℕ, suc, ◌+◌, ◌<◌, ◌==◌, List, [], ◌∷◌, ◌++◌, length, Bool, true, false, cond, if◌then◌else◌, Option, Some, None, inl, inr, map, option_map, refl, sym, ap, ◌∙◌, subst, arith, bytes_eq, length-append, true≢false}
+use Rattle.std.specs.List.{list_any, AllByRecursion as Each}
 use Rattle.std.proofs.lemmas.List.Folds.{list_any-append, list_any_at}
 use Rattle.std.specs.Option.{option_map_or}
-use Rattle.std.specs.Map.{lookup, remove_entry}
+use Rattle.std.specs.Map.{remove_entry}
 use Rattle.std.specs.Cmp.Lexicographic.{bytes_decides}
 use Rattle.indexmap.specs.IndexMap.{insert_entry}
 use Rattle.kvs_txn.specs.declared.txn.By.{By}
-use Rattle.kvs_txn.specs.declared.txn.Author.{Author}
-use Rattle.kvs_txn.specs.declared.txn.Group.{Group}
 use Rattle.kvs_model.specs.Store.{Name, Store}
 use Rattle.fence_merge.specs.declared.member.Member.{Member}
 use Rattle.fence_merge.specs.Groups.{author_of, authors_of, ops_of, group_of}
@@ -19,7 +17,7 @@ use Rattle.kvs_rules.specs.declared.events.KvsAnswer.{KvsAnswer}
 use Rattle.kvs_rules.specs.declared.events.KvsEvent.TheVariants as event
 use Rattle.kvs_rules.specs.Log.{Log, Happened, answers_now, is_answered, same_command}
 use Rattle.kvs_rules.specs.Namespaces.{Setting, Asks}
-use Rattle.kvs_rules.specs.Landings.{AreMembers, IsUser, IsUsers}
+use Rattle.kvs_rules.specs.Landings.{AreMembers, IsUser}
 use Rattle.store_laws.specs.Posts.{posts_in}
 use Rattle.kvs_space.specs.Space.{is_authored, members_in, queued}
 use Rattle.kvs_space.specs.Sound.{ArePosted}

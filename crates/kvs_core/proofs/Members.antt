@@ -1,7 +1,7 @@
 -- The members of open fences, found by their commands.
-use Rattle.std.proofs.Common.{◌≡◌, ◌≢◌, ℕ, zero, suc, ◌<◌, ◌⊎◌, List, [], ◌∷◌, ◌++◌, length, Bool, true, false, cond, ◌||◌, Option, Some, None, Contains, inl, inr, map, refl, sym, ap, ◌∙◌, subst, arith, bytes_eq, true≢false}
-use Rattle.std.specs.List.{flat_map, list_any, IsDistinct, AllByRecursion as Each}
-use Rattle.std.specs.Map.{lookup, keys_of}
+use Rattle.std.proofs.Common.{◌≡◌, ℕ, suc, ◌<◌, List, [], ◌∷◌, ◌++◌, length, Bool, true, false, cond, ◌||◌, Some, None, Contains, map, refl, sym, ap, ◌∙◌, subst, arith, bytes_eq, true≢false}
+use Rattle.std.specs.List.{list_any, IsDistinct, AllByRecursion as Each}
+use Rattle.std.specs.Map.{keys_of}
 use Rattle.std.specs.Cmp.Lexicographic.{bytes_decides}
 use Rattle.std.proofs.lemmas.List.Folds.{list_any-append, list_any_at}
 use Rattle.kvs_txn.specs.declared.txn.By.{By}

@@ -1,5 +1,5 @@
 -- Which of the steps that can be made comes next.
-use Rattle.std.specs.Prelude.{ℕ, ◌%◌, List, length, Option, slice_get}
+use Rattle.std.specs.Prelude.{◌%◌, List, length, Option, slice_get}
 use Rattle.rand_pcg.specs.Pcg.{pcg32}
 use Rattle.workload.specs.Draws.{seeded}
 use Rattle.answers.specs.declared.steps.Step.{Step}

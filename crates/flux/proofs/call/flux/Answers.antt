@@ -1,5 +1,5 @@
 use Rattle.std.proofs.Common.{◌≡◌, rules, map, string_bytes}
-use Rattle.std.specs.Prelude.{Some, None}
+use Rattle.std.specs.Prelude.{None}
 use Rattle.flux.specs.Runs.{run_options}
 use Rattle.flux.proofs.call.flux.Goals as goal
 

@@ -1,9 +1,9 @@
-use Rattle.std.proofs.Common.{◌≡◌, ◌++◌, ◌-◌, ◌∙◌, ◌∷◌, ◌<◌, ℕ, Some, None, sym, ap, subst, append_assoc, length, get_or}
+use Rattle.std.proofs.Common.{◌≡◌, ◌++◌, ◌-◌, ◌∙◌, ◌∷◌, ◌<◌, ℕ, Some, None, sym, ap, subst, append_assoc, length}
 use Rattle.std.specs.Prelude.{slice_get, count_by}
 use Rattle.std.proofs.lemmas.Bool.{ltb-true, ltb-false}
 use Rattle.std.proofs.lemmas.Option.{slice_get-get_or, slice_get_past}
 use Rattle.answers.specs.declared.chronicle.Entry.TheVariants as entry
-use Rattle.world.specs.Closings.{closings_at, not_reached, numbers_in, unfinished_at}
+use Rattle.world.specs.Closings.{not_reached, numbers_in, unfinished_at}
 use Rattle.world.specs.Sound.{is_of}
 use Rattle.world.proofs.Leaving.{told_none, told_finished, told_left}
 use Rattle.world.proofs.unfinished.close_actor.Goals as goal

@@ -1,7 +1,6 @@
-use Rattle.std.proofs.Common.{◌≡◌, ◌∙◌, ℕ, suc, ◌+◌, ◌-◌, ◌<◌, ◌≤◌, ◌∷◌, true, false, ap, sym, map, rules, arith}
+use Rattle.std.proofs.Common.{◌≡◌, ◌∙◌, suc, ◌+◌, ◌-◌, ◌<◌, ◌≤◌, ◌∷◌, true, false, ap, sym, map, rules, arith}
 use Rattle.std.specs.Prelude.{Ok}
 use Rattle.std.specs.List.{filter, range_with_len}
-use Rattle.kvs_rules.specs.declared.events.KvsStep.{KvsStep}
 use Rattle.kvs_core.specs.Steps.{can_step}
 use Rattle.kvs_core.specs.Walk.{nth, step_of}
 use Rattle.kvs_core.proofs.Walking.{peeled, ended, skipped, found, counted}

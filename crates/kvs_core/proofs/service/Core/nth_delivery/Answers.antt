@@ -4,7 +4,7 @@ use Rattle.std.specs.List.{filter, range_with_len}
 use Rattle.kvs_rules.specs.declared.events.KvsStep.{KvsStep}
 use Rattle.kvs_rules.specs.declared.events.KvsStep.TheVariants as kvs
 use Rattle.kvs_core.specs.Steps.{can_step}
-use Rattle.kvs_core.specs.Walk.{nth, deliveries}
+use Rattle.kvs_core.specs.Walk.{nth}
 use Rattle.kvs_core.proofs.Walking.{peeled, ended, behind-all, within-all}
 use Rattle.kvs_core.proofs.service.Core.nth_delivery.Goals as goal
 

@@ -1,4 +1,4 @@
-use Rattle.std.proofs.Common.{◌≡◌, ◌+◌, ◌<◌, sym, arith, length}
+use Rattle.std.proofs.Common.{sym, arith}
 use Rattle.world.specs.Order.{before_end}
 use Rattle.world.proofs.Numbering.{below, lengthy}
 use Rattle.world.proofs.run.World.count.Goals as goal

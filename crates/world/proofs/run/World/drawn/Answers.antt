@@ -1,4 +1,4 @@
-use Rattle.std.proofs.Common.{◌≡◌, ◌∙◌, ◌%◌, ◌<◌, ap, sym, arith, false, length, rules}
+use Rattle.std.proofs.Common.{◌≡◌, ◌%◌, ◌<◌, sym, arith, false, length, rules}
 use Rattle.std.specs.Prelude.{min}
 use Rattle.world.specs.Order.{before_end}
 use Rattle.world.proofs.Numbering.{chosen-by, never-behind}

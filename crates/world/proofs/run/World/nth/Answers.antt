@@ -1,4 +1,4 @@
-use Rattle.std.proofs.Common.{◌≡◌, ◌∙◌, ap, sym, subst}
+use Rattle.std.proofs.Common.{◌≡◌, ◌∙◌, sym, subst}
 use Rattle.std.specs.Prelude.{Ok, Err}
 use Rattle.kvs_core.specs.Order.{possible}
 use Rattle.kvs_core.specs.Walk.{nth}

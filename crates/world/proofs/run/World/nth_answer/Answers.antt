@@ -1,5 +1,5 @@
-use Rattle.std.proofs.Common.{◌≡◌, ◌∙◌, ℕ, suc, ◌+◌, ◌-◌, ◌<◌, ◌≤◌, ◌∷◌, true, false, ap, sym, rules, arith, length}
-use Rattle.std.specs.Prelude.{Ok, Some, None, filter_map, if◌then◌else◌}
+use Rattle.std.proofs.Common.{◌≡◌, ◌∙◌, suc, ◌+◌, ◌-◌, ◌<◌, ◌≤◌, ◌∷◌, true, false, ap, sym, rules, arith, length}
+use Rattle.std.specs.Prelude.{Some, None, filter_map, if◌then◌else◌}
 use Rattle.std.specs.List.{range_with_len}
 use Rattle.kvs_core.specs.Walk.{nth}
 use Rattle.kvs_core.proofs.Walking.{peeled, ended}

@@ -1,9 +1,9 @@
-use Rattle.std.proofs.Common.{◌≡◌, ◌∙◌, ℕ, suc, ◌+◌, ◌-◌, ◌<◌, ◌≤◌, ap, sym, subst, arith, length}
+use Rattle.std.proofs.Common.{◌≡◌, ◌∙◌, suc, ◌-◌, ◌<◌, ◌≤◌, ap, sym, subst, arith, length}
 use Rattle.world.specs.Sound.{IsSound}
 use Rattle.world.specs.Steps.{next_of}
 use Rattle.world.specs.View.{value_of}
 use Rattle.world.proofs.Issuing.{issuer_within}
-use Rattle.world.proofs.Numbering.{IsNext, issue-behind, issue-here, line-within, next-at, next-here, no-issue-left, none-at}
+use Rattle.world.proofs.Numbering.{issue-behind, issue-here, line-within, next-at, next-here, no-issue-left, none-at}
 use Rattle.world.proofs.run.World.nth_issue.Goals as goal
 
 pub returns-then-left-eq0-clause-value : goal.returns-then-left-eq0-clause-value
