@@ -4,4 +4,5 @@ pub mod Replaying
 pub mod Rulings
 pub mod Hearings
 pub mod Posting
+pub mod Opening
 pub mod Differing

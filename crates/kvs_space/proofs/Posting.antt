@@ -117,7 +117,7 @@ posted-denied name ready g rest st refusal h is e =
     let p = subst (λ q. ArePosted name q st) is h in
     posted-less name g rest st (refused-user name g rest st refusal p e) p
 
-no-fences : AreFences []
+pub no-fences : AreFences []
 unfolding IsDistinct
 no-fences = record { open_each = tt; apart = tt }
 
@@ -141,7 +141,7 @@ begun-space fanout grant size name known stores links n l k st ls = record {
         ap (λ m. after (scope_of name) [] m (begun grant name)) (let e = one b lb in let z : seen (slice_index known b) 0 ≡ 0 = omega arith in z)
         ∙ ap Some (ap (λ b. cond b (first_store grant) empty_store) ((bytes_decides name primary).1 n) ∙ sym (ap (λ x. get_or x b []) st ∙ get_or-replicate size b (first_store grant) [] lb));
   };
-  living = refl;
+  living = inl refl;
   fences = no-fences;
   members = tt;
   posts = begun-posted grant name size stores n l st;

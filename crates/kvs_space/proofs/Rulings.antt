@@ -1,16 +1,16 @@
 -- Rank 0 rules in a namespace.
-use Rattle.std.proofs.Common.{◌≡◌, ◌≢◌, ℕ, suc, ◌+◌, ◌<◌, ◌≤◌, inl, inr, List, [], ◌∷◌, ◌++◌, length, Bool, true, false, cond, Option, Some, None, Ok, Err, option_and_then, refl, sym, ap, ◌∙◌, subst, arith, get_or, set, append_assoc, length-append, true≢false}
+use Rattle.std.proofs.Common.{◌≡◌, ◌≢◌, ℕ, suc, ◌+◌, ◌<◌, ◌≤◌, ◌⊎◌, inl, inr, List, [], ◌∷◌, ◌++◌, length, Bool, true, false, cond, Option, Some, None, Ok, Err, option_and_then, refl, sym, ap, ◌∙◌, subst, arith, get_or, set, append_assoc, length-append, true≢false}
 use Rattle.std.specs.Prelude.{slice_index, nat_lt, ◌==◌}
 use Rattle.std.proofs.lemmas.Bool.{cases_eq}
 use Rattle.std.proofs.lemmas.List.{length-set, get_or-set_same, get_or-set_other}
 use Rattle.kvs_txn.specs.declared.txn.Group.{Group}
 use Rattle.kvs_txn.specs.declared.txn.Scope.{Scope}
 use Rattle.kvs_txn.specs.declared.answers.Refusal.{Refusal}
-use Rattle.kvs_model.specs.Store.{Store}
+use Rattle.kvs_model.specs.Store.{Name, Store}
 use Rattle.kvs_model.specs.History.{after, after_groups, landed_on}
 use Rattle.kvs_model.specs.Operation.{effect}
 use Rattle.kvs_model.proofs.Histories.{after-kept}
-use Rattle.kvs_rules.specs.Namespaces.{scope_of}
+use Rattle.kvs_rules.specs.Namespaces.{is_primary, scope_of}
 use Rattle.kvs_rules.proofs.Stores.{after_push}
 use Rattle.std.specs.List.{AllByRecursion as Each}
 use Rattle.fence_merge.specs.Fences.{AreFences}
@@ -18,7 +18,7 @@ use Rattle.fence_merge.specs.Merging.{MergerValue}
 use Rattle.kvs_rules.specs.Landings.{IsUser}
 use Rattle.kvs_space.specs.Links.{IsAnnounced, IsAnnouncedBut}
 use Rattle.kvs_space.specs.Rulings.{IsOfFirst, IsFirstRefused}
-use Rattle.kvs_space.specs.Sound.{ArePosted, IsSoundSpace}
+use Rattle.kvs_space.specs.Sound.{ArePosted, IsSoundSpace, idle}
 use Rattle.kvs_space.specs.Space.{SpaceValue, seen, begun, members_in}
 use Rattle.kvs_space.proofs.Announced.{below-newest}
 
@@ -104,7 +104,7 @@ module _ {fanout : ℕ} {grant : List ℕ} {s : SpaceValue} (sound : IsSoundSpac
         let r = roots in
         omega arith;
     replicas = record { same_len = length-set s.stores 0 new ∙ sound.replicas.same_len ∙ sym (length-set s.known 0 (number + 1)); each = λ b l. each b (simp length-set at l) };
-    living = living;
+    living = inl living;
     fences = subst AreFences (sym fences) sound.fences;
     members = subst (λ fs. Each (λ x. IsUser x.txn.author) (members_in fs)) (sym fences) sound.members;
     posts = subst (ArePosted s.name m.ready) (sym (get_or-set_same s.stores 0 new [] (let q = sound.replicas.same_len in let o = sound.some in omega arith))) posts;
@@ -123,6 +123,11 @@ pub nonempty : (xs ys : List Group) (b : Bool) → b ≡ (length ys == 0) → b 
 nonempty [] [] b e f g none = true≢false (sym e ∙ f)
 nonempty [] (y ∷ ys) b e f g none = cc
 nonempty (x ∷ xs) ys b e f g none = cc
+
+-- a namespace in which something is ready is live
+pub ready-live : (name : Name) (removed : Bool) (merger : MergerValue) → (removed ≡ false) ⊎ (is_primary name ≡ false) × (merger ≡ idle) → merger.ready ≢ [] → removed ≡ false
+ready-live name removed merger (inl living) some = living
+ready-live name removed merger (inr gone) some = absurd (some (ap (λ m. m.ready) gone.1))
 
 pub ready-some : (xs : List Group) → nat_lt 0 (length xs) ≡ true → xs ≢ []
 ready-some [] e none = true≢false (sym e)

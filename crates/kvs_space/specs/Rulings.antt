@@ -1,5 +1,5 @@
 -- What rank 0 makes of what is ready in a namespace, and what a broker hears of it.
-use Rattle.std.specs.Prelude.{◌≡◌, ◌≢◌, ℕ, ◌+◌, List, [], ◌∷◌, ◌++◌, Option, Some, None, Ok, Err, slice_index, slice_index_or, slice_set}
+use Rattle.std.specs.Prelude.{◌≡◌, ◌≢◌, ℕ, ◌+◌, List, [], ◌∷◌, ◌++◌, true, false, Option, Some, None, Ok, Err, slice_index, slice_index_or, slice_set}
 use Rattle.kvs_txn.specs.declared.txn.Group.{Group}
 use Rattle.kvs_txn.specs.declared.txn.Scope.{Scope}
 use Rattle.kvs_txn.specs.declared.answers.Refusal.{Refusal}
@@ -11,6 +11,7 @@ use Rattle.kvs_rules.specs.Namespaces.{scope_of}
 use Rattle.kvs_rules.specs.Landings.{IsUser}
 use Rattle.kvs_space.specs.Links.{IsNext}
 use Rattle.kvs_space.specs.Space.{SpaceValue}
+use Rattle.kvs_space.specs.Sound.{idle}
 use Rattle.kvs_space.specs.declared.space.Ruling.{Ruling}
 use Rattle.kvs_space.specs.declared.space.Ruling.TheVariants as ruling
 
@@ -47,6 +48,16 @@ pub record IsLanding (number : ℕ) (groups : List Group) (old new : SpaceValue)
   pub fences : new.merger.fences ≡ old.merger.fences
   pub made : (st : Store) × (after_groups (scope_of old.name) groups (slice_index_or old.stores 0 []) ≡ Some st)
   pub history : new.history ≡ old.history ++ groups ∷ []
+  pub known : new.known ≡ slice_set old.known 0 (number + 1)
+
+-- the namespace is removed under the next number, nothing waits in it any more, and rank 0 has heard it
+pub record IsRemoving (number : ℕ) (old new : SpaceValue) : Type 0 where
+  pub name : new.name ≡ old.name
+  pub was : old.removed ≡ false
+  pub removed : new.removed ≡ true
+  pub next : number ≡ slice_index old.known 0
+  pub merger : new.merger ≡ idle
+  pub history : new.history ≡ old.history
   pub known : new.known ≡ slice_set old.known 0 (number + 1)
 
 -- the first group was refused, and is taken out

@@ -1,5 +1,5 @@
 -- A namespace at all brokers.
-use Rattle.std.specs.Prelude.{ℕ, zero, suc, ◌+◌, ◌++◌, map, flat_map, ◌-◌, nat_lt, slice_get, min, Bool, List, [], Option, Some, None, length, slice_index, slice_index_or, cond}
+use Rattle.std.specs.Prelude.{ℕ, zero, suc, ◌+◌, ◌++◌, map, flat_map, ◌-◌, nat_lt, ◌==◌, ◌&&◌, not, count_by, slice_get, min, Bool, List, [], Option, Some, None, length, slice_index, slice_index_or, cond}
 use Rattle.std.specs.List.{list_any}
 use Rattle.std.specs.Option.{option_map_or, option_map}
 use Rattle.std.specs.Str.{bytes_eq}
@@ -52,6 +52,18 @@ name_at spaces space = option_map (λ s. s.name) (slice_get spaces space)
 -- how many roots the broker knows of the namespace of this place in the table
 abbrev pub known_at : List SpaceValue → ℕ → ℕ → ℕ
 known_at spaces space broker = option_map_or (λ s. slice_index s.known broker) (slice_get spaces space) 0
+
+-- whether the broker has heard the namespace's removal, which is its last root
+abbrev pub has_heard_end : ℕ → SpaceValue → Bool
+has_heard_end broker s = s.removed && (slice_index s.known broker == slice_index s.known 0)
+
+-- whether this is the namespace of the name, and the broker has heard of it
+abbrev pub is_known_to : ℕ → Name → SpaceValue → Bool
+is_known_to broker name s = is_named name s && nat_lt 0 (slice_index s.known broker)
+
+-- how many of these namespaces are live
+abbrev pub live_in : List SpaceValue → ℕ
+live_in spaces = count_by (λ s. not s.removed) spaces
 
 -- whether a transaction carries out the command
 abbrev pub is_authored : By → Group → Bool

@@ -6,6 +6,7 @@ mod space;
 mod telling;
 
 pub use space::{
-    Rise, Ruling, Space, SpaceFault, find, first_news, is_landing, is_news, number_of,
+    Rise, Ruling, Space, SpaceFault, count_live, find, find_known, first_news, is_landing, is_news,
+    number_of,
 };
-pub use telling::{KvsEvents, denial, hearing, landing};
+pub use telling::{KvsEvents, changing, denial, hearing, landing};

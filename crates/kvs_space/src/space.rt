@@ -1,15 +1,15 @@
 //! One namespace, at all brokers.
-ghost use Rattle.std.specs.Prelude.{◌≡◌, ◌≢◌, ℕ, suc, ◌+◌, ◌-◌, ◌<◌, ◌≤◌, min, true, false, List, [], ◌∷◌, ◌++◌, Option, Some, None, IsSome, OnOk, IfOk, length, slice_get, slice_index, slice_index_or};
+ghost use Rattle.std.specs.Prelude.{◌≡◌, ◌≢◌, ℕ, suc, ◌+◌, ◌-◌, ◌<◌, ◌≤◌, ◌==◌, cond, min, true, false, List, [], ◌∷◌, ◌++◌, Option, Some, None, IsSome, OnOk, IfOk, length, slice_get, slice_index, slice_index_or};
 ghost use Rattle.kvs_txn.specs.declared.txn.Group.{Group as GroupValue};
 ghost use Rattle.kvs_txn.specs.declared.answers.Refusal.{Refusal as RefusalValue};
 ghost use Rattle.kvs_model.specs.Store.{Store as Contents};
 ghost use Rattle.kvs_model.specs.History.{after, after_groups, first_store};
-ghost use Rattle.kvs_rules.specs.Namespaces.{primary, scope_of};
-ghost use Rattle.kvs_space.specs.Space.{seen, number_of, is_named, has_news, link_at, is_ready};
-ghost use Rattle.kvs_space.specs.Sound.{IsSoundSpace};
+ghost use Rattle.kvs_rules.specs.Namespaces.{is_primary, primary, scope_of};
+ghost use Rattle.kvs_space.specs.Space.{seen, number_of, has_heard_end, is_known_to, live_in, is_named, has_news, link_at, is_ready};
+ghost use Rattle.kvs_space.specs.Sound.{IsSoundSpace, idle};
 ghost use Rattle.std.specs.List.{position, list_any};
 ghost use Rattle.std.specs.Option.{option_map, option_map_or};
-ghost use Rattle.kvs_space.specs.Rulings.{HasTaken, IsOfFirst, IsHearing, IsRuled};
+ghost use Rattle.kvs_space.specs.Rulings.{HasTaken, IsOfFirst, IsHearing, IsRemoving, IsRuled};
 ghost use Rattle.fence_merge.specs.Merging.{pushed, joined};
 ghost use Rattle.fence_merge.specs.Fences.{AreFences, fence_of};
 
@@ -247,6 +247,67 @@ impl Space {
         })
     }
 
+    /// A namespace that is opened, other than `primary`, at so many brokers: rank 0 has heard its first root, and the
+    /// announcements to the brokers below it are on the way.
+    pub fn opened(alloc: Global, name: Bytes, size: u32, fanout: u32) -> Result<Space, SpaceFault>
+        requires size { 1 ≤ size }
+        requires fanout { 0 < fanout }
+        requires other { is_primary name ≡ false }
+        ensures name { IfOk result (λ space. space.name ≡ name) }
+        ensures fresh { IfOk result (λ space. (space.removed ≡ false) × (space.history ≡ [])
+            × (space.merger ≡ idle)) }
+        ensures size { IfOk result (λ space. length space.known ≡ size) }
+        ensures known { IfOk result (λ space. (b : ℕ) → b < size
+            → slice_index space.known b ≡ cond (b == 0) 1 0) }
+        ensures sound { IfOk result (λ space. (grant : List ℕ) → IsSoundSpace fanout grant space) }
+    {
+        let mut known = Vec::new(alloc);
+        let mut stores = Vec::new(alloc);
+        let mut links = Vec::new(alloc);
+        for broker in 0..size {
+            let _ = broker;
+            known.push(0)?;
+            stores.push(Store::empty(alloc)?)?;
+            links.push(Link::new(alloc))?;
+        }
+        hear(&mut known, &mut links, fanout as usize, 0, 1)?;
+        Ok(Space {
+            name,
+            removed: false,
+            history: Vec::new(alloc),
+            known,
+            stores,
+            links,
+            merger: Merger::new(alloc),
+        })
+    }
+
+    /// Removes a namespace other than `primary`: nothing waits in it any more, rank 0 has heard of a last root without a
+    /// store, and the announcements of it are on the way. Gives that root's number.
+    pub fn remove(&mut self, alloc: Global, fanout: u32) -> Result<u64, SpaceFault>
+        requires sound { (grant : List ℕ) × IsSoundSpace fanout grant self.old }
+        requires fanout { 0 < fanout }
+        requires other { is_primary self.old.name ≡ false }
+        requires living { self.old.removed ≡ false }
+        ensures sound { OnOk result ((grant : List ℕ) → IsSoundSpace fanout grant self.old
+            → IsSoundSpace fanout grant self.new) }
+        ensures removed { IfOk result (λ number. IsRemoving number self.old self.new) }
+    {
+        let number = self.known[0];
+        let next = next_number(number)?;
+        self.removed = true;
+        self.merger = Merger::new(alloc);
+        hear(&mut self.known, &mut self.links, fanout as usize, 0, next)?;
+        Ok(number)
+    }
+
+    /// Whether the namespace was removed.
+    pub fn is_removed(&self) -> bool
+        ensures { result ≡ self.now.removed }
+    {
+        self.removed
+    }
+
     /// The namespace's name.
     pub fn name(&self) -> &Bytes
         ensures { result.now ≡ self.now.name }
@@ -266,6 +327,13 @@ impl Space {
         ensures { result ≡ slice_index self.now.known broker }
     {
         self.known.get(broker as usize).copied().unwrap_or(0)
+    }
+
+    /// Whether a broker has heard the namespace's removal.
+    pub fn has_heard_end(&self, broker: u32) -> bool
+        ensures { result ≡ has_heard_end broker self.now }
+    {
+        self.removed && self.known(broker) == self.known(0)
     }
 
     /// The store of a broker.
@@ -390,6 +458,28 @@ pub fn find(spaces: &Vec<Space>, name: &Bytes) -> Option<usize>
     ensures { result ≡ position (is_named name.now) spaces.now.items }
 {
     spaces.iter().position(|space| space.is_named(name))
+}
+
+/// The place in the table of the namespace of a name, if a broker has heard of it.
+pub fn find_known(spaces: &Vec<Space>, name: &Bytes, broker: u32) -> Option<usize>
+    ensures { result ≡ position (is_known_to broker name.now) spaces.now.items }
+{
+    spaces
+        .iter()
+        .position(|space| space.is_named(name) && 0 < space.known(broker))
+}
+
+/// How many of the namespaces are live.
+pub fn count_live(spaces: &Vec<Space>) -> usize
+    ensures { result ≡ live_in spaces.now.items }
+{
+    let mut live = 0;
+    for space in spaces {
+        if !space.removed {
+            live += 1;
+        }
+    }
+    live
 }
 
 /// The place of the first namespace of which an announcement is on the way to a broker.

@@ -1,10 +1,10 @@
 //! What the steps tell.
 ghost use Rattle.std.specs.Prelude.{◌≡◌, [], ◌∷◌, ◌++◌, Some, IfOk, OnOk};
 ghost use Rattle.kvs_rules.specs.Landings.{names_of, names_of_group};
-ghost use Rattle.kvs_space.specs.Told.{hearing, landing, denial};
+ghost use Rattle.kvs_space.specs.Told.{changing, hearing, landed_so, landing, denial};
 
 use kvs_rules::KvsEvent;
-use kvs_txn::{AuthorNames, Group, GroupList, Refusal};
+use kvs_txn::{AuthorNames, By, Group, GroupList, Refusal};
 use lists::{Bytes, Copied, ListOf};
 use std::alloc::{AllocError, Global};
 
@@ -68,17 +68,17 @@ pub fn hearing(
     }
 }
 
-/// Transactions land in the namespace, and rank 0 hears it.
-pub fn landing(
+/// A landing in the namespace by these authors, and rank 0 hears it.
+fn landed_so(
     alloc: Global,
     name: &Bytes,
     number: u64,
+    authors: AuthorNames,
     groups: GroupList,
 ) -> Result<KvsEvents, AllocError>
-    ensures { IfOk result (λ events. events ≡ landing name.now number groups) }
+    ensures { IfOk result (λ events. events ≡ landed_so name.now number authors groups) }
 {
     let namespace = name.copy()?;
-    let authors = names_of(alloc, &groups)?;
     let mut events = ListOf::new(alloc);
     events.push(KvsEvent::Landed {
         namespace,
@@ -93,6 +93,28 @@ pub fn landing(
         number,
     })?;
     Ok(events)
+}
+
+/// Transactions land in the namespace, and rank 0 hears it.
+pub fn landing(
+    alloc: Global,
+    name: &Bytes,
+    number: u64,
+    groups: GroupList,
+) -> Result<KvsEvents, AllocError>
+    ensures { IfOk result (λ events. events ≡ landing name.now number groups) }
+{
+    let authors = names_of(alloc, &groups)?;
+    landed_so(alloc, name, number, authors, groups)
+}
+
+/// A command opens or removes the namespace under this number, and rank 0 hears it.
+pub fn changing(alloc: Global, name: &Bytes, number: u64, by: By) -> Result<KvsEvents, AllocError>
+    ensures { IfOk result (λ events. events ≡ changing name.now number by) }
+{
+    let mut authors = AuthorNames::new(alloc);
+    authors.push(Some(by))?;
+    landed_so(alloc, name, number, authors, GroupList::new(alloc))
 }
 
 /// A transaction is refused in the namespace.

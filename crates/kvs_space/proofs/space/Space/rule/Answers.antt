@@ -6,7 +6,7 @@ use Rattle.kvs_space.specs.Space.{is_ready}
 use Rattle.kvs_space.specs.Sound.{ArePosted, IsSoundSpace}
 use Rattle.kvs_space.specs.Rulings.{IsLanding}
 use Rattle.kvs_space.proofs.Posting.{posted-taken}
-use Rattle.kvs_space.proofs.Rulings.{ruled-space, nonempty}
+use Rattle.kvs_space.proofs.Rulings.{ruled-space, nonempty, ready-live, ready-some}
 use Rattle.kvs_space.proofs.space.Space.rule.Goals as goal
 
 pub returns-in_ok-hear-clause-sound : goal.returns-in_ok-hear-clause-sound
@@ -17,7 +17,8 @@ returns-in_ok-hear-clause-sound c = λ grant h.
     let there = c.index_mut.ensures.value ∙ get_or_default c.self.inside.stores.items 0 c.index_mut.result.now [] (let q = sound.replicas.same_len in let o = sound.some in omega arith) in
     let counts = c.index-number.ensures ∙ get_or_default c.self.inside.known.items 0 c.index-number.result.now 0 sound.some in
     let made = subst (λ st. after_groups (scope_of c.self.inside.name) c.in_ok-groups.field-0.groups st ≡ Some c.take_ready.new.store) there (subst (λ sc. after_groups sc c.in_ok-groups.field-0.groups c.index_mut.result.now ≡ Some c.take_ready.new.store) c.scope_of-scope.ensures taken.made) in
-    ruled-space sound sound.living c.in_ok-groups.field-0.groups c.take_ready.new.store c.index-number.result.now counts made
+    let living = ready-live c.self.inside.name c.self.inside.removed c.self.inside.merger sound.living (ready-some c.self.inside.merger.ready ready) in
+    ruled-space sound living c.in_ok-groups.field-0.groups c.take_ready.new.store c.index-number.result.now counts made
     c.push.new.self.items c.hear.new.heard.items c.hear.new.links.items c.take_ready.new.merger
     (c.in_ok-push.ensures.items ∙ ap (λ g. c.self.inside.history.items ++ g ∷ []) c.in_ok-copy.ensures)
     (c.in_ok-hear.ensures.heard ∙ ap (λ n. set c.self.inside.known.items 0 n) c.in_ok-next.ensures) taken.fences
