@@ -36,6 +36,11 @@ on-within fanout size spaces from to (stage.Falling a b given) h at =
     let e = eq-is a from (and-left (a == from) _ h) in
     let f = eq-is b to (and-right (a == from) _ h) in
     (omega (arith, at), omega (arith, at))
+on-within fanout size spaces from to (stage.Returning a b space asked) h at =
+    let p : a < b = subst (λ n. n < b) (sym at.1) (parent-below fanout b at.0) in
+    let e = eq-is a from (and-left (a == from) _ h) in
+    let f = eq-is b to (and-right (a == from) _ h) in
+    (omega (arith, at), omega (arith, at))
 on-within fanout size spaces from to _ h at = cc
 
 -- the search of a link found the first that can be used
@@ -65,7 +70,7 @@ within v sound from to h = by (is_announced v from to) refl
         on-within v.fanout v.size v.spaces from to (row at.0).stage (at.2 any) (sound.placed at.0 any at.1).place
       where
         any : Row
-        any = record { by = record { actor = 0; command = 0 }; broker = 0; namespace = []; stage = stage.Joined 0 work.Commit }
+        any = record { by = record { actor = 0; command = 0 }; broker = 0; namespace = []; need = 0; stage = stage.Joined 0 work.Commit }
 
         row : ℕ → Row
         row k = get_or v.rows k any

@@ -34,7 +34,7 @@ solo-txn txn by = λ j. record { author = txn.author; ops = append-nil txn.ops j
 
 module _ {v : CoreValue} (s : IsSound v) (i : ℕ) (within : i < length v.rows) (row : Row) (read : row ≡ get_or v.rows i row) (k : ℕ) (found : Some k ≡ position (is_named row.namespace) v.spaces) (txn : Txn) (is : row.stage ≡ stage.Arrived (ask.Commit txn))
     (old new : SpaceValue) (read-space : old ≡ get_or v.spaces k old)
-    (now : new ≡ record { name = old.name; removed = old.removed; history = old.history; known = old.known; stores = old.stores; links = old.links; merger = pushed old.merger (record { actor = row.by.actor; command = row.by.command; txn = txn }) }) where
+    (now : new ≡ record { name = old.name; removed = old.removed; history = old.history; known = old.known; stores = old.stores; links = old.links; merger = pushed old.merger (record { actor = row.by.actor; command = row.by.command; txn = txn }) }) (live : old.removed ≡ false) where
   abbrev member : Member
   member = record { actor = row.by.actor; command = row.by.command; txn = txn }
 
@@ -57,13 +57,13 @@ module _ {v : CoreValue} (s : IsSound v) (i : ℕ) (within : i < length v.rows) 
   taken = posted-user old.name old.merger.ready (group_of [] member) (get_or old.stores 0 []) (no-manager txn.author user) sound-old.posts
 
   pub commit-sound : (rows : List Row) → rows ≡ set v.rows i (with_stage (stage.Joined k work.Commit) row) → (spent : Bool) → IsSound (record { spent = spent; size = v.size; fanout = v.fanout; grant = v.grant; spaces = set v.spaces k new; rows = rows })
-  commit-sound = joined-sound s i within row read k found work.Commit arrived old new read-space (pushed old.merger member) now more sound-old.fences sound-old.members posts taken
+  commit-sound = joined-sound s i within row read k found work.Commit arrived old new read-space (pushed old.merger member) now more sound-old.fences sound-old.members posts taken live tt
 
   pub commit-order : waiting-posts (set v.spaces k new) ≡ waiting-posts v.spaces
-  commit-order = joined-order s i within row read k found work.Commit arrived old new read-space (pushed old.merger member) now more sound-old.fences sound-old.members posts taken
+  commit-order = joined-order s i within row read k found work.Commit arrived old new read-space (pushed old.merger member) now more sound-old.fences sound-old.members posts taken live tt
 
   pub commit-fewer : (rows : List Row) → rows ≡ set v.rows i (with_stage (stage.Joined k work.Commit) row) → all_services rows < all_services v.rows
-  commit-fewer = joined-fewer s i within row read k found work.Commit arrived old new read-space (pushed old.merger member) now more sound-old.fences sound-old.members posts taken
+  commit-fewer = joined-fewer s i within row read k found work.Commit arrived old new read-space (pushed old.merger member) now more sound-old.fences sound-old.members posts taken live tt
 
   module _ {set₀ : Setting} {log : Log} (a : Agrees v set₀ log) where
     there : SpaceAgrees set₀ log v.size old
@@ -78,5 +78,5 @@ module _ {v : CoreValue} (s : IsSound v) (i : ℕ) (within : i < length v.rows) 
     pub commit-agrees : (rows : List Row) → rows ≡ set v.rows i (with_stage (stage.Joined k work.Commit) row) → Agrees (record { spent = false; size = v.size; fanout = v.fanout; grant = v.grant; spaces = set v.spaces k new; rows = rows }) set₀ log
     commit-agrees =
         let staged = arrived-staged s i within row read a (ask.Commit txn) is in
-        joined-agrees s i within row read k found work.Commit arrived old new read-space (pushed old.merger member) now more sound-old.fences sound-old.members posts taken a staged.0 (txn, staged.1)
+        joined-agrees s i within row read k found work.Commit arrived old new read-space (pushed old.merger member) now more sound-old.fences sound-old.members posts taken live tt a staged.0 (txn, staged.1)
         (each-join (IsWaiting set₀ old.name) old.merger.ready (group_of [] member ∷ []) there.kinds (inl users, tt)) there.joining

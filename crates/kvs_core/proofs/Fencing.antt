@@ -31,7 +31,7 @@ use Rattle.kvs_core.proofs.Taking.{joined-sound, joined-order, joined-fewer, joi
 module _ {v : CoreValue} (s : IsSound v) (i : ℕ) (within : i < length v.rows) (row : Row) (read : row ≡ get_or v.rows i row) (k : ℕ) (found : Some k ≡ position (is_named row.namespace) v.spaces) (name : List ℕ) (count : ℕ) (txn : Txn)
     (is : row.stage ≡ stage.Arrived (ask.Fence name count txn)) (old new : SpaceValue) (read-space : old ≡ get_or v.spaces k old)
     (now : new ≡ record { name = old.name; removed = old.removed; history = old.history; known = old.known; stores = old.stores; links = old.links; merger = joined old.merger name count (record { actor = row.by.actor; command = row.by.command; txn = txn }) })
-    (fences : AreFences new.merger.fences) where
+    (fences : AreFences new.merger.fences) (live : old.removed ≡ false) where
   abbrev member : Member
   member = record { actor = row.by.actor; command = row.by.command; txn = txn }
 
@@ -60,13 +60,13 @@ module _ {v : CoreValue} (s : IsSound v) (i : ℕ) (within : i < length v.rows) 
   taken = joined-taken name old.merger count member risen.0 sound-old.members old.name (get_or old.stores 0 []) sound-old.posts
 
   pub fence-sound : (rows : List Row) → rows ≡ set v.rows i (with_stage (stage.Joined k work.Fence) row) → (spent : Bool) → IsSound (record { spent = spent; size = v.size; fanout = v.fanout; grant = v.grant; spaces = set v.spaces k new; rows = rows })
-  fence-sound = joined-sound s i within row read k found work.Fence arrived old new read-space (joined old.merger name count member) now more fences-now members posts taken
+  fence-sound = joined-sound s i within row read k found work.Fence arrived old new read-space (joined old.merger name count member) now more fences-now members posts taken live tt
 
   pub fence-order : waiting-posts (set v.spaces k new) ≡ waiting-posts v.spaces
-  fence-order = joined-order s i within row read k found work.Fence arrived old new read-space (joined old.merger name count member) now more fences-now members posts taken
+  fence-order = joined-order s i within row read k found work.Fence arrived old new read-space (joined old.merger name count member) now more fences-now members posts taken live tt
 
   pub fence-fewer : (rows : List Row) → rows ≡ set v.rows i (with_stage (stage.Joined k work.Fence) row) → all_services rows < all_services v.rows
-  fence-fewer = joined-fewer s i within row read k found work.Fence arrived old new read-space (joined old.merger name count member) now more fences-now members posts taken
+  fence-fewer = joined-fewer s i within row read k found work.Fence arrived old new read-space (joined old.merger name count member) now more fences-now members posts taken live tt
 
   module _ (same : other_than (option_map (λ f. f.count) (fence_of name old.merger.fences)) count ≡ None) {set₀ : Setting} {log : Log} (a : Agrees v set₀ log) where
     there : SpaceAgrees set₀ log v.size old
@@ -76,6 +76,6 @@ module _ {v : CoreValue} (s : IsSound v) (i : ℕ) (within : i < length v.rows) 
     fence-agrees =
         let staged = arrived-staged s i within row read a (ask.Fence name count txn) is in
         let asks = asks-there s i within row read a (ask.Fence name count txn) is old.name (named-so s i within row read k found old read-space) in
-        joined-agrees s i within row read k found work.Fence arrived old new read-space (joined old.merger name count member) now more fences-now members posts taken a staged.0 (name, count, txn, staged.1)
+        joined-agrees s i within row read k found work.Fence arrived old new read-space (joined old.merger name count member) now more fences-now members posts taken live tt a staged.0 (name, count, txn, staged.1)
         (joined-kinds name set₀ old.name old.merger count member asks there.joining same risen.1 (whole-user name old.merger count member risen.0 sound-old.members) there.kinds)
         (joined-joining name set₀ old.name old.merger count member asks there.joining same)

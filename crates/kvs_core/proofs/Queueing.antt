@@ -42,7 +42,7 @@ module _ (spaces : List SpaceValue) (old new : SpaceValue) (name : new.name ≡ 
       ap (λ xs. xs ++ waiting-posts (set spaces (suc k) new)) (other (λ e. cc)) ∙ ap posts-at (get-other spaces (suc k) within old new read name 0 (λ e. cc))
 
 -- none waits in a namespace other than `primary`
-elsewhere : {v : CoreValue} → IsSound v → (k : ℕ) → k < length v.spaces → (old : SpaceValue) → old ≡ get_or v.spaces k old → k ≢ 0 → posts_in old.merger.ready ≡ []
+pub elsewhere : {v : CoreValue} → IsSound v → (k : ℕ) → k < length v.spaces → (old : SpaceValue) → old ≡ get_or v.spaces k old → k ≢ 0 → posts_in old.merger.ready ≡ []
 elsewhere {v} s k within old read ne = by (subst (IsSoundSpace v.fanout v.grant) (sym read) (s.spaces k old within)).posts
   where
     by : ArePosted old.name old.merger.ready (get_or old.stores 0 []) → posts_in old.merger.ready ≡ []

@@ -6,7 +6,7 @@ use Rattle.kvs_core.specs.Steps.{is_fence_stage}
 use Rattle.kvs_core.proofs.rows.take_joiner.Goals as goal
 
 any : Row
-any = record { by = record { actor = 0; command = 0 }; broker = 0; namespace = []; stage = stage.Joined 0 work.Commit }
+any = record { by = record { actor = 0; command = 0 }; broker = 0; namespace = []; need = 0; stage = stage.Joined 0 work.Commit }
 
 pub unreachable-requires : goal.unreachable-requires
 unreachable-requires c =

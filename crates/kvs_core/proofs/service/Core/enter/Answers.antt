@@ -1,19 +1,27 @@
-use Rattle.std.proofs.Common.{◌≡◌, ◌∙◌, ◌<◌, Some, None, length, arith, get_or, ap, sym, subst}
+use Rattle.std.proofs.Common.{◌≡◌, ◌∙◌, ◌<◌, Some, None, true, false, length, arith, get_or, ap, sym, subst}
 use Rattle.std.specs.List.{position}
 use Rattle.std.proofs.lemmas.List.{get_or_default}
 use Rattle.kvs_rules.specs.declared.events.KvsAnswer.TheVariants as answer
+use Rattle.kvs_core.specs.declared.rows.Kind.TheVariants as kind
 use Rattle.kvs_core.specs.declared.rows.Row.{Row}
-use Rattle.kvs_core.specs.Agrees.{Agrees, MayTell}
-use Rattle.kvs_core.specs.Steps.{is_fence_stage, kept_count}
+use Rattle.kvs_core.specs.Steps.{is_arrived, is_fence_stage, kept_count, kind_of}
 use Rattle.kvs_space.specs.Space.{SpaceValue, is_named}
 use Rattle.kvs_space.proofs.Finding.{found-within}
-use Rattle.kvs_core.proofs.Taking.{arrived-fence, differs-fits}
+use Rattle.kvs_core.proofs.Looking.{gone-fits}
+use Rattle.kvs_core.proofs.Taking.{arrived-ask, arrived-fence, differs-fits}
+use Rattle.kvs_core.proofs.Tables.{any, told-seen}
 use Rattle.kvs_core.proofs.service.Core.enter.Goals as goal
+
+pub index-requires : goal.index-requires
+index-requires c =
+    let found = subst (λ v. (d : Row) → Some c.args.k ≡ position (is_named (get_or v.rows c.args.i d).namespace) v.spaces) (sym c.self.view_is) c.requires.found any in
+    let f = found-within (is_named (get_or c.self.inside.rows.items c.args.i any).namespace) c.self.inside.spaces.items c.args.k found in
+    omega (arith, c.self.inside.spaces.ok.0, f)
 
 pub index-requires-then-is_joining-2 : goal.index-requires-then-is_joining-2
 index-requires-then-is_joining-2 c =
-    let found₀ = subst (λ v. (d : Row) → Some c.args.k ≡ position (is_named (get_or v.rows c.args.i d).namespace) v.spaces) (sym c.self.view_is) c.requires.found in
-    let f = found-within (is_named (get_or c.self.inside.rows.items c.args.i c.index.result.now).namespace) c.self.inside.spaces.items c.args.k (found₀ c.index.result.now) in
+    let found = subst (λ v. (d : Row) → Some c.args.k ≡ position (is_named (get_or v.rows c.args.i d).namespace) v.spaces) (sym c.self.view_is) c.requires.found any in
+    let f = found-within (is_named (get_or c.self.inside.rows.items c.args.i any).namespace) c.self.inside.spaces.items c.args.k found in
     omega (arith, c.self.inside.spaces.ok.0, f)
 
 pub turn_away-requires-clause-fits : goal.turn_away-requires-clause-fits
@@ -21,23 +29,49 @@ turn_away-requires-clause-fits c = λ set log a d.
     let s = c.self.invariant (ap (λ v. v.spent) c.self.view_is ∙ c.requires.ready) in
     let e = sym c.self.view_is in
     let within = subst (λ v. c.args.i < length v.rows) e c.requires.within in
-    let found₀ = subst (λ v. (d : Row) → Some c.args.k ≡ position (is_named (get_or v.rows c.args.i d).namespace) v.spaces) e c.requires.found in
-    let found = found₀ c.index-then-is_joining.result.now ∙ ap (λ r. position (is_named r.namespace) c.self.inside.spaces.items) (sym c.index-then-is_joining.ensures) in
-    let same = c.index-then-is_joining.ensures ∙ get_or_default c.self.inside.rows.items c.args.i c.index-then-is_joining.result.now c.index.result.now within ∙ sym c.index.ensures in
+    let row = get_or c.self.inside.rows.items c.args.i d in
+    let found = subst (λ v. (d : Row) → Some c.args.k ≡ position (is_named (get_or v.rows c.args.i d).namespace) v.spaces) e c.requires.found d in
+    let lands = subst (λ v. (d : Row) → kind_of (get_or v.rows c.args.i d).stage ≡ kind.Land) e c.requires.asked d in
+    let ar = arrived-ask row (subst (λ v. (d : Row) → is_arrived (get_or v.rows c.args.i d) ≡ true) e c.requires.arrived d) in
+    told-seen c.self.view_is c.args.i answer.NoNamespace d (λ b. gone-fits s c.args.i within row (get_or_default c.self.inside.rows.items c.args.i d row within) c.args.k found ar.asked ar.is c.index.result.now c.index.ensures b
+    (sym c.is_removed.ensures ∙ c.if-is_removed.true) (λ q. let no : kind.Land ≡ kind.Look = sym lands ∙ q in cc) (λ q. let no : kind.Land ≡ kind.Create = sym lands ∙ q in cc)) a
+
+pub turn_away-requires-in-Some-clause-fits : goal.turn_away-requires-in-Some-clause-fits
+turn_away-requires-in-Some-clause-fits c = λ set log a d.
+    let s = c.self.invariant (ap (λ v. v.spent) c.self.view_is ∙ c.requires.ready) in
+    let e = sym c.self.view_is in
+    let within = subst (λ v. c.args.i < length v.rows) e c.requires.within in
+    let row = get_or c.self.inside.rows.items c.args.i d in
+    let found = subst (λ v. (d : Row) → Some c.args.k ≡ position (is_named (get_or v.rows c.args.i d).namespace) v.spaces) e c.requires.found d in
+    let same = get_or_default c.self.inside.rows.items c.args.i d c.index-2.result.now within ∙ sym c.index-2.ensures in
     let fence = ap (λ r. is_fence_stage r.stage) same ∙ sym c.is_joining.ensures ∙ c.if-is_joining.true in
-    let f = arrived-fence c.index-then-is_joining.result.now fence in
-    let b = subst (λ v. Agrees v set log) e a in
-    subst (λ v. MayTell set log v.spaces (get_or v.rows c.args.i d).by None (answer.CountDiffers c.in-Some.kept)) c.self.view_is
-    (subst (λ y. MayTell set log c.self.inside.spaces.items y None (answer.CountDiffers c.in-Some.kept)) (ap (λ r. r.by) (c.index-then-is_joining.ensures ∙ get_or_default c.self.inside.rows.items c.args.i c.index-then-is_joining.result.now d within))
-    (differs-fits s c.args.i within c.index-then-is_joining.result.now c.index-then-is_joining.ensures c.args.k found c.index-then-is_joining-2.result.now c.index-then-is_joining-2.ensures f.name f.count f.txn f.is c.in-Some.kept
-    (c.in-Some.ensures ∙ ap (kept_count c.index-then-is_joining-2.result.now) f.is) b))
+    let f = arrived-fence row fence in
+    let same₁ = c.index-then-is_joining.ensures ∙ get_or_default c.self.inside.rows.items c.args.i c.index-then-is_joining.result.now d within in
+    told-seen c.self.view_is c.args.i (answer.CountDiffers c.in-Some.kept) d (λ b. differs-fits s c.args.i within row (get_or_default c.self.inside.rows.items c.args.i d row within) c.args.k found c.index-then-is_joining-2.result.now c.index-then-is_joining-2.ensures f.name f.count f.txn f.is c.in-Some.kept
+    (c.in-Some.ensures ∙ ap (λ r. kept_count c.index-then-is_joining-2.result.now r.stage) same₁ ∙ ap (kept_count c.index-then-is_joining-2.result.now) f.is) b) a
+
+pub join_fence-requires-clause-living : goal.join_fence-requires-clause-living
+join_fence-requires-clause-living c =
+    let e = sym c.self.view_is in
+    let found = subst (λ v. (d : Row) → Some c.args.k ≡ position (is_named (get_or v.rows c.args.i d).namespace) v.spaces) e c.requires.found any in
+    let inside = found-within (is_named (get_or c.self.inside.rows.items c.args.i any).namespace) c.self.inside.spaces.items c.args.k found in
+    subst (λ v. (d : SpaceValue) → (get_or v.spaces c.args.k d).removed ≡ false) c.self.view_is
+    (λ d. ap (λ x. x.removed) (sym (c.index.ensures ∙ get_or_default c.self.inside.spaces.items c.args.k c.index.result.now d inside)) ∙ sym c.is_removed.ensures ∙ c.if-is_removed.false)
+
+pub join-requires-clause-living : goal.join-requires-clause-living
+join-requires-clause-living c =
+    let e = sym c.self.view_is in
+    let found = subst (λ v. (d : Row) → Some c.args.k ≡ position (is_named (get_or v.rows c.args.i d).namespace) v.spaces) e c.requires.found any in
+    let inside = found-within (is_named (get_or c.self.inside.rows.items c.args.i any).namespace) c.self.inside.spaces.items c.args.k found in
+    subst (λ v. (d : SpaceValue) → (get_or v.spaces c.args.k d).removed ≡ false) c.self.view_is
+    (λ d. ap (λ x. x.removed) (sym (c.index.ensures ∙ get_or_default c.self.inside.spaces.items c.args.k c.index.result.now d inside)) ∙ sym c.is_removed.ensures ∙ c.if-is_removed.false)
 
 pub join_fence-requires-clause-same : goal.join_fence-requires-clause-same
 join_fence-requires-clause-same c =
     let e = sym c.self.view_is in
     let within = subst (λ v. c.args.i < length v.rows) e c.requires.within in
-    let found₀ = subst (λ v. (d : Row) → Some c.args.k ≡ position (is_named (get_or v.rows c.args.i d).namespace) v.spaces) e c.requires.found in
-    let inside = found-within (is_named (get_or c.self.inside.rows.items c.args.i c.index.result.now).namespace) c.self.inside.spaces.items c.args.k (found₀ c.index.result.now) in
+    let found = subst (λ v. (d : Row) → Some c.args.k ≡ position (is_named (get_or v.rows c.args.i d).namespace) v.spaces) e c.requires.found any in
+    let inside = found-within (is_named (get_or c.self.inside.rows.items c.args.i any).namespace) c.self.inside.spaces.items c.args.k found in
     subst (λ v. (d : Row) (x : SpaceValue) → kept_count (get_or v.spaces c.args.k x) (get_or v.rows c.args.i d).stage ≡ None) c.self.view_is
     (λ d x. sym (c.in-None.ensures
     ∙ ap (λ y. kept_count y c.index-then-is_joining.result.now.stage) (c.index-then-is_joining-2.ensures ∙ get_or_default c.self.inside.spaces.items c.args.k c.index-then-is_joining-2.result.now x inside)

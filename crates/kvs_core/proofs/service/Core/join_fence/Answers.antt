@@ -1,4 +1,4 @@
-use Rattle.std.proofs.Common.{◌≡◌, ◌∙◌, ◌<◌, Some, None, true, false, length, arith, get_or, ap, sym, subst, set as set₁}
+use Rattle.std.proofs.Common.{inl, ◌≡◌, ◌∙◌, ◌<◌, Some, None, true, false, length, arith, get_or, ap, sym, subst, set as set₁}
 use Rattle.std.specs.List.{position}
 use Rattle.kvs_core.specs.declared.rows.Row.{Row}
 use Rattle.kvs_core.specs.declared.rows.Stage.TheVariants as stage
@@ -30,7 +30,7 @@ invariant_of-self-2 c = λ _.
     let joiner = c.take_joiner-name.result in
     let stage-is = ap (λ r. r.stage) c.index.ensures ∙ c.take_joiner-name.ensures.was c.index.result.now in
     let rows-are = c.take_joiner-name.ensures.rows c.index.result.now ∙ ap (λ r. set₁ c.self.inside.rows.items c.args.i (with_stage (stage.Joined c.args.k work.Fence) r)) (sym c.index.ensures) in
-    fence-sound s c.args.i within c.index.result.now c.index.ensures c.args.k found joiner.name joiner.count joiner.txn stage-is c.index_mut-space.result.now c.join.new.self c.index_mut-space.ensures.value c.in_ok-join.ensures.joined c.in_ok-join.ensures.open c.take_joiner-name.new.rows.items rows-are false
+    fence-sound s c.args.i within c.index.result.now c.index.ensures c.args.k found joiner.name joiner.count joiner.txn stage-is c.index_mut-space.result.now c.join.new.self c.index_mut-space.ensures.value c.in_ok-join.ensures.joined c.in_ok-join.ensures.open (ap (λ x. x.removed) c.index_mut-space.ensures.value ∙ subst (λ v. (d : SpaceValue) → (get_or v.spaces c.args.k d).removed ≡ false) e c.requires.living c.index_mut-space.result.now) c.take_joiner-name.new.rows.items rows-are false
 
 pub returns-clause-does : goal.returns-clause-does
 returns-clause-does c =
@@ -43,8 +43,8 @@ returns-clause-does c =
     let joiner = c.take_joiner-name.result in
     let stage-is = ap (λ r. r.stage) c.index.ensures ∙ c.take_joiner-name.ensures.was c.index.result.now in
     let rows-are = c.take_joiner-name.ensures.rows c.index.result.now ∙ ap (λ r. set₁ c.self.inside.rows.items c.args.i (with_stage (stage.Joined c.args.k work.Fence) r)) (sym c.index.ensures) in
-    subst (λ v. all_services c.take_joiner-name.new.rows.items < all_services v.rows) c.self.view_is
-    (fence-fewer s c.args.i within c.index.result.now c.index.ensures c.args.k found joiner.name joiner.count joiner.txn stage-is c.index_mut-space.result.now c.join.new.self c.index_mut-space.ensures.value c.in_ok-join.ensures.joined c.in_ok-join.ensures.open c.take_joiner-name.new.rows.items rows-are)
+    inl (subst (λ v. all_services c.take_joiner-name.new.rows.items < all_services v.rows) c.self.view_is
+    (fence-fewer s c.args.i within c.index.result.now c.index.ensures c.args.k found joiner.name joiner.count joiner.txn stage-is c.index_mut-space.result.now c.join.new.self c.index_mut-space.ensures.value c.in_ok-join.ensures.joined c.in_ok-join.ensures.open (ap (λ x. x.removed) c.index_mut-space.ensures.value ∙ subst (λ v. (d : SpaceValue) → (get_or v.spaces c.args.k d).removed ≡ false) e c.requires.living c.index_mut-space.result.now) c.take_joiner-name.new.rows.items rows-are))
 
 pub returns-clause-agrees : goal.returns-clause-agrees
 returns-clause-agrees c = λ set log a.
@@ -60,7 +60,7 @@ returns-clause-agrees c = λ set log a.
     let same₀ = subst (λ v. (d : Row) (x : SpaceValue) → kept_count (get_or v.spaces c.args.k x) (get_or v.rows c.args.i d).stage ≡ None) e c.requires.same in
     let same = ap (λ st. kept_count c.index_mut-space.result.now st) (sym (c.take_joiner-name.ensures.was c.index.result.now)) ∙ ap (λ x. kept_count x (get_or c.self.inside.rows.items c.args.i c.index.result.now).stage) c.index_mut-space.ensures.value ∙ same₀ c.index.result.now c.index_mut-space.result.now in
     let b = subst (λ v. Agrees v set log) e a in
-    fence-agrees s c.args.i within c.index.result.now c.index.ensures c.args.k found joiner.name joiner.count joiner.txn stage-is c.index_mut-space.result.now c.join.new.self c.index_mut-space.ensures.value c.in_ok-join.ensures.joined c.in_ok-join.ensures.open same b c.take_joiner-name.new.rows.items rows-are
+    fence-agrees s c.args.i within c.index.result.now c.index.ensures c.args.k found joiner.name joiner.count joiner.txn stage-is c.index_mut-space.result.now c.join.new.self c.index_mut-space.ensures.value c.in_ok-join.ensures.joined c.in_ok-join.ensures.open (ap (λ x. x.removed) c.index_mut-space.ensures.value ∙ subst (λ v. (d : SpaceValue) → (get_or v.spaces c.args.k d).removed ≡ false) e c.requires.living c.index_mut-space.result.now) same b c.take_joiner-name.new.rows.items rows-are
 
 pub index_mut-space-requires : goal.index_mut-space-requires
 index_mut-space-requires c =
@@ -80,7 +80,7 @@ returns-clause-posted c =
     let joiner = c.take_joiner-name.result in
     let stage-is = ap (λ r. r.stage) c.index.ensures ∙ c.take_joiner-name.ensures.was c.index.result.now in
     let rows-are = c.take_joiner-name.ensures.rows c.index.result.now ∙ ap (λ r. set₁ c.self.inside.rows.items c.args.i (with_stage (stage.Joined c.args.k work.Fence) r)) (sym c.index.ensures) in
-    fence-order s c.args.i within c.index.result.now c.index.ensures c.args.k found joiner.name joiner.count joiner.txn stage-is c.index_mut-space.result.now c.join.new.self c.index_mut-space.ensures.value c.in_ok-join.ensures.joined c.in_ok-join.ensures.open ∙ ap posted c.self.view_is
+    fence-order s c.args.i within c.index.result.now c.index.ensures c.args.k found joiner.name joiner.count joiner.txn stage-is c.index_mut-space.result.now c.join.new.self c.index_mut-space.ensures.value c.in_ok-join.ensures.joined c.in_ok-join.ensures.open (ap (λ x. x.removed) c.index_mut-space.ensures.value ∙ subst (λ v. (d : SpaceValue) → (get_or v.spaces c.args.k d).removed ≡ false) e c.requires.living c.index_mut-space.result.now) ∙ ap posted c.self.view_is
 
 pub join-requires-clause-same : goal.join-requires-clause-same
 join-requires-clause-same c =

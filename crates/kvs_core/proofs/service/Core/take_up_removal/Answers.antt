@@ -1,0 +1,66 @@
+use Rattle.std.proofs.Common.{◌≡◌, ◌∙◌, ◌<◌, ◌≤◌, ◌⊎◌, ◌++◌, Some, true, false, length, map, append-nil, arith, get_or, ap, sym, subst}
+use Rattle.std.specs.List.{position}
+use Rattle.std.proofs.lemmas.List.{get_or_default}
+use Rattle.kvs_rules.specs.declared.events.KvsAnswer.TheVariants as answer
+use Rattle.kvs_rules.specs.Log.{Happened}
+use Rattle.kvs_core.specs.declared.rows.Kind.TheVariants as kind
+use Rattle.kvs_core.specs.declared.rows.Row.{Row}
+use Rattle.kvs_core.specs.Agrees.{Agrees}
+use Rattle.kvs_core.specs.Steps.{all_services, is_arrived, kind_of}
+use Rattle.kvs_space.specs.Space.{SpaceValue, is_named}
+use Rattle.kvs_space.proofs.Finding.{found-within}
+use Rattle.kvs_core.proofs.Looking.{gone-fits, primary-fits}
+use Rattle.kvs_core.proofs.Tables.{any, told-seen}
+use Rattle.kvs_core.proofs.Taking.{arrived-ask}
+use Rattle.kvs_core.proofs.service.Core.take_up_removal.Goals.{then-k-eq0+in_ok-turn_away, else-k-eq0+then-removed+in_ok-turn_away-2}
+use Rattle.kvs_core.proofs.service.Core.take_up_removal.Goals as goal
+
+pub index-requires : goal.index-requires
+index-requires c =
+    let found = subst (λ v. (d : Row) → Some c.args.k ≡ position (is_named (get_or v.rows c.args.i d).namespace) v.spaces) (sym c.self.view_is) c.requires.found any in
+    let f = found-within (is_named (get_or c.self.inside.rows.items c.args.i any).namespace) c.self.inside.spaces.items c.args.k found in
+    omega (arith, c.self.inside.spaces.ok.0, f)
+
+pub turn_away-requires-clause-fits : goal.turn_away-requires-clause-fits
+turn_away-requires-clause-fits c = λ set log a d.
+    let s = c.self.invariant (ap (λ v. v.spent) c.self.view_is ∙ c.requires.ready) in
+    let e = sym c.self.view_is in
+    let within = subst (λ v. c.args.i < length v.rows) e c.requires.within in
+    let row = get_or c.self.inside.rows.items c.args.i d in
+    let found = subst (λ v. (d : Row) → Some c.args.k ≡ position (is_named (get_or v.rows c.args.i d).namespace) v.spaces) e c.requires.found d in
+    let remove = subst (λ v. (d : Row) → kind_of (get_or v.rows c.args.i d).stage ≡ kind.Remove) e c.requires.asked d in
+    let ar = arrived-ask row (subst (λ v. (d : Row) → is_arrived (get_or v.rows c.args.i d) ≡ true) e c.requires.arrived d) in
+    told-seen c.self.view_is c.args.i answer.IsPrimary d (λ b. primary-fits s c.args.i within row (get_or_default c.self.inside.rows.items c.args.i d row within) c.args.k found ar.asked ar.is c.index.result.now c.index.ensures b remove c.if-k-eq0.true) a
+
+pub turn_away-requires-then-removed-clause-fits : goal.turn_away-requires-then-removed-clause-fits
+turn_away-requires-then-removed-clause-fits c = λ set log a d.
+    let s = c.self.invariant (ap (λ v. v.spent) c.self.view_is ∙ c.requires.ready) in
+    let e = sym c.self.view_is in
+    let within = subst (λ v. c.args.i < length v.rows) e c.requires.within in
+    let row = get_or c.self.inside.rows.items c.args.i d in
+    let found = subst (λ v. (d : Row) → Some c.args.k ≡ position (is_named (get_or v.rows c.args.i d).namespace) v.spaces) e c.requires.found d in
+    let remove = subst (λ v. (d : Row) → kind_of (get_or v.rows c.args.i d).stage ≡ kind.Remove) e c.requires.asked d in
+    let ar = arrived-ask row (subst (λ v. (d : Row) → is_arrived (get_or v.rows c.args.i d) ≡ true) e c.requires.arrived d) in
+    told-seen c.self.view_is c.args.i answer.NoNamespace d (λ b. gone-fits s c.args.i within row (get_or_default c.self.inside.rows.items c.args.i d row within) c.args.k found ar.asked ar.is c.index.result.now c.index.ensures b
+    (sym c.is_removed-removed.ensures ∙ c.if-removed.true) (λ q. let no : kind.Remove ≡ kind.Look = sym remove ∙ q in cc) (λ q. let no : kind.Remove ≡ kind.Create = sym remove ∙ q in cc)) a
+
+pub remove-requires-clause-living : goal.remove-requires-clause-living
+remove-requires-clause-living c =
+    let found = subst (λ v. (d : Row) → Some c.args.k ≡ position (is_named (get_or v.rows c.args.i d).namespace) v.spaces) (sym c.self.view_is) c.requires.found any in
+    let inside = found-within (is_named (get_or c.self.inside.rows.items c.args.i any).namespace) c.self.inside.spaces.items c.args.k found in
+    subst (λ v. (d : SpaceValue) → (get_or v.spaces c.args.k d).removed ≡ false) c.self.view_is
+    (λ d. ap (λ x. x.removed) (sym (c.index.ensures ∙ get_or_default c.self.inside.spaces.items c.args.k c.index.result.now d inside)) ∙ sym c.is_removed-removed.ensures ∙ c.if-removed.false)
+
+pub returns-clause-does : goal.returns-clause-does
+returns-clause-does c =
+    subst (λ es. (all_services c.if-k-eq0.self.rows < all_services c.args.self.now.rows) ⊎ (1 ≤ length es)) (sym c.new.ensures) (elim c.if-k-eq0.branch [
+      | then-k-eq0+in_ok-turn_away w ↦ subst (λ v. (all_services v.rows < all_services c.args.self.now.rows) ⊎ (1 ≤ 0)) (sym w.self-is) w.in_ok-turn_away.ensures.does
+      | else-k-eq0+then-removed+in_ok-turn_away-2 w ↦ subst (λ v. (all_services v.rows < all_services c.args.self.now.rows) ⊎ (1 ≤ 0)) (sym w.self-is) w.in_ok-turn_away-2.ensures.does
+    ])
+
+pub returns-clause-agrees : goal.returns-clause-agrees
+returns-clause-agrees c = λ set log a.
+    subst (λ es. Agrees c.if-k-eq0.self set (log ++ map Happened es)) (sym c.new.ensures) (subst (Agrees c.if-k-eq0.self set) (sym (append-nil log)) (elim c.if-k-eq0.branch [
+      | then-k-eq0+in_ok-turn_away w ↦ subst (λ v. Agrees v set log) (sym w.self-is) (w.in_ok-turn_away.ensures.agrees set log a)
+      | else-k-eq0+then-removed+in_ok-turn_away-2 w ↦ subst (λ v. Agrees v set log) (sym w.self-is) (w.in_ok-turn_away-2.ensures.agrees set log a)
+    ]))
