@@ -63,6 +63,9 @@ verb_built work number tail verb.Ls none = one_key_built number tail none
 verb_built work number tail verb.Readlink none = one_key_built number tail none
 verb_built work number tail verb.Wait none = tt
 verb_built work number tail verb.Tell none = tt
+verb_built work number tail verb.NsCreate none = tt
+verb_built work number tail verb.NsRemove none = tt
+verb_built work number tail verb.NsUse none = tt
 
 said_built : (work : Workload) (number : ℕ) (tail : List ℕ) (o : Option Verb) → first_of (option_map_or (λ v. faults_of number (said work v tail)) o ((true, line_fault.BadCommand number) ∷ [])) ≡ None
     → IfSome (option_map (λ v. (said work v tail).command) o) IsBuilt

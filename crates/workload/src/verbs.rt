@@ -2,7 +2,7 @@ ghost use Rattle.std.specs.Prelude.{◌≡◌, ◌≤◌, [], ◌∷◌, length}
 ghost use Rattle.kvs_txn.specs.Keys.{components};
 ghost use Rattle.workload.specs.Limits.{most_actors};
 ghost use Rattle.workload.specs.Words.{first_word, behind_word};
-ghost use Rattle.workload.specs.Verbs.{first_of, faults_of, verb_of, said, one_key, key_and_text, two_keys, is_past_key, is_past_value, Reads};
+ghost use Rattle.workload.specs.Verbs.{first_of, faults_of, verb_of, said, one_key, one_name, key_and_text, two_keys, is_past_key, is_past_value, Reads};
 
 use crate::faults::{LineFault, Which};
 use crate::limits::{MOST_MEMBERS, MOST_VALUE};
@@ -27,6 +27,9 @@ pub enum Verb {
     Readlink,
     Wait,
     Tell,
+    NsCreate,
+    NsRemove,
+    NsUse,
 }
 
 impl Verb {
@@ -47,6 +50,9 @@ impl Verb {
             "readlink" => Some(Verb::Readlink),
             "wait" => Some(Verb::Wait),
             "tell" => Some(Verb::Tell),
+            "ns-create" => Some(Verb::NsCreate),
+            "ns-remove" => Some(Verb::NsRemove),
+            "ns-use" => Some(Verb::NsUse),
             _ => None,
         }
     }
@@ -257,6 +263,55 @@ fn tell(work: &Workload, line: u64, tail: &str) -> Result<Command, LineFault>
     })
 }
 
+/// The name that stands alone behind a verb.
+fn one_name(alloc: Global, line: u64, tail: &str) -> Result<Bytes, LineFault>
+    ensures { Reads
+        (first_of (faults_of line (one_name Command.NsUse tail.now)))
+        (λ name. name ≡ first_word tail.now)
+        result }
+{
+    let (name, rest) = cut(tail);
+    let (more, _) = cut(rest);
+    if !can_name(name) || !more.is_empty() {
+        return Err(LineFault::BadCommand { line });
+    }
+    let name = Bytes::of(alloc, name.as_bytes())?;
+    Ok(name)
+}
+
+/// The command `ns-create NAME`, of the text behind the verb.
+fn ns_create(alloc: Global, work: &Workload, line: u64, tail: &str) -> Result<Command, LineFault>
+    ensures { Reads
+        (first_of (faults_of line (said work.now Verb.NsCreate tail.now)))
+        (λ c. c ≡ (said work.now Verb.NsCreate tail.now).command)
+        result }
+{
+    let name = one_name(alloc, line, tail)?;
+    Ok(Command::NsCreate { name })
+}
+
+/// The command `ns-remove NAME`, of the text behind the verb.
+fn ns_remove(alloc: Global, work: &Workload, line: u64, tail: &str) -> Result<Command, LineFault>
+    ensures { Reads
+        (first_of (faults_of line (said work.now Verb.NsRemove tail.now)))
+        (λ c. c ≡ (said work.now Verb.NsRemove tail.now).command)
+        result }
+{
+    let name = one_name(alloc, line, tail)?;
+    Ok(Command::NsRemove { name })
+}
+
+/// The command `ns-use NAME`, of the text behind the verb.
+fn ns_use(alloc: Global, work: &Workload, line: u64, tail: &str) -> Result<Command, LineFault>
+    ensures { Reads
+        (first_of (faults_of line (said work.now Verb.NsUse tail.now)))
+        (λ c. c ≡ (said work.now Verb.NsUse tail.now).command)
+        result }
+{
+    let name = one_name(alloc, line, tail)?;
+    Ok(Command::NsUse { name })
+}
+
 /// The command that a verb and the text behind it spell, in the line of this number.
 pub fn command(
     alloc: Global,
@@ -281,5 +336,8 @@ pub fn command(
         Verb::Readlink => readlink(alloc, work, line, tail),
         Verb::Wait => wait(work, line, tail),
         Verb::Tell => tell(work, line, tail),
+        Verb::NsCreate => ns_create(alloc, work, line, tail),
+        Verb::NsRemove => ns_remove(alloc, work, line, tail),
+        Verb::NsUse => ns_use(alloc, work, line, tail),
     }
 }
