@@ -9,14 +9,12 @@ use Rattle.std.proofs.lemmas.List.{take_all, take-append-drop, length-map}
 use Rattle.std.proofs.lemmas.List.Elements.{Contains-get_or}
 use Rattle.std.proofs.lemmas.List.Folds.{list_any-append}
 use Rattle.std.proofs.lemmas.Option.{slice_get_cases, slice_get_past, slice_get_within}
-use Rattle.std.proofs.lemmas.Slice.Eq.{bytes_eq-Decides}
 use Rattle.kvs_txn.specs.declared.txn.By.{By}
 use Rattle.kvs_model.specs.Store.{Name}
-use Rattle.kvs_rules.specs.Sequence.{EachAfter, latest}
-use Rattle.kvs_rules.specs.declared.events.KvsEvent.TheVariants as event
-use Rattle.kvs_rules.specs.Log.{Log, Moment, Asked, Happened, is_asked, is_landed, is_denied}
-use Rattle.kvs_rules.specs.Namespaces.{landed, is_live, primary}
-use Rattle.kvs_rules.specs.Brokers.{heard, number_heard}
+use Rattle.kvs_rules.specs.Sequence.{EachAfter}
+use Rattle.kvs_rules.specs.Log.{Log, is_asked, is_landed, is_denied}
+use Rattle.kvs_rules.specs.Namespaces.{landed, is_live}
+use Rattle.kvs_rules.specs.Brokers.{heard}
 use Rattle.kvs_rules.specs.Quiet.{IsMember, IsQuiet}
 use Rattle.kvs_rules.proofs.Sequences.{each_joined, each_push}
 use Rattle.workload.specs.declared.work.Command.{Command}
@@ -44,36 +42,37 @@ use Rattle.world.specs.Value.{WorldValue}
 use Rattle.world.proofs.Listing.{any_left, count-append}
 use Rattle.world.proofs.Ranges.{counted_flat, counted_none, counted_one, counted_range, contained_flat, distinct_passed, each_flat, each_mapped, each_passed, no_more_than}
 use Rattle.world.proofs.Commanding.{own_length}
-use Rattle.world.proofs.Leaving.{IsDone, IsLeft, IsStuckFence, IsStuckWait, in_fence, numbers_of, told_of}
+use Rattle.world.proofs.Leaving.{IsCause, IsDone, IsLeft, IsStuckFence, in_fence, numbers_of, seat_told, told_of}
 use Rattle.world.proofs.Unlanded.{unasked_uncarried}
-use Rattle.world.proofs.Closing.{IsStillQuiet, left_of, past_all, still_so}
+use Rattle.world.proofs.Closing.{IsStillHeard, IsStillQuiet, left_of, past_all, still_so}
 use Rattle.world.proofs.Going.{unended}
+use Rattle.world.proofs.Seeing.{name_is}
 use Rattle.world.proofs.Stretching.{stretches_on}
 
 -- ---- closing replies, whatever the seats say
 
-left_closes : (had : ℕ) (lines : List Line) (seats : List Seat) (c : Command) → IfSome (left_reply had lines seats c) (λ given. IsTrue (is_closing given))
-left_closes had lines seats (command.Fence name count) = refl
-left_closes had lines seats (command.Wait number) = refl
-left_closes had lines seats _ = tt
+left_closes : (had : ℕ) (lines : List Line) (seats : List Seat) (space : Name) (c : Command) → IfSome (left_reply had lines seats space c) (λ given. IsTrue (is_closing given))
+left_closes had lines seats space (command.Fence name count) = refl
+left_closes had lines seats space (command.Wait number) = refl
+left_closes had lines seats space _ = tt
 
-told_closing : (numbers : ℕ → ℕ) (lines : List Line) (seats : List Seat) (a : ℕ) → Each IsClosingEntry (closings_of numbers lines seats a)
+told_closing : (numbers : ℕ → Name → ℕ) (lines : List Line) (seats : List Seat) (a : ℕ) → Each IsClosingEntry (closings_of numbers lines seats a)
 told_closing numbers lines seats a = on (slice_get seats a)
   where
-    on : (o : Option Seat) → Each IsClosingEntry (option_map_or (λ seat. option_map_or (closings_at lines a seat) (unfinished_at (numbers seat.broker) lines seats seat) []) o [])
+    on : (o : Option Seat) → Each IsClosingEntry (option_map_or (λ seat. option_map_or (closings_at lines a seat) (unfinished_at (numbers seat.broker seat.subject) lines seats seat) []) o [])
     on None = tt
-    on (Some seat) = by (unfinished_at (numbers seat.broker) lines seats seat) (closes (is_served seat.waiting) (open_command lines seat))
+    on (Some seat) = by (unfinished_at (numbers seat.broker seat.subject) lines seats seat) (closes (is_served seat.waiting) (open_command lines seat))
       where
-        closes : (b : Bool) (c : Option Command) → IfSome (cond b (option_and_then (left_reply (numbers seat.broker) lines seats) c) None) (λ given. IsTrue (is_closing given))
+        closes : (b : Bool) (c : Option Command) → IfSome (cond b (option_and_then (left_reply (numbers seat.broker seat.subject) lines seats seat.subject) c) None) (λ given. IsTrue (is_closing given))
         closes false c = tt
         closes true None = tt
-        closes true (Some c) = left_closes (numbers seat.broker) lines seats c
+        closes true (Some c) = left_closes (numbers seat.broker seat.subject) lines seats seat.subject c
 
         by : (f : Option Reply) → IfSome f (λ given. IsTrue (is_closing given)) → Each IsClosingEntry (option_map_or (closings_at lines a seat) f [])
         by None h = tt
         by (Some given) h = ((h, refl), each_mapped IsClosingEntry (λ number. entry.Replied a number reply.NotReached None) seat.issued (count_by (is_of a) lines - seat.issued) (λ k low. (refl, refl)))
 
-pub all_closing : (numbers : ℕ → ℕ) (lines : List Line) (seats : List Seat) → Each IsClosingEntry (closings numbers lines seats)
+pub all_closing : (numbers : ℕ → Name → ℕ) (lines : List Line) (seats : List Seat) → Each IsClosingEntry (closings numbers lines seats)
 all_closing numbers lines seats = each_flat IsClosingEntry (closings_of numbers lines seats) (told_closing numbers lines seats) (range_with_len 0 (length seats))
 
 -- closing replies issue nothing, so they leave a chronicle settled
@@ -97,27 +96,6 @@ close_settled v c ec settled =
 
 -- ---- small facts
 
-number_some : (broker : ℕ) (m : Moment) (first : Option ℕ) → IsSome first → IsSome (unwrap_or (number_heard broker primary m) first)
-number_some broker (Asked by floored) first h = h
-number_some broker (Happened (event.Heard other named number)) first h = on ((broker == other) && bytes_eq primary named)
-  where
-    on : (b : Bool) → IsSome (unwrap_or (cond b (Some (Some number)) None) first)
-    on true = refl
-    on false = h
-number_some broker (Happened (event.Landed space number authors groups)) first h = h
-number_some broker (Happened (event.Denied space authors group refusal)) first h = h
-number_some broker (Happened (event.Got other reference)) first h = h
-number_some broker (Happened (event.Dropped other reference)) first h = h
-number_some broker (Happened (event.Answered by number given)) first h = h
-
--- of `primary` each broker has heard a number
-heard_some : (broker : ℕ) (log : Log) → IsSome (heard log broker primary)
-heard_some broker log = along log (Some 0) refl
-  where
-    along : (log : Log) (first : Option ℕ) → IsSome first → IsSome (latest (number_heard broker primary) first log)
-    along [] first h = h
-    along (m ∷ log) first h = along log (unwrap_or (number_heard broker primary m) first) (number_some broker m first h)
-
 or_no : (a b : Bool) → a ≡ false → b ≡ false → (a || b) ≡ false
 or_no true b e f = absurd (true≢false e)
 or_no false b e f = f
@@ -128,9 +106,6 @@ none_counted_in p f none (n ∷ ns) =
     let head : ◌≡◌ {A = ℕ} (cond (p (f n)) 1 0) 0 = ap (λ b. cond {A = ℕ} b 1 0) (none n) in
     let tail : count_by p (map f ns) ≡ 0 = none_counted_in p f none ns in
     count-append p (f n ∷ []) (map f ns) ∙ omega (arith, head, tail)
-
-name_is : (a b : Name) → bytes_eq a b ≡ true → a ≡ b
-name_is a b h = (bytes_eq-Decides a b).0 h
 
 none_issued : (by : By) (es : List Entry) → Each IsClosingEntry es → list_any (issues by) es ≡ false
 none_issued by [] h = refl
@@ -158,7 +133,7 @@ none_ended (entry.Closed ∷ es) h = absurd h.0
 
 -- ---- what is left at the end
 
-module _ (v : WorldValue) (h : IsSound v) (open_still : v.closed ≡ false) (over : IsOver v) (promise : IsStillQuiet v) where
+module _ (v : WorldValue) (h : IsSound v) (open_still : v.closed ≡ false) (over : IsOver v) (promise : IsStillQuiet v) (hears : IsStillHeard v) where
   abbrev log : Log
   log = log_of v.set.work top v.chronicle
 
@@ -187,11 +162,8 @@ module _ (v : WorldValue) (h : IsSound v) (open_still : v.closed ≡ false) (ove
   abbrev open_by : (a : ℕ) → IsLeft v a → By
   open_by a l = command_of a (l.seat.issued - 1)
 
-  abbrev IsCause : By → Type 0
-  IsCause by = IsStuckFence v by ⊎ IsStuckWait v by
-
   abbrev left_told : (a : ℕ) → IsLeft v a → Reply
-  left_told a l = told_of v (open_by a l) (numbers_of v l.seat.broker) l.stuck.cause
+  left_told a l = seat_told v a l.seat l.stuck.cause
 
   -- a closing reply to the actor's command of this number
   abbrev member_told : (a : ℕ) → IsLeft v a → Entry
@@ -212,57 +184,63 @@ module _ (v : WorldValue) (h : IsSound v) (open_still : v.closed ≡ false) (ove
 
   -- ---- the members of a fence
 
-  same_space : bytes_eq primary primary ≡ true
-  same_space = refl
-
   -- as many closing replies are of members of this fence as actors wait in it
-  counted : (name : Name) → count_by (leaves_member v.set.work primary name) left ≡ length (waiting_in lines v.seats name)
-  counted name = counted_flat p (waits_in lines v.seats name) (closings_of (numbers_of v) lines v.seats) each (range_with_len 0 (length v.seats))
+  counted : (space name : Name) → count_by (leaves_member v.set.work space name) left ≡ length (waiting_in lines v.seats space name)
+  counted space name = counted_flat p (waits_in lines v.seats space name) (closings_of (numbers_of v) lines v.seats) each (range_with_len 0 (length v.seats))
     where
       p : Entry → Bool
-      p = leaves_member v.set.work primary name
+      p = leaves_member v.set.work space name
 
-      joined : (a k had : ℕ) → subject_at v.set.work (command_of a k) ≡ primary → (cause : IsCause (command_of a k)) → p (entry.Replied a k (told_of v (command_of a k) had cause) None) ≡ in_fence v (command_of a k) cause name
-      joined a k had subject (inl f) = ap₂ (λ s c. bytes_eq primary s && joins name c) subject f.command
-      joined a k had subject (inr w) = refl
+      joined : (a k had : ℕ) (own : Name) → subject_at v.set.work (command_of a k) ≡ own → (cause : IsCause v own (command_of a k)) → p (entry.Replied a k (told_of v own (command_of a k) had cause) None) ≡ in_fence v own (command_of a k) cause space name
+      joined a k had own subject (inl f) = ap₂ (λ s c. bytes_eq space s && joins name c) subject f.command
+      joined a k had own subject (inr w) = refl
 
-      each : (a : ℕ) → count_by p (closings_of (numbers_of v) lines v.seats a) ≡ cond (waits_in lines v.seats name a) 1 0
+      each : (a : ℕ) → count_by p (closings_of (numbers_of v) lines v.seats a) ≡ cond (waits_in lines v.seats space name a) 1 0
       each a = elim (ends a) [
-        | inl d ↦ ap (count_by p) d.replies ∙ sym (ap (λ b. cond {A = ℕ} b 1 0) (d.waits name))
+        | inl d ↦ ap (count_by p) d.replies ∙ sym (ap (λ b. cond {A = ℕ} b 1 0) (d.waits space name))
         | inr l ↦
             let none : count_by p (rest_told a l) ≡ 0 = none_counted_in p (λ number. entry.Replied a number reply.NotReached None) (λ k. refl) (range_with_len l.seat.issued (count_by (is_of a) lines - l.seat.issued)) in
-            let own : p (member_told a l) ≡ in_fence v (open_by a l) l.stuck.cause name = joined a (l.seat.issued - 1) (numbers_of v l.seat.broker) l.stuck.subject l.stuck.cause in
-            let one : ◌≡◌ {A = ℕ} (cond (p (member_told a l)) 1 0) (cond (waits_in lines v.seats name a) 1 0) = ap (λ b. cond {A = ℕ} b 1 0) (own ∙ sym (l.waits name)) in
+            let own : p (member_told a l) ≡ in_fence v l.seat.subject (open_by a l) l.stuck.cause space name = joined a (l.seat.issued - 1) (numbers_of v l.seat.broker l.seat.subject) l.seat.subject l.stuck.subject l.stuck.cause in
+            let one : ◌≡◌ {A = ℕ} (cond (p (member_told a l)) 1 0) (cond (waits_in lines v.seats space name a) 1 0) = ap (λ b. cond {A = ℕ} b 1 0) (own ∙ sym (l.waits space name)) in
             ap (count_by p) l.replies ∙ count-append p (member_told a l ∷ []) (rest_told a l) ∙ omega (arith, none, one)
       ]
 
+  -- one that waits in a fence which is short of members is a member of it, and has its count
+  member_as : {by : By} {space : Name} (f : IsStuckFence v space by) (own : Name) (other : By) (g : IsStuckFence v own other) → bytes_eq space own ≡ true → bytes_eq f.name g.name ≡ true → IsMember (setting_of v.set) log space f.name g.count other
+  member_as {by} {space} f own other g here same =
+      subst (λ (s : Name). IsMember (setting_of v.set) log s f.name g.count other) (sym (name_is space own here))
+      (subst (λ (n : Name). IsMember (setting_of v.set) log own n g.count other) (sym (name_is f.name g.name same)) g.member)
+
+  both_so : (a b : Bool) → (a && b) ≡ true → (a ≡ true) × (b ≡ true)
+  both_so true b e = (refl, e)
+  both_so false b e = absurd (true≢false (sym e))
+
   -- all of them have the count of one that is short of members
-  agreed : {by : By} (f : IsStuckFence v by) → count_by (λ e. leaves_member v.set.work primary f.name e && leaves_of f.count e) left ≡ length (waiting_in lines v.seats f.name)
-  agreed f = counted_flat p (waits_in lines v.seats f.name) (closings_of (numbers_of v) lines v.seats) each (range_with_len 0 (length v.seats))
+  agreed : {by : By} (space : Name) (f : IsStuckFence v space by) → count_by (λ e. leaves_member v.set.work space f.name e && leaves_of f.count e) left ≡ length (waiting_in lines v.seats space f.name)
+  agreed space f = counted_flat p (waits_in lines v.seats space f.name) (closings_of (numbers_of v) lines v.seats) each (range_with_len 0 (length v.seats))
     where
       p : Entry → Bool
-      p = λ e. leaves_member v.set.work primary f.name e && leaves_of f.count e
+      p = λ e. leaves_member v.set.work space f.name e && leaves_of f.count e
 
-      agrees : {by : By} (g : IsStuckFence v by) (t : Bool) → bytes_eq f.name g.name ≡ t → (t && (f.count == g.count)) ≡ t
-      agrees g false e = refl
-      agrees {by} g true e =
-          let name : f.name ≡ g.name = name_is f.name g.name e in
-          let count : g.count ≡ f.count = f.short.agreed by g.count (subst (λ (n : Name). IsMember (setting_of v.set) log primary n g.count by) (sym name) g.member) in
-          eq-eqb f.count g.count (sym count)
+      agrees : (own : Name) (by : By) (g : IsStuckFence v own by) (t : Bool) → (bytes_eq space own && bytes_eq f.name g.name) ≡ t → (t && (f.count == g.count)) ≡ t
+      agrees own by g false e = refl
+      agrees own by g true e =
+          let both = both_so (bytes_eq space own) (bytes_eq f.name g.name) e in
+          eq-eqb f.count g.count (sym (f.short.agreed by g.count (member_as f own by g both.0 both.1)))
 
-      joined : (b k had : ℕ) → subject_at v.set.work (command_of b k) ≡ primary → (cause : IsCause (command_of b k)) → p (entry.Replied b k (told_of v (command_of b k) had cause) None) ≡ in_fence v (command_of b k) cause f.name
-      joined b k had subject (inl g) =
-          ap₂ (λ s c. (bytes_eq primary s && joins f.name c) && (f.count == g.count)) subject g.command
-          ∙ agrees g (bytes_eq f.name g.name) refl
-      joined b k had subject (inr w) = refl
+      joined : (b k had : ℕ) (own : Name) → subject_at v.set.work (command_of b k) ≡ own → (cause : IsCause v own (command_of b k)) → p (entry.Replied b k (told_of v own (command_of b k) had cause) None) ≡ in_fence v own (command_of b k) cause space f.name
+      joined b k had own subject (inl g) =
+          ap₂ (λ s c. (bytes_eq space s && joins f.name c) && (f.count == g.count)) subject g.command
+          ∙ agrees own (command_of b k) g (bytes_eq space own && bytes_eq f.name g.name) refl
+      joined b k had own subject (inr w) = refl
 
-      each : (b : ℕ) → count_by p (closings_of (numbers_of v) lines v.seats b) ≡ cond (waits_in lines v.seats f.name b) 1 0
+      each : (b : ℕ) → count_by p (closings_of (numbers_of v) lines v.seats b) ≡ cond (waits_in lines v.seats space f.name b) 1 0
       each b = elim (ends b) [
-        | inl d ↦ ap (count_by p) d.replies ∙ sym (ap (λ b. cond {A = ℕ} b 1 0) (d.waits f.name))
+        | inl d ↦ ap (count_by p) d.replies ∙ sym (ap (λ b. cond {A = ℕ} b 1 0) (d.waits space f.name))
         | inr m ↦
             let none : count_by p (rest_told b m) ≡ 0 = none_counted_in p (λ number. entry.Replied b number reply.NotReached None) (λ k. refl) (range_with_len m.seat.issued (count_by (is_of b) lines - m.seat.issued)) in
-            let own : p (member_told b m) ≡ in_fence v (open_by b m) m.stuck.cause f.name = joined b (m.seat.issued - 1) (numbers_of v m.seat.broker) m.stuck.subject m.stuck.cause in
-            let one : ◌≡◌ {A = ℕ} (cond (p (member_told b m)) 1 0) (cond (waits_in lines v.seats f.name b) 1 0) = ap (λ b. cond {A = ℕ} b 1 0) (own ∙ sym (m.waits f.name)) in
+            let own : p (member_told b m) ≡ in_fence v m.seat.subject (open_by b m) m.stuck.cause space f.name = joined b (m.seat.issued - 1) (numbers_of v m.seat.broker m.seat.subject) m.seat.subject m.stuck.subject m.stuck.cause in
+            let one : ◌≡◌ {A = ℕ} (cond (p (member_told b m)) 1 0) (cond (waits_in lines v.seats space f.name b) 1 0) = ap (λ b. cond {A = ℕ} b 1 0) (own ∙ sym (m.waits space f.name)) in
             ap (count_by p) m.replies ∙ count-append p (member_told b m ∷ []) (rest_told b m) ∙ omega (arith, none, one)
       ]
 
@@ -285,27 +263,26 @@ module _ (v : WorldValue) (h : IsSound v) (open_still : v.closed ≡ false) (ove
   opens_once a b e = sym (opens_actor a) ∙ ap (λ (by : By). by.actor) e ∙ opens_actor b
 
   -- fewer wait in such a fence than its count says
-  fewer : {by : By} (f : IsStuckFence v by) → length (waiting_in lines v.seats f.name) < f.count
-  fewer f =
-      let few : length (map opens (waiting_in lines v.seats f.name)) ≤ length f.short.members =
-      no_more_than (map opens (waiting_in lines v.seats f.name)) f.short.members
-      (distinct_passed opens (waits_in lines v.seats f.name) opens_once 0 (length v.seats))
-      (each_passed (Contains f.short.members) opens (waits_in lines v.seats f.name) (range_with_len 0 (length v.seats)) (λ b t. (f.short.come (opens b)).1 (members b t))) in
-      let long = length-map (waiting_in lines v.seats f.name) opens in
+  fewer : {by : By} (space : Name) (f : IsStuckFence v space by) → length (waiting_in lines v.seats space f.name) < f.count
+  fewer space f =
+      let few : length (map opens (waiting_in lines v.seats space f.name)) ≤ length f.short.members =
+      no_more_than (map opens (waiting_in lines v.seats space f.name)) f.short.members
+      (distinct_passed opens (waits_in lines v.seats space f.name) opens_once 0 (length v.seats))
+      (each_passed (Contains f.short.members) opens (waits_in lines v.seats space f.name) (range_with_len 0 (length v.seats)) (λ b t. (f.short.come (opens b)).1 (members b t))) in
+      let long = length-map (waiting_in lines v.seats space f.name) opens in
       omega (arith, few, long, f.short.short)
     where
-      member_of : (by : By) (cause : IsCause by) → in_fence v by cause f.name ≡ true → IsMember (setting_of v.set) log primary f.name f.count by
-      member_of by (inr w) t = absurd (true≢false (sym t))
-      member_of by (inl g) t =
-          let name : f.name ≡ g.name = name_is f.name g.name t in
-          let named = subst (λ (n : Name). IsMember (setting_of v.set) log primary n g.count by) (sym name) g.member in
-          let count : g.count ≡ f.count = f.short.agreed by g.count named in
-          subst (λ (n : ℕ). IsMember (setting_of v.set) log primary f.name n by) count named
+      member_of : (own : Name) (by : By) (cause : IsCause v own by) → in_fence v own by cause space f.name ≡ true → IsMember (setting_of v.set) log space f.name f.count by
+      member_of own by (inr w) t = absurd (true≢false (sym t))
+      member_of own by (inl g) t =
+          let both = both_so (bytes_eq space own) (bytes_eq f.name g.name) t in
+          let named = member_as f own by g both.0 both.1 in
+          subst (λ (n : ℕ). IsMember (setting_of v.set) log space f.name n by) (f.short.agreed by g.count named) named
 
-      members : (b : ℕ) → waits_in lines v.seats f.name b ≡ true → IsMember (setting_of v.set) log primary f.name f.count (opens b)
+      members : (b : ℕ) → waits_in lines v.seats space f.name b ≡ true → IsMember (setting_of v.set) log space f.name f.count (opens b)
       members b t = elim (ends b) [
-        | inl d ↦ absurd (true≢false (sym t ∙ d.waits f.name))
-        | inr m ↦ subst (IsMember (setting_of v.set) log primary f.name f.count) (ap (open_of b) (sym m.sits)) (member_of (open_by b m) m.stuck.cause (sym (m.waits f.name) ∙ t))
+        | inl d ↦ absurd (true≢false (sym t ∙ d.waits space f.name))
+        | inr m ↦ subst (IsMember (setting_of v.set) log space f.name f.count) (ap (open_of b) (sym m.sits)) (member_of m.seat.subject (open_by b m) m.stuck.cause (sym (m.waits space f.name) ∙ t))
       ]
 
   -- ---- closing replies make no moment and follow the chronicle
@@ -322,7 +299,7 @@ module _ (v : WorldValue) (h : IsSound v) (open_still : v.closed ≡ false) (ove
       undone : (c : Log) → c ≡ log → IsUndone (open_by a l) c
       undone c same = subst (IsUndone (open_by a l)) (sym same) (l.stuck.pending.unlanded, l.stuck.pending.undenied)
 
-      by_cause : (cause : IsCause (open_by a l)) → IsEnding (entry.Replied a (l.seat.issued - 1) (told_of v (open_by a l) (numbers_of v l.seat.broker) cause) None)
+      by_cause : (cause : IsCause v l.seat.subject (open_by a l)) → IsEnding (entry.Replied a (l.seat.issued - 1) (seat_told v a l.seat cause) None)
       by_cause (inl f) = (λ c. refl, refl, λ c same. (refl, undone (log_of v.set.work top c) same))
       by_cause (inr w) = (λ c. refl, refl, λ c same. (refl, undone (log_of v.set.work top c) same))
 
@@ -384,9 +361,10 @@ module _ (v : WorldValue) (h : IsSound v) (open_still : v.closed ≡ false) (ove
       list_any-append (issues by) told (entry.Closed ∷ [])
       ∙ or_no (is_issued by told) false (list_any-append (issues by) v.chronicle left ∙ or_no (is_issued by v.chronicle) (is_issued by left) f (none_issued by left (all_closing (numbers_of v) lines v.seats))) refl
 
-  -- of `primary` each broker has heard the last landing
-  told_number : (b : ℕ) → b < v.set.size → heard log b primary ≡ Some (landed log primary)
-  told_number b low = quiet.told b primary low (heard_some b log)
+  -- of a namespace that lives each broker has heard the last landing
+  told_number : (b : ℕ) (space : Name) → b < v.set.size → IsTrue (is_live log space) → heard log b space ≡ Some (landed log space)
+  told_number b space low living =
+      quiet.told b space low (hears (setting_of v.set) log (h.agrees open_still) (still_so v h open_still over.steps over.answers) b space low living)
 
   member_grounds : (a : ℕ) (l : IsLeft v a) → IsGrounded v.set whole left (member_told a l)
   member_grounds a l = by_cause l.stuck.cause
@@ -397,24 +375,27 @@ module _ (v : WorldValue) (h : IsSound v) (open_still : v.closed ≡ false) (ove
       begun : is_issued by v.chronicle ≡ true
       begun = let some = l.stuck.some in (stands a l.seat l.sits).0.begun (l.seat.issued - 1) (omega (arith, some))
 
-      living_so : IsTrue (is_live log primary) → IsTrue (is_live (log_of v.set.work top whole) (subject_at v.set.work by))
+      space : Name
+      space = l.seat.subject
+
+      living_so : IsTrue (is_live log space) → IsTrue (is_live (log_of v.set.work top whole) (subject_at v.set.work by))
       living_so living = subst (λ (c : Log). IsTrue (is_live c (subject_at v.set.work by))) (sym log_whole) (subst (λ (s : Name). IsTrue (is_live log s)) (sym l.stuck.subject) living)
 
-      told_here : heard log l.seat.broker primary ≡ Some (landed log primary)
-      told_here = told_number l.seat.broker (stands a l.seat l.sits).1.inside
+      told_here : IsTrue (is_live log space) → heard log l.seat.broker space ≡ Some (landed log space)
+      told_here living = told_number l.seat.broker space (stands a l.seat l.sits).1.inside living
 
-      had_is : numbers_of v l.seat.broker ≡ landed log primary
-      had_is = ap (λ o. unwrap_or o 0) told_here
+      had_is : IsTrue (is_live log space) → numbers_of v l.seat.broker space ≡ landed log space
+      had_is living = ap (λ o. unwrap_or o 0) (told_here living)
 
-      known_so : heard (log_of v.set.work top whole) (broker_of v.set.work a) (subject_at v.set.work by) ≡ Some (numbers_of v l.seat.broker)
-      known_so =
+      known_so : IsTrue (is_live log space) → heard (log_of v.set.work top whole) (broker_of v.set.work a) (subject_at v.set.work by) ≡ Some (numbers_of v l.seat.broker space)
+      known_so living =
           ap (λ (c : Log). heard c (broker_of v.set.work a) (subject_at v.set.work by)) log_whole
           ∙ ap (heard log (broker_of v.set.work a)) l.stuck.subject
-          ∙ ap (λ b. heard log b primary) (sym (stands a l.seat l.sits).1.home)
-          ∙ told_here
-          ∙ ap Some (sym had_is)
+          ∙ ap (λ b. heard log b space) (sym (stands a l.seat l.sits).1.home)
+          ∙ told_here living
+          ∙ ap Some (sym (had_is living))
 
-      by_cause : (cause : IsCause by) → IsGrounded v.set whole left (entry.Replied a (l.seat.issued - 1) (told_of v by (numbers_of v l.seat.broker) cause) None)
+      by_cause : (cause : IsCause v space by) → IsGrounded v.set whole left (entry.Replied a (l.seat.issued - 1) (seat_told v a l.seat cause) None)
       by_cause (inl f) = (
         refl,
         (
@@ -423,9 +404,9 @@ module _ (v : WorldValue) (h : IsSound v) (open_still : v.closed ≡ false) (ove
             name = f.name;
             asked = f.command;
             living = living_so f.short.living;
-            short = fewer f;
-            members = sym (ap (λ (s : Name). count_by (leaves_member v.set.work s f.name) left) l.stuck.subject ∙ counted f.name);
-            agreed = sym (ap (λ (s : Name). count_by (λ e. leaves_member v.set.work s f.name e && leaves_of f.count e) left) l.stuck.subject ∙ agreed f);
+            short = fewer space f;
+            members = sym (ap (λ (s : Name). count_by (leaves_member v.set.work s f.name) left) l.stuck.subject ∙ counted space f.name);
+            agreed = sym (ap (λ (s : Name). count_by (λ e. leaves_member v.set.work s f.name e && leaves_of f.count e) left) l.stuck.subject ∙ agreed space f);
           },
         ),
       )
@@ -436,15 +417,15 @@ module _ (v : WorldValue) (h : IsSound v) (open_still : v.closed ≡ false) (ove
           record {
             asked = w.command;
             living = living_so w.living;
-            known = known_so;
-            short = let above = w.above in let is = had_is in omega arith;
+            known = known_so w.living;
+            short = let above = w.above in let is = had_is w.living in omega arith;
           },
         ),
       )
 
-  unfinished_so : (by : By) (had : ℕ) (cause : IsCause by) → IsTrue (is_unfinished (told_of v by had cause))
-  unfinished_so by had (inl f) = refl
-  unfinished_so by had (inr w) = refl
+  unfinished_so : (space : Name) (by : By) (had : ℕ) (cause : IsCause v space by) → IsTrue (is_unfinished (told_of v space by had cause))
+  unfinished_so space by had (inl f) = refl
+  unfinished_so space by had (inr w) = refl
 
   rest_grounds : (a : ℕ) (l : IsLeft v a) (k : ℕ) → l.seat.issued ≤ k → IsGrounded v.set whole left (entry.Replied a k reply.NotReached None)
   rest_grounds a l k low =
@@ -459,7 +440,7 @@ module _ (v : WorldValue) (h : IsSound v) (open_still : v.closed ≡ false) (ove
             given = left_told a l;
             left = contained_flat (closings_of (numbers_of v) lines v.seats) (member_told a l) a 0 (length v.seats) (omega arith) (omega (arith, within))
                 (subst (λ es. Contains es (member_told a l)) (sym l.replies) (Contains-get_or (member_told a l ∷ rest_told a l) 0 (member_told a l) (omega arith)));
-            unfinished = unfinished_so (open_by a l) (numbers_of v l.seat.broker) l.stuck.cause;
+            unfinished = unfinished_so l.seat.subject (open_by a l) (numbers_of v l.seat.broker l.seat.subject) l.stuck.cause;
           },
         ),
       )
@@ -678,11 +659,11 @@ module _ (v : WorldValue) (h : IsSound v) (open_still : v.closed ≡ false) (ove
   }
 
 -- the same, with the chronicle, the steps and the ends as the code has them
-pub close_sound : (v : WorldValue) → IsSound v → IsOver v → IsStillQuiet v → v.closed ≡ false → (c : List Entry) (steps : List Step) (ends : List ℕ) → c ≡ (v.chronicle ++ closings (numbers_of v) v.set.work.lines v.seats) ++ entry.Closed ∷ [] → steps ≡ v.steps ++ step.Close ∷ [] → ends ≡ v.ends ++ length c ∷ [] →
+pub close_sound : (v : WorldValue) → IsSound v → IsOver v → IsStillQuiet v → IsStillHeard v → v.closed ≡ false → (c : List Entry) (steps : List Step) (ends : List ℕ) → c ≡ (v.chronicle ++ closings (numbers_of v) v.set.work.lines v.seats) ++ entry.Closed ∷ [] → steps ≡ v.steps ++ step.Close ∷ [] → ends ≡ v.ends ++ length c ∷ [] →
     IsSound (record v { spent = false; chronicle = c; steps = steps; ends = ends; closed = true })
-close_sound v h over promise open_still c steps ends ec es ee =
+close_sound v h over promise hears open_still c steps ends ec es ee =
     let w = (v.chronicle ++ closings (numbers_of v) v.set.work.lines v.seats) ++ entry.Closed ∷ [] in
     subst (λ x. IsSound (record v { spent = false; chronicle = x; steps = steps; ends = ends; closed = true })) (sym ec)
     (subst (λ x. IsSound (record v { spent = false; chronicle = w; steps = x; ends = ends; closed = true })) (sym es)
     (subst (λ x. IsSound (record v { spent = false; chronicle = w; steps = v.steps ++ step.Close ∷ []; ends = x; closed = true })) (sym (ee ∙ ap (λ x. v.ends ++ length x ∷ []) ec))
-    (close_sound_so v h open_still over promise)))
+    (close_sound_so v h open_still over promise hears)))

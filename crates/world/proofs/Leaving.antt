@@ -1,5 +1,5 @@
 -- What an actor leaves that waits for what does not come: in a fence which is short of members, or for a number.
-use Rattle.std.proofs.Common.{◌≡◌, ℕ, ◌-◌, ◌<◌, ◌⊎◌, inl, inr, List, [], ◌++◌, length, append-nil, Bool, true, false, refl, sym, ap, ◌∙◌, Option, Some, None}
+use Rattle.std.proofs.Common.{◌≡◌, ℕ, ◌-◌, ◌<◌, ◌⊎◌, inl, inr, List, [], ◌++◌, ◌&&◌, length, append-nil, Bool, true, false, refl, sym, ap, ◌∙◌, Option, Some, None}
 use Rattle.std.specs.Prelude.{slice_get, option_and_then, IsTrue}
 use Rattle.std.specs.Option.{option_map, option_map_or}
 use Rattle.std.specs.Str.{bytes_eq}
@@ -9,7 +9,7 @@ use Rattle.kvs_txn.specs.declared.txn.Txn.{Txn}
 use Rattle.kvs_model.specs.Store.{Name}
 use Rattle.kvs_rules.specs.declared.events.KvsAsk.{KvsAsk}
 use Rattle.kvs_rules.specs.declared.events.KvsAsk.TheVariants as ask
-use Rattle.kvs_rules.specs.Namespaces.{Request, Setting, is_live, landed, primary}
+use Rattle.kvs_rules.specs.Namespaces.{Request, Setting, is_live, landed}
 use Rattle.kvs_rules.specs.Log.{Log, IsPending}
 use Rattle.kvs_rules.specs.Quiet.{IsLeft as IsLeftAsk, IsMember, IsShortFence}
 use Rattle.workload.specs.declared.work.Command.{Command}
@@ -30,46 +30,54 @@ use Rattle.world.specs.Closings.{closings_at, closings_of, is_served, numbers_in
 use Rattle.world.specs.Sound.{command_of}
 use Rattle.world.specs.Value.{WorldValue}
 
--- the actor's open command joins a fence which is short of members
-pub record IsStuckFence (v : WorldValue) (by : By) : Type 0 where
+-- the actor's open command joins a fence of the namespace which is short of members
+pub record IsStuckFence (v : WorldValue) (space : Name) (by : By) : Type 0 where
   pub name : Name
   pub count : ℕ
   pub command : command_at v.set.work by ≡ Some (command.Fence name count)
-  pub member : IsMember (setting_of v.set) (log_of v.set.work top v.chronicle) primary name count by
-  pub short : IsShortFence (setting_of v.set) (log_of v.set.work top v.chronicle) primary name count
+  pub member : IsMember (setting_of v.set) (log_of v.set.work top v.chronicle) space name count by
+  pub short : IsShortFence (setting_of v.set) (log_of v.set.work top v.chronicle) space name count
 
--- the actor's open command waits for a number that its broker has not heard
-pub record IsStuckWait (v : WorldValue) (by : By) : Type 0 where
+-- the actor's open command waits for a number of the namespace that its broker has not heard
+pub record IsStuckWait (v : WorldValue) (space : Name) (by : By) : Type 0 where
   pub number : ℕ
   pub command : command_at v.set.work by ≡ Some (command.Wait number)
-  pub living : IsTrue (is_live (log_of v.set.work top v.chronicle) primary)
-  pub above : landed (log_of v.set.work top v.chronicle) primary < number
+  pub living : IsTrue (is_live (log_of v.set.work top v.chronicle) space)
+  pub above : landed (log_of v.set.work top v.chronicle) space < number
+
+-- why a command about the namespace waits for what does not come
+abbrev pub IsCause : WorldValue → Name → By → Type 0
+IsCause v space by = IsStuckFence v space by ⊎ IsStuckWait v space by
 
 -- the actor at this seat waits for what does not come
 pub record IsStuck (v : WorldValue) (a : ℕ) (seat : Seat) : Type 0 where
   pub some : 0 < seat.issued
-  pub subject : subject_at v.set.work (command_of a (seat.issued - 1)) ≡ primary
+  pub subject : subject_at v.set.work (command_of a (seat.issued - 1)) ≡ seat.subject
   pub pending : IsPending (command_of a (seat.issued - 1)) (log_of v.set.work top v.chronicle)
-  pub cause : IsStuckFence v (command_of a (seat.issued - 1)) ⊎ IsStuckWait v (command_of a (seat.issued - 1))
+  pub cause : IsCause v seat.subject (command_of a (seat.issued - 1))
 
 -- the numbers that the brokers have heard
-abbrev pub numbers_of : WorldValue → ℕ → ℕ
+abbrev pub numbers_of : WorldValue → ℕ → Name → ℕ
 numbers_of v = numbers_in (log_of v.set.work top v.chronicle)
 
 -- what it is told at the end, and whether it waits in this fence
-abbrev pub told_of : (v : WorldValue) (by : By) (had : ℕ) → IsStuckFence v by ⊎ IsStuckWait v by → Reply
-told_of v by had (inl f) = reply.UnfinishedFence (length (waiting_in v.set.work.lines v.seats f.name)) f.count
-told_of v by had (inr w) = reply.UnfinishedWait had w.number
+abbrev pub told_of : (v : WorldValue) (space : Name) (by : By) (had : ℕ) → IsCause v space by → Reply
+told_of v space by had (inl f) = reply.UnfinishedFence (length (waiting_in v.set.work.lines v.seats space f.name)) f.count
+told_of v space by had (inr w) = reply.UnfinishedWait had w.number
 
-abbrev pub in_fence : (v : WorldValue) (by : By) → IsStuckFence v by ⊎ IsStuckWait v by → Name → Bool
-in_fence v by (inl f) name = bytes_eq name f.name
-in_fence v by (inr w) name = false
+abbrev pub in_fence : (v : WorldValue) (own : Name) (by : By) → IsCause v own by → Name → Name → Bool
+in_fence v own by (inl f) space name = bytes_eq space own && bytes_eq name f.name
+in_fence v own by (inr w) space name = false
+
+-- what the actor at this seat is told
+abbrev pub seat_told : (v : WorldValue) (a : ℕ) (seat : Seat) → IsCause v seat.subject (command_of a (seat.issued - 1)) → Reply
+seat_told v a seat cause = told_of v seat.subject (command_of a (seat.issued - 1)) (numbers_of v seat.broker seat.subject) cause
 
 -- an actor that has a seat waits for nothing, so nothing is left of it
 pub record IsDone (v : WorldValue) (a : ℕ) : Type 0 where
   pub free : (seat : Seat) → slice_get v.seats a ≡ Some seat → is_free seat.waiting ≡ true
   pub replies : closings_of (numbers_of v) v.set.work.lines v.seats a ≡ []
-  pub waits : (name : Name) → waits_in v.set.work.lines v.seats name a ≡ false
+  pub waits : (space name : Name) → waits_in v.set.work.lines v.seats space name a ≡ false
 
 -- an actor waits for what does not come, and the commands behind are left
 pub record IsLeft (v : WorldValue) (a : ℕ) : Type 0 where
@@ -77,9 +85,8 @@ pub record IsLeft (v : WorldValue) (a : ℕ) : Type 0 where
   pub sits : slice_get v.seats a ≡ Some seat
   pub busy : seat.waiting ≡ waiting.Service
   pub stuck : IsStuck v a seat
-  pub replies : closings_of (numbers_of v) v.set.work.lines v.seats a
-      ≡ closings_at v.set.work.lines a seat (told_of v (command_of a (seat.issued - 1)) (numbers_of v seat.broker) stuck.cause)
-  pub waits : (name : Name) → waits_in v.set.work.lines v.seats name a ≡ in_fence v (command_of a (seat.issued - 1)) stuck.cause name
+  pub replies : closings_of (numbers_of v) v.set.work.lines v.seats a ≡ closings_at v.set.work.lines a seat (seat_told v a seat stuck.cause)
+  pub waits : (space name : Name) → waits_in v.set.work.lines v.seats space name a ≡ in_fence v seat.subject (command_of a (seat.issued - 1)) stuck.cause space name
 
 -- a seat that waits for nothing waits for no service
 pub free_unserved : (w : Waiting) → is_free w ≡ true → is_served w ≡ false
@@ -87,6 +94,7 @@ free_unserved waiting.Nothing h = refl
 free_unserved waiting.Staged h = refl
 free_unserved waiting.TxnFull h = refl
 free_unserved (waiting.Tell to) h = refl
+free_unserved waiting.Using h = refl
 free_unserved waiting.Service h = sym h
 
 -- what a command asks is its request's
@@ -187,18 +195,18 @@ pub wait_command : (work : Workload) (by : By) (number : ℕ) → ask_at work by
 wait_command work by number e = command_so work by (ask.Wait number) (command.Wait number) (λ t d f. is_wait t d number f) e
 
 -- the closing replies to an actor, by what its seat says
-module _ (numbers : ℕ → ℕ) (lines : List Line) (seats : List Seat) (a : ℕ) where
+module _ (numbers : ℕ → Name → ℕ) (lines : List Line) (seats : List Seat) (a : ℕ) where
   unseated : slice_get seats a ≡ None → closings_of numbers lines seats a ≡ []
-  unseated e = ap (λ o. option_map_or (λ s. option_map_or (closings_at lines a s) (unfinished_at (numbers s.broker) lines seats s) []) o []) e
+  unseated e = ap (λ o. option_map_or (λ s. option_map_or (closings_at lines a s) (unfinished_at (numbers s.broker s.subject) lines seats s) []) o []) e
 
-  pub seated : (seat : Seat) → slice_get seats a ≡ Some seat → closings_of numbers lines seats a ≡ option_map_or (closings_at lines a seat) (unfinished_at (numbers seat.broker) lines seats seat) []
-  seated seat e = ap (λ o. option_map_or (λ s. option_map_or (closings_at lines a s) (unfinished_at (numbers s.broker) lines seats s) []) o []) e
+  pub seated : (seat : Seat) → slice_get seats a ≡ Some seat → closings_of numbers lines seats a ≡ option_map_or (closings_at lines a seat) (unfinished_at (numbers seat.broker seat.subject) lines seats seat) []
+  seated seat e = ap (λ o. option_map_or (λ s. option_map_or (closings_at lines a s) (unfinished_at (numbers s.broker s.subject) lines seats s) []) o []) e
 
   pub told_none : (c : List Entry) → slice_get seats a ≡ None → c ≡ c ++ closings_of numbers lines seats a
   told_none c e = sym (ap (λ es. c ++ es) (unseated e) ∙ append-nil c)
 
-  pub told_finished : (c : List Entry) (seat : Seat) → slice_get seats a ≡ Some seat → unfinished_at (numbers seat.broker) lines seats seat ≡ None → c ≡ c ++ closings_of numbers lines seats a
+  pub told_finished : (c : List Entry) (seat : Seat) → slice_get seats a ≡ Some seat → unfinished_at (numbers seat.broker seat.subject) lines seats seat ≡ None → c ≡ c ++ closings_of numbers lines seats a
   told_finished c seat e f = sym (ap (λ es. c ++ es) (seated seat e ∙ ap (λ o. option_map_or (closings_at lines a seat) o []) f) ∙ append-nil c)
 
-  pub told_left : (c : List Entry) (seat : Seat) (given : Reply) → slice_get seats a ≡ Some seat → unfinished_at (numbers seat.broker) lines seats seat ≡ Some given → c ++ closings_at lines a seat given ≡ c ++ closings_of numbers lines seats a
+  pub told_left : (c : List Entry) (seat : Seat) (given : Reply) → slice_get seats a ≡ Some seat → unfinished_at (numbers seat.broker seat.subject) lines seats seat ≡ Some given → c ++ closings_at lines a seat given ≡ c ++ closings_of numbers lines seats a
   told_left c seat given e f = sym (ap (λ es. c ++ es) (seated seat e ∙ ap (λ o. option_map_or (closings_at lines a seat) o []) f))

@@ -10,17 +10,14 @@ use crate::seats::{Seat, Waiting};
 use answers::{Chronicle, Entry, Reply};
 use kvs_core::Core;
 use lists::Bytes;
-use std::alloc::{AllocError, Global};
+use std::alloc::AllocError;
 use workload::{Command, Line};
 
 /// Whether an actor waits for the service.
 fn is_served(waiting: Waiting) -> bool
     ensures { result ≡ is_served waiting }
 {
-    match waiting {
-        Waiting::Service => true,
-        Waiting::Nothing | Waiting::Staged | Waiting::TxnFull | Waiting::Tell { .. } => false,
-    }
+    matches!(waiting, Waiting::Service)
 }
 
 /// The fence in which the actor at this seat waits, and its count.
@@ -36,27 +33,29 @@ fn fence_at<'a>(lines: &'a [Line], seat: &Seat) -> Option<(&'a Bytes, u32)>
     }
 }
 
-/// Whether an actor waits in this fence.
-fn waits_in(lines: &[Line], seats: &[Seat], name: &Bytes, actor: u32) -> bool
-    ensures { result ≡ waits_in lines.now seats.now name.now actor }
+/// Whether an actor waits in this fence of the namespace.
+fn waits_in(lines: &[Line], seats: &[Seat], space: &Bytes, name: &Bytes, actor: u32) -> bool
+    ensures { result ≡ waits_in lines.now seats.now space.now name.now actor }
 {
     let Some(seat) = seats.get(actor as usize) else {
         return false;
     };
     match fence_at(lines, seat) {
-        Some((fence, _)) => name.as_slice() == fence.as_slice(),
+        Some((fence, _)) => {
+            space.as_slice() == seat.subject.as_slice() && name.as_slice() == fence.as_slice()
+        }
         None => false,
     }
 }
 
-/// How many actors wait in this fence.
-fn members(lines: &[Line], seats: &[Seat], name: &Bytes) -> u32
+/// How many actors wait in this fence of the namespace.
+fn members(lines: &[Line], seats: &[Seat], space: &Bytes, name: &Bytes) -> u32
     requires { length seats.now ≤ 256 }
-    ensures { result ≡ length (waiting_in lines.now seats.now name.now) }
+    ensures { result ≡ length (waiting_in lines.now seats.now space.now name.now) }
 {
     let mut count = 0;
     for actor in 0..seats.len() as u32 {
-        if waits_in(lines, seats, name, actor) {
+        if waits_in(lines, seats, space, name, actor) {
             count += 1;
         }
     }
@@ -86,17 +85,6 @@ fn pass_over(chronicle: &mut Chronicle, actor: u32, from: u32, to: u32) -> Resul
     Ok(())
 }
 
-/// The number of `primary` that a broker has heard.
-fn heard_by(alloc: Global, core: &Core, broker: u32) -> Result<u64, AllocError>
-    requires ready { core.now.spent ≡ false }
-    requires within { broker < core.now.size }
-    ensures { IfOk result (λ number. (set : Service) (log : Log) → Agrees core.now set log
-        → number ≡ numbers_in log broker) }
-{
-    let primary = Bytes::of(alloc, b"primary")?;
-    Ok(core.heard(broker, &primary).unwrap_or(0))
-}
-
 /// What an actor is told at the end of its open command, if that didn't finish: how many have come of the members of its
 /// fence, or which number its broker has heard of those for which it waits.
 fn unfinished(lines: &[Line], seats: &[Seat], seat: &Seat, heard: u64) -> Option<Reply>
@@ -110,7 +98,7 @@ fn unfinished(lines: &[Line], seats: &[Seat], seat: &Seat, heard: u64) -> Option
     };
     match &line.command {
         Command::Fence { name, count } => Some(Reply::UnfinishedFence {
-            have: members(lines, seats, name),
+            have: members(lines, seats, &seat.subject, name),
             want: *count,
         }),
         Command::Wait { number } => Some(Reply::UnfinishedWait {
@@ -123,7 +111,6 @@ fn unfinished(lines: &[Line], seats: &[Seat], seat: &Seat, heard: u64) -> Option
 
 /// Gives an actor its closing replies, if its open command didn't finish.
 fn close_actor(
-    alloc: Global,
     chronicle: &mut Chronicle,
     core: &Core,
     lines: &[Line],
@@ -140,7 +127,7 @@ fn close_actor(
     let Some(seat) = seats.get(actor as usize) else {
         return Ok(());
     };
-    let heard = heard_by(alloc, core, seat.broker)?;
+    let heard = core.heard(seat.broker, &seat.subject).unwrap_or(0);
     let Some(reply) = unfinished(lines, seats, seat, heard) else {
         return Ok(());
     };
@@ -156,7 +143,6 @@ fn close_actor(
 
 /// Gives each command that didn't finish its closing reply, by actor, where the service is at rest.
 pub fn close_off(
-    alloc: Global,
     chronicle: &mut Chronicle,
     core: &Core,
     lines: &[Line],
@@ -170,7 +156,7 @@ pub fn close_off(
         → chronicle.new ≡ chronicle.old ++ closings (numbers_in log) lines.now seats.now) }
 {
     for actor in 0..seats.len() as u32 {
-        close_actor(alloc, chronicle, core, lines, seats, actor)?;
+        close_actor(chronicle, core, lines, seats, actor)?;
     }
     Ok(())
 }

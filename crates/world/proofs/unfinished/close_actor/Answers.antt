@@ -1,5 +1,5 @@
 use Rattle.std.proofs.Common.{◌≡◌, ◌++◌, ◌-◌, ◌∙◌, ◌∷◌, ◌<◌, ℕ, Some, None, sym, ap, subst, append_assoc, length}
-use Rattle.std.specs.Prelude.{slice_get, count_by}
+use Rattle.std.specs.Prelude.{slice_get, count_by, unwrap_or}
 use Rattle.std.proofs.lemmas.Bool.{ltb-true, ltb-false}
 use Rattle.std.proofs.lemmas.Option.{slice_get-get_or, slice_get_past}
 use Rattle.answers.specs.declared.chronicle.Entry.TheVariants as entry
@@ -8,8 +8,8 @@ use Rattle.world.specs.Sound.{is_of}
 use Rattle.world.proofs.Leaving.{told_none, told_finished, told_left}
 use Rattle.world.proofs.unfinished.close_actor.Goals as goal
 
-pub heard_by-requires-clause-within : goal.heard_by-requires-clause-within
-heard_by-requires-clause-within c =
+pub heard-requires-clause-within : goal.heard-requires-clause-within
+heard-requires-clause-within c =
     let low : c.args.actor < length c.args.seats.now = ltb-true _ _ (sym c.in-Some.ensures.lookup.0) in
     subst (λ s. s.broker < c.args.core.now.size) (sym c.in-Some.ensures.lookup.1) (c.requires.within c.args.actor c.in-Some.seat.now low)
 
@@ -24,7 +24,8 @@ returns-in_default-unfinished c = λ set log a.
     let lines = c.args.lines.now in
     let seats = c.args.seats.now in
     let at : slice_get seats c.args.actor ≡ Some seat = slice_get-get_or seats c.args.actor seat (ltb-true _ _ (sym c.in-Some.ensures.lookup.0)) ∙ ap Some (sym c.in-Some.ensures.lookup.1) in
-    let none : unfinished_at (numbers_in log seat.broker) lines seats seat ≡ None = ap (λ n. unfinished_at n lines seats seat) (sym (c.in_ok-heard.ensures set log a)) ∙ sym c.in_default-unfinished.ensures in
+    let had : c.unwrap_or-heard.result ≡ numbers_in log seat.broker seat.subject = c.unwrap_or-heard.ensures ∙ ap (λ o. unwrap_or o 0) (c.heard.ensures set log a) in
+    let none : unfinished_at (numbers_in log seat.broker seat.subject) lines seats seat ≡ None = ap (λ n. unfinished_at n lines seats seat) (sym had) ∙ sym c.in_default-unfinished.ensures in
     told_finished (numbers_in log) lines seats c.args.actor c.args.chronicle.now seat at none
 
 pub returns : goal.returns
@@ -34,7 +35,8 @@ returns c = λ set log a.
     let seat = c.in-Some.seat.now in
     let given = c.in-Some-unfinished.reply in
     let at : slice_get seats c.args.actor ≡ Some seat = slice_get-get_or seats c.args.actor seat (ltb-true _ _ (sym c.in-Some.ensures.lookup.0)) ∙ ap Some (sym c.in-Some.ensures.lookup.1) in
-    let left : unfinished_at (numbers_in log seat.broker) lines seats seat ≡ Some given = ap (λ n. unfinished_at n lines seats seat) (sym (c.in_ok-heard.ensures set log a)) ∙ sym c.in-Some-unfinished.ensures in
+    let had : c.unwrap_or-heard.result ≡ numbers_in log seat.broker seat.subject = c.unwrap_or-heard.ensures ∙ ap (λ o. unwrap_or o 0) (c.heard.ensures set log a) in
+    let left : unfinished_at (numbers_in log seat.broker seat.subject) lines seats seat ≡ Some given = ap (λ n. unfinished_at n lines seats seat) (sym had) ∙ sym c.in-Some-unfinished.ensures in
     c.in_ok-pass_over.ensures
     ∙ ap (λ es. es ++ not_reached c.args.actor seat.issued (c.commands.result - seat.issued)) c.in_ok-push.ensures.added
     ∙ append_assoc c.args.chronicle.now _ _

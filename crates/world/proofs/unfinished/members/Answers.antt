@@ -7,14 +7,14 @@ use Rattle.world.proofs.unfinished.members.Goals.{then-waits_in, else-waits_in}
 
 pub overflow_add-count : goal.overflow_add-count
 overflow_add-count c =
-    let q = waits_in c.args.lines.now c.args.seats.now c.args.name.now in
+    let q = waits_in c.args.lines.now c.args.seats.now c.args.space.now c.args.name.now in
     let low : length (filter q (range_with_len 0 c.loop-actor.actor)) ≤ c.loop-actor.actor = passed_low q c.loop-actor.actor in
     let is : c.loop-actor.count ≡ length (filter q (range_with_len 0 c.loop-actor.actor)) = c.loop-actor.invariant in
     omega (arith, low, is, c.requires, c.loop-actor-test.true)
 
 pub loop-actor-preserved : goal.loop-actor-preserved
 loop-actor-preserved c =
-    let q = waits_in c.args.lines.now c.args.seats.now c.args.name.now in
+    let q = waits_in c.args.lines.now c.args.seats.now c.args.space.now c.args.name.now in
     let more : length (filter q (range_with_len 0 (c.loop-actor.actor + 1))) ≡ length (filter q (range_with_len 0 c.loop-actor.actor)) + cond (q c.loop-actor.actor) 1 0 = passed_more q c.loop-actor.actor in
     let is : c.loop-actor.count ≡ length (filter q (range_with_len 0 c.loop-actor.actor)) = c.loop-actor.invariant in
     elim c.if-waits_in.branch [

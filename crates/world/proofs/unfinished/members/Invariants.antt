@@ -4,4 +4,4 @@ use Rattle.world.specs.Closings.{waits_in}
 use Rattle.world.proofs.unfinished.members.Given as goal
 
 abbrev pub invariant-loop-actor : goal.invariant-loop-actor
-invariant-loop-actor l = l.count ≡ length (filter (waits_in l.lines l.seats l.name) (range_with_len 0 l.actor))
+invariant-loop-actor l = l.count ≡ length (filter (waits_in l.lines l.seats l.space l.name) (range_with_len 0 l.actor))

@@ -11,8 +11,14 @@ use Rattle.world.specs.Sound.{IsSound}
 use Rattle.world.specs.Steps.{can_answer}
 use Rattle.world.specs.View.{value_of}
 use Rattle.world.proofs.Replying.{actor_within, raised_length, replied, tell_sound}
+use Rattle.world.proofs.Telling.{seat_there}
 use Rattle.world.proofs.Advancing.{advances_at}
 use Rattle.world.proofs.run.World.tell.Goals as goal
+
+pub raise-requires : goal.raise-requires
+raise-requires c =
+    let v = value_of c.self.inside in
+    actor_within v c.args.actor (subst (λ v. can_answer v c.args.actor ≡ true) (sym c.self.view_is) c.requires.can.1)
 
 pub invariant_of-self-2 : goal.invariant_of-self-2
 invariant_of-self-2 c = λ _.
@@ -20,18 +26,20 @@ invariant_of-self-2 c = λ _.
     let a = c.args.actor in
     let to = c.args.to in
     let can = subst (λ v. can_answer v a ≡ true) (sym c.self.view_is) c.requires.can.1 in
-    let seat = c.index.result.now in
-    let later = c.index_mut-seat.result.now in
     let within = actor_within v a can in
-    let tells : seat.waiting ≡ waiting.Tell to = ap (λ s. s.waiting) c.index.ensures ∙ subst (λ w. (slice_index_or w.seats a seat).waiting ≡ waiting.Tell to) (sym c.self.view_is) (c.requires.tells seat) in
-    let within_on : a < length c.raise.new.seats.items = subst (λ n. a < n) (sym (ap length c.raise.ensures ∙ raised_length v.seats to seat.floor)) within in
-    let sits_on : slice_get (raised v.seats to seat.floor) a ≡ Some later =
-    ap (λ xs. slice_get xs a) (sym c.raise.ensures) ∙ slice_get-get_or c.raise.new.seats.items a later within_on ∙ ap Some (sym c.index_mut-seat.ensures.value) in
+    let at = seat_there v.seats a within in
+    let seat = at.0 in
+    let later = c.index_mut-seat.result.now in
+    let raises = c.in_ok-raise.ensures in
+    let tells : seat.waiting ≡ waiting.Tell to = ap (λ s. s.waiting) (sym (at.1 seat)) ∙ subst (λ w. (slice_index_or w.seats a seat).waiting ≡ waiting.Tell to) (sym c.self.view_is) (c.requires.tells seat) in
+    let within_on : a < length c.raise.new.seats.items = subst (λ n. a < n) (sym (ap length raises.seats ∙ raised_length v.seats to raises.floors)) within in
+    let sits_on : slice_get (raised v.seats to raises.floors) a ≡ Some later =
+    ap (λ xs. slice_get xs a) (sym raises.seats) ∙ slice_get-get_or c.raise.new.seats.items a later within_on ∙ ap Some (sym c.index_mut-seat.ensures.value) in
     let told = v.chronicle ++ entry.Told a to ∷ [] in
     let chronicle = c.in_ok-push-2.ensures.added ∙ ap (λ es. es ++ entry.Replied a (later.issued - 1) reply.Told None ∷ []) c.in_ok-push.ensures.added in
-    subst (λ xs. IsSound (record (replied v a told xs later v.core reply.Told None) { chronicle = c.push-2.new.self; steps = c.keep.new.steps.items; ends = c.keep.new.ends.items })) (sym c.raise.ensures)
+    subst (λ xs. IsSound (record (replied v a told xs later v.core reply.Told None later.floors) { chronicle = c.push-2.new.self; steps = c.keep.new.steps.items; ends = c.keep.new.ends.items })) (sym raises.seats)
     (tell_sound v (c.self.invariant (ap (λ v. v.spent) c.self.view_is ∙ c.requires.ready)) a seat to (ap (λ v. v.closed) c.self.view_is ∙ c.requires.can.0)
-    (slice_get-get_or v.seats a seat within ∙ ap Some (sym c.index.ensures)) tells later sits_on
+    (slice_get-get_or v.seats a seat within ∙ ap Some (at.1 seat)) tells raises.floors raises.joined later sits_on
     c.push-2.new.self c.keep.new.steps.items c.keep.new.ends.items chronicle c.in_ok-keep.ensures.steps c.in_ok-keep.ensures.ends)
 
 pub returns-clause-advances : goal.returns-clause-advances
