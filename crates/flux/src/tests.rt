@@ -17,7 +17,7 @@ struct Case {
     notice: &'static str,
 }
 
-const CASES: [Case; 56] = [
+const RUNS: [Case; 47] = [
     Case {
         words: &["run"],
         input: "actor a 1\nactor b 2\na put k x\na fence f 2\nb put k y\nb fence f 2\nb get k\n",
@@ -73,6 +73,34 @@ const CASES: [Case; 56] = [
         status: 0,
         output: "told\ntold\n--\nissued 0 0\ntold 0 1\nreplied 0 0 - told\nissued 1 0\ntold 1 1\nreplied 1 0 - told\nclosed\n",
         notice: "done",
+    },
+    Case {
+        words: &["run"],
+        input: "actor a 0\na ns-create n\na ns-use n\na get k\na put k v\na commit\na ns-remove n\na get k\na ns-create n\na ns-remove primary\n",
+        status: 0,
+        output: "created\nusing\nNotFound 0\nstaged\ncommitted 1\nremoved\nNoNamespace\nExists\nIsPrimary\n",
+        notice: "done",
+    },
+    Case {
+        words: &["run"],
+        input: "actor a 0\nactor b 1\nactor c 3\na ns-create n\na ns-use n\na fence f 2\nb fence f 2\nc ns-use n\nc wait 1\n",
+        status: 0,
+        output: "created\nusing\nUnfinished 1/2\nUnfinished 1/2\nusing\nUnfinished 0/1\n",
+        notice: "done",
+    },
+    Case {
+        words: &["run", "--size=1", "--journal"],
+        input: "actor a 0\na ns-create n\na put job.x y\na ns-use n\na commit\na ns-remove n\na commit\n",
+        status: 0,
+        output: "created\nstaged\nusing\ncommitted 1\nremoved\nNoNamespace\n--\nissued 0 0\nlanded 0 n 0 0.0\nheard 0 0 n 0\nreplied 0 0 0 created\nissued 0 1\nreplied 0 1 - staged\nissued 0 2\nreplied 0 2 - using\nissued 0 3\nlanded 0 n 1 0.3\nheard 0 0 n 1\nreplied 0 3 1 committed 1\nissued 0 4\nlanded 0 n 2 0.4\nheard 0 0 n 2\nreplied 0 4 2 removed\nissued 0 5\nreplied 0 5 - NoNamespace\nclosed\n",
+        notice: "done",
+    },
+    Case {
+        words: &["run"],
+        input: "actor a 0\na ns-use a.b\n",
+        status: 1,
+        output: "",
+        notice: "line 2: BadCommand",
     },
     Case {
         words: &["run"],
@@ -319,6 +347,9 @@ const CASES: [Case; 56] = [
         output: "",
         notice: "usage: flux_cli run|idset|hostlist|fluid|R|replay, and for run: --size N --fanout N --hash sha1|sha256 --shuffle SEED --journal",
     },
+];
+
+const TOOLS: [Case; 13] = [
     Case {
         words: &["idset", "1", "2"],
         input: "",
@@ -436,10 +467,9 @@ fn run(
     Ok(flux(alloc, &strings, &mut source, sink))
 }
 
-#[test]
-fn runs_and_refusals(rt: HostRuntime) -> Result<(), Fail> {
-    let alloc = rt.alloc();
-    for case in &CASES {
+/// Runs each case, and compares what came of it.
+fn compare(rt: &impl Abort, alloc: Global, cases: &[Case]) -> Result<(), Fail> {
+    for case in cases {
         let mut sink = MemSink::new(alloc, 4096, 4096, Vec::new(alloc))?;
         let run = run(alloc, case.words, case.input, 4096, &[], &mut sink)?;
         assert_eq!(rt; run.status, case.status, "{}", case.input);
@@ -455,12 +485,17 @@ fn runs_and_refusals(rt: HostRuntime) -> Result<(), Fail> {
 }
 
 #[test]
-fn a_seed_gives_one_order(rt: HostRuntime) -> Result<(), Fail> {
-    let alloc = rt.alloc();
-    let input =
-        "actor a 1\nactor b 6\na put k hello\na commit\na tell b\nb wait 1\nb get k\nb put l y\nb fence f 2\na put m z\na fence f 2\n";
-    let output =
-        "staged\ncommitted 1\ntold\nreached 1\nvalue 1 hello\nstaged\nfenced 2\nstaged\nfenced 2\n--\n";
+fn runs_and_refusals(rt: HostRuntime) -> Result<(), Fail> {
+    compare(&rt, rt.alloc(), &RUNS)
+}
+
+#[test]
+fn tools_and_refusals(rt: HostRuntime) -> Result<(), Fail> {
+    compare(&rt, rt.alloc(), &TOOLS)
+}
+
+/// Runs a workload twice with each of twenty seeds, and compares its answers and both journals.
+fn shuffled(rt: &impl Abort, alloc: Global, input: &str, output: &str) -> Result<(), Fail> {
     for seed in 1..21 {
         let option = format!(in alloc; "--shuffle={seed}")?;
         let words = ["run", "--size=7", "--journal", option.as_str()];
@@ -473,6 +508,26 @@ fn a_seed_gives_one_order(rt: HostRuntime) -> Result<(), Fail> {
         assert!(rt; sink.taken() == again.taken());
     }
     Ok(())
+}
+
+#[test]
+fn a_seed_gives_one_order(rt: HostRuntime) -> Result<(), Fail> {
+    shuffled(
+        &rt,
+        rt.alloc(),
+        "actor a 1\nactor b 6\na put k hello\na commit\na tell b\nb wait 1\nb get k\nb put l y\nb fence f 2\na put m z\na fence f 2\n",
+        "staged\ncommitted 1\ntold\nreached 1\nvalue 1 hello\nstaged\nfenced 2\nstaged\nfenced 2\n--\n",
+    )
+}
+
+#[test]
+fn a_tell_is_of_every_namespace_in_every_order(rt: HostRuntime) -> Result<(), Fail> {
+    shuffled(
+        &rt,
+        rt.alloc(),
+        "actor a 1\nactor b 6\na ns-create n\na ns-use n\na put k x\na commit\na ns-use primary\na tell b\na fence f 2\nb fence f 2\nb ns-use n\nb get k\n",
+        "created\nusing\nstaged\ncommitted 1\nusing\ntold\nfenced 1\nfenced 1\nusing\nvalue 1 x\n--\n",
+    )
 }
 
 #[test]
