@@ -3,14 +3,14 @@ use Rattle.std.proofs.Common.{◌≡◌, ◌≢◌, ℕ, suc, ◌+◌, ◌-◌, 
 use Rattle.std.specs.Prelude.{◌↔◌, All, filter, IfOk, Result, Ok, Err}
 use Rattle.std.specs.List.{AllByRecursion as Each, HoldsAt}
 use Rattle.std.specs.Str.{bytes_eq}
-use Rattle.std.proofs.lemmas.Bool.{cases_lt, and_parts, lt-ltb, ltb-true, not-true}
+use Rattle.std.proofs.lemmas.Bool.{cases_lt, and_parts, le-ltb, lt-ltb, ltb-true, not-true, true≢false}
 use Rattle.std.proofs.lemmas.List.Elements.{All-from_recursion, recursion_from_All, All-map}
 use Rattle.idset.specs.Ids.{has}
 use Rattle.job_spec.specs.declared.spec.JobSpec.{JobSpec}
 use Rattle.job_rules.specs.declared.hold.Hold.{Hold}
 use Rattle.resource_set.specs.declared.node.Node.{Node}
 use Rattle.resource_set.specs.Units.{AreDistinct, AreHosts}
-use Rattle.job_rules.specs.Fits.{AreApart, AreBlockers, AreLive, AreWithin, HasIdSets, IsGrant, IsPartOf, IsSpec, IsWithin, NeverFits, end_of, first_fit, free_of, has_unit, left_on, nodes_of, sooner, without_nodes}
+use Rattle.job_rules.specs.Fits.{AreApart, AreBlockers, AreLive, AreWithin, CanFit, HasIdSets, IsGrant, IsPartOf, IsSpec, IsWithin, NeverFits, end_of, first_fit, free_of, has_unit, left_on, nodes_of, sooner, without_nodes}
 use Rattle.job_rules.specs.Worths.{give_as, total, wanted, worth}
 use Rattle.job_rules.proofs.Among.{Among, Distinct, among_filter, among_from, among_has, among_map, among_mapped, any_from, contains_from, distinct_rising, each_at, each_from, has_among}
 use Rattle.job_rules.proofs.Counts.{enough, not_found, picked, picks}
@@ -105,6 +105,30 @@ never_is spec grant b s g e = (
     | inr many ↦ absurd (never (enough_can_fit spec grant grant (grant_is grant g) s many))
   ],
 )
+
+-- ---- room
+pub room_is : (spec : JobSpec) (places : List Place) (live : List Hold) (b : Bool) → IsSpec spec → IsKept places live → b ≡ ltb (total (worth spec (map node_of places)) (map free_node places)) (wanted spec) → (not b ≡ true) ↔ CanFit spec (map node_of places) (free_of (map node_of places) live)
+room_is spec places live b s k e = (
+  λ t. elim (cases_lt sum (wanted spec)) [
+    | inl few ↦ absurd (true≢false (sym (same ∙ lt-ltb sum (wanted spec) few) ∙ not-true b t))
+    | inr many ↦ enough_can_fit spec grant free (free_is grant (nodes_of live) k.grant) s many
+  ],
+  λ can.
+      let many : wanted spec ≤ sum = can_fit_enough spec grant free s (free_is grant (nodes_of live) k.grant) can in
+      ap not (same ∙ le-ltb sum (wanted spec) many),
+)
+  where
+    grant : List Node
+    grant = map node_of places
+
+    free : List Node
+    free = free_of grant live
+
+    sum : ℕ
+    sum = total (worth spec grant) free
+
+    same : b ≡ ltb sum (wanted spec)
+    same = e ∙ ap (λ fs. ltb (total (worth spec grant) fs) (wanted spec)) (free_places (nodes_of live) places k.marks)
 
 -- ---- a graph of a grant that is free
 pub fresh_kept : (nodes : List Node) (places : List Place) (live : List Hold) → AreHosts nodes → All HasIdSets nodes → places ≡ map fresh_place nodes → live ≡ [] → IsKept places live

@@ -3,7 +3,7 @@ ghost use Rattle.std.specs.Bool.{OnFalse};
 ghost use Rattle.std.specs.List.{HoldsAt, AllByRecursion as Each};
 ghost use Rattle.std.specs.List.Sorted.{IsStrictlyIncreasing};
 ghost use Rattle.resource_set.specs.Units.{AreHosts};
-ghost use Rattle.job_rules.specs.Fits.{AreWithin, HasIdSets, IsGrant, IsSpec, IsWithin, NeverFits, end_of, first_fit, free_of, sooner};
+ghost use Rattle.job_rules.specs.Fits.{AreWithin, CanFit, HasIdSets, IsGrant, IsSpec, IsWithin, NeverFits, end_of, first_fit, free_of, sooner};
 ghost use Rattle.job_rules.specs.Worths.{total, wanted as wanted_of, worth as worth_of};
 ghost use Rattle.resource_set.specs.declared.node.Node.{Node as Taken};
 ghost use Rattle.job_rules.specs.Fits.{AreApart, AreBlockers, nodes_of};
@@ -407,6 +407,14 @@ impl Graph {
         ensures { IsTrue result ↔ NeverFits spec.now self.now.grant }
     {
         is_small(&self.places, spec)
+    }
+
+    /// Whether free units satisfy a job. It takes no memory, and lists no jobs in the way.
+    pub fn has_room(&self, spec: &JobSpec) -> bool
+        requires { IsSpec spec.now }
+        ensures { IsTrue result ↔ CanFit spec.now self.now.grant (free_of self.now.grant self.now.live) }
+    {
+        !is_busy(&self.places, spec)
     }
 
     /// Lets a new job hold free units, by their hosts' ranks and names, as `fit` gives them.

@@ -160,8 +160,10 @@ fn answered(
     let fit = graph.fit(&spec, 7)?;
     let text = shown(alloc, &fit)?;
     let never = graph.never(&spec);
+    let room = graph.has_room(&spec);
     hold(graph, &spec, id, fit)?;
     assert!(rt; never == (text.as_str() == "never"));
+    assert!(rt; room == !(never || text.as_str().starts_with("busy")));
     Ok(text)
 }
 

@@ -108,7 +108,7 @@ fewer_units kind few more g f id i =
     by true t f e = absurd (true≢false (sym (f refl) ∙ not-true t e))
     by false t f e = refl
 
-more_free : (grant few more : List Node) → ((n : Node) → Among n few → Among n more) → LiesIn (map (without_nodes more) grant) (map (without_nodes few) grant)
+pub more_free : (grant few more : List Node) → ((n : Node) → Among n few → Among n more) → LiesIn (map (without_nodes more) grant) (map (without_nodes few) grant)
 more_free grant few more sub unit c =
     let i = among_from (units_of (map (without_nodes more) grant)) unit c in
     let hit = among_flat units_of_node (map (without_nodes more) grant) unit i in

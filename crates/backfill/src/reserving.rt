@@ -1,0 +1,154 @@
+ghost use Rattle.std.specs.Prelude.{◌≡◌, ◌≤◌, ◌<◌, ◌+◌, ◌++◌, ◌∷◌, [], ◌↔◌, length, IfOk, OnOk, IsTrue};
+ghost use Rattle.std.specs.List.{AllByRecursion as Each};
+ghost use Rattle.resource_set.specs.Units.{AreHosts};
+ghost use Rattle.job_rules.specs.Fits.{AreWithin, IsSpec, free_of, nodes_of};
+ghost use Rattle.backfill.specs.Held.{AreHeld, held_at};
+ghost use Rattle.backfill.specs.Reserved.{FitsAt, IsReserved, KeepsReservation, Reserves};
+
+use crate::hold::Hold;
+use graph_match::Graph;
+use job_spec::JobSpec;
+use resource_set::Resources;
+use std::alloc::{AllocError, Global};
+
+#[cfg(test)]
+mod tests;
+
+/// Lets a job hold what it has at a second, under its place for its id.
+fn hold_at(graph: &mut Graph, place: usize, hold: &Hold, second: u64) -> Result<(), AllocError>
+    requires free { AreWithin hold.now.units.nodes (free_of graph.old.grant graph.old.live) }
+    requires new { Each (λ h. h.id < place) graph.old.live }
+    ensures grant { OnOk result (graph.new.grant ≡ graph.old.grant) }
+    ensures nodes { OnOk result (nodes_of graph.new.live
+        ≡ nodes_of graph.old.live ++ nodes_of (held_at second (hold.now ∷ []))) }
+    ensures ids { OnOk result (Each (λ h. h.id < place + 1) graph.new.live) }
+{
+    if hold.is_held_at(second) {
+        graph.take(place as u64, &hold.units)?;
+    }
+    Ok(())
+}
+
+/// The grant with what live jobs hold of it at a second.
+fn graph_at(
+    alloc: Global,
+    grant: &Resources,
+    live: &[Hold],
+    second: u64,
+) -> Result<Graph, AllocError>
+    requires grant { AreHosts grant.now.nodes }
+    requires held { AreHeld grant.now.nodes live.now }
+    ensures grant { IfOk result (λ graph. graph.grant ≡ grant.now.nodes) }
+    ensures nodes { IfOk result (λ graph. nodes_of graph.live ≡ nodes_of (held_at second live.now)) }
+    ensures ids { IfOk result (λ graph. Each (λ h. h.id < length live.now) graph.live) }
+{
+    let mut graph = Graph::new(alloc, grant)?;
+    for (place, hold) in live.iter().enumerate() {
+        hold_at(&mut graph, place, hold, second)?;
+    }
+    Ok(graph)
+}
+
+/// Whether some of the units that live jobs leave at a second satisfy a job.
+fn fits_at(
+    alloc: Global,
+    grant: &Resources,
+    live: &[Hold],
+    spec: &JobSpec,
+    second: u64,
+) -> Result<bool, AllocError>
+    requires spec { IsSpec spec.now }
+    requires grant { AreHosts grant.now.nodes }
+    requires held { AreHeld grant.now.nodes live.now }
+    ensures { IfOk result (λ fits. IsTrue fits ↔ FitsAt spec.now grant.now.nodes live.now second) }
+{
+    let graph = graph_at(alloc, grant, live, second)?;
+    Ok(graph.has_room(spec))
+}
+
+/// A second from this one on at which each live job that ends has ended.
+fn last_end(live: &[Hold], now: u64) -> u64
+    ensures from { now ≤ result }
+    ensures ended { Each (λ hold. hold.until ≤ result) live.now }
+{
+    let mut last = now;
+    for hold in live {
+        last = last.max(hold.until);
+    }
+    last
+}
+
+/// The least second at which a job fits, where it fits at the last one. What fits at a second fits later too, so each
+/// look at a second halves those that are left.
+fn least_fitting(
+    alloc: Global,
+    grant: &Resources,
+    live: &[Hold],
+    spec: &JobSpec,
+    now: u64,
+    last: u64,
+) -> Result<u64, AllocError>
+    requires spec { IsSpec spec.now }
+    requires grant { AreHosts grant.now.nodes }
+    requires held { AreHeld grant.now.nodes live.now }
+    requires order { now ≤ last }
+    requires fits { FitsAt spec.now grant.now.nodes live.now last }
+    ensures { IfOk result (IsReserved spec.now grant.now.nodes live.now now) }
+{
+    let mut low = now;
+    let mut high = last;
+    while low < high {
+        let middle = low + (high - low) / 2;
+        if fits_at(alloc, grant, live, spec, middle)? {
+            high = middle;
+        } else {
+            low = middle + 1;
+        }
+    }
+    Ok(low)
+}
+
+/// The reserved second of a job: the least one from now on at which the units that live jobs leave satisfy it; None
+/// exactly where there is none. The holds lie in the grant, by rank and name, and no two have a unit in common.
+pub fn reserve(
+    alloc: Global,
+    grant: &Resources,
+    live: &[Hold],
+    spec: &JobSpec,
+    now: u64,
+) -> Result<Option<u64>, AllocError>
+    requires spec { IsSpec spec.now }
+    requires grant { AreHosts grant.now.nodes }
+    requires held { AreHeld grant.now.nodes live.now }
+    ensures { IfOk result (Reserves spec.now grant.now.nodes live.now now) }
+{
+    let last = last_end(live, now);
+    if !fits_at(alloc, grant, live, spec, last)? {
+        return Ok(None);
+    }
+    Ok(Some(least_fitting(alloc, grant, live, spec, now, last)?))
+}
+
+/// Whether the head of a queue has a reserved second and keeps it where the offer is one more live job. The holds, the
+/// offer among them, lie in the grant, by rank and name, and no two have a unit in common.
+pub fn passes(
+    alloc: Global,
+    grant: &Resources,
+    live: &[Hold],
+    head: &JobSpec,
+    offer: &Hold,
+    now: u64,
+) -> Result<bool, AllocError>
+    requires spec { IsSpec head.now }
+    requires grant { AreHosts grant.now.nodes }
+    requires held { AreHeld grant.now.nodes (live.now ++ offer.now ∷ []) }
+    ensures { IfOk result (λ passes. IsTrue passes
+        ↔ KeepsReservation head.now grant.now.nodes live.now offer.now now) }
+{
+    let Some(second) = reserve(alloc, grant, live, head, now)? else {
+        return Ok(false);
+    };
+    let mut graph = graph_at(alloc, grant, live, second)?;
+    hold_at(&mut graph, live.len(), offer, second)?;
+    Ok(graph.has_room(head))
+}
