@@ -1,0 +1,4 @@
+pub mod Writes
+pub mod Calls
+pub mod Memory
+pub mod Sql
