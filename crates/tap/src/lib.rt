@@ -1,14 +1,16 @@
-//! The callback that gives a waiting job its priority.
+//! Kept callbacks: the one that gives a waiting job its priority, and the one that judges a submission.
 #![tactic(auto)]
 
 ghost use Rattle.std.specs.Prelude.{◌≡◌, ℕ};
 ghost use Rattle.std.specs.Fn.{FnReturnsAt};
 ghost use Rattle.tap.specs.Priorities.{AnswersOnce, IsPriority};
 
-use std::marker::Model;
-
+mod check;
 #[cfg(test)]
 mod tests;
+
+pub use check::Check;
+use std::marker::Model;
 
 /// What the callback is told of a job: its id, its urgency of 0 to 31, its user and the cores that it asks for.
 #[derive(Clone, Copy, Debug, PartialEq, Eq)]

@@ -1,4 +1,4 @@
-use crate::{Ask, Tap};
+use crate::{Ask, Check, Tap};
 use std::test::Fail;
 
 #[test]
@@ -12,6 +12,21 @@ fn answers_of_a_callback(rt: HostRuntime) -> Result<(), Fail> {
             cores: 4,
         };
         assert_eq!(rt; tap.answer(&ask), answer);
+    }
+    Ok(())
+}
+
+#[test]
+fn verdicts_of_a_callback(rt: HostRuntime) -> Result<(), Fail> {
+    let check = Check::new(|ask: &Ask| if 2 < ask.cores { 7 } else { 0 });
+    for (cores, answer) in [(1, 0), (2, 0), (3, 7)] {
+        let ask = Ask {
+            id: 0,
+            urgency: 16,
+            userid: 1000,
+            cores,
+        };
+        assert_eq!(rt; check.answer(&ask), answer);
     }
     Ok(())
 }
