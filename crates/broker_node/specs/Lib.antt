@@ -1,2 +1,0 @@
-pub mod Broker
-pub mod Tree
