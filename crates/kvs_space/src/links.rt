@@ -104,7 +104,8 @@ pub fn deliver(
     ensures heard { IfOk result (λ r. heard.new.items ≡ slice_set heard.old.items broker r) }
     ensures next { IfOk result (λ r. IsNext fanout heard.old.items broker r) }
     ensures announced { OnOk result (IsAnnounced fanout heard.new.items links.new.items) }
-    ensures shorter { OnOk result (length (link_at links.new.items broker) < length (link_at links.old.items broker)) }
+    ensures shorter { OnOk result (length (link_at links.new.items broker) < length
+        (link_at links.old.items broker)) }
 {
     let link = &mut links[broker];
     match link.pop() {

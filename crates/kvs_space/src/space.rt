@@ -69,7 +69,15 @@ impl Model for Space {
 
     ghost Value = { SpaceValue };
 
-    ghost view = { λ s. record { name = s.name; removed = s.removed; history = s.history.items; known = s.known.items; stores = s.stores.items; links = s.links.items; merger = s.merger } };
+    ghost view = { λ s. record {
+      name = s.name;
+      removed = s.removed;
+      history = s.history.items;
+      known = s.known.items;
+      stores = s.stores.items;
+      links = s.links.items;
+      merger = s.merger;
+    } };
 }
 
 /// What rank 0 makes of the transactions that are ready: a landing of one or more, or a denial of the first.
@@ -145,9 +153,17 @@ fn catch_up(
     requires within { broker < length stores.old.items }
     requires rises { from ≤ to }
     requires landed { to ≤ length history.now.items }
-    requires stands { (first : Contents) × (after scope history.now.items from first ≡ Some (slice_index_or stores.old.items broker [])) × IsSome (after scope history.now.items to first) }
-    ensures follows { OnOk result ((first : Contents) → after scope history.now.items from first ≡ Some (slice_index_or stores.old.items broker []) → after scope history.now.items to first ≡ Some (slice_index_or stores.new.items broker [])) }
-    ensures others { OnOk result ((k : ℕ) → k ≢ broker → slice_index_or stores.new.items k [] ≡ slice_index_or stores.old.items k []) }
+    requires stands { (first : Contents)
+        × (after scope history.now.items from first
+        ≡ Some (slice_index_or stores.old.items broker []))
+        × IsSome (after scope history.now.items to first) }
+    ensures follows { OnOk result ((first : Contents)
+        → after scope history.now.items from first
+        ≡ Some (slice_index_or stores.old.items broker [])
+        → after scope history.now.items to first
+        ≡ Some (slice_index_or stores.new.items broker [])) }
+    ensures others { OnOk result ((k : ℕ) → k ≢ broker
+        → slice_index_or stores.new.items k [] ≡ slice_index_or stores.old.items k []) }
     ensures same_len { length stores.new.items ≡ length stores.old.items }
 {
     let store = &mut stores[broker];
@@ -164,7 +180,8 @@ fn try_first(
     scope: Scope,
 ) -> Result<Option<Refusal>, SpaceFault>
     requires { merger.now.ready ≢ [] }
-    ensures judged { IfOk result (λ refusal. IsOfFirst scope merger.now.ready store.old store.new refusal) }
+    ensures judged { IfOk result
+        (λ refusal. IsOfFirst scope merger.now.ready store.old store.new refusal) }
 {
     match merger.first() {
         Some(group) => match store.apply(&group.txn, scope) {
@@ -179,7 +196,8 @@ fn try_first(
 /// Takes out the group that is ready first.
 fn pop(merger: &mut Merger) -> Group
     requires { merger.old.ready ≢ [] }
-    ensures { merger.old ≡ record { fences = merger.new.fences; ready = result ∷ merger.new.ready } }
+    ensures { merger.old
+        ≡ record { fences = merger.new.fences; ready = result ∷ merger.new.ready } }
 {
     match merger.group() {
         Some(group) => group,
@@ -194,7 +212,9 @@ fn take_ready(
     store: &mut Store,
     scope: Scope,
 ) -> Result<Taken, SpaceFault>
-    ensures { IfOk result (λ taken. HasTaken scope merger.old merger.new store.old store.new taken.groups taken.refusal) }
+    ensures { IfOk result
+        (λ taken. HasTaken scope merger.old merger.new store.old store.new taken.groups
+        taken.refusal) }
 {
     let mut groups = ListOf::new(alloc);
     let count = merger.ready();
@@ -221,10 +241,12 @@ impl Space {
     pub fn primary(alloc: Global, size: u32, grant: &Bytes) -> Result<Space, SpaceFault>
         requires { 1 ≤ size }
         ensures name { IfOk result (λ space. space.name ≡ primary) }
-        ensures fresh { IfOk result (λ space. (space.removed ≡ false) × (space.history ≡ []) × (space.merger ≡ record { fences = []; ready = [] })) }
+        ensures fresh { IfOk result (λ space. (space.removed ≡ false) × (space.history ≡ [])
+            × (space.merger ≡ record { fences = []; ready = [] })) }
         ensures size { IfOk result (λ space. length space.known ≡ size) }
         ensures known { IfOk result (λ space. (b : ℕ) → b < size → slice_index space.known b ≡ 1) }
-        ensures store { IfOk result (λ space. slice_index_or space.stores 0 [] ≡ first_store grant.now) }
+        ensures store { IfOk result (λ space. slice_index_or space.stores 0 []
+            ≡ first_store grant.now) }
         ensures sound { IfOk result (λ space. (fanout : ℕ) → IsSoundSpace fanout grant.now space) }
     {
         let mut known = Vec::new(alloc);
@@ -368,9 +390,12 @@ impl Space {
         requires above { 0 < to }
         requires within { to < length self.old.known }
         requires some { has_news to self.old ≡ true }
-        ensures sound { OnOk result ((grant : List ℕ) → IsSoundSpace fanout grant self.old → IsSoundSpace fanout grant self.new) }
-        ensures heard { IfOk result (λ rise. IsHearing fanout to rise.before rise.after self.old self.new) }
-        ensures shorter { OnOk result (length (link_at self.new.links to) < length (link_at self.old.links to)) }
+        ensures sound { OnOk result ((grant : List ℕ) → IsSoundSpace fanout grant self.old
+            → IsSoundSpace fanout grant self.new) }
+        ensures heard { IfOk result
+            (λ rise. IsHearing fanout to rise.before rise.after self.old self.new) }
+        ensures shorter { OnOk result (length (link_at self.new.links to) < length
+            (link_at self.old.links to)) }
     {
         let at = to as usize;
         let landed = self.history.len();
@@ -384,7 +409,8 @@ impl Space {
 
     /// Takes a commit, which is ready to land at once.
     pub fn push(&mut self, member: Member) -> Result<(), SpaceFault>
-        ensures { OnOk result (self.new ≡ record self.old { merger = pushed self.old.merger member }) }
+        ensures { OnOk result (self.new
+            ≡ record self.old { merger = pushed self.old.merger member }) }
     {
         match self.merger.push(member) {
             Ok(()) => Ok(()),
@@ -402,8 +428,10 @@ impl Space {
     /// Takes a member of the fence of a name that waits for so many. With the last one all of them are ready to land.
     pub fn join(&mut self, fence: &Bytes, count: u32, member: Member) -> Result<(), SpaceFault>
         requires count { (1 ≤ count) × (count ≤ 256) }
-        requires same { option_map_or (λ f. f.count) (fence_of fence.now self.old.merger.fences) count ≡ count }
-        ensures joined { OnOk result (self.new ≡ record self.old { merger = joined self.old.merger fence.now count member }) }
+        requires same { option_map_or
+            (λ f. f.count) (fence_of fence.now self.old.merger.fences) count ≡ count }
+        ensures joined { OnOk result (self.new
+            ≡ record self.old { merger = joined self.old.merger fence.now count member }) }
         ensures open { OnOk result (AreFences self.new.merger.fences) }
     {
         match self.merger.join(fence, count, member) {
@@ -415,7 +443,13 @@ impl Space {
 
     /// Takes a transaction of the job manager, which is ready to land at once.
     pub fn post(&mut self, group: Group) -> Result<(), AllocError>
-        ensures { OnOk result (self.new ≡ record self.old { merger = record { fences = self.old.merger.fences; ready = self.old.merger.ready ++ group ∷ [] } }) }
+        ensures { OnOk result (self.new
+            ≡ record self.old {
+              merger = record {
+                fences = self.old.merger.fences;
+                ready = self.old.merger.ready ++ group ∷ [];
+              };
+            }) }
     {
         self.merger.post(group)
     }
@@ -425,7 +459,8 @@ impl Space {
         requires sound { (grant : List ℕ) × IsSoundSpace fanout grant self.old }
         requires fanout { 0 < fanout }
         requires ready { is_ready self.old ≡ true }
-        ensures sound { OnOk result ((grant : List ℕ) → IsSoundSpace fanout grant self.old → IsSoundSpace fanout grant self.new) }
+        ensures sound { OnOk result ((grant : List ℕ) → IsSoundSpace fanout grant self.old
+            → IsSoundSpace fanout grant self.new) }
         ensures ruled { IfOk result (λ ruling. IsRuled ruling self.old self.new) }
     {
         let scope = scope_of(&self.name);
