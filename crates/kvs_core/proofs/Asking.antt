@@ -21,20 +21,21 @@ use Rattle.std.specs.Cmp.Lexicographic.{bytes_decides}
 use Rattle.kvs_model.specs.Store.{Name}
 use Rattle.kvs_core.specs.declared.service.Request.{Request as Request₀}
 use Rattle.kvs_core.specs.declared.service.Request.TheVariants as request
-use Rattle.kvs_core.specs.Requests.{IsKnown, IsKnownAsk, IsMade, IfAsked}
-use Rattle.kvs_core.specs.declared.rows.Stage.{Stage}
-use Rattle.kvs_core.specs.Steps.{joined_in}
+use Rattle.kvs_core.specs.Requests.{IsKnown, IsMade, IfAsked}
+use Rattle.kvs_requests.specs.Rows.{IsKnownAsk, AtPlace, IsPlaced, ArePlaced, awaited}
+use Rattle.kvs_requests.specs.declared.rows.Stage.{Stage}
+use Rattle.kvs_requests.specs.Stages.{joined_in}
 use Rattle.kvs_space.specs.Space.{SpaceValue, number_of, known_at, name_at, carries, queued, is_named, is_known_to}
 use Rattle.kvs_core.specs.Value.{CoreValue}
 use Rattle.kvs_core.specs.Sound.{IsSound}
-use Rattle.kvs_core.specs.Rows.{AtPlace, IsPlaced, ArePlaced, awaited}
-use Rattle.kvs_core.specs.Agrees.{Agrees, Entrants, RowAgrees, StageAgrees, RowsAgree, IsUndecided, IsNeeded, heard_at}
+use Rattle.kvs_core.specs.Agrees.{Agrees}
+use Rattle.kvs_requests.specs.Agreement.{Entrants, RowAgrees, StageAgrees, RowsAgree, IsUndecided, IsNeeded, heard_at}
 use Rattle.kvs_space.proofs.Announced.{below-newest}
 use Rattle.kvs_space.proofs.Finding.{and-left, and-right, both-true, found-within, found-passes, found-none, lt-is, lt-true}
 use Rattle.kvs_core.proofs.Heads.{IsHead, head-of, rows-of, head-kept}
-use Rattle.kvs_core.proofs.Later.{IsAside}
+use Rattle.kvs_requests.proofs.Later.{IsAside}
 use Rattle.kvs_core.proofs.Carried.{waiting, each-map, untrue, authored-is}
-use Rattle.kvs_core.proofs.Tables.{same-self, rows-asked, aside-asked}
+use Rattle.kvs_requests.proofs.Tables.{same-self, rows-asked, aside-asked}
 use Rattle.kvs_core.proofs.Moving.{grows-silent}
 use Rattle.kvs_core.proofs.Heard.{heard-lost, no-space}
 

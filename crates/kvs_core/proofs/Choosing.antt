@@ -7,20 +7,21 @@ use Rattle.std.proofs.lemmas.Option.{slice_get_within}
 use Rattle.kvs_rules.specs.declared.events.KvsStep.{KvsStep}
 use Rattle.kvs_rules.specs.declared.events.KvsStep.TheVariants as kvs
 use Rattle.kvs_core.specs.declared.order.Hop.{Hop}
-use Rattle.kvs_core.specs.declared.rows.Row.{Row}
-use Rattle.kvs_core.specs.declared.rows.Work.TheVariants as work
-use Rattle.kvs_core.specs.declared.rows.Stage.{Stage}
-use Rattle.kvs_core.specs.declared.rows.Stage.TheVariants as stage
+use Rattle.kvs_requests.specs.declared.rows.Row.{Row}
+use Rattle.kvs_requests.specs.declared.rows.Work.TheVariants as work
+use Rattle.kvs_requests.specs.declared.rows.Stage.{Stage}
+use Rattle.kvs_requests.specs.declared.rows.Stage.TheVariants as stage
 use Rattle.kvs_core.specs.Order.{IsAnnouncing, Leads, possible}
-use Rattle.kvs_core.specs.Rows.{AtPlace}
+use Rattle.kvs_requests.specs.Rows.{AtPlace}
 use Rattle.kvs_core.specs.Sound.{IsSound}
 use Rattle.kvs_space.specs.Space.{SpaceValue, has_news, is_ready}
 use Rattle.kvs_rules.specs.Brokers.{parent}
-use Rattle.kvs_core.specs.Steps.{can_step, is_announced, is_message, is_on}
+use Rattle.kvs_core.specs.Steps.{can_step, is_announced}
+use Rattle.kvs_requests.specs.Stages.{is_message, is_on}
 use Rattle.kvs_core.specs.Value.{CoreValue}
 use Rattle.kvs_space.proofs.Announced.{parent-below}
 use Rattle.kvs_core.proofs.Delivering.{coming}
-use Rattle.kvs_core.proofs.Ways.{parent-le}
+use Rattle.kvs_requests.proofs.Ways.{parent-le}
 use Rattle.kvs_space.proofs.Finding.{and-left, and-right, both-true, eq-is, eq-true, lt-is, lt-true, false-or-else}
 use Rattle.kvs_core.proofs.Ordering.{any-at, first-behind, first-front, first-link, first-range, no-link, none-of}
 

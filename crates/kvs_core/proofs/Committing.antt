@@ -10,13 +10,13 @@ use Rattle.kvs_rules.specs.declared.events.KvsAsk.TheVariants as ask
 use Rattle.kvs_rules.specs.Log.{Log}
 use Rattle.kvs_rules.specs.Namespaces.{Setting, Asks}
 use Rattle.kvs_rules.specs.Landings.{IsUser, IsUsers}
-use Rattle.kvs_core.specs.declared.rows.Row.{Row}
-use Rattle.kvs_core.specs.declared.rows.Stage.TheVariants as stage
-use Rattle.kvs_core.specs.declared.rows.Work.TheVariants as work
+use Rattle.kvs_requests.specs.declared.rows.Row.{Row}
+use Rattle.kvs_requests.specs.declared.rows.Stage.TheVariants as stage
+use Rattle.kvs_requests.specs.declared.rows.Work.TheVariants as work
 use Rattle.kvs_core.specs.Agrees.{Agrees, IsWaiting, SpaceAgrees}
-use Rattle.kvs_core.specs.Rows.{with_stage}
+use Rattle.kvs_requests.specs.Rows.{with_stage}
 use Rattle.kvs_core.specs.Sound.{IsSound}
-use Rattle.kvs_core.specs.Steps.{all_services, is_arrived_stage}
+use Rattle.kvs_requests.specs.Stages.{all_services, is_arrived_stage}
 use Rattle.kvs_core.specs.Value.{CoreValue}
 use Rattle.kvs_space.specs.Sound.{ArePosted, IsSoundSpace}
 use Rattle.kvs_space.specs.Space.{SpaceValue, is_named, queued}

@@ -20,7 +20,7 @@ use Rattle.kvs_rules.proofs.Asking.{command_is}
 use Rattle.kvs_space.specs.Space.{is_authored, members_in, queued}
 use Rattle.kvs_space.proofs.Finding.{lt-true, lt-is}
 use Rattle.kvs_core.proofs.Carried.{waiting, waiting-append, waiting-cons, among-is, each-among, each-map, bringer, solo-waiting, map-append}
-use Rattle.kvs_core.proofs.Tables.{same-self}
+use Rattle.kvs_requests.proofs.Tables.{same-self}
 
 abbrev pub times : By → List By → ℕ
 times by bys = count_by (same_command by) bys

@@ -24,10 +24,10 @@ use Rattle.kvs_space.specs.Sound.{ArePosted}
 use Rattle.kvs_space.proofs.Posting.{no-manager, posted-user, user-behind}
 use Rattle.kvs_space.proofs.Finding.{eq-is, eq-true}
 use Rattle.kvs_core.specs.Agrees.{AreJoining, IsWaiting}
-use Rattle.kvs_core.specs.Steps.{other_than}
+use Rattle.kvs_requests.specs.Stages.{other_than}
 use Rattle.kvs_core.proofs.Carried.{bringer, each-join, each-left, each-right, map-append, or-one, or-other}
 use Rattle.kvs_core.proofs.Counting.{come}
-use Rattle.kvs_core.proofs.Tables.{same-self}
+use Rattle.kvs_requests.proofs.Tables.{same-self}
 
 pub long-authors : (ms : List Member) → length (authors_of ms) ≡ length ms
 long-authors [] = refl

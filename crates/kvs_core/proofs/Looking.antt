@@ -8,20 +8,21 @@ use Rattle.kvs_rules.specs.declared.events.KvsAnswer.TheVariants as answer
 use Rattle.kvs_rules.specs.Log.{Log, SinceAsked}
 use Rattle.kvs_rules.specs.Namespaces.{Setting, is_live, is_opened, is_primary, is_removed, primary}
 use Rattle.kvs_rules.specs.Answers.{FindsNoNamespace}
-use Rattle.kvs_core.specs.declared.rows.Kind.TheVariants as kind
-use Rattle.kvs_core.specs.declared.rows.Row.{Row}
-use Rattle.kvs_core.specs.declared.rows.Stage.{Stage}
-use Rattle.kvs_core.specs.declared.rows.Stage.TheVariants as stage
-use Rattle.kvs_core.specs.Agrees.{Agrees, IsParkedAsk, MayTell, RowAgrees, RowsAgree, SpaceAgrees, StageAgrees}
-use Rattle.kvs_core.specs.Refused.{IsReturning}
-use Rattle.kvs_core.specs.Rows.{AtPlace, IsPlaced, ArePlaced, IsRisingAsk, with_stage}
+use Rattle.kvs_requests.specs.declared.rows.Kind.TheVariants as kind
+use Rattle.kvs_requests.specs.declared.rows.Row.{Row}
+use Rattle.kvs_requests.specs.declared.rows.Stage.{Stage}
+use Rattle.kvs_requests.specs.declared.rows.Stage.TheVariants as stage
+use Rattle.kvs_core.specs.Agrees.{Agrees, SpaceAgrees}
+use Rattle.kvs_requests.specs.Agreement.{IsParkedAsk, MayTell, RowAgrees, RowsAgree, StageAgrees}
+use Rattle.kvs_requests.specs.Refused.{IsReturning}
+use Rattle.kvs_requests.specs.Rows.{AtPlace, IsPlaced, ArePlaced, IsRisingAsk, with_stage}
 use Rattle.kvs_core.specs.Sound.{IsSound}
-use Rattle.kvs_core.specs.Steps.{all_services, is_arrived_stage, joined_in, kind_of, services_left}
+use Rattle.kvs_requests.specs.Stages.{all_services, is_arrived_stage, joined_in, kind_of, services_left}
 use Rattle.kvs_core.specs.Value.{CoreValue}
 use Rattle.kvs_space.specs.Space.{SpaceValue, is_named, name_at}
 use Rattle.kvs_core.proofs.Heads.{head-of, opened-there, rows-of}
 use Rattle.kvs_core.proofs.Moving.{found-at, found-there, moved-sound}
-use Rattle.kvs_core.proofs.Tables.{rows-moved}
+use Rattle.kvs_requests.proofs.Tables.{rows-moved}
 use Rattle.kvs_core.proofs.Taking.{arrived-left, arrived-staged, arrived-unjoined, by-there, fewer, named-so, placed-there, row-agrees}
 
 -- what looks is a read or a wait

@@ -20,7 +20,7 @@ use Rattle.kvs_space.specs.Space.{is_authored, members_in, queued}
 use Rattle.kvs_core.specs.Agrees.{AreJoining}
 use Rattle.kvs_core.proofs.Carried.{bringer, map-append, or-one, or-other, distinct-left, distinct-right}
 use Rattle.kvs_core.proofs.Joining.{found-asks}
-use Rattle.kvs_core.proofs.Tables.{same-self}
+use Rattle.kvs_requests.proofs.Tables.{same-self}
 
 pick : {X : Type 0} (a b : Bool) → (a || b) ≡ true → (a ≡ true → X) → (b ≡ true → X) → X
 pick true b e f g = f refl

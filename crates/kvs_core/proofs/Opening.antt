@@ -23,14 +23,15 @@ use Rattle.kvs_rules.specs.Landings.{AreFresh, IsLegalLanding, commands_of, name
 use Rattle.kvs_rules.specs.Answers.{IsLegalAfter}
 use Rattle.kvs_rules.proofs.Logs.{landed_push, was_unopened}
 use Rattle.kvs_rules.proofs.Stores.{landings_push, opened_push}
-use Rattle.kvs_core.specs.declared.rows.Row.{Row}
-use Rattle.kvs_core.specs.declared.rows.Stage.{Stage}
-use Rattle.kvs_core.specs.declared.rows.Stage.TheVariants as stage
-use Rattle.kvs_core.specs.declared.rows.Work.TheVariants as work
-use Rattle.kvs_core.specs.Agrees.{Agrees, IsUntouched, IsWaiting, AreJoining, RowAgrees, RowsAgree, SpaceAgrees}
-use Rattle.kvs_core.specs.Rows.{AtPlace, IsPlaced, with_stage}
+use Rattle.kvs_requests.specs.declared.rows.Row.{Row}
+use Rattle.kvs_requests.specs.declared.rows.Stage.{Stage}
+use Rattle.kvs_requests.specs.declared.rows.Stage.TheVariants as stage
+use Rattle.kvs_requests.specs.declared.rows.Work.TheVariants as work
+use Rattle.kvs_core.specs.Agrees.{Agrees, IsUntouched, IsWaiting, AreJoining, SpaceAgrees}
+use Rattle.kvs_requests.specs.Agreement.{RowAgrees, RowsAgree}
+use Rattle.kvs_requests.specs.Rows.{AtPlace, IsPlaced, with_stage}
 use Rattle.kvs_core.specs.Sound.{IsSound}
-use Rattle.kvs_core.specs.Steps.{all_services, is_arrived_stage, joined_in, services_left}
+use Rattle.kvs_requests.specs.Stages.{all_services, is_arrived_stage, joined_in, services_left}
 use Rattle.kvs_core.specs.Value.{CoreValue}
 use Rattle.kvs_space.specs.Sound.{IsSoundSpace, idle}
 use Rattle.kvs_space.specs.Space.{SpaceValue, carries, is_authored, is_named, known_at, live_in, name_at, number_of, queued}
@@ -40,11 +41,11 @@ use Rattle.kvs_core.proofs.Delivering.{heard-head, heard-legal, heard-rows, name
 use Rattle.kvs_core.proofs.Heads.{IsElsewhere, IsHead, agrees-of, removed-kept, rows-of, space-kept, untouched-kept}
 use Rattle.kvs_core.proofs.Heard.{no-space}
 use Rattle.kvs_core.proofs.Landing.{any-kept, last-stands, primary-there}
-use Rattle.kvs_core.proofs.Later.{Grows, IsAside, differs, heard-push, need-kept, row-kept, told-silent}
+use Rattle.kvs_requests.proofs.Later.{Grows, IsAside, differs, heard-push, need-kept, row-kept, told-silent}
 use Rattle.kvs_core.proofs.Living.{live-count}
 use Rattle.kvs_core.proofs.Queueing.{posts-at, waiting-posts}
 use Rattle.kvs_core.proofs.Respacing.{set-twice}
-use Rattle.kvs_core.proofs.Tables.{beside, rows-ruled, stage-respaced}
+use Rattle.kvs_requests.proofs.Tables.{beside, rows-ruled, stage-respaced}
 use Rattle.kvs_core.proofs.Taking.{arrived-left, arrived-staged, arrived-unjoined, by-there, fewer, row-agrees, unopened}
 
 -- the table with one namespace more, in which nothing waits

@@ -19,16 +19,17 @@ use Rattle.kvs_rules.specs.Landings.{IsLegalLanding}
 use Rattle.kvs_rules.specs.Answers.{FindsNoNamespace, IsLegalAfter}
 use Rattle.kvs_rules.proofs.Logs.{landed_push}
 use Rattle.kvs_rules.proofs.Stores.{landings_push, removed_push}
-use Rattle.kvs_core.specs.declared.rows.Row.{Row}
-use Rattle.kvs_core.specs.declared.rows.Stage.{Stage}
-use Rattle.kvs_core.specs.declared.rows.Stage.TheVariants as stage
-use Rattle.kvs_core.specs.declared.rows.Work.{Work}
-use Rattle.kvs_core.specs.declared.rows.Work.TheVariants as work
-use Rattle.kvs_core.specs.Agrees.{Agrees, Entrants, IsTransaction, IsUndecided, IsWorkOf, MayTell, RowAgrees, RowsAgree, SpaceAgrees, StageAgrees}
-use Rattle.kvs_core.specs.Refused.{AreDismissed, IsDismissedRow, IsFalling}
-use Rattle.kvs_core.specs.Rows.{AtPlace, IsPlaced, ArePlaced, with_stage}
+use Rattle.kvs_requests.specs.declared.rows.Row.{Row}
+use Rattle.kvs_requests.specs.declared.rows.Stage.{Stage}
+use Rattle.kvs_requests.specs.declared.rows.Stage.TheVariants as stage
+use Rattle.kvs_requests.specs.declared.rows.Work.{Work}
+use Rattle.kvs_requests.specs.declared.rows.Work.TheVariants as work
+use Rattle.kvs_core.specs.Agrees.{Agrees, SpaceAgrees}
+use Rattle.kvs_requests.specs.Agreement.{Entrants, IsTransaction, IsUndecided, IsWorkOf, MayTell, RowAgrees, RowsAgree, StageAgrees}
+use Rattle.kvs_requests.specs.Refused.{AreDismissed, IsDismissedRow, IsFalling}
+use Rattle.kvs_requests.specs.Rows.{AtPlace, IsPlaced, ArePlaced, with_stage}
 use Rattle.kvs_core.specs.Sound.{IsSound}
-use Rattle.kvs_core.specs.Steps.{is_arrived_stage, joined_in}
+use Rattle.kvs_requests.specs.Stages.{is_arrived_stage, joined_in}
 use Rattle.kvs_core.specs.Value.{CoreValue}
 use Rattle.kvs_space.specs.Rulings.{IsRemoving}
 use Rattle.kvs_space.specs.Sound.{IsSoundSpace, idle}
@@ -38,11 +39,11 @@ use Rattle.kvs_core.proofs.Carried.{IsAwaited, all-joined, each-map, joined-once
 use Rattle.kvs_core.proofs.Delivering.{heard-head, heard-legal, heard-rows, named-apart, other-names}
 use Rattle.kvs_core.proofs.Heads.{IsElsewhere, IsHead, agrees-of, head-of, head-then, opened-there, rows-of, space-kept}
 use Rattle.kvs_core.proofs.Landing.{any-kept, last-stands, primary-there}
-use Rattle.kvs_core.proofs.Later.{Grows, IsAside, differs, heard-push, need-kept, row-kept, told-silent}
+use Rattle.kvs_requests.proofs.Later.{Grows, IsAside, differs, heard-push, need-kept, row-kept, told-silent}
 use Rattle.kvs_core.proofs.Moving.{found-at, found-there}
 use Rattle.kvs_core.proofs.Queueing.{elsewhere, posts-moved, waiting-posts}
 use Rattle.kvs_core.proofs.Respacing.{get-here, gone-room, name-at, names-same, placed-then, read-at, respaced-sound, set-twice}
-use Rattle.kvs_core.proofs.Tables.{beside, row-respaced, rows-ruled}
+use Rattle.kvs_requests.proofs.Tables.{beside, row-respaced, rows-ruled}
 use Rattle.kvs_core.proofs.Taking.{arrived-staged, arrived-unjoined, by-there, named-so, placed-there, row-agrees}
 use Rattle.store_laws.specs.Posts.{posts_in}
 

@@ -1,5 +1,5 @@
 -- The steps that can be made, by number.
-use Rattle.std.specs.Prelude.{ℕ, zero, suc, List, [], ◌∷◌, Result, Ok, Err, map, flat_map}
+use Rattle.std.specs.Prelude.{ℕ, zero, suc, ◌-◌, List, [], ◌∷◌, Result, Ok, Err, map, flat_map}
 use Rattle.std.specs.List.{range_with_len}
 use Rattle.kvs_rules.specs.declared.events.KvsStep.{KvsStep}
 use Rattle.kvs_rules.specs.declared.events.KvsStep.TheVariants as kvs
@@ -18,6 +18,14 @@ step_of (strand.Deliveries from) at = kvs.Deliver from at
 step_of strand.Services at = kvs.Serve at
 step_of strand.Landings at = kvs.Land at
 
+-- the numbers from one up to another
+abbrev pub between : ℕ → ℕ → List ℕ
+between first end = range_with_len first (end - first)
+
+-- the deliveries from a broker to so many, by receiver
+abbrev pub sent : ℕ → ℕ → List KvsStep
+sent brokers from = map (kvs.Deliver from) (range_with_len 0 brokers)
+
 -- the deliveries between so many brokers, by sender and then by receiver
 abbrev pub deliveries : ℕ → List KvsStep
-deliveries brokers = flat_map (λ from. map (kvs.Deliver from) (range_with_len 0 brokers)) (range_with_len 0 brokers)
+deliveries brokers = flat_map (sent brokers) (range_with_len 0 brokers)

@@ -7,5 +7,6 @@ ghost use Rattle.kvs_core.specs.Posted.{LandsUsers, posts_landed};
 
 /// Where the job manager has no transaction that waits, each transaction that lands is a user's.
 pub fn users_land_where_nothing_is_posted()
-    ensures { (events : List KvsEvent) (left : List Group) → posts_landed events ++ left ≡ [] → Each LandsUsers events }
+    ensures { (events : List KvsEvent) (left : List Group) → posts_landed events ++ left ≡ []
+        → Each LandsUsers events }
 {}

@@ -1,9 +1,9 @@
 //! The steps that can be made, counted in their order.
-ghost use Rattle.std.specs.Prelude.{◌≡◌, true, false, map, flat_map, IfOk};
-ghost use Rattle.std.specs.List.{filter, range_with_len};
+ghost use Rattle.std.specs.Prelude.{◌≡◌, ◌<◌, true, false, map, IfOk};
+ghost use Rattle.std.specs.List.{filter};
 ghost use Rattle.kvs_core.specs.Order.{possible};
 ghost use Rattle.kvs_core.specs.Steps.{can_step};
-ghost use Rattle.kvs_core.specs.Walk.{deliveries, nth, step_of};
+ghost use Rattle.kvs_core.specs.Walk.{between, deliveries, nth, sent, step_of};
 
 use super::Core;
 use kvs_rules::KvsStep;
@@ -33,14 +33,16 @@ impl Strand {
 }
 
 impl Core {
-    /// The step of this number among those of a strand of this length, or what the number has left behind them.
-    fn nth_along(&self, strand: Strand, length: u32, number: u64) -> Result<KvsStep, u64>
+    /// The step of this number among those of a strand between two places, or what the number has left behind them.
+    fn nth_along(&self, strand: Strand, first: u32, end: u32, number: u64) -> Result<KvsStep, u64>
         requires { self.now.spent ≡ false }
-        ensures value { result ≡ nth (filter (can_step self.now) (map (step_of strand) (range_with_len 0 length))) number }
+        ensures value { result
+            ≡ nth (filter (can_step self.now) (map (step_of strand)
+            (between first end))) number }
         ensures can { IfOk result (λ step. can_step self.now step ≡ true) }
     {
         let mut left = number;
-        for at in 0..length {
+        for at in first..end {
             let step = strand.step(at);
             if self.can(step) {
                 if left == 0 {
@@ -52,15 +54,37 @@ impl Core {
         Err(left)
     }
 
+    /// The same among the deliveries from one broker: it sends to the broker above it and to those below it alone.
+    fn nth_sent(&self, from: u32, number: u64) -> Result<KvsStep, u64>
+        requires ready { self.now.spent ≡ false }
+        requires within { from < self.now.size }
+        ensures value { result ≡ nth (filter (can_step self.now) (sent self.now.size from)) number }
+        ensures can { IfOk result (λ step. can_step self.now step ≡ true) }
+    {
+        let strand = Strand::Deliveries { from };
+        let above = from.saturating_sub(1) / self.fanout;
+        let left = match self.nth_along(strand, above, above + 1, number) {
+            Ok(step) => return Ok(step),
+            Err(left) => left,
+        };
+        let below = from
+            .saturating_mul(self.fanout)
+            .saturating_add(1)
+            .min(self.size);
+        let end = below.saturating_add(self.fanout).min(self.size);
+        self.nth_along(strand, below, end, left)
+    }
+
     /// The same among the deliveries.
     fn nth_delivery(&self, number: u64) -> Result<KvsStep, u64>
         requires { self.now.spent ≡ false }
-        ensures value { result ≡ nth (filter (can_step self.now) (deliveries self.now.size)) number }
+        ensures value { result
+            ≡ nth (filter (can_step self.now) (deliveries self.now.size)) number }
         ensures can { IfOk result (λ step. can_step self.now step ≡ true) }
     {
         let mut left = number;
         for from in 0..self.size {
-            match self.nth_along(Strand::Deliveries { from }, self.size, left) {
+            match self.nth_sent(from, left) {
                 Ok(step) => return Ok(step),
                 Err(behind) => left = behind,
             }
@@ -79,9 +103,9 @@ impl Core {
             Ok(step) => return Ok(step),
             Err(left) => left,
         };
-        match self.nth_along(Strand::Services, self.size, left) {
+        match self.nth_along(Strand::Services, 0, self.size, left) {
             Ok(step) => Ok(step),
-            Err(left) => self.nth_along(Strand::Landings, self.spaces.len() as u32, left),
+            Err(left) => self.nth_along(Strand::Landings, 0, self.spaces.len() as u32, left),
         }
     }
 }

@@ -1,7 +1,4 @@
-use Rattle.std.proofs.Common.{rules, arith, ◌≡◌, ◌<◌, ◌≤◌, false, List, [], codes, IfOk, OnOk, ℕ, ◌+◌, ◌-◌, ◌*◌, length, ◌/◌, ◌%◌, Bool, true, nat_eq, nat_lt, ◌∷◌, ◌++◌, slice_index_or, slice_set, bit_and, bit_or, Fits, w8, w32, w64, Bor, MutBor}
-use Rattle.kvs_model.specs.History.{first_store}
-use Rattle.kvs_core.specs.Posted.{newest_of, posted}
-use Rattle.kvs_core.specs.Requests.{IsKnownAsk}
+use Rattle.std.proofs.Common.{arith, ◌≡◌, ◌<◌, ◌≤◌, [], ◌+◌, ◌-◌, ◌*◌, ◌/◌, ◌%◌, ◌∷◌, ◌++◌}
 use Rattle.kvs_core.proofs.tests.namespaces_are_opened_and_removed.Goals as goal
 
 -- src/tests.rt:484:5

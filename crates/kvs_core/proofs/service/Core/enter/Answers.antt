@@ -2,14 +2,15 @@ use Rattle.std.proofs.Common.{◌≡◌, ◌∙◌, ◌<◌, Some, None, true, f
 use Rattle.std.specs.List.{position}
 use Rattle.std.proofs.lemmas.List.{get_or_default}
 use Rattle.kvs_rules.specs.declared.events.KvsAnswer.TheVariants as answer
-use Rattle.kvs_core.specs.declared.rows.Kind.TheVariants as kind
-use Rattle.kvs_core.specs.declared.rows.Row.{Row}
-use Rattle.kvs_core.specs.Steps.{is_arrived, is_fence_stage, kept_count, kind_of}
+use Rattle.kvs_requests.specs.declared.rows.Kind.TheVariants as kind
+use Rattle.kvs_requests.specs.declared.rows.Row.{Row}
+use Rattle.kvs_requests.specs.Stages.{is_arrived, is_fence_stage, kept_count, kind_of}
 use Rattle.kvs_space.specs.Space.{SpaceValue, is_named}
 use Rattle.kvs_space.proofs.Finding.{found-within}
 use Rattle.kvs_core.proofs.Looking.{gone-fits}
 use Rattle.kvs_core.proofs.Taking.{arrived-ask, arrived-fence, differs-fits}
-use Rattle.kvs_core.proofs.Tables.{any, told-seen}
+use Rattle.kvs_requests.proofs.Tables.{any}
+use Rattle.kvs_core.proofs.Seen.{told-seen}
 use Rattle.kvs_core.proofs.service.Core.enter.Goals as goal
 
 pub index-requires : goal.index-requires

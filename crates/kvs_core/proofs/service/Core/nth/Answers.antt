@@ -1,4 +1,4 @@
-use Rattle.std.proofs.Common.{◌≡◌, ◌∙◌, ℕ, ◌++◌, List, ap, sym, subst, map, length, rules}
+use Rattle.std.proofs.Common.{◌≡◌, ◌∙◌, ℕ, ◌-◌, ◌++◌, List, ap, sym, subst, map, length, rules, arith}
 use Rattle.std.specs.Prelude.{Ok, Err}
 use Rattle.std.specs.List.{filter, range_with_len}
 use Rattle.kvs_rules.specs.declared.events.KvsStep.{KvsStep}
@@ -25,7 +25,8 @@ unfolding services landings
 returns-in-Ok-nth_along-clause-value c =
     let v = c.args.self.now in
     let can = can_step v in
-    let view : c.self.inside.size ≡ v.size = ap (λ v. v.size) c.self.view_is in
+    let size : c.self.inside.size ≡ v.size = ap (λ v. v.size) c.self.view_is in
+    let view : c.self.inside.size - 0 ≡ v.size = omega (arith, size) in
     let e : nth (filter can (services v.size)) c.in-Err.left ≡ Ok c.in-Ok-nth_along.step =
     subst (λ n. nth (filter can (services n)) c.in-Err.left ≡ Ok c.in-Ok-nth_along.step) view (sym c.nth_along.ensures.value ∙ c.in-Ok-nth_along.is) in
     sym (behind-all can (deliveries v.size) (services v.size ++ landings (length v.spaces)) c.args.number c.in-Err.left (sym c.nth_delivery.ensures.value ∙ c.in-Err.is)
@@ -36,10 +37,12 @@ unfolding services landings
 returns-in-Err-nth_along-clause-value c =
     let v = c.args.self.now in
     let can = can_step v in
-    let view : c.self.inside.size ≡ v.size = ap (λ v. v.size) c.self.view_is in
+    let size : c.self.inside.size ≡ v.size = ap (λ v. v.size) c.self.view_is in
+    let view : c.self.inside.size - 0 ≡ v.size = omega (arith, size) in
     let e : nth (filter can (services v.size)) c.in-Err.left ≡ Err c.in-Err-nth_along.left =
     subst (λ n. nth (filter can (services n)) c.in-Err.left ≡ Err c.in-Err-nth_along.left) view (sym c.nth_along.ensures.value ∙ c.in-Err-nth_along.is) in
-    let spaces : c.len.result ≡ length v.spaces = search rules in
+    let len : c.len.result ≡ length v.spaces = search rules in
+    let spaces : c.len.result - 0 ≡ length v.spaces = omega (arith, len) in
     sym (behind-all can (deliveries v.size) (services v.size ++ landings (length v.spaces)) c.args.number c.in-Err.left (sym c.nth_delivery.ensures.value ∙ c.in-Err.is)
     ∙ behind-all can (services v.size) (landings (length v.spaces)) c.in-Err.left c.in-Err-nth_along.left e
     ∙ ap (λ n. nth (filter can (landings n)) c.in-Err-nth_along.left) (sym spaces)

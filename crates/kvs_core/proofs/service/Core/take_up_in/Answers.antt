@@ -1,18 +1,19 @@
-use Rattle.std.proofs.Common.{◌≡◌, ◌∙◌, ◌<◌, ◌≤◌, ◌⊎◌, ◌++◌, Some, true, length, map, append-nil, get_or, ap, sym, subst}
+use Rattle.std.proofs.Common.{◌≡◌, ◌∙◌, ◌<◌, Some, true, length, get_or, ap, sym, subst}
 use Rattle.std.specs.List.{position}
 use Rattle.std.proofs.lemmas.List.{get_or_default}
 use Rattle.kvs_rules.specs.declared.events.KvsAnswer.TheVariants as answer
-use Rattle.kvs_rules.specs.Log.{Happened}
-use Rattle.kvs_core.specs.declared.rows.Row.{Row}
-use Rattle.kvs_core.specs.Agrees.{Agrees}
-use Rattle.kvs_core.specs.Steps.{all_services, is_arrived, kind_of}
+use Rattle.kvs_requests.specs.declared.rows.Row.{Row}
+use Rattle.kvs_requests.specs.Stages.{is_arrived, kind_of}
 use Rattle.kvs_space.specs.Space.{is_named}
 use Rattle.kvs_core.proofs.Heard.{no-space}
 use Rattle.kvs_core.proofs.Looking.{exists-fits}
 use Rattle.kvs_core.proofs.Moving.{found-there}
-use Rattle.kvs_core.proofs.Tables.{told-seen}
+use Rattle.kvs_core.proofs.Seen.{told-seen}
 use Rattle.kvs_core.proofs.Taking.{arrived-ask}
 use Rattle.kvs_core.proofs.service.Core.take_up_in.Goals.{in-Land+in_ok-enter-in-Land, in-Look+in_ok-give_back-in-Look, in-Create+in_ok-turn_away-in-Create}
+use Rattle.kvs_rules.specs.declared.events.KvsStep.TheVariants as kvs
+use Rattle.kvs_core.specs.Makes.{Moves}
+use Rattle.kvs_core.proofs.Making.{silent}
 use Rattle.kvs_core.proofs.service.Core.take_up_in.Goals as goal
 
 pub turn_away-requires-clause-fits : goal.turn_away-requires-clause-fits
@@ -28,18 +29,9 @@ turn_away-requires-clause-fits c = λ set log a d.
     let space = get_or c.self.inside.spaces.items c.args.k no-space in
     told-seen c.self.view_is c.args.i answer.Exists d (λ b. exists-fits s c.args.i within row (get_or_default c.self.inside.rows.items c.args.i d row within) c.args.k found ar.asked ar.is space (get_or_default c.self.inside.spaces.items c.args.k no-space space inside) b create) a
 
-pub returns-clause-does : goal.returns-clause-does
-returns-clause-does c =
-    subst (λ es. (all_services c.match-kind_of.self.rows < all_services c.args.self.now.rows) ⊎ (1 ≤ length es)) (sym c.new.ensures) (elim c.match-kind_of.branch [
-      | in-Land+in_ok-enter-in-Land w ↦ subst (λ v. (all_services v.rows < all_services c.args.self.now.rows) ⊎ (1 ≤ 0)) (sym w.self-is) w.in_ok-enter-in-Land.ensures.does
-      | in-Look+in_ok-give_back-in-Look w ↦ subst (λ v. (all_services v.rows < all_services c.args.self.now.rows) ⊎ (1 ≤ 0)) (sym w.self-is) w.in_ok-give_back-in-Look.ensures.does
-      | in-Create+in_ok-turn_away-in-Create w ↦ subst (λ v. (all_services v.rows < all_services c.args.self.now.rows) ⊎ (1 ≤ 0)) (sym w.self-is) w.in_ok-turn_away-in-Create.ensures.does
-    ])
-
-pub returns-clause-agrees : goal.returns-clause-agrees
-returns-clause-agrees c = λ set log a.
-    subst (λ es. Agrees c.match-kind_of.self set (log ++ map Happened es)) (sym c.new.ensures) (subst (Agrees c.match-kind_of.self set) (sym (append-nil log)) (elim c.match-kind_of.branch [
-      | in-Land+in_ok-enter-in-Land w ↦ subst (λ v. Agrees v set log) (sym w.self-is) (w.in_ok-enter-in-Land.ensures.agrees set log a)
-      | in-Look+in_ok-give_back-in-Look w ↦ subst (λ v. Agrees v set log) (sym w.self-is) (w.in_ok-give_back-in-Look.ensures.agrees set log a)
-      | in-Create+in_ok-turn_away-in-Create w ↦ subst (λ v. Agrees v set log) (sym w.self-is) (w.in_ok-turn_away-in-Create.ensures.agrees set log a)
-    ]))
+pub returns-clause-makes : goal.returns-clause-makes
+returns-clause-makes c = silent c.new.result c.new.ensures (λ log. tt) (elim c.match-kind_of.branch [
+  | in-Land+in_ok-enter-in-Land w ↦ subst (Moves (kvs.Serve 0) c.args.self.now) (sym w.self-is) w.in_ok-enter-in-Land.ensures.moves
+  | in-Look+in_ok-give_back-in-Look w ↦ subst (Moves (kvs.Serve 0) c.args.self.now) (sym w.self-is) w.in_ok-give_back-in-Look.ensures.moves
+  | in-Create+in_ok-turn_away-in-Create w ↦ subst (Moves (kvs.Serve 0) c.args.self.now) (sym w.self-is) w.in_ok-turn_away-in-Create.ensures.moves
+])

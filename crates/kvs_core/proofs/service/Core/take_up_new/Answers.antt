@@ -1,19 +1,20 @@
-use Rattle.std.proofs.Common.{◌≡◌, ◌≢◌, ◌∙◌, ◌<◌, ◌⊎◌, ◌++◌, inl, inr, None, true, length, map, append-nil, arith, get_or, ap, sym, subst}
+use Rattle.std.proofs.Common.{◌≡◌, ◌≢◌, ◌∙◌, ◌<◌, ◌⊎◌, ◌++◌, inl, inr, None, true, length, arith, get_or, ap, sym, subst}
 use Rattle.std.specs.List.{position}
 use Rattle.std.proofs.lemmas.List.{get_or_default}
 use Rattle.kvs_rules.specs.declared.events.KvsAnswer.TheVariants as answer
-use Rattle.kvs_rules.specs.Log.{Happened}
-use Rattle.kvs_core.specs.declared.rows.Kind.{Kind}
-use Rattle.kvs_core.specs.declared.rows.Kind.TheVariants as kind
-use Rattle.kvs_core.specs.declared.rows.Row.{Row}
-use Rattle.kvs_core.specs.declared.rows.Stage.TheVariants as stage
-use Rattle.kvs_core.specs.Agrees.{Agrees}
-use Rattle.kvs_core.specs.Steps.{is_arrived, kind_of}
+use Rattle.kvs_requests.specs.declared.rows.Kind.{Kind}
+use Rattle.kvs_requests.specs.declared.rows.Kind.TheVariants as kind
+use Rattle.kvs_requests.specs.declared.rows.Row.{Row}
+use Rattle.kvs_requests.specs.declared.rows.Stage.TheVariants as stage
+use Rattle.kvs_requests.specs.Stages.{is_arrived, kind_of}
 use Rattle.kvs_space.specs.Space.{is_named}
 use Rattle.kvs_core.proofs.Looking.{creates}
-use Rattle.kvs_core.proofs.Tables.{told-seen}
+use Rattle.kvs_core.proofs.Seen.{told-seen}
 use Rattle.kvs_core.proofs.Taking.{arrived-ask, crowded-fits, unnamed-fits}
 use Rattle.kvs_core.proofs.service.Core.take_up_new.Goals.{in-Create+else-count_live-lt-MOST_LIVE+in_ok-turn_away-in-Create, in-Land+in_ok-turn_away-in-Land}
+use Rattle.kvs_rules.specs.declared.events.KvsStep.TheVariants as kvs
+use Rattle.kvs_core.specs.Makes.{Moves}
+use Rattle.kvs_core.proofs.Making.{silent}
 use Rattle.kvs_core.proofs.service.Core.take_up_new.Goals as goal
 
 pub turn_away-requires-clause-fits : goal.turn_away-requires-clause-fits
@@ -49,9 +50,8 @@ turn_away-requires-in-Land c = record {
       told-seen c.self.view_is c.args.i answer.NoNamespace d (λ b. unnamed-fits s c.args.i within row (get_or_default c.self.inside.rows.items c.args.i d row within) none b ar.asked ar.is (λ q. not-create c.kind_of.result c.in-Land.is (same ∙ q))) a;
 }
 
-pub returns-clause-agrees : goal.returns-clause-agrees
-returns-clause-agrees c = λ set log a.
-    subst (λ es. Agrees c.match-kind_of.self set (log ++ map Happened es)) (sym c.new.ensures) (subst (Agrees c.match-kind_of.self set) (sym (append-nil log)) (elim c.match-kind_of.branch [
-      | in-Create+else-count_live-lt-MOST_LIVE+in_ok-turn_away-in-Create w ↦ subst (λ v. Agrees v set log) (sym w.self-is) (w.in_ok-turn_away-in-Create.ensures.agrees set log a)
-      | in-Land+in_ok-turn_away-in-Land w ↦ subst (λ v. Agrees v set log) (sym w.self-is) (w.in_ok-turn_away-in-Land.ensures.agrees set log a)
-    ]))
+pub returns-clause-makes : goal.returns-clause-makes
+returns-clause-makes c = silent c.new.result c.new.ensures (λ log. tt) (elim c.match-kind_of.branch [
+  | in-Create+else-count_live-lt-MOST_LIVE+in_ok-turn_away-in-Create w ↦ subst (Moves (kvs.Serve 0) c.args.self.now) (sym w.self-is) w.in_ok-turn_away-in-Create.ensures.moves
+  | in-Land+in_ok-turn_away-in-Land w ↦ subst (Moves (kvs.Serve 0) c.args.self.now) (sym w.self-is) w.in_ok-turn_away-in-Land.ensures.moves
+])

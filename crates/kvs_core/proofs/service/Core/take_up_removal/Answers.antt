@@ -1,18 +1,20 @@
-use Rattle.std.proofs.Common.{◌≡◌, ◌∙◌, ◌<◌, ◌≤◌, ◌⊎◌, ◌++◌, Some, true, false, length, map, append-nil, arith, get_or, ap, sym, subst}
+use Rattle.std.proofs.Common.{◌≡◌, ◌∙◌, ◌<◌, Some, true, false, length, arith, get_or, ap, sym, subst}
 use Rattle.std.specs.List.{position}
 use Rattle.std.proofs.lemmas.List.{get_or_default}
 use Rattle.kvs_rules.specs.declared.events.KvsAnswer.TheVariants as answer
-use Rattle.kvs_rules.specs.Log.{Happened}
-use Rattle.kvs_core.specs.declared.rows.Kind.TheVariants as kind
-use Rattle.kvs_core.specs.declared.rows.Row.{Row}
-use Rattle.kvs_core.specs.Agrees.{Agrees}
-use Rattle.kvs_core.specs.Steps.{all_services, is_arrived, kind_of}
+use Rattle.kvs_requests.specs.declared.rows.Kind.TheVariants as kind
+use Rattle.kvs_requests.specs.declared.rows.Row.{Row}
+use Rattle.kvs_requests.specs.Stages.{is_arrived, kind_of}
 use Rattle.kvs_space.specs.Space.{SpaceValue, is_named}
 use Rattle.kvs_space.proofs.Finding.{found-within}
 use Rattle.kvs_core.proofs.Looking.{gone-fits, primary-fits}
-use Rattle.kvs_core.proofs.Tables.{any, told-seen}
+use Rattle.kvs_requests.proofs.Tables.{any}
+use Rattle.kvs_core.proofs.Seen.{told-seen}
 use Rattle.kvs_core.proofs.Taking.{arrived-ask}
 use Rattle.kvs_core.proofs.service.Core.take_up_removal.Goals.{then-k-eq0+in_ok-turn_away, else-k-eq0+then-removed+in_ok-turn_away-2}
+use Rattle.kvs_rules.specs.declared.events.KvsStep.TheVariants as kvs
+use Rattle.kvs_core.specs.Makes.{Moves}
+use Rattle.kvs_core.proofs.Making.{silent}
 use Rattle.kvs_core.proofs.service.Core.take_up_removal.Goals as goal
 
 pub index-requires : goal.index-requires
@@ -51,16 +53,8 @@ remove-requires-clause-living c =
     subst (λ v. (d : SpaceValue) → (get_or v.spaces c.args.k d).removed ≡ false) c.self.view_is
     (λ d. ap (λ x. x.removed) (sym (c.index.ensures ∙ get_or_default c.self.inside.spaces.items c.args.k c.index.result.now d inside)) ∙ sym c.is_removed-removed.ensures ∙ c.if-removed.false)
 
-pub returns-clause-does : goal.returns-clause-does
-returns-clause-does c =
-    subst (λ es. (all_services c.if-k-eq0.self.rows < all_services c.args.self.now.rows) ⊎ (1 ≤ length es)) (sym c.new.ensures) (elim c.if-k-eq0.branch [
-      | then-k-eq0+in_ok-turn_away w ↦ subst (λ v. (all_services v.rows < all_services c.args.self.now.rows) ⊎ (1 ≤ 0)) (sym w.self-is) w.in_ok-turn_away.ensures.does
-      | else-k-eq0+then-removed+in_ok-turn_away-2 w ↦ subst (λ v. (all_services v.rows < all_services c.args.self.now.rows) ⊎ (1 ≤ 0)) (sym w.self-is) w.in_ok-turn_away-2.ensures.does
-    ])
-
-pub returns-clause-agrees : goal.returns-clause-agrees
-returns-clause-agrees c = λ set log a.
-    subst (λ es. Agrees c.if-k-eq0.self set (log ++ map Happened es)) (sym c.new.ensures) (subst (Agrees c.if-k-eq0.self set) (sym (append-nil log)) (elim c.if-k-eq0.branch [
-      | then-k-eq0+in_ok-turn_away w ↦ subst (λ v. Agrees v set log) (sym w.self-is) (w.in_ok-turn_away.ensures.agrees set log a)
-      | else-k-eq0+then-removed+in_ok-turn_away-2 w ↦ subst (λ v. Agrees v set log) (sym w.self-is) (w.in_ok-turn_away-2.ensures.agrees set log a)
-    ]))
+pub returns-clause-makes : goal.returns-clause-makes
+returns-clause-makes c = silent c.new.result c.new.ensures (λ log. tt) (elim c.if-k-eq0.branch [
+  | then-k-eq0+in_ok-turn_away w ↦ subst (Moves (kvs.Serve 0) c.args.self.now) (sym w.self-is) w.in_ok-turn_away.ensures.moves
+  | else-k-eq0+then-removed+in_ok-turn_away-2 w ↦ subst (Moves (kvs.Serve 0) c.args.self.now) (sym w.self-is) w.in_ok-turn_away-2.ensures.moves
+])

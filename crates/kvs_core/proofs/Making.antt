@@ -1,0 +1,20 @@
+-- A step that no log shows, as one without events.
+use Rattle.std.proofs.Common.{◌≡◌, List, [], append-nil, sym, subst}
+use Rattle.kvs_rules.specs.declared.events.KvsEvent.{KvsEvent}
+use Rattle.kvs_rules.specs.declared.events.KvsStep.{KvsStep}
+use Rattle.kvs_rules.specs.Log.{Log}
+use Rattle.kvs_rules.specs.Steps.{AreMadeBy}
+use Rattle.kvs_core.specs.Agrees.{Agrees}
+use Rattle.kvs_core.specs.Makes.{Makes, Moves}
+use Rattle.kvs_core.specs.Value.{CoreValue}
+
+pub silent : {s : KvsStep} {old new : CoreValue} (events : List KvsEvent) → events ≡ [] → ((log : Log) → AreMadeBy log s []) → Moves s old new → Makes s old new events
+silent {s} {old} {new} events none made m = subst (Makes s old new) (sym none) (record {
+  ready = m.ready;
+  size = m.size;
+  order = m.order;
+  does = m.does;
+  made = λ set log a. made log;
+  legal = λ set log a. tt;
+  agrees = λ set log a. subst (Agrees new set) (sym (append-nil log)) (m.agrees set log a);
+})

@@ -1,0 +1,4 @@
+pub mod Ways
+pub mod Later
+pub mod Tables
+pub mod Carrying

@@ -1,0 +1,4 @@
+pub mod Stages
+pub mod Rows
+pub mod Agreement
+pub mod Refused
