@@ -6,6 +6,7 @@ use Rattle.workload.specs.Limits.{most_text, most_line}
 use Rattle.workload.specs.Lines.{TextLine, lines_of}
 use Rattle.workload.specs.Words.{first_word, behind_word}
 use Rattle.workload.specs.Verbs.{first_of}
+use Rattle.workload.specs.Grants.{grant_faults, with_grant}
 use Rattle.workload.specs.Reading.{empty, fault_in, first_fault, spelled, with_line, with_lines, with_actor, with_command, actor_faults, command_faults, line_faults, or_else, begins_with, is_passed_over}
 use Rattle.workload.specs.declared.work.Workload.{Workload}
 use Rattle.workload.specs.declared.faults.LineFault.{LineFault}
@@ -40,20 +41,28 @@ neither (Some e) b h = let wrong : Some e ≡ None = h in cc
 -- lines without a fault keep P
 module _ (size : ℕ) (P : Workload → Type 0)
     (keeps_actor : (work : Workload) (number : ℕ) (tail : List ℕ) → P work → first_of (actor_faults size work.actors number tail) ≡ None → P (with_actor work tail))
+    (keeps_grant : (work : Workload) (number : ℕ) (text : List ℕ) → P work → first_of (grant_faults work number text) ≡ None → P (with_grant work text))
     (keeps_command : (work : Workload) (number : ℕ) (line : List ℕ) → P work → first_of (command_faults work number line) ≡ None → P (with_command work line))
   where
     line_keeps : (work : Workload) (number : ℕ) (line : TextLine) → P work → first_of (line_faults size work number line) ≡ None → P (with_line work line)
     line_keeps work number line h none =
-        let body : List (Bool × LineFault) = cond (is_passed_over (first_word line.text)) [] (cond (begins_with (codes "actor") line.text) (actor_faults size work.actors number (behind_word line.text)) (cond (begins_with (codes "grant") line.text) ((true, line_fault.BadCommand number) ∷ []) (command_faults work number line.text))) in
+        let passed = is_passed_over (first_word line.text) in
+        let actor = begins_with (codes "actor") line.text in
+        let grant = begins_with (codes "grant") line.text in
+        let rest = behind_word line.text in
+        let orders = command_faults work number line.text in
+        let grants = grant_faults work number rest in
+        let actors = actor_faults size work.actors number rest in
+        let body : List (Bool × LineFault) = cond passed [] (cond actor actors (cond grant grants orders)) in
         let short = one_by_one (nat_lt most_line line.bytes) (line_fault.Limit number which.Line) body none in
-        (elim (is_passed_over (first_word line.text)) as (λ b. first_of (cond b [] (cond (begins_with (codes "actor") line.text) (actor_faults size work.actors number (behind_word line.text)) (cond (begins_with (codes "grant") line.text) ((true, line_fault.BadCommand number) ∷ []) (command_faults work number line.text)))) ≡ None
-        → P (cond b work (cond (begins_with (codes "actor") line.text) (with_actor work (behind_word line.text)) (with_command work line.text)))) [
+        (elim passed as (λ b. first_of (cond b [] (cond actor actors (cond grant grants orders))) ≡ None
+        → P (cond b work (cond actor (with_actor work rest) (cond grant (with_grant work rest) (with_command work line.text))))) [
           | true ↦ λ _. h
-          | false ↦ elim (begins_with (codes "actor") line.text) as (λ b. first_of (cond b (actor_faults size work.actors number (behind_word line.text)) (cond (begins_with (codes "grant") line.text) ((true, line_fault.BadCommand number) ∷ []) (command_faults work number line.text))) ≡ None
-              → P (cond b (with_actor work (behind_word line.text)) (with_command work line.text))) [
-                | true ↦ keeps_actor work number (behind_word line.text) h
-                | false ↦ elim (begins_with (codes "grant") line.text) as (λ b. first_of (cond b ((true, line_fault.BadCommand number) ∷ []) (command_faults work number line.text)) ≡ None → P (with_command work line.text)) [
-                  | true ↦ λ wrong. absurd (some_is_not_none wrong)
+          | false ↦ elim actor as (λ b. first_of (cond b actors (cond grant grants orders)) ≡ None
+              → P (cond b (with_actor work rest) (cond grant (with_grant work rest) (with_command work line.text)))) [
+                | true ↦ keeps_actor work number rest h
+                | false ↦ elim grant as (λ b. first_of (cond b grants orders) ≡ None → P (cond b (with_grant work rest) (with_command work line.text))) [
+                  | true ↦ keeps_grant work number rest h
                   | false ↦ keeps_command work number line.text h
                 ]
               ]

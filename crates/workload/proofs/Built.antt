@@ -90,4 +90,4 @@ command_built work number line h none =
 
 pub text_built : (size : ℕ) (text : List ℕ) → first_fault size text ≡ None → All (λ l. IsBuilt l.command) (spelled text).lines
 unfolding AreBuilt
-text_built size text none = text_keeps size (λ w. AreBuilt w.lines) (λ work number tail h _. h) command_built (All-nil _) text none
+text_built size text none = text_keeps size (λ w. AreBuilt w.lines) (λ work number tail h _. h) (λ work number text h _. h) command_built (All-nil _) text none

@@ -33,6 +33,16 @@ most_components = 32
 abbrev pub most_value : ℕ
 most_value = 65536
 
+-- the most hosts of a grant, and the most cores and GPUs of each
+abbrev pub most_hosts : ℕ
+most_hosts = 1024
+
+abbrev pub most_cores : ℕ
+most_cores = 256
+
+abbrev pub most_gpus : ℕ
+most_gpus = 16
+
 -- the most members of a fence
 abbrev pub most_members : ℕ
 most_members = 256

@@ -18,5 +18,14 @@ pub const MOST_NAME: usize = 64;
 /// The most bytes of a value.
 pub const MOST_VALUE: usize = 65_536;
 
+/// The most hosts of a grant.
+pub const MOST_HOSTS: usize = 1_024;
+
+/// The most cores of a host in a grant.
+pub const MOST_CORES: u32 = 256;
+
+/// The most GPUs of a host in a grant.
+pub const MOST_GPUS: u32 = 16;
+
 /// The most members of a fence.
 pub const MOST_MEMBERS: u64 = 256;

@@ -4,14 +4,17 @@ ghost use Rattle.workload.specs.Limits.{most_text, most_actors};
 ghost use Rattle.workload.specs.Lines.{lines_of};
 ghost use Rattle.workload.specs.Words.{first_word, behind_word};
 ghost use Rattle.workload.specs.Verbs.{first_of, Faults, Reads};
+ghost use Rattle.workload.specs.Grants.{grant_of, grant_faults, told_faults, with_grant};
 ghost use Rattle.workload.specs.Reading.{is_declaration, actor_of, actor_faults, verb_faults, command_faults, command_of, line_of, fault_in, with_lines, empty, line_faults, with_line, with_actor, with_command, is_passed_over, first_fault, spelled};
 
 use crate::faults::{LineFault, Which};
+use crate::grant::Grant;
 use crate::limits::{MOST_ACTORS, MOST_COMMANDS, MOST_LINE, MOST_TEXT};
 use crate::verbs::{Verb, command};
 use crate::words::{can_name, cut, number};
 use crate::work::{Actor, ActorList, Command, Line, Workload, place};
 use lists::Bytes;
+use resource_set::RFault;
 use std::alloc::Global;
 use std::str;
 
@@ -140,6 +143,45 @@ fn add_command(alloc: Global, work: &mut Workload, number: u64, line: &str) -> R
     Ok(())
 }
 
+/// The grant that a text tells, in the line of this number.
+#[tactic(auto, unfolding(crate::specs::Grants::grant_of))]
+fn told_grant(alloc: Global, line: u64, text: &str) -> Result<Grant, LineFault>
+    ensures { Reads
+        (first_of (told_faults line (grant_of text.now)))
+        (λ r. grant_of text.now ≡ Some r)
+        result }
+{
+    let grant = match Grant::read(alloc, text.as_bytes()) {
+        Ok(grant) => grant,
+        Err(RFault::NoMemory) => return Err(LineFault::NoMemory),
+        Err(_) => return Err(LineFault::BadCommand { line }),
+    };
+    if grant.is_past_limits() {
+        return Err(LineFault::Limit {
+            line,
+            which: Which::Grant,
+        });
+    }
+    Ok(grant)
+}
+
+/// Gives the workload the grant that the text behind the word `grant` tells.
+fn add_grant(alloc: Global, work: &mut Workload, number: u64, text: &str) -> Result<(), LineFault>
+    requires { length work.old.actors ≤ most_actors }
+    ensures read { Reads
+        (first_of (grant_faults work.old number text.now))
+        (λ _. work.new ≡ with_grant work.old text.now)
+        result }
+    ensures few { OnOk result (length work.new.actors ≤ most_actors) }
+{
+    if work.grant.is_some() || !work.lines.as_slice().is_empty() {
+        return Err(LineFault::BadCommand { line: number });
+    }
+    let grant = told_grant(alloc, number, text)?;
+    work.grant = Some(grant);
+    Ok(())
+}
+
 /// Adds what a line of this number spells, before whose newline so many bytes stand.
 fn add_line(
     alloc: Global,
@@ -165,7 +207,7 @@ fn add_line(
     } else if word == "actor" {
         add_actor(alloc, size, work, number, tail)
     } else if word == "grant" {
-        Err(LineFault::BadCommand { line: number })
+        add_grant(alloc, work, number, tail)
     } else {
         add_command(alloc, work, number, line)
     }

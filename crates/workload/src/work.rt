@@ -3,6 +3,7 @@ ghost use Rattle.std.specs.Prelude.{◌≡◌, ◌<◌, length, IfSome};
 ghost use Rattle.workload.specs.Actors.{place_of};
 ghost use Rattle.workload.specs.Reading.{empty};
 
+use crate::grant::Grant;
 use fl_digest::BlobRef;
 use kvs_txn::Path;
 use lists::{Bytes, ListOf};
@@ -65,21 +66,23 @@ pub struct Line {
 /// Command lines, in the order of the text.
 pub type LineList = ListOf<Line>;
 
-/// What a run is asked to do.
+/// What a run is asked to do, and the resources that it is given, if the workload names them.
 #[derive(Drop)]
 pub struct Workload {
     pub actors: ActorList,
     pub lines: LineList,
+    pub grant: Option<Grant>,
 }
 
 impl Workload {
-    /// A workload without actors and commands.
+    /// A workload without actors, commands and a grant.
     pub fn new(alloc: Global) -> Workload
         ensures { result ≡ empty }
     {
         Workload {
             actors: ListOf::new(alloc),
             lines: ListOf::new(alloc),
+            grant: None,
         }
     }
 }
