@@ -5,7 +5,7 @@ use Rattle.answers.specs.declared.steps.Step.{Step}
 use Rattle.answers.specs.Legal.{IsSettled}
 use Rattle.answers.specs.Stretches.{IsStretch}
 use Rattle.answers.specs.Whole.{HasToldAll}
-use Rattle.world.specs.Steps.{IsIssue}
+use Rattle.instance.specs.Steps.{IsIssue}
 use Rattle.world.specs.Value.{WorldValue}
 
 -- the step is kept with the entries that it made, which stand behind all that had happened;

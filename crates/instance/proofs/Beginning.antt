@@ -1,0 +1,129 @@
+-- Before anything has happened.
+use Rattle.std.proofs.Common.{◌≡◌, ◌≢◌, ℕ, zero, suc, inl, inr, ap₂, ◌-◌, ◌+◌, ◌==◌, ◌<◌, ◌≤◌, List, [], ◌∷◌, ◌++◌, length, refl, sym, ap, ◌∙◌, subst, arith, get_or, count_by, take, Option, Some, None, false, cond}
+use Rattle.std.specs.Prelude.{slice_get}
+use Rattle.std.specs.Option.{option_map_or}
+use Rattle.std.proofs.lemmas.Bool.{le-ltb, cases_lt}
+use Rattle.std.proofs.lemmas.List.{length-append}
+use Rattle.std.proofs.Math.ListN.{get_or-append}
+use Rattle.std.proofs.lemmas.Option.{slice_get_within, get_or_from_slice_get, slice_get-get_or}
+use Rattle.kvs_core.specs.Agrees.{Agrees}
+use Rattle.kvs_core.specs.Posted.{posted}
+use Rattle.kvs_core.specs.Value.{CoreValue}
+use Rattle.workload.specs.declared.work.Actor.{Actor}
+use Rattle.workload.specs.declared.work.Line.{Line}
+use Rattle.workload.specs.declared.work.Workload.{Workload}
+use Rattle.workload.specs.declared.work.Command.{Command}
+use Rattle.workload.specs.declared.work.Command.TheVariants as command
+use Rattle.workload.specs.Laws.{IsWithin, IsBuilt}
+use Rattle.answers.specs.Chronicle.{Setup}
+use Rattle.answers.specs.Commands.{broker_of, namespace_at, staged_at}
+use Rattle.answers.specs.Services.{setting_of}
+use Rattle.instance.specs.declared.seats.Seat.{Seat}
+use Rattle.instance.specs.First.{IsFirstSeat, AreFirstSeats}
+use Rattle.instance.specs.Seats.{IsKnownCommand, is_free, replied_of}
+use Rattle.instance.specs.Agrees.{AgreesOwn, command_of, Waits, Stands, ActorStands}
+use Rattle.std.proofs.Common.{All}
+use Rattle.instance.proofs.Commanding.{passed_on}
+
+-- the first seat of an actor
+pub first_placed : (lines : List Line) (a next : ℕ) → next ≤ length lines → ((k : ℕ) (d : Line) → 0 ≤ k → k < next → (get_or lines k d).actor ≢ a) → count_by (λ l. l.actor == a) (take next lines) ≡ 0
+first_placed lines a next high none = passed_on a lines 0 next (omega arith) high none
+
+-- with nothing that has happened, nobody has a command issued
+stands_first : (a : ℕ) → Stands [] [] a 0 0
+stands_first a = record {
+  counted = refl;
+  begun = λ k low. absurd (omega arith);
+  ended = λ k. sym (ap (λ b. cond b 1 0) (le-ltb k 0 (omega arith)));
+  answered = λ k asked low. absurd (omega arith);
+}
+
+actor_first : (set : Setup) (a : ℕ) (o : Option Seat) → ((seat : Seat) → o ≡ Some seat → ActorStands set [] [] a (Some seat)) → ActorStands set [] [] a o
+actor_first set a None h = stands_first a
+actor_first set a (Some seat) h = h seat refl
+
+-- one seat more
+pub seats_push : (work : Workload) (seats : List Seat) (actors : List Actor) (n : ℕ) → length seats ≡ n →
+    ((a : ℕ) (d : Seat) (e : Actor) → a < length seats → IsFirstSeat work a (get_or actors a e).rank (get_or seats a d)) →
+    (seat : Seat) → ((e : Actor) → IsFirstSeat work n (get_or actors n e).rank seat) → (new : List Seat) → new ≡ seats ++ seat ∷ [] →
+    (a : ℕ) (d : Seat) (e : Actor) → a < length new → IsFirstSeat work a (get_or actors a e).rank (get_or new a d)
+seats_push work seats actors n len old seat first new is a d e low =
+    let long : length new ≡ n + 1 = ap length is ∙ length-append seats (seat ∷ []) ∙ ap (λ m. m + 1) len in
+    subst (λ xs. IsFirstSeat work a (get_or actors a e).rank (get_or xs a d)) (sym is)
+    (elim (cases_lt a (length seats)) [
+      | inl below ↦ subst (IsFirstSeat work a (get_or actors a e).rank) (sym (get_or-append seats (seat ∷ []) d a below)) (old a d e below)
+      | inr above ↦
+          let same : a ≡ length seats = omega arith in
+          subst (λ m. IsFirstSeat work m (get_or actors m e).rank (get_or (seats ++ seat ∷ []) m d)) (sym same)
+          (subst (IsFirstSeat work (length seats) (get_or actors (length seats) e).rank) (sym (last_of seats seat d))
+          (subst (λ m. IsFirstSeat work m (get_or actors m e).rank seat) (sym len) (first e)))
+    ])
+  where
+    last_of : {A : Type 0} (xs : List A) (x d : A) → get_or (xs ++ x ∷ []) (length xs) d ≡ x
+    last_of [] x d = refl
+    last_of (y ∷ xs) x d = last_of xs x d
+
+pub begin_agrees : (set : Setup) (core : CoreValue) (seats : List Seat) → IsWithin set.size set.work → All (λ l. IsKnownCommand l.command) set.work.lines → posted core ≡ [] → Agrees core (setting_of set) [] → AreFirstSeats set.work seats →
+    AgreesOwn (record { spent = false; seats = seats; core = core }) set []
+begin_agrees set core seats within known unposted agrees first = record {
+  within = within;
+  known = known;
+  legal = tt;
+  early = tt;
+  unposted = unposted;
+  seated = first.seated;
+  agrees = agrees;
+  actors = λ a. actor_first set a (slice_get seats a) (λ seat at. sits a seat at);
+}
+  where
+    sits : (a : ℕ) (seat : Seat) → slice_get seats a ≡ Some seat → ActorStands set [] [] a (Some seat)
+    sits a seat at =
+        let low = slice_get_within seats a seat at in
+        let is = get_or_from_slice_get seats a seat seat at in
+        let low_actor : a < length set.work.actors = subst (λ n. a < n) first.seated low in
+        let actor = some_actor set.work.actors a low_actor in
+        let one = subst (λ s. IsFirstSeat set.work a actor.0.rank s) is (subst (λ x. IsFirstSeat set.work a x.rank (get_or seats a seat)) (actor.1 actor.0) (first.each a seat actor.0 low)) in
+        let replied : replied_of seat ≡ 0 = ap₂ (λ w n. cond (is_free w) n (n - 1)) one.free one.fresh in
+        let home : broker_of set.work a ≡ actor.0.rank = ap (λ o. option_map_or (λ x. x.rank) o 0) (slice_get-get_or set.work.actors a actor.0 low_actor ∙ ap Some (actor.1 actor.0)) in (
+          subst (λ n. Stands [] [] a n (replied_of seat)) (sym one.fresh) (subst (λ n. Stands [] [] a 0 n) (sym replied) (stands_first a)),
+          record {
+            home = one.home ∙ sym home;
+            inside = subst (λ n. n < set.size) (sym one.home) (subst (λ x. x.rank < set.size) (actor.1 actor.0) (within.ranks a actor.0 low_actor));
+            author = one.author;
+            opened = λ some. absurd (omega (arith, some, one.fresh));
+            placed = one.placed;
+            staged = one.unstaged ∙ ap (λ n. staged_at set.work (command_of a n)) (sym one.fresh);
+            works = ap (λ n. namespace_at set.work (command_of a n)) one.fresh ∙ sym one.works;
+            about = λ some. absurd (omega (arith, some, one.fresh));
+            floored = λ space. sym (one.unseen space);
+            waits = subst (λ w. Waits set [] a seat.issued w) (sym one.free) tt;
+          },
+        )
+      where
+        some_actor : {A : Type 0} (xs : List A) (k : ℕ) → k < length xs → (x : A) × ((d : A) → get_or xs k d ≡ x)
+        some_actor [] k low = absurd (omega arith)
+        some_actor (x ∷ xs) zero low = (x, λ d. refl)
+        some_actor (x ∷ xs) (suc k) low = some_actor xs k (omega arith)
+
+-- the default does not matter within the list
+pub actor_got : {A : Type 0} (xs : List A) (k : ℕ) (d e : A) → k < length xs → get_or xs k d ≡ get_or xs k e
+actor_got [] k d e low = absurd (omega arith)
+actor_got (x ∷ xs) zero d e low = refl
+actor_got (x ∷ xs) (suc k) d e low = actor_got xs k d e (omega arith)
+
+-- the verbs that a workload may have are those that a run carries out
+known_of : (c : Command) → IsBuilt c → IsKnownCommand c
+known_of (command.Put path bytes) h = tt
+known_of command.Commit h = tt
+known_of (command.Fence name count) h = h
+known_of (command.Get path) h = tt
+known_of (command.Append path bytes) h = tt
+known_of (command.Unlink path) h = tt
+known_of (command.Mkdir path) h = tt
+known_of (command.Symlink path target) h = tt
+known_of (command.Ls path) h = tt
+known_of (command.Readlink path) h = tt
+known_of _ h = h
+
+pub all_known : (work : Workload) → All (λ l. IsBuilt l.command) work.lines → All (λ l. IsKnownCommand l.command) work.lines
+all_known work h k d low = known_of _ (h k d low)

@@ -1,0 +1,441 @@
+-- What an issue leaves of a world.
+use Rattle.std.proofs.Common.{◌≡◌, ◌≢◌, ℕ, ◌+◌, ◌-◌, ◌<◌, ◌≤◌, ◌==◌, inl, inr, List, [], ◌∷◌, ◌++◌, length, Bool, true, false, ◌&&◌, ◌||◌, cond, refl, sym, ap, ap₂, ◌∙◌, subst, arith, count_by, Option, Some, None, get_or, eq-eqb, ne_eqb, true≢false, set, take, filter_map}
+use Rattle.std.specs.Prelude.{slice_get, nat_lt}
+use Rattle.std.specs.Option.{option_map, option_map_or, option_and_then, is_some}
+use Rattle.std.specs.List.{cons_option}
+use Rattle.std.proofs.lemmas.Bool.{cases_eq, lt-ltb, ltb-true, ltb-false}
+use Rattle.std.proofs.lemmas.List.Folds.{list_any-append}
+use Rattle.std.proofs.lemmas.List.{length-take}
+use Rattle.std.proofs.lemmas.Option.{slice_get_within, slice_get-get_or}
+use Rattle.std.proofs.lemmas.List.Sums.{count_by-le-length}
+use Rattle.std.proofs.Math.ListN.{length-set}
+use Rattle.kvs_txn.specs.declared.txn.Author.TheVariants as author
+use Rattle.kvs_txn.specs.declared.txn.By.{By}
+use Rattle.kvs_txn.specs.declared.txn.Op.{Op}
+use Rattle.kvs_txn.specs.declared.txn.Op.TheVariants as op
+use Rattle.kvs_txn.specs.declared.answers.Query.TheVariants as query
+use Rattle.kvs_txn.specs.declared.txn.Txn.{Txn}
+use Rattle.kvs_rules.specs.declared.events.KvsAsk.{KvsAsk}
+use Rattle.kvs_rules.specs.declared.events.KvsAsk.TheVariants as ask
+use Rattle.kvs_rules.specs.Log.{Log, Moment, Asked, is_asked, asks_now, same_command}
+use Rattle.kvs_model.specs.Store.{Name}
+use Rattle.kvs_rules.specs.Namespaces.{Setting}
+use Rattle.kvs_rules.proofs.Sequences.{each_push}
+use Rattle.kvs_core.specs.Value.{CoreValue}
+use Rattle.kvs_core.specs.Agrees.{Agrees}
+use Rattle.kvs_core.specs.Posted.{posted}
+use Rattle.workload.specs.declared.work.Command.{Command}
+use Rattle.workload.specs.declared.work.Command.TheVariants as command
+use Rattle.workload.specs.declared.work.Line.{Line}
+use Rattle.answers.specs.declared.chronicle.Entry.{Entry}
+use Rattle.answers.specs.declared.chronicle.Entry.TheVariants as entry
+use Rattle.answers.specs.declared.steps.Step.TheVariants as step
+use Rattle.answers.specs.Chronicle.{Setup, top, issues, issues_of, is_issued, replies_to}
+use Rattle.answers.specs.Commands.{command_at, ask_of, ask_at, subject_at, subject_of, staged_at, op_of, most_staged, broker_of, since_last, takes_staged, commands_before}
+use Rattle.answers.specs.Floors.{floor}
+use Rattle.answers.specs.Legal.{IsLegalEntry, IsStaging}
+use Rattle.answers.specs.Services.{setting_of, log_of, moment_of, asked_at}
+use Rattle.answers.specs.Whole.{IsEarlierEntry}
+use Rattle.answers.proofs.Services.{log_push, asks_of, asked_issued, issued_below}
+use Rattle.answers.proofs.Floors.{floor_push}
+use Rattle.instance.specs.declared.seats.Seat.{Seat}
+use Rattle.instance.specs.declared.seats.Waiting.TheVariants as waiting
+use Rattle.instance.specs.Seats.{IsKnownCommand, replied_of, is_free, waiting_after, ops_after, room_behind, moment_asked, seat_floor, space_after, IsTheAsk, waits_for}
+use Rattle.instance.specs.Agrees.{command_of, Stands, Waits, IsSeat, ActorStands}
+use Rattle.instance.specs.Steps.{can_issue}
+use Rattle.instance.specs.Makes.{Follows}
+use Rattle.instance.specs.Value.{InstanceValue}
+use Rattle.instance.proofs.Owning.{Own, DoesAgree}
+use Rattle.instance.proofs.Listing.{count-push, any_left, each_append, any_counted, get-set_same, get-set_other}
+use Rattle.instance.proofs.Commanding.{subject_so, space_on, placed_command, placed_on, staged_on, known_at}
+use Rattle.instance.proofs.Pushing.{actor_other, asked_push, answered_push}
+use Rattle.instance.proofs.Replying.{same_self, seat_stands}
+use Rattle.instance.proofs.Going.{unended}
+
+-- the actor's next command can be issued
+pub record IsIssuing (v : Own) (a : ℕ) (seat : Seat) : Type 0 where
+  pub sits : slice_get v.instance.seats a ≡ Some seat
+  pub free : is_free seat.waiting ≡ true
+  pub below : seat.next < length v.set.work.lines
+
+both_left : (a b : Bool) → (a && b) ≡ true → a ≡ true
+both_left true b e = refl
+both_left false b e = e
+
+both_right : (a b : Bool) → (a && b) ≡ true → b ≡ true
+both_right true b e = e
+both_right false b e = absurd (true≢false (sym e))
+
+-- an actor whose next command can be issued has a seat
+pub issuer_within : (lines : List Line) (v : InstanceValue) (a : ℕ) → can_issue lines v a ≡ true → a < length v.seats
+issuer_within lines v a can = on (slice_get v.seats a) refl can
+  where
+    on : (o : Option Seat) → slice_get v.seats a ≡ o → option_map_or (λ seat. is_free seat.waiting && nat_lt seat.next (length lines)) o false ≡ true → a < length v.seats
+    on None e t = absurd (true≢false (sym t))
+    on (Some seat) e t = slice_get_within v.seats a seat e
+
+pub issuing_so : (v : Own) (a : ℕ) (seat : Seat) → can_issue v.set.work.lines v.instance a ≡ true → slice_get v.instance.seats a ≡ Some seat → IsIssuing v a seat
+issuing_so v a seat can sits =
+    let t = ap (λ o. option_map_or (λ s. is_free s.waiting && nat_lt s.next (length v.set.work.lines)) o false) (sym sits) ∙ can in
+    record {
+      sits = sits;
+      free = both_left (is_free seat.waiting) (nat_lt seat.next (length v.set.work.lines)) t;
+      below = ltb-true seat.next (length v.set.work.lines) (both_right (is_free seat.waiting) (nat_lt seat.next (length v.set.work.lines)) t);
+    }
+
+-- what a command asks, and the moment at which it asks it
+asks_so : (set : Setup) (by : By) (asked : Option KvsAsk) (seat : Seat) → ask_at set.work by ≡ asked → seat.broker ≡ broker_of set.work by.actor → subject_at set.work by ≡ seat.subject → IsTheAsk (setting_of set) by seat asked
+asks_so set by None seat asks home subject = tt
+asks_so set by (Some x) seat asks home subject =
+    ap (option_map (λ a. record { broker = broker_of set.work by.actor; namespace = subject_at set.work by; ask = a })) asks
+    ∙ ap₂ (λ b n. Some (record { broker = b; namespace = n; ask = x })) (sym home) subject
+
+moment_so : (set : Setup) (c : List Entry) (by : By) (asked : Option KvsAsk) (space : Name) (floored : ℕ) → ask_at set.work by ≡ asked → subject_at set.work by ≡ space → floor set.work c by.actor space ≡ floored →
+    moment_of set.work top c (entry.Issued by.actor by.command) ≡ option_map (λ a. Asked by floored) asked
+moment_so set c by None space floored asks subject e = ap (λ o. cond (is_some o && true) (Some (asked_at set.work c by)) None) asks
+moment_so set c by (Some x) space floored asks subject e =
+    ap (λ o. cond (is_some o && true) (Some (asked_at set.work c by)) None) asks
+    ∙ ap (λ n. Some (Asked by n)) (ap (floor set.work c by.actor) subject ∙ e)
+
+-- the moment is its command's own
+own_moment : (by other : By) (floored : ℕ) (asked : Option KvsAsk) → same_command other by ≡ false → asks_of other (option_map (λ a. Asked by floored) asked) ≡ false
+own_moment by other floored None e = refl
+own_moment by other floored (Some x) e = e
+
+module _ (v : Own) (h : DoesAgree v) (a : ℕ) (seat : Seat) (is : IsIssuing v a seat) where
+  abbrev by : By
+  by = command_of a seat.issued
+
+  abbrev e : Entry
+  e = entry.Issued a seat.issued
+
+  abbrev log : Log
+  log = log_of v.set.work top v.chronicle
+
+  mine : ActorStands v.set log v.chronicle a (Some seat)
+  mine = seat_stands v h a seat is.sits
+
+  before : Stands log v.chronicle a seat.issued seat.issued
+  before = subst (λ n. Stands log v.chronicle a seat.issued n) (ap (λ b. cond b seat.issued (seat.issued - 1)) is.free) mine.0
+
+  -- the seat's bounds
+  pub issued_small : seat.issued + 1 ≤ 10000
+  issued_small =
+      let counted = mine.1.placed.passed in
+      let few = count_by-le-length (λ l. l.actor == a) (take seat.next v.set.work.lines) in
+      omega (arith, is.below, h.within.lines, length-take seat.next v.set.work.lines)
+
+  pub next_small : seat.next + 1 ≤ 10000
+  next_small = omega (arith, is.below, h.within.lines)
+
+  pub issuer : seat.staged.author ≡ author.User a
+  issuer = mine.1.author
+
+  pub issuer_broker : seat.broker < v.instance.core.size
+  issuer_broker = subst (λ n. seat.broker < n) h.agrees.size mine.1.inside
+
+  pub known_next : (d : Line) → IsKnownCommand (get_or v.set.work.lines seat.next d).command
+  known_next d = known_at v.set.work h.known seat.next d is.below
+
+  module _ (d : Line) where
+    abbrev cmd : Command
+    cmd = (get_or v.set.work.lines seat.next d).command
+
+    at : command_at v.set.work by ≡ Some cmd
+    at = placed_command v.set.work a seat mine.1.placed d is.below
+
+    -- the seat once its command has begun
+    abbrev pub begun_seat : Seat
+    begun_seat = record seat {
+      staged = record { author = author.User a; ops = ops_after cmd seat.staged.ops };
+      waiting = waiting_after cmd seat.staged.ops;
+      subject = subject_of cmd seat.space;
+      space = space_after cmd seat.space;
+    }
+
+    abbrev seen : ℕ
+    seen = seat_floor begun_seat
+
+    subject : subject_at v.set.work by ≡ subject_of cmd seat.space
+    subject = subject_so v.set.work by cmd seat.space at mine.1.works
+
+    abbrev txn : Txn
+    txn = record { author = author.User a; ops = seat.staged.ops }
+
+    at_most : (by : By) → length (staged_at v.set.work by) ≤ most_staged
+    at_most by = bound (filter_map op_of (since_last takes_staged (commands_before v.set.work by)))
+      where
+        bound : (xs : List Op) → length (take most_staged xs) ≤ most_staged
+        bound xs = omega (arith, length-take most_staged xs)
+
+    asking : (asked : Option KvsAsk) → asked ≡ ask_of (record { author = author.User a; ops = seat.staged.ops }) cmd → ask_at v.set.work by ≡ asked
+    asking asked eq =
+        ap (option_and_then (λ c. ask_of (record { author = author.User a; ops = staged_at v.set.work by }) c)) at
+        ∙ ap (λ ops. ask_of (record { author = author.User a; ops = ops }) cmd) (sym mine.1.staged)
+        ∙ sym eq
+
+    unasked : is_asked by log ≡ false
+    unasked = on (is_asked by log) refl
+      where
+        on : (b : Bool) → is_asked by log ≡ b → b ≡ false
+        on true t =
+            let low : seat.issued < count_by (issues_of a) v.chronicle = issued_below v.set v.chronicle h.legal by (asked_issued v.set.work top by [] v.chronicle t) in
+            let counted : count_by (issues_of a) v.chronicle ≡ seat.issued = before.counted in
+            absurd (omega arith)
+        on false t = refl
+
+    -- what the service is asked
+    pub issue_asks : (asked : Option KvsAsk) → asked ≡ ask_of (record { author = author.User a; ops = seat.staged.ops }) cmd → IsTheAsk (setting_of v.set) by begun_seat asked × (is_asked by log ≡ false)
+    issue_asks asked eq = (asks_so v.set by asked begun_seat (asking asked eq) mine.1.home subject, unasked)
+
+    -- the chronicle, its log and what they say of the actor
+    module _ (asked : Option KvsAsk) (eq : asked ≡ ask_of (record { author = author.User a; ops = seat.staged.ops }) cmd) where
+      abbrev o : Option Moment
+      o = option_map (λ x. Asked by seen) asked
+
+      log_issued : log_of v.set.work top (v.chronicle ++ e ∷ []) ≡ log ++ cons_option o []
+      log_issued = log_push v.set.work top v.chronicle e ∙ ap (λ m. log ++ cons_option m []) (moment_so v.set v.chronicle by asked (subject_of cmd seat.space) seen (asking asked eq) subject (mine.1.floored (subject_of cmd seat.space)))
+
+      legal_issue : IsLegalEntry v.set v.chronicle e
+      legal_issue = record {
+        goes_on = unended v.chronicle h.early;
+        grounds = record {
+          exists = ap is_some at;
+          next = sym before.counted;
+          replied = λ k low. any_counted (replies_to (command_of a k)) v.chronicle (replied_once k low);
+        };
+      }
+        where
+          replied_once : (k : ℕ) → k < seat.issued → 0 < count_by (replies_to (command_of a k)) v.chronicle
+          replied_once k low =
+              let one : cond {A = ℕ} (nat_lt k seat.issued) 1 0 ≡ 1 = ap (λ b. cond b 1 0) (lt-ltb k seat.issued low) in
+              let counted : count_by (replies_to (command_of a k)) v.chronicle ≡ cond {A = ℕ} (nat_lt k seat.issued) 1 0 = before.ended k in
+              omega arith
+
+      same_none : (k : ℕ) → k ≢ seat.issued → same_command (command_of a k) by ≡ false
+      same_none k other = ap₂ (λ x y. x && y) (eq-eqb a a refl) (ne_eqb k seat.issued other)
+
+      stands_issued : Stands (log ++ cons_option o []) (v.chronicle ++ e ∷ []) a (seat.issued + 1) seat.issued
+      stands_issued = record {
+        counted = count-push (issues_of a) v.chronicle e ∙ ap₂ (λ n b. n + cond b 1 0) before.counted (eq-eqb a a refl);
+        begun = begun_so;
+        ended = λ k. count-push (replies_to (command_of a k)) v.chronicle e ∙ plus_none _ ∙ before.ended k;
+        answered = λ k t low.
+            let other : k ≢ seat.issued = λ same. absurd (omega (arith, same, low)) in
+            answered_push (command_of a k) log o (before.answered k (sym (asked_push (command_of a k) log o (own_moment by (command_of a k) seen asked (same_none k other))) ∙ t) low);
+      }
+        where
+          plus_none : (n : ℕ) → n + 0 ≡ n
+          plus_none n = omega arith
+
+          last : (x y : Bool) → y ≡ true → (x || (y || false)) ≡ true
+          last true y t = refl
+          last false true t = refl
+          last false false t = absurd (true≢false (sym t))
+
+          begun_so : (k : ℕ) → k < seat.issued + 1 → is_issued (command_of a k) (v.chronicle ++ e ∷ []) ≡ true
+          begun_so k low = elim (cases_eq k seat.issued) [
+            | inl same ↦ subst (λ n. is_issued (command_of a n) (v.chronicle ++ e ∷ []) ≡ true) (sym same)
+                (list_any-append (issues by) v.chronicle (e ∷ []) ∙ last (is_issued by v.chronicle) (issues by e) (same_self by))
+            | inr other ↦ any_left (issues (command_of a k)) v.chronicle (e ∷ []) (before.begun k (omega arith))
+          ]
+
+      back : seat.issued ≡ seat.issued + 1 - 1
+      back = omega arith
+
+      -- a command that asks is known to have asked
+      waits_asked : (x : KvsAsk) → asked ≡ Some x → (0 < seat.issued + 1) × (is_asked (command_of a (seat.issued + 1 - 1)) (log ++ cons_option o []) ≡ true)
+      waits_asked x some = (
+        omega arith,
+        subst (λ n. is_asked (command_of a n) (log ++ cons_option o []) ≡ true) back
+            (subst (λ r. is_asked by (log ++ cons_option (option_map (λ y. Asked by seen) r) []) ≡ true) (sym some)
+            (list_any-append (asks_now by) log (Asked by seen ∷ []) ∙ last (is_asked by log) (asks_now by (Asked by seen)) (same_self by))),
+      )
+        where
+          last : (x y : Bool) → y ≡ true → (x || (y || false)) ≡ true
+          last true y t = refl
+          last false true t = refl
+          last false false t = absurd (true≢false (sym t))
+
+      -- an operation finds room or none, and asks nothing
+      waits_staged : (c : Command) (op : Op) → op_of c ≡ Some op → c ≡ cmd → asked ≡ None → (b : Bool) → nat_lt (length seat.staged.ops) most_staged ≡ b →
+          Waits v.set (log ++ cons_option o []) a (seat.issued + 1) (cond b waiting.Staged waiting.TxnFull)
+      waits_staged c op stages same none true room = (
+        omega arith,
+        subst (λ n. is_asked (command_of a n) (log ++ cons_option o []) ≡ false) back (still none),
+        subst (λ n. IsStaging v.set (command_of a n) (λ m. m < most_staged)) back (record {
+          asked = c;
+          named = at ∙ ap Some (sym same);
+          stages = ap is_some stages;
+          room = subst (λ ops. length ops < most_staged) mine.1.staged (ltb-true (length seat.staged.ops) most_staged room);
+        }),
+      )
+        where
+          still : asked ≡ None → is_asked by (log ++ cons_option o []) ≡ false
+          still none = asked_push by log o (ap (λ r. asks_of by (option_map (λ y. Asked by seen) r)) none) ∙ unasked
+      waits_staged c op stages same none false room = (
+        omega arith,
+        subst (λ n. is_asked (command_of a n) (log ++ cons_option o []) ≡ false) back (still none),
+        subst (λ n. IsStaging v.set (command_of a n) (λ m. m ≡ most_staged)) back (record {
+          asked = c;
+          named = at ∙ ap Some (sym same);
+          stages = ap is_some stages;
+          room = full (ltb-false (length seat.staged.ops) most_staged room);
+        }),
+      )
+        where
+          still : asked ≡ None → is_asked by (log ++ cons_option o []) ≡ false
+          still none = asked_push by log o (ap (λ r. asks_of by (option_map (λ y. Asked by seen) r)) none) ∙ unasked
+
+          full : most_staged ≤ length seat.staged.ops → length (staged_at v.set.work by) ≡ most_staged
+          full high =
+              let same_length : length seat.staged.ops ≡ length (staged_at v.set.work by) = ap length mine.1.staged in
+              let short : length (staged_at v.set.work by) ≤ most_staged = at_most by in
+              omega arith
+
+      waits_issued : (c : Command) → IsKnownCommand c → c ≡ cmd → Waits v.set (log ++ cons_option o []) a (seat.issued + 1) (waiting_after c seat.staged.ops)
+      waits_issued (command.Put path bytes) known same = waits_staged (command.Put path bytes) (op.Put path bytes) refl same (eq ∙ ap (ask_of txn) (sym same)) (nat_lt (length seat.staged.ops) most_staged) refl
+      waits_issued command.Commit known same = waits_asked (ask.Commit txn) (eq ∙ ap (ask_of txn) (sym same))
+      waits_issued (command.Fence name count) known same = waits_asked (ask.Fence name count txn) (eq ∙ ap (ask_of txn) (sym same))
+      waits_issued (command.Get path) known same = waits_asked (ask.Read query.Get path) (eq ∙ ap (ask_of txn) (sym same))
+      waits_issued (command.Append path bytes) known same = waits_staged (command.Append path bytes) (op.Append path bytes) refl same (eq ∙ ap (ask_of txn) (sym same)) (nat_lt (length seat.staged.ops) most_staged) refl
+      waits_issued (command.Unlink path) known same = waits_staged (command.Unlink path) (op.Unlink path) refl same (eq ∙ ap (ask_of txn) (sym same)) (nat_lt (length seat.staged.ops) most_staged) refl
+      waits_issued (command.Mkdir path) known same = waits_staged (command.Mkdir path) (op.Mkdir path) refl same (eq ∙ ap (ask_of txn) (sym same)) (nat_lt (length seat.staged.ops) most_staged) refl
+      waits_issued (command.Symlink path target) known same = waits_staged (command.Symlink path target) (op.Link path target) refl same (eq ∙ ap (ask_of txn) (sym same)) (nat_lt (length seat.staged.ops) most_staged) refl
+      waits_issued (command.Ls path) known same = waits_asked (ask.Read query.List path) (eq ∙ ap (ask_of txn) (sym same))
+      waits_issued (command.Readlink path) known same = waits_asked (ask.Read query.Link path) (eq ∙ ap (ask_of txn) (sym same))
+      waits_issued (command.Wait number) known same = waits_asked (ask.Wait number) (eq ∙ ap (ask_of txn) (sym same))
+      waits_issued (command.Tell to) known same = (
+        omega arith,
+        subst (λ n. is_asked (command_of a n) (log ++ cons_option o []) ≡ false) back
+            (asked_push by log o (ap (λ r. asks_of by (option_map (λ y. Asked by seen) r)) (eq ∙ ap (ask_of txn) (sym same))) ∙ unasked),
+        subst (λ n. command_at v.set.work (command_of a n) ≡ Some (command.Tell to)) back (at ∙ ap Some (sym same)),
+      )
+      waits_issued (command.NsCreate name) known same = waits_asked ask.Create (eq ∙ ap (ask_of txn) (sym same))
+      waits_issued (command.NsRemove name) known same = waits_asked ask.Remove (eq ∙ ap (ask_of txn) (sym same))
+      waits_issued (command.NsUse name) known same = (
+        omega arith,
+        subst (λ n. is_asked (command_of a n) (log ++ cons_option o []) ≡ false) back
+            (asked_push by log o (ap (λ r. asks_of by (option_map (λ y. Asked by seen) r)) (eq ∙ ap (ask_of txn) (sym same))) ∙ unasked),
+        (name, subst (λ n. command_at v.set.work (command_of a n) ≡ Some (command.NsUse name)) back (at ∙ ap Some (sym same))),
+      )
+      waits_issued _ known same = absurd known
+
+      -- the actor's seat behind the issue
+      module _ (next : ℕ) (after : seat.next + 1 ≤ next) (within : next ≤ length v.set.work.lines)
+          (passed : (k : ℕ) (l : Line) → seat.next + 1 ≤ k → k < next → (get_or v.set.work.lines k l).actor ≢ a) (here : (l : Line) → next < length v.set.work.lines → (get_or v.set.work.lines next l).actor ≡ a) where
+        abbrev issued_seat : Seat
+        issued_seat = record { broker = seat.broker; next = next; last = seat.next; issued = seat.issued + 1; waiting = waiting_after cmd seat.staged.ops; staged = record { author = author.User a; ops = ops_after cmd seat.staged.ops }; space = begun_seat.space; subject = begun_seat.subject; floors = seat.floors }
+
+        seat_issued : IsSeat v.set (log ++ cons_option o []) (v.chronicle ++ e ∷ []) a issued_seat
+        seat_issued = record {
+          home = mine.1.home;
+          inside = mine.1.inside;
+          author = refl;
+          placed = record { within = within; passed = placed_on v.set.work.lines a seat mine.1.placed d is.below next after within passed; here = here };
+          opened = λ _. ap (λ n. command_at v.set.work (command_of a n)) (sym back) ∙ at ∙ ap (option_map (λ (line : Line). line.command)) (sym (slice_get-get_or v.set.work.lines seat.next d is.below));
+          staged = ap (ops_after cmd) mine.1.staged ∙ sym (staged_on v.set.work a seat.issued cmd (known_next d) at);
+          works = space_on v.set.work a seat.issued cmd at ∙ ap (space_after cmd) mine.1.works;
+          about = λ _. ap (λ n. subject_at v.set.work (command_of a n)) (sym back) ∙ subject;
+          floored = λ space. floor_push v.set.work v.chronicle e a space ∙ mine.1.floored space;
+          waits = waits_issued cmd (known_next d) refl;
+        }
+
+        replied_before : replied_of issued_seat ≡ seat.issued
+        replied_before = ap (λ b. cond b (seat.issued + 1) (seat.issued + 1 - 1)) (busy cmd) ∙ sym back
+          where
+            busy_room : (b : Bool) → is_free (cond b waiting.Staged waiting.TxnFull) ≡ false
+            busy_room true = refl
+            busy_room false = refl
+
+            busy_other : (c : Command) → is_free (waits_for c) ≡ false
+            busy_other (command.Tell to) = refl
+            busy_other (command.NsUse name) = refl
+            busy_other _ = refl
+
+            busy_so : (c : Command) (r : Option Op) → is_free (option_map_or (λ op. room_behind seat.staged.ops) r (waits_for c)) ≡ false
+            busy_so c None = busy_other c
+            busy_so c (Some op) = busy_room (nat_lt (length seat.staged.ops) most_staged)
+
+            busy : (c : Command) → is_free (waiting_after c seat.staged.ops) ≡ false
+            busy c = busy_so c (op_of c)
+
+        actors_so : (b : ℕ) → ActorStands v.set (log ++ cons_option o []) (v.chronicle ++ e ∷ []) b (slice_get (set v.instance.seats a issued_seat) b)
+        actors_so b = elim (cases_eq b a) [
+          | inl same ↦
+              subst (λ n. ActorStands v.set (log ++ cons_option o []) (v.chronicle ++ e ∷ []) n (slice_get (set v.instance.seats a issued_seat) n)) (sym same)
+              (subst (ActorStands v.set (log ++ cons_option o []) (v.chronicle ++ e ∷ []) a) (sym (get-set_same v.instance.seats a seat issued_seat is.sits))
+              (subst (λ n. Stands (log ++ cons_option o []) (v.chronicle ++ e ∷ []) a (seat.issued + 1) n) (sym replied_before) stands_issued, seat_issued))
+          | inr other ↦
+              subst (ActorStands v.set (log ++ cons_option o []) (v.chronicle ++ e ∷ []) b) (sym (get-set_other v.instance.seats a b issued_seat other))
+              (actor_other v.set log v.chronicle e o b (slice_get v.instance.seats b)
+              (record {
+                unissued = ne_eqb b a other;
+                unreplied = λ k. refl;
+                unasked = λ k. own_moment by (command_of b k) seen asked (ap (λ t. t && (k == seat.issued)) (ne_eqb b a other));
+              })
+              (λ space. floor_push v.set.work v.chronicle e b space)
+              (h.actors b))
+        ]
+
+        -- the instance behind the issue
+        abbrev pub issued_instance : CoreValue → InstanceValue
+        issued_instance core = record { spent = false; seats = set v.instance.seats a issued_seat; core = core }
+
+        pub issue_follows_so : (core : CoreValue) → posted core ≡ posted v.instance.core →
+            ((set : Setting) (log : Log) → Agrees v.instance.core set log → IsTheAsk set by begun_seat asked → is_asked by log ≡ false → Agrees core set (log ++ moment_asked by seen asked)) →
+            Follows v.set v.chronicle (step.Issue a) (issued_instance core) (e ∷ [])
+        issue_follows_so core unposted agrees = record {
+          made = record { before = []; command = seat.issued; behind = []; split = refl; others = tt };
+          legal = (legal_issue, tt);
+          settled = λ told. (told tt, tt);
+          agrees = record {
+            within = h.within;
+            known = h.known;
+            unposted = unposted ∙ h.unposted;
+            seated = length-set v.instance.seats a issued_seat ∙ h.seated;
+            legal = each_push (IsLegalEntry v.set) v.chronicle e h.legal legal_issue;
+            early = each_append IsEarlierEntry v.chronicle (e ∷ []) h.early (tt, tt);
+            agrees = subst (Agrees core (setting_of v.set)) (sym log_issued) (agrees (setting_of v.set) log h.agrees (issue_asks asked eq).0 unasked);
+            actors = λ b. subst (λ l. ActorStands v.set l (v.chronicle ++ e ∷ []) b (slice_get (set v.instance.seats a issued_seat) b)) (sym log_issued) (actors_so b);
+          };
+        }
+
+-- what the code does at an issue: the seat that it begins, its next line, and what it asks of the service
+pub record IsIssued (v : Own) (a : ℕ) (seat begun : Seat) (d : Line) (asked : Option KvsAsk) (next : ℕ) (core : CoreValue) : Type 0 where
+  pub is : IsIssuing v a seat
+  pub eq : asked ≡ ask_of (record { author = author.User a; ops = seat.staged.ops }) (get_or v.set.work.lines seat.next d).command
+  pub began : begun ≡ record seat {
+    staged = record { author = author.User a; ops = ops_after (get_or v.set.work.lines seat.next d).command seat.staged.ops };
+    waiting = waiting_after (get_or v.set.work.lines seat.next d).command seat.staged.ops;
+    subject = subject_of (get_or v.set.work.lines seat.next d).command seat.space;
+    space = space_after (get_or v.set.work.lines seat.next d).command seat.space;
+  }
+  pub after : begun.next + 1 ≤ next
+  pub within : next ≤ length v.set.work.lines
+  pub passed : (k : ℕ) (l : Line) → begun.next + 1 ≤ k → k < next → (get_or v.set.work.lines k l).actor ≢ a
+  pub here : (l : Line) → next < length v.set.work.lines → (get_or v.set.work.lines next l).actor ≡ a
+  pub kept : posted core ≡ posted v.instance.core
+  pub agrees : (set : Setting) (log : Log) → Agrees v.instance.core set log → IsTheAsk set (command_of a seat.issued) begun asked → is_asked (command_of a seat.issued) log ≡ false → Agrees core set (log ++ moment_asked (command_of a seat.issued) (seat_floor begun) asked)
+
+-- the same, with the seat as the code has it
+pub issue_follows : (v : Own) → DoesAgree v → (a : ℕ) (seat begun : Seat) (d : Line) (asked : Option KvsAsk) (next : ℕ) (core : CoreValue) → IsIssued v a seat begun d asked next core →
+    (es : List Entry) → es ≡ entry.Issued a seat.issued ∷ [] →
+    Follows v.set v.chronicle (step.Issue a) (record {
+      spent = false;
+      core = core;
+      seats = set v.instance.seats a (record { broker = begun.broker; next = next; last = begun.next; issued = seat.issued + 1; waiting = begun.waiting; staged = begun.staged; space = begun.space; subject = begun.subject; floors = begun.floors });
+    }) es
+issue_follows v h a seat begun d asked next core s es same =
+    let begun_next : begun.next ≡ seat.next = ap (λ x. x.next) s.began in
+    let by = command_of a seat.issued in
+    let agrees_so = subst (λ (b : Seat). (set : Setting) (log : Log) → Agrees v.instance.core set log → IsTheAsk set by b asked → is_asked by log ≡ false → Agrees core set (log ++ moment_asked by (seat_floor b) asked)) s.began s.agrees in
+    let so = issue_follows_so v h a seat s.is d asked s.eq next (subst (λ n. n + 1 ≤ next) begun_next s.after) s.within
+    (λ k l low. s.passed k l (subst (λ n. n + 1 ≤ k) (sym begun_next) low)) s.here core s.kept agrees_so in
+    subst (λ b. Follows v.set v.chronicle (step.Issue a) (record { spent = false; core = core; seats = set v.instance.seats a (record { broker = b.broker; next = next; last = b.next; issued = seat.issued + 1; waiting = b.waiting; staged = b.staged; space = b.space; subject = b.subject; floors = b.floors }) }) es) (sym s.began) (subst (Follows v.set v.chronicle (step.Issue a) (issued_instance v h a seat s.is d asked s.eq next (subst (λ n. n + 1 ≤ next) begun_next s.after) s.within (λ k l low. s.passed k l (subst (λ n. n + 1 ≤ k) (sym begun_next) low)) s.here core)) (sym same) so)
+
+-- what the code knows where it begins an issue
+pub issuing_at : (v : Own) (lines : List Line) (a : ℕ) (seat : Seat) → v.set.work.lines ≡ lines → can_issue lines v.instance a ≡ true → seat ≡ get_or v.instance.seats a seat → IsIssuing v a seat
+issuing_at v lines a seat same can at =
+    let can_so = subst (λ ls. can_issue ls v.instance a ≡ true) (sym same) can in
+    issuing_so v a seat can_so (slice_get-get_or v.instance.seats a seat (issuer_within v.set.work.lines v.instance a can_so) ∙ ap Some (sym at))

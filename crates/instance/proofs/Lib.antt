@@ -1,0 +1,20 @@
+mod Owning
+mod Listing
+pub mod Going
+mod News
+mod Serving
+mod Pushing
+mod Commanding
+mod Replying
+mod Issuing
+mod Seating
+mod Ranges
+mod Unlanded
+mod Leaving
+mod Ending
+mod Closing
+mod Ordering
+mod Beginning
+mod Numbering
+mod Seeing
+mod Telling

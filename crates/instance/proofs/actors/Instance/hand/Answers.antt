@@ -1,0 +1,29 @@
+use Rattle.std.proofs.Common.{◌≡◌, ◌∙◌, ◌-◌, ap, sym, subst, true, [], ◌∷◌}
+use Rattle.std.specs.Prelude.{Some}
+use Rattle.std.proofs.lemmas.Option.{slice_get-get_or}
+use Rattle.answers.specs.declared.chronicle.Entry.TheVariants as entry
+use Rattle.instance.specs.Agrees.{AgreesOwn}
+use Rattle.instance.specs.Replies.{IsGiven}
+use Rattle.instance.specs.Steps.{can_answer}
+use Rattle.instance.specs.View.{value_of}
+use Rattle.instance.proofs.Owning.{own_of}
+use Rattle.instance.proofs.Replying.{answer_follows, actor_within}
+use Rattle.instance.proofs.actors.Instance.hand.Goals as goal
+
+pub returns-clause-makes : goal.returns-clause-makes
+returns-clause-makes c = λ set own agrees.
+    let w = value_of c.self.inside in
+    let v = own_of w set own in
+    let a = c.args.actor in
+    let can = subst (λ x. can_answer x a ≡ true) (sym c.self.view_is) c.requires.can in
+    let seat = c.index_mut-seat.result.now in
+    let reply = c.reply_to-reply.result.reply in
+    let number = c.reply_to-reply.result.number in
+    answer_follows v (subst (λ x. AgreesOwn x set own) (sym c.self.view_is) agrees) a seat c.reply_to-reply.new.core reply number
+    (record {
+      sits = slice_get-get_or w.seats a seat (actor_within v a can) ∙ ap Some (sym c.index_mut-seat.ensures.value);
+      kept = c.reply_to-reply.ensures.posted;
+      said = subst (λ n. IsGiven w.core c.reply_to-reply.new.core (record { actor = a; command = n }) seat.waiting reply number) c.saturating_sub-command.ensures c.reply_to-reply.ensures.given;
+    })
+    c.see.new.floors c.in_ok-see.ensures c.in_ok-made.made
+    (c.in_ok-made.ensures ∙ ap (λ n. entry.Replied a n reply number ∷ []) c.saturating_sub-command.ensures)

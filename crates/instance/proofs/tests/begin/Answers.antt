@@ -1,0 +1,9 @@
+use Rattle.std.proofs.Common.{[], refl}
+use Rattle.fl_digest.specs.declared.Hash.TheVariants as hash
+use Rattle.answers.specs.Chronicle.{Setup}
+use Rattle.instance.proofs.tests.begin.Goals as goal
+
+pub returns-clause-lines : goal.returns-clause-lines
+returns-clause-lines c =
+    let set : Setup = record { size = 2; fanout = 2; hash = hash.Sha1; grant = c.in_ok-grant.grant; work = c.in_ok-work.work } in
+    (set, [], c.in_ok-instance.ensures.agrees set refl refl refl refl, refl)

@@ -1,0 +1,91 @@
+-- When an instance stands where a chronicle of its own leaves it.
+use Rattle.std.specs.Prelude.{◌≡◌, ℕ, ◌-◌, ◌<◌, ◌≤◌, ◌==◌, nat_lt, cond, List, [], Bool, true, false, All, Option, Some, None, length, take, count_by, slice_get, slice_index_or}
+use Rattle.std.specs.List.{AllByRecursion as Each}
+use Rattle.std.specs.Option.{option_map}
+use Rattle.kvs_txn.specs.declared.txn.Author.TheVariants as author
+use Rattle.kvs_txn.specs.declared.txn.By.{By}
+use Rattle.kvs_model.specs.Store.{Name}
+use Rattle.kvs_rules.specs.Log.{Log, is_asked, is_answered}
+use Rattle.kvs_core.specs.Agrees.{Agrees}
+use Rattle.kvs_core.specs.Posted.{posted}
+use Rattle.workload.specs.declared.work.Command.TheVariants as command
+use Rattle.workload.specs.declared.work.Line.{Line}
+use Rattle.workload.specs.Laws.{IsWithin}
+use Rattle.answers.specs.declared.chronicle.Entry.{Entry}
+use Rattle.answers.specs.Chronicle.{Setup, top, issues_of, is_issued, replies_to}
+use Rattle.answers.specs.Commands.{broker_of, command_at, namespace_at, staged_at, most_staged, subject_at}
+use Rattle.answers.specs.Floors.{floor}
+use Rattle.answers.specs.Legal.{IsLegal, IsStaging}
+use Rattle.answers.specs.Services.{setting_of, log_of}
+use Rattle.answers.specs.Whole.{IsEarlierEntry}
+use Rattle.instance.specs.declared.seats.Seat.{Seat}
+use Rattle.instance.specs.declared.seats.Waiting.{Waiting}
+use Rattle.instance.specs.declared.seats.Waiting.TheVariants as waiting
+use Rattle.instance.specs.Floors.{floor_in}
+use Rattle.instance.specs.Seats.{IsKnownCommand, replied_of}
+use Rattle.instance.specs.Value.{InstanceValue}
+
+-- the actor's command of this number
+abbrev pub command_of : ℕ → ℕ → By
+command_of actor number = record { actor = actor; command = number }
+
+-- the chronicle has issued so many of the actor's commands, and replied to so many, each once
+pub record Stands (log : Log) (c : List Entry) (actor issued replied : ℕ) : Type 0 where
+  pub counted : count_by (issues_of actor) c ≡ issued
+  pub begun : (k : ℕ) → k < issued → is_issued (command_of actor k) c ≡ true
+  pub ended : (k : ℕ) → count_by (replies_to (command_of actor k)) c ≡ cond (nat_lt k replied) 1 0
+  pub answered : (k : ℕ) → is_asked (command_of actor k) log ≡ true → k < replied → is_answered (command_of actor k) log ≡ true
+
+-- what the log says of what the actor waits for, so many of its commands being issued
+abbrev pub Waits : Setup → Log → ℕ → ℕ → Waiting → Type 0
+Waits set log actor issued waiting.Nothing = Unit {0}
+Waits set log actor issued waiting.Staged = (0 < issued) × (is_asked (command_of actor (issued - 1)) log ≡ false) × IsStaging set (command_of actor (issued - 1)) (λ n. n < most_staged)
+Waits set log actor issued waiting.TxnFull = (0 < issued) × (is_asked (command_of actor (issued - 1)) log ≡ false) × IsStaging set (command_of actor (issued - 1)) (λ n. n ≡ most_staged)
+Waits set log actor issued (waiting.Tell to) = (0 < issued) × (is_asked (command_of actor (issued - 1)) log ≡ false) × (command_at set.work (command_of actor (issued - 1)) ≡ Some (command.Tell to))
+Waits set log actor issued waiting.Using = (0 < issued) × (is_asked (command_of actor (issued - 1)) log ≡ false)
+    × ((name : Name) × (command_at set.work (command_of actor (issued - 1)) ≡ Some (command.NsUse name)))
+Waits set log actor issued waiting.Service = (0 < issued) × (is_asked (command_of actor (issued - 1)) log ≡ true)
+
+-- whether a line is the actor's
+abbrev pub is_of : ℕ → Line → Bool
+is_of actor line = line.actor == actor
+
+-- the seat says how far the workload's lines of the actor have come
+pub record IsPlaced (lines : List Line) (actor : ℕ) (seat : Seat) : Type 0 where
+  pub within : seat.next ≤ length lines
+  pub passed : count_by (is_of actor) (take seat.next lines) ≡ seat.issued
+  pub here : (d : Line) → seat.next < length lines → (slice_index_or lines seat.next d).actor ≡ actor
+
+-- what the chronicle and its log say of an actor's seat
+pub record IsSeat (set : Setup) (log : Log) (c : List Entry) (actor : ℕ) (seat : Seat) : Type 0 where
+  pub home : seat.broker ≡ broker_of set.work actor
+  pub inside : seat.broker < set.size
+  pub author : seat.staged.author ≡ author.User actor
+  pub placed : IsPlaced set.work.lines actor seat
+  pub opened : 0 < seat.issued → command_at set.work (command_of actor (seat.issued - 1)) ≡ option_map (λ line. line.command) (slice_get set.work.lines seat.last)
+  pub staged : seat.staged.ops ≡ staged_at set.work (command_of actor seat.issued)
+  pub works : namespace_at set.work (command_of actor seat.issued) ≡ seat.space
+  pub about : 0 < seat.issued → subject_at set.work (command_of actor (seat.issued - 1)) ≡ seat.subject
+  pub floored : (space : Name) → floor set.work c actor space ≡ floor_in seat.floors space
+  pub waits : Waits set log actor seat.issued seat.waiting
+
+-- an actor, and one that the workload does not have
+abbrev pub ActorStands : Setup → Log → List Entry → ℕ → Option Seat → Type 0
+ActorStands set log c actor None = Stands log c actor 0 0
+ActorStands set log c actor (Some seat) = Stands log c actor seat.issued (replied_of seat) × IsSeat set log c actor seat
+
+-- an instance stands where this chronicle of its own leaves it, of a run that is given this and has not ended;
+-- the chronicle has 0 for the number of the instance
+pub record AgreesOwn (v : InstanceValue) (set : Setup) (own : List Entry) : Type 0 where
+  pub within : IsWithin set.size set.work
+  pub known : All (λ l. IsKnownCommand l.command) set.work.lines
+  pub legal : IsLegal set own
+  pub early : Each IsEarlierEntry own
+  pub unposted : posted v.core ≡ []
+  pub seated : length v.seats ≡ length set.work.actors
+  pub agrees : Agrees v.core (setting_of set) (log_of set.work top own)
+  pub actors : (actor : ℕ) → ActorStands set (log_of set.work top own) own actor (slice_get v.seats actor)
+
+-- the lines are those of a workload with which the instance stands
+abbrev pub AreLinesOf : InstanceValue → List Line → Type 0
+AreLinesOf v lines = (set : Setup) × (own : List Entry) × AgreesOwn v set own × (set.work.lines ≡ lines)

@@ -1,0 +1,87 @@
+-- What the commands that did not finish are told at the end.
+use Rattle.std.specs.Prelude.{ℕ, ◌-◌, ◌&&◌, List, [], ◌∷◌, Bool, true, false, Option, Some, None, unwrap_or, count_by, filter, flat_map, length, map, option_and_then, slice_get, if◌then◌else◌}
+use Rattle.std.specs.List.{range_with_len}
+use Rattle.std.specs.Option.{option_map, option_map_or}
+use Rattle.std.specs.Str.{bytes_eq}
+use Rattle.kvs_model.specs.Store.{Name}
+use Rattle.kvs_rules.specs.Log.{Log}
+use Rattle.kvs_rules.specs.Brokers.{heard}
+use Rattle.workload.specs.declared.work.Command.{Command}
+use Rattle.workload.specs.declared.work.Command.TheVariants as command
+use Rattle.workload.specs.declared.work.Line.{Line}
+use Rattle.answers.specs.declared.chronicle.Entry.{Entry}
+use Rattle.answers.specs.declared.chronicle.Entry.TheVariants as entry
+use Rattle.answers.specs.declared.chronicle.Reply.{Reply}
+use Rattle.answers.specs.declared.chronicle.Reply.TheVariants as reply
+use Rattle.instance.specs.declared.seats.Seat.{Seat}
+use Rattle.instance.specs.declared.seats.Waiting.{Waiting}
+use Rattle.instance.specs.declared.seats.Waiting.TheVariants as waiting
+use Rattle.instance.specs.Agrees.{is_of}
+
+-- the actor's command that was issued last
+abbrev pub open_command : List Line → Seat → Option Command
+open_command lines seat = option_map (λ line. line.command) (slice_get lines seat.last)
+
+-- whether the actor waits for the service
+abbrev pub is_served : Waiting → Bool
+is_served waiting.Service = true
+is_served _ = false
+
+-- the fence that a command joins, with its count
+abbrev pub fence_of : Command → Option (Name × ℕ)
+fence_of (command.Fence name count) = Some (name, count)
+fence_of _ = None
+
+-- the fence in which the actor at this seat waits, with its count
+abbrev pub fence_at : List Line → Seat → Option (Name × ℕ)
+fence_at lines seat = if is_served seat.waiting then option_and_then fence_of (open_command lines seat) else None
+
+-- whether the actor waits in this fence of the namespace
+abbrev pub waits_in : List Line → List Seat → Name → Name → ℕ → Bool
+waits_in lines seats space name actor = option_map_or
+    (λ seat. option_map_or (λ fence. bytes_eq space seat.subject && bytes_eq name fence.0) (fence_at lines seat) false)
+    (slice_get seats actor) false
+
+-- the actors that wait in this fence of the namespace
+abbrev pub waiting_in : List Line → List Seat → Name → Name → List ℕ
+waiting_in lines seats space name = filter (waits_in lines seats space name) (range_with_len 0 (length seats))
+
+-- the closing replies to so many commands that were not reached, from this number on
+abbrev pub not_reached : ℕ → ℕ → ℕ → List Entry
+not_reached actor from count = map (λ number. entry.Replied actor number reply.NotReached None) (range_with_len from count)
+
+-- the number of a namespace that a broker has heard
+abbrev pub numbers_in : Log → ℕ → Name → ℕ
+numbers_in log broker space = unwrap_or (heard log broker space) 0
+
+-- what is said of a command about this namespace that did not finish, whose actor's broker has heard this number of it:
+-- how many members have come to its fence, or which number the broker has heard
+abbrev pub left_reply : ℕ → List Line → List Seat → Name → Command → Option Reply
+left_reply had lines seats space (command.Fence name count) =
+    Some (reply.UnfinishedFence (length (waiting_in lines seats space name)) count)
+left_reply had lines seats space (command.Wait number) = Some (reply.UnfinishedWait had number)
+left_reply had lines seats space _ = None
+
+-- what the actor at this seat is told at the end of its open command, if that did not finish
+abbrev pub unfinished_at : ℕ → List Line → List Seat → Seat → Option Reply
+unfinished_at had lines seats seat =
+    if is_served seat.waiting
+    then option_and_then (left_reply had lines seats seat.subject) (open_command lines seat)
+    else None
+
+-- the closing replies to the actor at this seat, whose open command is told so: the commands behind were not reached
+abbrev pub closings_at : List Line → ℕ → Seat → Reply → List Entry
+closings_at lines actor seat given =
+    entry.Replied actor (seat.issued - 1) given None
+    ∷ not_reached actor seat.issued (count_by (is_of actor) lines - seat.issued)
+
+-- the closing replies to an actor
+abbrev pub closings_of : (ℕ → Name → ℕ) → List Line → List Seat → ℕ → List Entry
+closings_of numbers lines seats actor = option_map_or
+    (λ seat. option_map_or (closings_at lines actor seat)
+    (unfinished_at (numbers seat.broker seat.subject) lines seats seat) [])
+    (slice_get seats actor) []
+
+-- the closing replies, by actor
+abbrev pub closings : (ℕ → Name → ℕ) → List Line → List Seat → List Entry
+closings numbers lines seats = flat_map (closings_of numbers lines seats) (range_with_len 0 (length seats))

@@ -1,0 +1,11 @@
+pub mod Floors
+pub mod Seats
+pub mod Replies
+pub mod Value
+pub mod Steps
+pub mod Order
+pub mod Agrees
+pub mod Closings
+pub mod First
+pub mod Makes
+pub mod View

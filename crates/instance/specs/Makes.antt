@@ -1,0 +1,37 @@
+-- What a step of an instance makes.
+use Rattle.std.specs.Prelude.{◌≡◌, List, [], ◌∷◌, ◌++◌}
+use Rattle.std.specs.List.{AllByRecursion as Each}
+use Rattle.kvs_rules.specs.Sequence.{EachAfter}
+use Rattle.workload.specs.declared.work.Line.{Line}
+use Rattle.answers.specs.declared.chronicle.Entry.{Entry}
+use Rattle.answers.specs.declared.chronicle.Entry.TheVariants as entry
+use Rattle.answers.specs.declared.steps.Step.{Step}
+use Rattle.answers.specs.Chronicle.{Setup}
+use Rattle.answers.specs.Legal.{IsLegalEntry, IsToldAtIssue}
+use Rattle.answers.specs.Stretches.{IsStretch}
+use Rattle.answers.specs.Whole.{HasToldAll, IsClosingEntry, IsWhole}
+use Rattle.instance.specs.Agrees.{AgreesOwn}
+use Rattle.instance.specs.Steps.{IsIssue}
+use Rattle.instance.specs.Value.{InstanceValue}
+
+-- the entries are those that the step may make after the chronicle, each is legal, and the instance agrees with both;
+-- they keep a chronicle settled, if all brokers are told where the step issues a command
+pub record Follows (set : Setup) (own : List Entry) (s : Step) (new : InstanceValue) (entries : List Entry) : Type 0 where
+  pub made : IsStretch set.work own s entries
+  pub legal : EachAfter (IsLegalEntry set) own entries
+  pub agrees : AgreesOwn new set (own ++ entries)
+  pub settled : (IsIssue s → HasToldAll set own) → EachAfter (IsToldAtIssue set) own entries
+
+-- the entries follow every chronicle that agrees
+abbrev pub Makes : InstanceValue → Step → InstanceValue → List Entry → Type 0
+Makes old s new entries = (set : Setup) (own : List Entry) → AgreesOwn old set own → Follows set own s new entries
+
+-- the entries follow every chronicle that agrees, where the workload has these lines
+abbrev pub MakesOf : List Line → InstanceValue → Step → InstanceValue → List Entry → Type 0
+MakesOf lines old s new entries = (set : Setup) (own : List Entry) → AgreesOwn old set own → set.work.lines ≡ lines → Follows set own s new entries
+
+-- closing replies and the end follow the chronicle, and make it whole
+pub record Ends (set : Setup) (own left : List Entry) : Type 0 where
+  pub closing : Each IsClosingEntry left
+  pub legal : EachAfter (IsLegalEntry set) own (left ++ entry.Closed ∷ [])
+  pub whole : IsWhole set (own ++ left ++ entry.Closed ∷ [])

@@ -1,0 +1,120 @@
+-- Where an actor stands in its commands.
+use Rattle.std.specs.Prelude.{◌≡◌, ℕ, ◌-◌, ◌≤◌, max, nat_lt, slice_get, slice_set, List, [], ◌∷◌, ◌++◌, Bool, true, false, Option, Some, None, unwrap_or, length, if◌then◌else◌}
+use Rattle.std.specs.Option.{option_map_or, option_map}
+use Rattle.std.specs.List.{cons_option}
+use Rattle.kvs_txn.specs.declared.txn.By.{By}
+use Rattle.kvs_txn.specs.declared.txn.Op.{Op}
+use Rattle.kvs_model.specs.Store.{Name}
+use Rattle.kvs_rules.specs.declared.events.KvsAsk.{KvsAsk}
+use Rattle.kvs_rules.specs.Log.{Log, Asked}
+use Rattle.kvs_rules.specs.Namespaces.{Setting}
+use Rattle.kvs_core.specs.Value.{CoreValue}
+use Rattle.kvs_core.specs.Steps.{can_take}
+use Rattle.workload.specs.Limits.{most_members}
+use Rattle.workload.specs.declared.work.Command.{Command}
+use Rattle.workload.specs.declared.work.Command.TheVariants as command
+use Rattle.answers.specs.Commands.{op_of, takes_staged, most_staged, used_name}
+use Rattle.instance.specs.declared.seats.Seat.{Seat}
+use Rattle.instance.specs.declared.seats.Waiting.{Waiting}
+use Rattle.instance.specs.declared.seats.Waiting.TheVariants as waiting
+use Rattle.instance.specs.Floors.{Floors, floor_in}
+
+-- the commands that a run carries out
+abbrev pub IsKnownCommand : Command → Type 0
+IsKnownCommand (command.Put path bytes) = Unit {0}
+IsKnownCommand (command.Append path bytes) = Unit {0}
+IsKnownCommand (command.Unlink path) = Unit {0}
+IsKnownCommand (command.Mkdir path) = Unit {0}
+IsKnownCommand (command.Symlink path target) = Unit {0}
+IsKnownCommand command.Commit = Unit {0}
+IsKnownCommand (command.Fence name count) = (1 ≤ count) × (count ≤ most_members)
+IsKnownCommand (command.Get path) = Unit {0}
+IsKnownCommand (command.Ls path) = Unit {0}
+IsKnownCommand (command.Readlink path) = Unit {0}
+IsKnownCommand (command.Wait number) = Unit {0}
+IsKnownCommand (command.Tell actor) = Unit {0}
+IsKnownCommand (command.NsCreate name) = Unit {0}
+IsKnownCommand (command.NsRemove name) = Unit {0}
+IsKnownCommand (command.NsUse name) = Unit {0}
+IsKnownCommand _ = ⊥
+
+-- what an operation that is to be staged behind these finds
+abbrev pub room_behind : List Op → Waiting
+room_behind ops = if nat_lt (length ops) most_staged then waiting.Staged else waiting.TxnFull
+
+-- the staged operations with one more, if there is room
+abbrev pub with_op : List Op → Op → List Op
+with_op ops op = if nat_lt (length ops) most_staged then ops ++ op ∷ [] else ops
+
+-- what an actor waits for whose command stages nothing
+abbrev pub waits_for : Command → Waiting
+waits_for (command.Tell actor) = waiting.Tell actor
+waits_for (command.NsUse name) = waiting.Using
+waits_for _ = waiting.Service
+
+-- what an actor waits for once the command is issued, where these operations are staged
+abbrev pub waiting_after : Command → List Op → Waiting
+waiting_after c ops = option_map_or (λ op. room_behind ops) (op_of c) (waits_for c)
+
+-- the staged operations once the command is issued
+abbrev pub ops_after : Command → List Op → List Op
+ops_after c ops = if takes_staged c then [] else option_map_or (λ op. with_op ops op) (op_of c) ops
+
+-- the namespace in which the actor works once the command is issued, who worked in this one
+abbrev pub space_after : Command → Name → Name
+space_after c own = unwrap_or (used_name c) own
+
+-- the moment at which a command asks, if it asks
+abbrev pub moment_asked : By → ℕ → Option KvsAsk → Log
+moment_asked by floor asked = cons_option (option_map (λ a. Asked by floor) asked) []
+
+-- how far the actor at this seat has seen the namespace that its last command is about
+abbrev pub seat_floor : Seat → ℕ
+seat_floor seat = floor_in seat.floors seat.subject
+
+-- the setting says that the last command of the actor at this seat asks this, if it asks
+abbrev pub IsTheAsk : Setting → By → Seat → Option KvsAsk → Type 0
+IsTheAsk set by seat None = Unit {0}
+IsTheAsk set by seat (Some asked) = set.asks by ≡ Some (record { broker = seat.broker; namespace = seat.subject; ask = asked })
+
+-- whether the actor waits for nothing
+abbrev pub is_free : Waiting → Bool
+is_free waiting.Nothing = true
+is_free _ = false
+
+-- how many of the actor's commands are replied
+abbrev pub replied_of : Seat → ℕ
+replied_of seat = if is_free seat.waiting then seat.issued else seat.issued - 1
+
+-- the actor's command that was issued last
+abbrev pub last_command : ℕ → Seat → By
+last_command actor seat = record { actor = actor; command = seat.issued - 1 }
+
+-- the seat of an actor that has seen so far
+abbrev pub with_floors : Floors → Seat → Seat
+with_floors floors seat = record seat { floors = floors }
+
+-- the seats, once this actor has seen so far
+abbrev pub raised : List Seat → ℕ → Floors → List Seat
+raised seats to floors = option_map_or (λ seat. slice_set seats to (with_floors floors seat)) (slice_get seats to) seats
+
+-- an actor has told another, which has seen as far as both since, in every namespace
+pub record AreTold (from to : ℕ) (old new : List Seat) : Type 0 where
+  pub floors : Floors
+  pub seats : new ≡ raised old to floors
+  pub joined : (teller seat : Seat) → slice_get old from ≡ Some teller → slice_get old to ≡ Some seat →
+      (space : Name) → floor_in floors space ≡ max (floor_in seat.floors space) (floor_in teller.floors space)
+
+-- whether the actor waits to have told another
+abbrev pub is_telling : Waiting → Bool
+is_telling (waiting.Tell to) = true
+is_telling _ = false
+
+-- whether what the actor waits for is there
+abbrev pub has_come : CoreValue → By → Waiting → Bool
+has_come core by waiting.Nothing = false
+has_come core by waiting.Staged = true
+has_come core by waiting.TxnFull = true
+has_come core by (waiting.Tell to) = true
+has_come core by waiting.Using = true
+has_come core by waiting.Service = can_take core by

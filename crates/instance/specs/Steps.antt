@@ -1,0 +1,48 @@
+-- Which steps an instance can make.
+use Rattle.std.specs.Prelude.{◌≡◌, ℕ, ◌&&◌, nat_lt, Bool, false, List, length, slice_get}
+use Rattle.std.specs.Option.{option_map_or}
+use Rattle.kvs_rules.specs.declared.events.KvsStep.{KvsStep}
+use Rattle.kvs_core.specs.Value.{CoreValue}
+use Rattle.kvs_core.specs.Steps.{can_step}
+use Rattle.workload.specs.declared.work.Line.{Line}
+use Rattle.answers.specs.declared.steps.Step.{Step}
+use Rattle.answers.specs.declared.steps.Step.TheVariants as step
+use Rattle.instance.specs.declared.seats.Seat.{Seat}
+use Rattle.instance.specs.Seats.{is_free, last_command, has_come}
+use Rattle.instance.specs.Value.{InstanceValue}
+
+-- whether the actor at this seat can be issued its next command, of so many lines
+abbrev pub has_issue : ℕ → List Seat → ℕ → Bool
+has_issue lines seats actor = option_map_or (λ seat. is_free seat.waiting && nat_lt seat.next lines) (slice_get seats actor) false
+
+-- the line of the actor's next command
+abbrev pub next_of : List Seat → ℕ → ℕ
+next_of seats actor = option_map_or (λ seat. seat.next) (slice_get seats actor) 0
+
+-- whether the open command of the actor at this seat can be replied
+abbrev pub has_answer : CoreValue → List Seat → ℕ → Bool
+has_answer core seats actor = option_map_or (λ seat. has_come core (last_command actor seat) seat.waiting) (slice_get seats actor) false
+
+-- whether the actor's next command can be issued
+abbrev pub can_issue : List Line → InstanceValue → ℕ → Bool
+can_issue lines v actor = has_issue (length lines) v.seats actor
+
+-- whether the actor's open command can be replied
+abbrev pub can_answer : InstanceValue → ℕ → Bool
+can_answer v actor = has_answer v.core v.seats actor
+
+-- neither a step of the service nor a reply can be made
+pub record IsAtRest (v : InstanceValue) : Type 0 where
+  pub steps : (s : KvsStep) → can_step v.core s ≡ false
+  pub answers : (actor : ℕ) → can_answer v actor ≡ false
+
+-- nothing can happen but the end
+pub record IsOver (lines : List Line) (v : InstanceValue) : Type 0 where
+  pub steps : (s : KvsStep) → can_step v.core s ≡ false
+  pub answers : (actor : ℕ) → can_answer v actor ≡ false
+  pub issues : (actor : ℕ) → can_issue lines v actor ≡ false
+
+-- the step issues a command
+abbrev pub IsIssue : Step → Type 0
+IsIssue (step.Issue actor) = Unit {0}
+IsIssue _ = ⊥

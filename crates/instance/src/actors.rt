@@ -1,0 +1,371 @@
+//! An instance.
+ghost use Rattle.std.specs.Prelude.{◌≡◌, ◌<◌, ◌≤◌, ◌++◌, [], ◌∷◌, ℕ, true, false, All, List, None, map, slice_get, slice_index_or, IfOk, IfSome, OnErr, OnOk};
+ghost use Rattle.workload.specs.Laws.{IsWithin, IsBuilt};
+ghost use Rattle.answers.specs.declared.chronicle.Entry.{Entry as EntryValue};
+ghost use Rattle.answers.specs.Chronicle.{Setup, top};
+ghost use Rattle.answers.specs.Entering.{entered};
+ghost use Rattle.answers.specs.Services.{log_of};
+ghost use Rattle.answers.specs.Whole.{HasToldAll};
+ghost use Rattle.kvs_model.specs.Store.{Name};
+ghost use Rattle.kvs_core.specs.Order.{possible};
+ghost use Rattle.kvs_core.specs.Posted.{posted};
+ghost use Rattle.kvs_core.specs.Steps.{can_step};
+ghost use Rattle.instance.specs.declared.seats.Seat.{Seat as SeatValue};
+ghost use Rattle.instance.specs.Agrees.{AgreesOwn, AreLinesOf};
+ghost use Rattle.instance.specs.Closings.{closings, numbers_in};
+ghost use Rattle.instance.specs.First.{AreFirstSeats};
+ghost use Rattle.instance.specs.Floors.{floor_in, risen_in};
+ghost use Rattle.instance.specs.Makes.{Ends, Makes, MakesOf};
+ghost use Rattle.instance.specs.Order.{answers, issues};
+ghost use Rattle.instance.specs.Replies.{IsGiven};
+ghost use Rattle.instance.specs.Seats.{has_come, is_telling};
+ghost use Rattle.instance.specs.Steps.{IsAtRest, IsOver, can_answer, can_issue};
+
+mod walk;
+
+use crate::floors::Floors;
+use crate::seats::{
+    Seat, Waiting, ask, begin, first_answer, has_answer, has_issue, issue_from, next_line, raise,
+};
+use crate::unfinished::close_off;
+use answers::{Chronicle, Entry, Reply, Step};
+use kvs_core::laws::users_land_where_nothing_is_posted;
+use kvs_core::{Core, CoreFault, KvsEvents, Setting};
+use kvs_rules::KvsStep;
+use kvs_txn::{Author, By, Txn};
+use lists::{Bytes, ListOf};
+use std::alloc::{AllocError, Global};
+use std::marker::Model;
+use workload::{Line, Workload};
+
+/// Actors, whose commands the service of one instance carries out. Which lines of a workload are theirs and what has
+/// happened is its caller's to keep: the clauses speak of every chronicle of the instance's own that agrees with it.
+#[derive(Drop)]
+pub struct Instance {
+    alloc: Global,
+    spent: bool,
+    seats: Vec<Seat>,
+    core: Core,
+}
+
+impl Model for Instance {
+    ghost use Rattle.instance.specs.Value.{InstanceValue};
+
+    ghost Value = { InstanceValue };
+
+    ghost use Rattle.instance.specs.View.{value_of, IsFitInside};
+
+    ghost view = { value_of };
+
+    ghost invariant = { IsFitInside };
+}
+
+/// A list of one entry.
+fn only(alloc: Global, entry: Entry) -> Result<Chronicle, AllocError>
+    ensures { IfOk result (λ made. made ≡ entry ∷ []) }
+{
+    let mut made = ListOf::new(alloc);
+    made.push(entry)?;
+    Ok(made)
+}
+
+/// What happened in the service, as entries.
+fn enter(alloc: Global, events: KvsEvents) -> Result<Chronicle, AllocError>
+    ensures { IfOk result (λ made. made ≡ map (entered 0) events) }
+{
+    let mut made = ListOf::new(alloc);
+    for event in events.into_vec() {
+        made.push(Entry::of(0, event))?;
+    }
+    Ok(made)
+}
+
+/// What an actor is told, and the number of its root, where it has one.
+#[derive(Drop)]
+struct Given {
+    reply: Reply,
+    number: Option<u64>,
+}
+
+/// What an actor is told that waits so for its command.
+fn reply_to(core: &mut Core, by: By, waiting: Waiting) -> Given
+    requires ready { core.old.spent ≡ false }
+    requires can { has_come core.old by waiting ≡ true }
+    requires hands { is_telling waiting ≡ false }
+    ensures ready { core.new.spent ≡ false }
+    ensures posted { posted core.new ≡ posted core.old }
+    ensures given { IsGiven core.old core.new by waiting result.reply result.number }
+{
+    match waiting {
+        Waiting::Nothing | Waiting::Tell { .. } => unreachable!(),
+        Waiting::Staged => Given {
+            reply: Reply::Staged,
+            number: None,
+        },
+        Waiting::TxnFull => Given {
+            reply: Reply::TxnFull,
+            number: None,
+        },
+        Waiting::Using => Given {
+            reply: Reply::Using,
+            number: None,
+        },
+        Waiting::Service => {
+            let held = core.take(by);
+            Given {
+                reply: Reply::of(held.answer),
+                number: held.number,
+            }
+        }
+    }
+}
+
+/// Raises the floor of an actor in the namespace that its open command is about to the number of the reply, if it has one.
+fn see(floors: &mut Floors, subject: &Bytes, number: Option<u64>) -> Result<(), AllocError>
+    ensures { OnOk result ((space : Name)
+        → floor_in floors.new space ≡ risen_in floors.old subject.now number space) }
+{
+    match number {
+        Some(number) => floors.raise(subject, number),
+        None => Ok(()),
+    }
+}
+
+/// The seats of a workload's actors.
+fn seated(alloc: Global, work: &Workload, size: u32) -> Result<Vec<Seat>, AllocError>
+    requires { IsWithin size work.now }
+    ensures { IfOk result (λ seats. AreFirstSeats work.now seats.items) }
+{
+    let mut seats = Vec::new(alloc);
+    let lines = work.lines.as_slice();
+    for (actor, at) in work.actors.as_slice().iter().enumerate() {
+        let actor = actor as u32;
+        seats.push(Seat {
+            broker: at.rank as u32,
+            next: next_line(lines, 0, actor),
+            last: 0,
+            issued: 0,
+            waiting: Waiting::Nothing,
+            staged: Txn::new(alloc, Author::User(actor)),
+            space: Bytes::of(alloc, b"primary")?,
+            subject: Bytes::new(alloc),
+            floors: Floors::new(alloc),
+        })?;
+    }
+    Ok(seats)
+}
+
+impl Instance {
+    /// An instance of some brokers with the actors of a workload, before anything has happened. Its first store has the
+    /// text of the grant.
+    pub fn new(
+        alloc: Global,
+        setting: Setting,
+        grant: &Bytes,
+        work: &Workload,
+    ) -> Result<Instance, CoreFault>
+        requires size { (1 ≤ setting.size) × (setting.size ≤ 32) }
+        requires fanout { (1 ≤ setting.fanout) × (setting.fanout ≤ 32) }
+        requires within { IsWithin setting.size work.now }
+        requires built { All (λ l. IsBuilt l.command) work.now.lines }
+        ensures ready { IfOk result (λ v. v.spent ≡ false) }
+        ensures agrees { IfOk result (λ v. (set : Setup) → set.size ≡ setting.size
+            → set.fanout ≡ setting.fanout → set.grant ≡ grant.now → set.work ≡ work.now
+            → AgreesOwn v set []) }
+    {
+        let core = Core::new(alloc, setting, grant)?;
+        let seats = seated(alloc, work, setting.size)?;
+        Ok(Instance {
+            alloc,
+            spent: false,
+            seats,
+            core,
+        })
+    }
+
+    /// Makes a step of the service, and gives what happened. After an error the instance is spent.
+    pub fn turn(&mut self, step: KvsStep) -> Result<Chronicle, CoreFault>
+        requires ready { self.old.spent ≡ false }
+        requires can { can_step self.old.core step ≡ true }
+        ensures ready { OnOk result (self.new.spent ≡ false) }
+        ensures makes { IfOk result (Makes self.old (Step.Kvs 0 step) self.new) }
+        ensures spent { OnErr result (self.new.spent ≡ true) }
+    {
+        self.spent = true;
+        // the job manager posts nothing yet, so what lands is users'
+        users_land_where_nothing_is_posted();
+        let events = self.core.turn(step)?;
+        let made = enter(self.alloc, events)?;
+        self.spent = false;
+        Ok(made)
+    }
+
+    /// Hands an actor the reply to its open command, which doesn't tell another actor.
+    fn hand(&mut self, actor: u32) -> Result<Chronicle, AllocError>
+        requires ready { self.old.spent ≡ false }
+        requires can { can_answer self.old actor ≡ true }
+        requires hands { (d : SeatValue)
+            → is_telling (slice_index_or self.old.seats actor d).waiting ≡ false }
+        ensures ready { OnOk result (self.new.spent ≡ false) }
+        ensures makes { IfOk result (Makes self.old (Step.Answer actor) self.new) }
+        ensures spent { OnErr result (self.new.spent ≡ true) }
+    {
+        self.spent = true;
+        let seat = &mut self.seats[actor as usize];
+        let command = seat.issued.saturating_sub(1);
+        let Given { reply, number } = reply_to(&mut self.core, By { actor, command }, seat.waiting);
+        seat.waiting = Waiting::Nothing;
+        see(&mut seat.floors, &seat.subject, number)?;
+        let replied = Entry::Replied {
+            actor,
+            command,
+            reply,
+            number,
+        };
+        let made = only(self.alloc, replied)?;
+        self.spent = false;
+        Ok(made)
+    }
+
+    /// Tells another actor what an actor saw, and the actor that it is told.
+    fn tell(&mut self, actor: u32, to: u32) -> Result<Chronicle, AllocError>
+        requires ready { self.old.spent ≡ false }
+        requires can { can_answer self.old actor ≡ true }
+        requires tells { (d : SeatValue)
+            → (slice_index_or self.old.seats actor d).waiting ≡ Waiting.Tell to }
+        ensures ready { OnOk result (self.new.spent ≡ false) }
+        ensures makes { IfOk result (Makes self.old (Step.Answer actor) self.new) }
+        ensures spent { OnErr result (self.new.spent ≡ true) }
+    {
+        self.spent = true;
+        raise(self.alloc, &mut self.seats, actor, to)?;
+        let mut made = only(self.alloc, Entry::Told { from: actor, to })?;
+        let seat = &mut self.seats[actor as usize];
+        seat.waiting = Waiting::Nothing;
+        made.push(Entry::Replied {
+            actor,
+            command: seat.issued.saturating_sub(1),
+            reply: Reply::Told,
+            number: None,
+        })?;
+        self.spent = false;
+        Ok(made)
+    }
+
+    /// Replies to the open command of an actor, and gives what happened. After an error the instance is spent.
+    pub fn answer(&mut self, actor: u32) -> Result<Chronicle, AllocError>
+        requires ready { self.old.spent ≡ false }
+        requires can { can_answer self.old actor ≡ true }
+        ensures ready { OnOk result (self.new.spent ≡ false) }
+        ensures makes { IfOk result (Makes self.old (Step.Answer actor) self.new) }
+        ensures spent { OnErr result (self.new.spent ≡ true) }
+    {
+        match self.seats[actor as usize].waiting {
+            Waiting::Tell { to } => self.tell(actor, to),
+            _ => self.hand(actor),
+        }
+    }
+
+    /// Issues the next command of an actor, of the workload with these lines, and gives what happened. After an error
+    /// the instance is spent.
+    pub fn issue(&mut self, lines: &[Line], actor: u32) -> Result<Chronicle, AllocError>
+        requires ready { self.old.spent ≡ false }
+        requires lines { AreLinesOf self.old lines.now }
+        requires can { can_issue lines.now self.old actor ≡ true }
+        ensures ready { OnOk result (self.new.spent ≡ false) }
+        ensures makes { IfOk result (MakesOf lines.now self.old (Step.Issue actor) self.new) }
+        ensures spent { OnErr result (self.new.spent ≡ true) }
+    {
+        self.spent = true;
+        let seat = &mut self.seats[actor as usize];
+        let command = seat.issued;
+        let asked = begin(self.alloc, seat, actor, &lines[seat.next].command)?;
+        ask(&mut self.core, By { actor, command }, seat, asked)?;
+        seat.issued = command + 1;
+        seat.last = seat.next;
+        seat.next = next_line(lines, seat.next + 1, actor);
+        let made = only(self.alloc, Entry::Issued { actor, command })?;
+        self.spent = false;
+        Ok(made)
+    }
+
+    /// Whether a step of the service can be made.
+    pub fn can_turn(&self, step: KvsStep) -> bool
+        requires { self.now.spent ≡ false }
+        ensures { result ≡ can_step self.now.core step }
+    {
+        self.core.can(step)
+    }
+
+    /// Whether the open command of an actor can be replied.
+    pub fn can_answer(&self, actor: u32) -> bool
+        requires { self.now.spent ≡ false }
+        ensures { result ≡ can_answer self.now actor }
+    {
+        has_answer(&self.core, &self.seats, actor)
+    }
+
+    /// Whether the next command of an actor can be issued, of the workload with these lines.
+    pub fn can_issue(&self, lines: &[Line], actor: u32) -> bool
+        ensures { result ≡ can_issue lines.now self.now actor }
+    {
+        has_issue(lines.len(), &self.seats, actor)
+    }
+
+    /// The first step of the service, in the service's order.
+    pub fn next_turn(&self) -> Option<KvsStep>
+        requires { self.now.spent ≡ false }
+        ensures first { result ≡ slice_get (possible self.now.core) 0 }
+        ensures some { IfSome result (λ step. can_step self.now.core step ≡ true) }
+        ensures none { result ≡ None → (step : KvsStep) → can_step self.now.core step ≡ false }
+    {
+        self.core.next()
+    }
+
+    /// The lowest actor whose open command can be replied.
+    pub fn first_answer(&self) -> Option<u32>
+        requires { self.now.spent ≡ false }
+        ensures first { result ≡ slice_get (answers self.now) 0 }
+        ensures some { IfSome result (λ a. can_answer self.now a ≡ true) }
+        ensures none { result ≡ None → (a : ℕ) → can_answer self.now a ≡ false }
+    {
+        first_answer(&self.core, &self.seats)
+    }
+
+    /// The actor whose next line comes first among those that wait for nothing, of the workload with these lines.
+    pub fn first_issue(&self, lines: &[Line]) -> Option<u32>
+        requires ready { self.now.spent ≡ false }
+        requires lines { AreLinesOf self.now lines.now }
+        ensures first { result ≡ slice_get (issues lines.now self.now) 0 }
+        ensures some { IfSome result (λ a. can_issue lines.now self.now a ≡ true) }
+        ensures none { result ≡ None → (a : ℕ) → can_issue lines.now self.now a ≡ false }
+    {
+        issue_from(lines.len(), &self.seats, 0)
+    }
+
+    /// What the commands that didn't finish are told at the end, by actor, of the workload with these lines. Where no
+    /// step can be made, these replies and the end make each chronicle whole that agrees.
+    pub fn closings(&self, lines: &[Line]) -> Result<Chronicle, AllocError>
+        requires ready { self.now.spent ≡ false }
+        requires lines { AreLinesOf self.now lines.now }
+        ensures left { IfOk result (λ left. (set : Setup) (own : List EntryValue)
+            → AgreesOwn self.now set own → set.work.lines ≡ lines.now
+            → left ≡ closings (numbers_in (log_of set.work top own)) lines.now self.now.seats) }
+        ensures ends { IfOk result (λ left. (set : Setup) (own : List EntryValue)
+            → AgreesOwn self.now set own → set.work.lines ≡ lines.now
+            → IsOver lines.now self.now → Ends set own left) }
+    {
+        // where nothing but the end can happen, the service is at rest
+        self.core.still();
+        close_off(self.alloc, &self.core, lines, &self.seats)
+    }
+
+    /// Where neither a step of the service nor a reply can be made, all brokers are told.
+    pub fn still(&self)
+        requires { self.now.spent ≡ false }
+        ensures told { (set : Setup) (own : List EntryValue) → AgreesOwn self.now set own
+            → IsAtRest self.now → HasToldAll set own }
+    {
+        self.core.still();
+    }
+}

@@ -1,0 +1,62 @@
+//! The steps that can be made, by number.
+ghost use Rattle.std.specs.Prelude.{◌≡◌, true, false, IfOk};
+ghost use Rattle.kvs_core.specs.Order.{possible};
+ghost use Rattle.kvs_core.specs.Steps.{can_step};
+ghost use Rattle.kvs_core.specs.Walk.{nth};
+ghost use Rattle.instance.specs.Agrees.{AreLinesOf};
+ghost use Rattle.instance.specs.Order.{answers, issues};
+ghost use Rattle.instance.specs.Steps.{can_answer, can_issue};
+
+use super::Instance;
+use crate::seats::{has_answer, issue_from};
+use kvs_rules::KvsStep;
+use workload::Line;
+
+impl Instance {
+    /// The step of this number among those of the service, or what the number has left behind them.
+    pub fn nth_turn(&self, number: u64) -> Result<KvsStep, u64>
+        requires { self.now.spent ≡ false }
+        ensures value { result ≡ nth (possible self.now.core) number }
+        ensures can { IfOk result (λ step. can_step self.now.core step ≡ true) }
+    {
+        self.core.nth(number)
+    }
+
+    /// The actor of this number among those whose open command can be replied, or what the number has left behind them.
+    pub fn nth_answer(&self, number: u64) -> Result<u32, u64>
+        requires { self.now.spent ≡ false }
+        ensures value { result ≡ nth (answers self.now) number }
+        ensures can { IfOk result (λ a. can_answer self.now a ≡ true) }
+    {
+        let mut left = number;
+        for actor in 0..self.seats.len() as u32 {
+            if has_answer(&self.core, &self.seats, actor) {
+                if left == 0 {
+                    return Ok(actor);
+                }
+                left -= 1;
+            }
+        }
+        Err(left)
+    }
+
+    /// The actor of this number among those whose next command can be issued, by their lines, or what the number has
+    /// left behind them.
+    pub fn nth_issue(&self, lines: &[Line], number: u64) -> Result<u32, u64>
+        requires ready { self.now.spent ≡ false }
+        requires lines { AreLinesOf self.now lines.now }
+        ensures value { result ≡ nth (issues lines.now self.now) number }
+        ensures can { IfOk result (λ a. can_issue lines.now self.now a ≡ true) }
+    {
+        let mut left = number;
+        let mut from = 0;
+        while let Some(actor) = issue_from(lines.len(), &self.seats, from) {
+            if left == 0 {
+                return Ok(actor);
+            }
+            left -= 1;
+            from = self.seats[actor as usize].next + 1;
+        }
+        Err(left)
+    }
+}

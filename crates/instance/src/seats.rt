@@ -1,0 +1,324 @@
+//! Where the actors stand.
+ghost use Rattle.std.specs.Prelude.{◌≡◌, ◌≢◌, ◌++◌, [], ℕ, ◌<◌, ◌≤◌, false, length, slice_index_or, IfOk, IfSome, OnOk, Ok, Some, None, true};
+ghost use Rattle.kvs_txn.specs.declared.txn.Author.TheVariants as author;
+ghost use Rattle.workload.specs.declared.work.Line.{Line as LineValue};
+ghost use Rattle.kvs_rules.specs.Log.{Log, is_asked};
+ghost use Rattle.kvs_rules.specs.Namespaces.{Setting as Service};
+ghost use Rattle.kvs_core.specs.Agrees.{Agrees};
+ghost use Rattle.kvs_core.specs.Posted.{posted};
+ghost use Rattle.kvs_requests.specs.Rows.{IsKnownAsk};
+ghost use Rattle.answers.specs.Commands.{ask_of, op_of, most_staged, subject_of};
+ghost use Rattle.instance.specs.Seats.{room_behind, with_op, waiting_after, waits_for, ops_after, space_after, seat_floor, moment_asked, AreTold, IsKnownCommand, IsTheAsk, has_come, is_free};
+ghost use Rattle.instance.specs.Steps.{has_issue, has_answer, next_of};
+
+use crate::floors::Floors;
+use kvs_core::{Core, Request};
+use kvs_rules::KvsAsk;
+use kvs_txn::{Author, By, Op, Path, Query, StageFault, Txn};
+use lists::{Bytes, Copied};
+use std::alloc::{AllocError, Global};
+use std::mem;
+use workload::{Command, Line};
+
+/// What an actor waits for: for nothing, to be told what became of its operation, to have told another actor what it
+/// saw, to be told that it uses another namespace, or for the service's answer.
+#[derive(Clone, Copy, Debug, PartialEq, Eq)]
+pub enum Waiting {
+    Nothing,
+    Staged,
+    TxnFull,
+    Tell { to: u32 },
+    Using,
+    Service,
+}
+
+/// An actor: its broker, the places of its next and its last line in the workload, how many of its commands are issued,
+/// what it waits for, its staged operations, the namespace in which it works, the one that its last command is about, and
+/// how far it has seen.
+#[derive(Drop)]
+pub struct Seat {
+    pub broker: u32,
+    pub next: usize,
+    pub last: usize,
+    pub issued: u32,
+    pub waiting: Waiting,
+    pub staged: Txn,
+    pub space: Bytes,
+    pub subject: Bytes,
+    pub floors: Floors,
+}
+
+/// The place of the actor's first line from a place on, or the number of lines where it has none there.
+pub fn next_line(lines: &[Line], from: usize, actor: u32) -> usize
+    requires { from ≤ length lines.now }
+    ensures within { (from ≤ result) × (result ≤ length lines.now) }
+    ensures passed { (k : ℕ) (d : LineValue) → from ≤ k → k < result
+        → (slice_index_or lines.now k d).actor ≢ actor }
+    ensures here { (d : LineValue) → result < length lines.now
+        → (slice_index_or lines.now result d).actor ≡ actor }
+{
+    let mut at = from;
+    while at < lines.len() && lines[at].actor != actor {
+        at += 1;
+    }
+    at
+}
+
+/// Stages an operation, if there is room. Where there is none, that takes no memory.
+fn stage(staged: &mut Txn, op: Op) -> Result<Waiting, AllocError>
+    ensures author { staged.new.author ≡ staged.old.author }
+    ensures done { IfOk result (λ waiting. (waiting ≡ room_behind staged.old.ops)
+        × (staged.new.ops ≡ with_op staged.old.ops op)) }
+    ensures full { most_staged ≤ length staged.old.ops → result ≡ Ok Waiting.TxnFull }
+{
+    match staged.stage(op) {
+        Ok(()) => Ok(Waiting::Staged),
+        Err(StageFault::TxnFull(_)) => Ok(Waiting::TxnFull),
+        Err(StageFault::NoMemory(_)) => Err(AllocError),
+    }
+}
+
+/// The operation that a command stages, if it stages one.
+fn op_of(command: &Command) -> Result<Option<Op>, AllocError>
+    ensures { IfOk result (λ op. op ≡ op_of command.now) }
+{
+    Ok(match command {
+        Command::Put { path, bytes } => Some(Op::Put {
+            path: path.copy()?,
+            bytes: bytes.copy()?,
+        }),
+        Command::Append { path, bytes } => Some(Op::Append {
+            path: path.copy()?,
+            bytes: bytes.copy()?,
+        }),
+        Command::Unlink { path } => Some(Op::Unlink { path: path.copy()? }),
+        Command::Mkdir { path } => Some(Op::Mkdir { path: path.copy()? }),
+        Command::Symlink { path, target } => Some(Op::Link {
+            path: path.copy()?,
+            target: target.copy()?,
+        }),
+        _ => None,
+    })
+}
+
+/// What a read asks.
+fn read(query: Query, path: &Path) -> Result<KvsAsk, AllocError>
+    ensures { IfOk result (λ asked. asked ≡ KvsAsk.Read query path.now) }
+{
+    Ok(KvsAsk::Read {
+        query,
+        path: path.copy()?,
+    })
+}
+
+/// Takes all that an actor has staged.
+fn take_staged(alloc: Global, seat: &mut Seat, actor: u32) -> Txn
+    ensures taken { result ≡ seat.old.staged }
+    ensures left { seat.new
+        ≡ record seat.old { staged = record { author = author.User actor; ops = [] } } }
+{
+    mem::replace(&mut seat.staged, Txn::new(alloc, Author::User(actor)))
+}
+
+/// What an actor waits for whose command stages nothing.
+fn waits_for(command: &Command) -> Waiting
+    ensures { result ≡ waits_for command.now }
+{
+    match command {
+        Command::Tell { actor } => Waiting::Tell { to: *actor },
+        Command::NsUse { .. } => Waiting::Using,
+        _ => Waiting::Service,
+    }
+}
+
+/// The namespace that a command of an actor is about, which works in this one.
+fn subject_of<'a>(command: &'a Command, own: &'a Bytes) -> &'a Bytes
+    ensures { result.now ≡ subject_of command.now own.now }
+{
+    match command {
+        Command::NsCreate { name } | Command::NsRemove { name } => name,
+        _ => own,
+    }
+}
+
+/// Turns an actor to the namespace that a command of its is about, and to the one in which it works from then on.
+fn turn(seat: &mut Seat, command: &Command) -> Result<(), AllocError>
+    ensures { OnOk result (seat.new ≡ record seat.old {
+      subject = subject_of command.now seat.old.space;
+      space = space_after command.now seat.old.space;
+    }) }
+{
+    seat.subject = subject_of(command, &seat.space).copy()?;
+    if let Command::NsUse { name } = command {
+        seat.space = name.copy()?;
+    }
+    Ok(())
+}
+
+/// Begins a command of an actor: says what it then waits for, and what it asks of the service.
+pub fn begin(
+    alloc: Global,
+    seat: &mut Seat,
+    actor: u32,
+    command: &Command,
+) -> Result<Option<KvsAsk>, AllocError>
+    requires known { IsKnownCommand command.now }
+    requires author { seat.old.staged.author ≡ author.User actor }
+    ensures seat { OnOk result (seat.new ≡ record seat.old {
+      staged = record {
+        author = author.User actor;
+        ops = ops_after command.now seat.old.staged.ops;
+      };
+      waiting = waiting_after command.now seat.old.staged.ops;
+      subject = subject_of command.now seat.old.space;
+      space = space_after command.now seat.old.space;
+    }) }
+    ensures asked { IfOk result (λ asked. asked
+        ≡ ask_of (record { author = author.User actor; ops = seat.old.staged.ops }) command.now) }
+    ensures known { IfOk result (λ asked. IfSome asked IsKnownAsk) }
+{
+    turn(seat, command)?;
+    if let Some(op) = op_of(command)? {
+        seat.waiting = stage(&mut seat.staged, op)?;
+        return Ok(None);
+    }
+    seat.waiting = waits_for(command);
+    match command {
+        Command::Commit => Ok(Some(KvsAsk::Commit {
+            txn: take_staged(alloc, seat, actor),
+        })),
+        Command::Fence { name, count } => Ok(Some(KvsAsk::Fence {
+            name: name.copy()?,
+            count: *count,
+            txn: take_staged(alloc, seat, actor),
+        })),
+        Command::Get { path } => Ok(Some(read(Query::Get, path)?)),
+        Command::Ls { path } => Ok(Some(read(Query::List, path)?)),
+        Command::Readlink { path } => Ok(Some(read(Query::Link, path)?)),
+        Command::Wait { number } => Ok(Some(KvsAsk::Wait { number: *number })),
+        Command::NsCreate { .. } => Ok(Some(KvsAsk::Create)),
+        Command::NsRemove { .. } => Ok(Some(KvsAsk::Remove)),
+        Command::Tell { .. } | Command::NsUse { .. } => Ok(None),
+        _ => unreachable!(),
+    }
+}
+
+/// Asks the service what a command of an actor at this seat asks, if it asks anything.
+pub fn ask(core: &mut Core, by: By, seat: &Seat, asked: Option<KvsAsk>) -> Result<(), AllocError>
+    requires ready { core.old.spent ≡ false }
+    requires within { seat.now.broker < core.old.size }
+    requires known { IfSome asked IsKnownAsk }
+    ensures ready { OnOk result (core.new.spent ≡ false) }
+    ensures posted { OnOk result (posted core.new ≡ posted core.old) }
+    ensures agrees { OnOk result ((set : Service) (log : Log) → Agrees core.old set log
+        → IsTheAsk set by seat.now asked → is_asked by log ≡ false
+        → Agrees core.new set (log ++ moment_asked by (seat_floor seat.now) asked)) }
+{
+    let Some(ask) = asked else {
+        return Ok(());
+    };
+    let request = Request::Command {
+        by,
+        namespace: seat.subject.copy()?,
+        floor: seat.floors.of(&seat.subject),
+        ask,
+    };
+    core.request(seat.broker, request)
+}
+
+/// Whether what an actor waits for is there.
+pub fn has_come(core: &Core, by: By, waiting: Waiting) -> bool
+    requires { core.now.spent ≡ false }
+    ensures { result ≡ has_come core.now by waiting }
+{
+    match waiting {
+        Waiting::Nothing => false,
+        Waiting::Staged | Waiting::TxnFull | Waiting::Tell { .. } | Waiting::Using => true,
+        Waiting::Service => core.can_take(by),
+    }
+}
+
+/// Whether an actor waits for nothing.
+fn is_free(waiting: Waiting) -> bool
+    ensures { result ≡ is_free waiting }
+{
+    matches!(waiting, Waiting::Nothing)
+}
+
+/// Whether the actor's next command can be issued, of so many lines.
+pub fn has_issue(lines: usize, seats: &[Seat], actor: u32) -> bool
+    ensures { result ≡ has_issue lines seats.now actor }
+{
+    match seats.get(actor as usize) {
+        Some(seat) => is_free(seat.waiting) && seat.next < lines,
+        None => false,
+    }
+}
+
+/// Whether the actor's open command can be replied.
+pub fn has_answer(core: &Core, seats: &[Seat], actor: u32) -> bool
+    requires { core.now.spent ≡ false }
+    ensures { result ≡ has_answer core.now seats.now actor }
+{
+    match seats.get(actor as usize) {
+        Some(seat) => {
+            let command = seat.issued.saturating_sub(1);
+            has_come(core, By { actor, command }, seat.waiting)
+        }
+        None => false,
+    }
+}
+
+/// Raises the floors of an actor, if it has a seat, to those of another.
+pub fn raise(alloc: Global, seats: &mut Vec<Seat>, from: u32, to: u32) -> Result<(), AllocError>
+    requires { from < length seats.old.items }
+    ensures { OnOk result (AreTold from to seats.old.items seats.new.items) }
+{
+    let mut floors = Floors::new(alloc);
+    floors.join(&seats[from as usize].floors)?;
+    let to = to as usize;
+    if to < seats.len() {
+        let seat = &mut seats[to];
+        floors.join(&seat.floors)?;
+        seat.floors = floors;
+    }
+    Ok(())
+}
+
+/// The first actor whose open command can be replied.
+pub fn first_answer(core: &Core, seats: &[Seat]) -> Option<u32>
+    requires ready { core.now.spent ≡ false }
+    requires few { length seats.now ≤ 256 }
+    ensures some { IfSome result (λ a. has_answer core.now seats.now a ≡ true) }
+    ensures first { IfSome result (λ a. (lower : ℕ) → lower < a
+        → has_answer core.now seats.now lower ≡ false) }
+    ensures none { result ≡ None → (a : ℕ) → has_answer core.now seats.now a ≡ false }
+{
+    for actor in 0..seats.len() as u32 {
+        if has_answer(core, seats, actor) {
+            return Some(actor);
+        }
+    }
+    None
+}
+
+/// The actor whose next line comes first from a line on, among those that wait for nothing, of so many lines.
+pub fn issue_from(lines: usize, seats: &[Seat], from: usize) -> Option<u32>
+    requires few { length seats.now ≤ 256 }
+    ensures some { IfSome result (λ a. (has_issue lines seats.now a ≡ true)
+        × (from ≤ next_of seats.now a)) }
+    ensures first { IfSome result (λ a. (other : ℕ) → has_issue lines seats.now other ≡ true
+        → from ≤ next_of seats.now other → next_of seats.now a ≤ next_of seats.now other) }
+    ensures none { result ≡ None → (a : ℕ) → has_issue lines seats.now a ≡ true
+        → next_of seats.now a < from }
+{
+    let mut first = None;
+    let mut line = lines;
+    for actor in 0..seats.len() as u32 {
+        if has_issue(line, seats, actor) && from <= seats[actor as usize].next {
+            first = Some(actor);
+            line = seats[actor as usize].next;
+        }
+    }
+    first
+}

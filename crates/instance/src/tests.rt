@@ -1,0 +1,196 @@
+//! Instances whose actors act in a given order, with what the rules say of it.
+ghost use Rattle.std.specs.Prelude.{◌≡◌, false, IfOk, OnOk};
+ghost use Rattle.instance.specs.Agrees.{AreLinesOf};
+
+use crate::{Instance, Setting};
+use answers::{Entry, Reply};
+use fl_digest::Hash;
+use lists::Bytes;
+use std::alloc::Global;
+use std::test::Fail;
+use workload::laws::{spelled_commands_are_built, spelled_workloads_are_within};
+use workload::{Line, Workload, read};
+
+const SETTING: Setting = Setting {
+    size: 2,
+    fanout: 2,
+    hash: Hash::Sha1,
+};
+
+const WORK: &str =
+    "actor a 0\nactor b 1\na put k x\na commit\nb get k\na tell b\nb get k\nb wait 7\nb get k\n";
+
+/// The actor that acts, or none where the service does all that it can; and what happens.
+const STORY: [(Option<u32>, &str); 17] = [
+    (Some(1), "1 issued 0, "),
+    (Some(1), ""),
+    (None, ""),
+    (Some(0), "0 issued 0, "),
+    (Some(0), "0 staged, "),
+    (Some(0), "0 issued 1, "),
+    (Some(0), ""),
+    (Some(1), "1 read 0, "),
+    (None, "landed 1, 0 heard 1, 1 heard 1, "),
+    (Some(0), "0 committed 1, "),
+    (Some(0), "0 issued 2, "),
+    (Some(0), "0 told 1, 0 told, "),
+    (Some(1), "1 issued 1, "),
+    (None, ""),
+    (Some(1), "1 read 1, "),
+    (Some(1), "1 issued 2, "),
+    (Some(1), ""),
+];
+
+fn word_of(reply: &Reply) -> &'static str {
+    match reply {
+        Reply::Staged => "staged",
+        Reply::TxnFull => "full",
+        Reply::Committed => "committed",
+        Reply::Read(_) => "read",
+        Reply::Told => "told",
+        Reply::UnfinishedWait { .. } => "unfinished",
+        Reply::NotReached => "not reached",
+        _ => "other",
+    }
+}
+
+fn tell(alloc: Global, text: &mut Vec<u8>, entry: &Entry) -> Result<(), Fail> {
+    let words = match entry {
+        Entry::Issued { actor, command } => format!(in alloc; "{actor} issued {command}, ")?,
+        Entry::Landed { number, .. } => format!(in alloc; "landed {number}, ")?,
+        Entry::Heard { broker, number, .. } => format!(in alloc; "{broker} heard {number}, ")?,
+        Entry::Told { from, to } => format!(in alloc; "{from} told {to}, ")?,
+        Entry::Replied {
+            actor,
+            reply,
+            number: Some(number),
+            ..
+        } => format!(in alloc; "{actor} {} {number}, ", word_of(reply))?,
+        Entry::Replied { actor, reply, .. } => format!(in alloc; "{actor} {}, ", word_of(reply))?,
+        _ => format!(in alloc; "other, ")?,
+    };
+    text.extend_from_slice(words.as_bytes())?;
+    Ok(())
+}
+
+fn tell_all(alloc: Global, text: &mut Vec<u8>, entries: &[Entry]) -> Result<(), Fail> {
+    for entry in entries {
+        tell(alloc, text, entry)?;
+    }
+    Ok(())
+}
+
+fn begin(alloc: Global, text: &str) -> Result<(Instance, Workload), Fail>
+    ensures ready { IfOk result (λ begun. begun.0.spent ≡ false) }
+    ensures lines { IfOk result (λ begun. AreLinesOf begun.0 begun.1.lines) }
+{
+    let work = read(alloc, text.as_bytes(), SETTING.size)?;
+    spelled_workloads_are_within();
+    spelled_commands_are_built();
+    let grant = Bytes::of(alloc, b"grant")?;
+    let instance = Instance::new(alloc, SETTING, &grant, &work)?;
+    Ok((instance, work))
+}
+
+/// Lets the service make its steps for as long as it can.
+fn serve(
+    alloc: Global,
+    instance: &mut Instance,
+    lines: &[Line],
+    text: &mut Vec<u8>,
+) -> Result<(), Fail>
+    requires ready { instance.old.spent ≡ false }
+    requires lines { AreLinesOf instance.old lines.now }
+    ensures ready { OnOk result (instance.new.spent ≡ false) }
+    ensures lines { OnOk result (AreLinesOf instance.new lines.now) }
+{
+    for _ in 0..100 {
+        match instance.next_turn() {
+            Some(step) => tell_all(alloc, text, instance.turn(step)?.as_slice())?,
+            None => return Ok(()),
+        }
+    }
+    Ok(())
+}
+
+/// Replies to an actor's open command, or else issues its next one, if that can be done.
+fn act(
+    alloc: Global,
+    instance: &mut Instance,
+    lines: &[Line],
+    actor: u32,
+    text: &mut Vec<u8>,
+) -> Result<(), Fail>
+    requires ready { instance.old.spent ≡ false }
+    requires lines { AreLinesOf instance.old lines.now }
+    ensures ready { OnOk result (instance.new.spent ≡ false) }
+    ensures lines { OnOk result (AreLinesOf instance.new lines.now) }
+{
+    if instance.can_answer(actor) {
+        return tell_all(alloc, text, instance.answer(actor)?.as_slice());
+    }
+    if instance.can_issue(lines, actor) {
+        return tell_all(alloc, text, instance.issue(lines, actor)?.as_slice());
+    }
+    Ok(())
+}
+
+/// Lets an actor act, or the service make its steps.
+fn go_on(
+    alloc: Global,
+    instance: &mut Instance,
+    lines: &[Line],
+    who: Option<u32>,
+    text: &mut Vec<u8>,
+) -> Result<(), Fail>
+    requires ready { instance.old.spent ≡ false }
+    requires lines { AreLinesOf instance.old lines.now }
+    ensures ready { OnOk result (instance.new.spent ≡ false) }
+    ensures lines { OnOk result (AreLinesOf instance.new lines.now) }
+{
+    match who {
+        Some(actor) => act(alloc, instance, lines, actor, text),
+        None => serve(alloc, instance, lines, text),
+    }
+}
+
+#[test]
+fn actors_are_told_what_the_rules_say(rt: HostRuntime) -> Result<(), Fail> {
+    let alloc = rt.alloc();
+    let (mut instance, work) = begin(alloc, WORK)?;
+    let lines = work.lines.as_slice();
+    for (who, words) in STORY {
+        let mut text = Vec::new(alloc);
+        go_on(alloc, &mut instance, lines, who, &mut text)?;
+        assert_eq!(rt; text.as_slice() == words.as_bytes(), true);
+    }
+    let mut text = Vec::new(alloc);
+    tell_all(alloc, &mut text, instance.closings(lines)?.as_slice())?;
+    assert_eq!(rt;
+        text.as_slice() == b"1 unfinished, 1 not reached, ".as_slice(),
+        true
+    );
+    Ok(())
+}
+
+#[test]
+fn a_thousand_operations_are_staged_and_no_more(rt: HostRuntime) -> Result<(), Fail> {
+    let alloc = rt.alloc();
+    let mut source = String::new(alloc);
+    source.push_str("actor a 0\n")?;
+    for _ in 0..1001 {
+        source.push_str("a put k x\n")?;
+    }
+    let (mut instance, work) = begin(alloc, source.as_str())?;
+    let lines = work.lines.as_slice();
+    let mut text = Vec::new(alloc);
+    'acts: for _ in 0..2002 {
+        act(alloc, &mut instance, lines, 0, &mut text)?;
+    }
+    assert_eq!(rt;
+        text.as_slice()
+            .ends_with(b"0 staged, 0 issued 1000, 0 full, ".as_slice()),
+        true
+    );
+    Ok(())
+}
