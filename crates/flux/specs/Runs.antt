@@ -12,7 +12,7 @@ use Rattle.answers.specs.Stretches.{AreStretches}
 use Rattle.world.specs.declared.order.Schedule.{Schedule}
 use Rattle.world.specs.declared.order.Schedule.TheVariants as schedule
 use Rattle.flux_tools.specs.Tools.{AreToolWords, HasAnswer}
-use Rattle.world.specs.Grant.{default_grant}
+use Rattle.world.specs.Grant.{grant_text}
 use Rattle.flux.specs.declared.call.Run.{Run}
 use Rattle.flux.specs.Sides.{Side}
 
@@ -29,9 +29,15 @@ AreRunWords words = run_options words ≢ None
 abbrev pub AreWords : List (List ℕ) → Type 0
 AreWords words = AreRunWords words ⊎ AreToolWords words
 
--- what a run of the workload is given: its options, and the grant of a run that is given none
+-- what a run of the workload is given: its options and its grant
 abbrev pub setup_of : Options → Workload → Setup
-setup_of o work = record { size = o.size; fanout = o.fanout; hash = o.hash; grant = default_grant o.size; work = work }
+setup_of o work = record {
+  size = o.size;
+  fanout = o.fanout;
+  hash = o.hash;
+  grant = grant_text o.size work;
+  work = work;
+}
 
 -- a run makes every step that can be made before the next command is issued, unless its words ask for a drawn order
 abbrev pub is_settled : Options → Bool

@@ -17,7 +17,7 @@ struct Case {
     notice: &'static str,
 }
 
-const RUNS: [Case; 47] = [
+const RUNS: [Case; 48] = [
     Case {
         words: &["run"],
         input: "actor a 1\nactor b 2\na put k x\na fence f 2\nb put k y\nb fence f 2\nb get k\n",
@@ -289,6 +289,13 @@ const RUNS: [Case; 47] = [
         input: "actor a 0\na get resource.R\n",
         status: 0,
         output: "value 0 {\"execution\":{\"R_lite\":[{\"children\":{\"core\":\"0-3\"},\"rank\":\"0-3\"}],\"expiration\":0,\"nodelist\":[\"node[0-3]\"],\"starttime\":0},\"version\":1}\n",
+        notice: "done",
+    },
+    Case {
+        words: &["run"],
+        input: "grant {\"version\": 1, \"execution\": {\"R_lite\": [{\"rank\": \"0-1\", \"children\": {\"core\": \"0-3\"}}], \"starttime\": 0.0, \"expiration\": 0.0, \"nodelist\": [\"node[0-1]\"]}}\nactor a 0\na get resource.R\n",
+        status: 0,
+        output: "value 0 {\"execution\":{\"R_lite\":[{\"children\":{\"core\":\"0-3\"},\"rank\":\"0-1\"}],\"expiration\":0,\"nodelist\":[\"node[0-1]\"],\"starttime\":0},\"version\":1}\n",
         notice: "done",
     },
     Case {

@@ -9,3 +9,9 @@ returns-then-is_tool-clause-cut g c = λ five.
     let h = c.run_tool.ensures.cut five in
     let none : run_options (map string_bytes c.args.words.now) ≡ None = search rules in
     (h.0, record { answers = λ o is. cc; line = λ words. h.1 }, h.2)
+
+-- the words of a run aren't a tool's, so that the run's part is all of the output
+pub returns-in-Some-clause-cut : goal.returns-in-Some-clause-cut
+returns-in-Some-clause-cut g c = λ five.
+    let h = c.run_workload.ensures.cut five in
+    (h.0, search rules, h.2)
