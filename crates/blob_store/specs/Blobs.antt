@@ -1,9 +1,11 @@
 -- The contents of a run, by their references.
-use Rattle.std.specs.Prelude.{ℕ, ◌≡◌, ◌≢◌, List, [], ◌∷◌, ◌++◌, Option, Some, Result, IsErrAnd}
+use Rattle.std.specs.Prelude.{ℕ, ◌≡◌, ◌≢◌, List, [], ◌∷◌, ◌++◌, map, Option, Some, Result, IsErrAnd}
+use Rattle.std.specs.List.{IsDistinct}
 use Rattle.std.specs.Map.{lookup}
 use Rattle.std.specs.Option.{option_map_or}
 use Rattle.fl_digest.specs.declared.BlobRef.{BlobRef}
 use Rattle.fl_digest.specs.Reference.{same_reference}
+use Rattle.blob_store.specs.declared.BlobPair.{BlobPair}
 use Rattle.blob_store.specs.declared.PutFault.{PutFault}
 use Rattle.blob_store.specs.declared.PutFault.TheVariants.{NoMemory, Clash}
 
@@ -32,3 +34,11 @@ IsClashFault (Clash bytes) = Unit {0}
 -- a put that was refused for other bytes
 abbrev pub IsClash : {T : Type 0} → Result T PutFault → Type 0
 IsClash result = IsErrAnd result IsClashFault
+
+-- a reference with the bytes that are lent under it
+abbrev pub lent : BlobPair → BlobRef × List ℕ
+lent pair = (pair.reference, pair.bytes.now)
+
+-- each reference stands at one place alone
+abbrev pub StandOnce : List (BlobRef × List ℕ) → Type 0
+StandOnce store = IsDistinct same_reference (map (λ entry. entry.0) store)

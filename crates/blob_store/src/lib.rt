@@ -1,8 +1,9 @@
 //! The content of a run: one content under each reference.
 #![tactic(auto)]
 
-ghost use Rattle.std.specs.Prelude.{◌≡◌, ◌↔◌, [], None, IfErr, OnOk, OnErr, option_copied};
-ghost use Rattle.blob_store.specs.Blobs.{blob_at, stored, handed_back, IsClash, HasOther};
+ghost use Rattle.std.specs.Prelude.{◌≡◌, ◌↔◌, [], None, IfErr, OnOk, OnErr, length, option_copied, slice_get};
+ghost use Rattle.std.specs.Option.{option_map};
+ghost use Rattle.blob_store.specs.Blobs.{blob_at, stored, handed_back, lent, IsClash, HasOther, StandOnce};
 
 #[cfg(test)]
 mod tests;
@@ -19,6 +20,13 @@ pub enum PutFault {
     NoMemory(Bytes),
     /// Other bytes stand under the reference, and stay.
     Clash(Bytes),
+}
+
+/// A content with its reference.
+#[derive(Clone, Copy)]
+pub struct BlobPair<'a> {
+    pub reference: BlobRef,
+    pub bytes: &'a Bytes,
 }
 
 /// The contents with their references, which contracts see as a list of pairs in the order of their first puts.
@@ -78,5 +86,24 @@ impl BlobStore {
         ensures { option_copied result ≡ blob_at reference.now self.now }
     {
         self.blobs.get(reference)
+    }
+
+    /// How many contents there are, each under a reference of its own. It takes no memory.
+    pub fn len(&self) -> usize
+        ensures count { result ≡ length self.now }
+        ensures once { StandOnce self.now }
+    {
+        self.blobs.len()
+    }
+
+    /// The content at a place, counted from 0 in the order of first puts. It takes no memory.
+    pub fn nth(&self, place: usize) -> Option<BlobPair<'_>>
+        ensures { option_map lent result ≡ slice_get self.now place }
+    {
+        let (reference, bytes) = self.blobs.get_index(place)?;
+        Some(BlobPair {
+            reference: *reference,
+            bytes,
+        })
     }
 }

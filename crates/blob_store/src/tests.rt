@@ -45,3 +45,27 @@ fn a_thousand_contents_stand_at_once(rt: HostRuntime) -> Result<(), Fail> {
     }
     Ok(())
 }
+
+#[test]
+fn contents_stand_in_the_order_of_first_puts(rt: HostRuntime) -> Result<(), Fail> {
+    let alloc = rt.alloc();
+    let mut store = BlobStore::new(alloc);
+    let texts = ["b", "", "a", "b", "c", "a"];
+    let order = ["b", "", "a", "c"];
+    for text in texts {
+        let reference = BlobRef::of(Hash::Sha256, text.as_bytes());
+        let put = store.put(reference, Bytes::of(alloc, text.as_bytes())?);
+        assert!(rt; put.is_ok());
+    }
+    assert_eq!(rt; store.len(), order.len());
+    for (place, text) in order.iter().enumerate() {
+        let reference = BlobRef::of(Hash::Sha256, text.as_bytes());
+        let stands = store.nth(place).is_some_and(|pair| {
+            pair.reference == reference && pair.bytes.as_slice() == text.as_bytes()
+        });
+        assert!(rt; stands);
+    }
+    assert!(rt; store.nth(order.len()).is_none());
+    assert!(rt; store.nth(usize::MAX).is_none());
+    Ok(())
+}
