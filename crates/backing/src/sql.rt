@@ -1,6 +1,6 @@
 ghost use Rattle.std.specs.Prelude.{◌≡◌, ◌≢◌, None, IfErr, IfOk, IfSome};
 ghost use Rattle.backing.specs.Calls.{HandsOther, HasKeepCause, IsNoClash, RefusesWith};
-ghost use Rattle.backing.specs.Sql.{FailsClosed, faults_of, is_open};
+ghost use Rattle.backing.specs.Sql.{FailsClosed};
 
 use crate::Check;
 use crate::keeper::{KeepFault, Keeper};
@@ -8,6 +8,7 @@ use fl_digest::{BlobRef, Root};
 use lists::Bytes;
 use sqlite::{Connection, Error, ErrorCode, File, FileStore, Row, params};
 use std::alloc::{AllocError, Global};
+use std::marker::Model;
 
 type Database = Connection<FileStore<File>>;
 
@@ -24,6 +25,18 @@ pub struct SqlKeeper {
     database: Option<Database>,
     alloc: Global,
     faults: u64,
+}
+
+impl Model for SqlKeeper {
+    ghost use Rattle.std.specs.Prelude.{is_some};
+    ghost use Rattle.backing.specs.Sql.{FileKept};
+
+    ghost Value = { FileKept };
+
+    ghost view = { λ k. record {
+      is_open = is_some k.database;
+      faults = k.faults;
+    } };
 }
 
 // The calls of SQLite stand in functions without clauses, so that no proof carries the state of a database.
@@ -101,7 +114,7 @@ fn keep(database: &mut Database, name: &[u8], bytes: &[u8]) -> Result<Option<Vec
 impl SqlKeeper {
     /// A keeper over the file at a path, which is made where there is none. Where it can't be opened every call fails.
     pub fn open(rt: &HostRuntime, alloc: Global, path: &str) -> Result<SqlKeeper, AllocError>
-        ensures { IfOk result (λ keeper. faults_of keeper ≡ 0) }
+        ensures { IfOk result (λ keeper. keeper.faults ≡ 0) }
     {
         let database = match open(rt, path) {
             Ok(database) => Some(database),
@@ -118,7 +131,7 @@ impl SqlKeeper {
     /// Counts a fault, which isn't want of memory.
     fn count_fault(&mut self)
         ensures counted { RefusesWith self.old.faults self.new.faults KeepFault.Failed }
-        ensures open { is_open self.new ≡ is_open self.old }
+        ensures open { self.new.is_open ≡ self.old.is_open }
     {
         self.faults = self.faults.saturating_add(1);
     }
@@ -126,7 +139,7 @@ impl SqlKeeper {
     /// What is answered for an error, which is counted unless it is want of memory.
     fn refused(&mut self, error: Error) -> KeepFault
         ensures cause { RefusesWith self.old.faults self.new.faults result }
-        ensures open { is_open self.new ≡ is_open self.old }
+        ensures open { self.new.is_open ≡ self.old.is_open }
     {
         match error {
             Error::SqliteFailure(ErrorCode::OutOfMemory) => KeepFault::NoMemory,
@@ -144,7 +157,7 @@ impl Keeper for SqlKeeper {
     ghost faults = { λ k. k.faults };
 
     fn put(&mut self, reference: BlobRef, bytes: &Bytes) -> Result<(), KeepFault>
-        ensures cause { HasKeepCause (faults_of self.old) (faults_of self.new) result }
+        ensures cause { HasKeepCause self.old.faults self.new.faults result }
         ensures other { IfErr result (HandsOther bytes.now) }
         ensures closed { FailsClosed self.old self.new result }
     {
@@ -164,7 +177,7 @@ impl Keeper for SqlKeeper {
     }
 
     fn get(&mut self, reference: &BlobRef) -> Result<Option<Bytes>, KeepFault>
-        ensures cause { HasKeepCause (faults_of self.old) (faults_of self.new) result }
+        ensures cause { HasKeepCause self.old.faults self.new.faults result }
         ensures no_clash { IfErr result IsNoClash }
         ensures closed { FailsClosed self.old self.new result }
     {
@@ -180,7 +193,7 @@ impl Keeper for SqlKeeper {
     }
 
     fn mark(&mut self, check: Check) -> Result<(), KeepFault>
-        ensures cause { HasKeepCause (faults_of self.old) (faults_of self.new) result }
+        ensures cause { HasKeepCause self.old.faults self.new.faults result }
         ensures no_clash { IfErr result IsNoClash }
         ensures closed { FailsClosed self.old self.new result }
     {
@@ -196,7 +209,7 @@ impl Keeper for SqlKeeper {
     }
 
     fn last(&mut self) -> Result<Option<Check>, KeepFault>
-        ensures cause { HasKeepCause (faults_of self.old) (faults_of self.new) result }
+        ensures cause { HasKeepCause self.old.faults self.new.faults result }
         ensures no_clash { IfErr result IsNoClash }
         ensures closed { FailsClosed self.old self.new result }
     {
