@@ -7,3 +7,5 @@ pub mod Counting
 pub mod Freeing
 pub mod Blocking
 pub mod Letters
+pub mod Blocks
+pub mod Skips

@@ -1,6 +1,7 @@
 pub mod Spots
 pub mod Rooms
 pub mod Places
+pub mod Racks
 pub mod Holds
 pub mod Kept
 pub mod Allotment

@@ -11,10 +11,12 @@ ghost use Rattle.graph_match.specs.Answers.{NamesBlockers};
 ghost use Rattle.graph_match.specs.Holds.{IsNew, with_hold, without_hold};
 ghost use Rattle.graph_match.specs.Kept.{IsKept};
 ghost use Rattle.graph_match.specs.Places.{after_each, free_node, fresh_place, node_of};
+ghost use Rattle.graph_match.specs.Racks.{rack_of};
 ghost use Rattle.graph_match.specs.Rooms.{AreRooms, room_of, worth_of as worth_in};
 
 use crate::fit::{Fit, JobList};
 use crate::place::Place;
+use crate::racks::{Cluster, Free};
 use crate::rooms::{Room, wanted, worth};
 use job_rules::Hold;
 use job_spec::JobSpec;
@@ -26,8 +28,7 @@ use std::marker::Model;
 /// The units of a grant, and the live jobs with what they hold of it.
 #[derive(Drop)]
 pub struct Graph {
-    /// In rank order.
-    places: Vec<Place>,
+    places: Cluster,
     /// In seconds; 0 is none.
     expiration: u64,
     /// By rising ids.
@@ -43,9 +44,9 @@ impl Model for Graph {
     ghost use Rattle.graph_match.specs.Places.{node_of};
     ghost use Rattle.graph_match.specs.Kept.{IsKept};
 
-    ghost view = { λ g. record { grant = map node_of g.places.items; expiration = g.expiration; live = g.live.items } };
+    ghost view = { λ g. record { grant = map node_of g.places; expiration = g.expiration; live = g.live.items } };
 
-    ghost invariant = { λ g. IsKept g.places.items g.live.items };
+    ghost invariant = { λ g. IsKept g.places g.live.items };
 }
 
 /// The hosts of a grant, all of them free.
@@ -101,14 +102,14 @@ fn find_hold(live: &[Hold], id: u64) -> Option<usize>
 }
 
 /// Marks the units of a job as free, or as held.
-fn mark_nodes(places: &mut Vec<Place>, nodes: &[Node], free: bool)
-    requires grant { IsGrant (map node_of places.old.items) }
-    requires there { Each (IsWithin (map node_of places.old.items)) nodes.now }
-    ensures { places.new.items ≡ map (after_each free nodes.now) places.old.items }
+fn mark_nodes(places: &mut Cluster, nodes: &[Node], free: bool)
+    requires grant { IsGrant (map node_of places.old) }
+    requires there { Each (IsWithin (map node_of places.old)) nodes.now }
+    ensures { places.new ≡ map (after_each free nodes.now) places.old }
 {
     for node in nodes {
-        let at = place_of(places, node.rank);
-        places[at].mark(node, free);
+        let at = place_of(places.hosts(), node.rank);
+        places.mark(at, node, free);
     }
 }
 
@@ -120,39 +121,49 @@ fn is_small(places: &[Place], spec: &JobSpec) -> bool
 {
     let mut lacking = wanted(spec);
     for place in places {
+        if lacking == 0 {
+            return false;
+        }
         lacking = lacking.saturating_sub(place.could_bring(spec));
     }
     0 < lacking
 }
 
 /// Whether what is free on all hosts brings less than a job asks for.
-fn is_busy(places: &[Place], spec: &JobSpec) -> bool
+fn is_busy(places: &Cluster, spec: &JobSpec) -> bool
     requires spec { IsSpec spec.now }
     requires grant { IsGrant (map node_of places.now) }
     ensures { result ≡ nat_lt (total (worth_of spec.now (map node_of places.now)) (map free_node places.now)) (wanted_of spec.now) }
 {
+    let hosts = places.hosts();
     let mut lacking = wanted(spec);
-    for place in places {
-        lacking = lacking.saturating_sub(place.brings(spec));
+    let mut at = 0;
+    while at < hosts.len() && 0 < lacking {
+        lacking = lacking.saturating_sub(hosts[at].brings(spec));
+        at += places.skip(at, spec).max(1);
     }
     0 < lacking
 }
 
 /// The units that a job takes, where there are enough.
-fn take_first(alloc: Global, places: &[Place], spec: &JobSpec) -> Result<NodeList, AllocError>
+fn take_first(alloc: Global, places: &Cluster, spec: &JobSpec) -> Result<NodeList, AllocError>
     requires spec { IsSpec spec.now }
     requires grant { IsGrant (map node_of places.now) }
     requires enough { wanted_of spec.now ≤ total (worth_of spec.now (map node_of places.now)) (map free_node places.now) }
     ensures { IfOk result (λ nodes. first_fit spec.now (map node_of places.now) (map free_node places.now) ≡ Some nodes) }
 {
+    let hosts = places.hosts();
     let mut nodes = NodeList::new(alloc);
     let mut left = wanted(spec);
-    for place in places {
+    let mut at = 0;
+    while at < hosts.len() && 0 < left {
+        let place = &hosts[at];
         let here = left.min(place.brings(spec));
         if 0 < here {
             nodes.push(place.pick(spec, here)?)?;
             left -= here;
         }
+        at += places.skip(at, spec).max(1);
     }
     Ok(nodes)
 }
@@ -377,8 +388,9 @@ impl Graph {
         requires { AreHosts grant.now.nodes }
         ensures { IfOk result (λ g. g ≡ record { grant = grant.now.nodes; expiration = grant.now.expiration; live = [] }) }
     {
+        let places = fresh(alloc, grant.nodes.as_slice())?;
         Ok(Graph {
-            places: fresh(alloc, grant.nodes.as_slice())?,
+            places: Cluster::new(alloc, places)?,
             expiration: grant.expiration,
             live: Vec::new(alloc),
         })
@@ -395,7 +407,7 @@ impl Graph {
             return Ok(Fit::Never);
         }
         if is_busy(&self.places, spec) {
-            return busy(alloc, &self.places, &self.live, spec);
+            return busy(alloc, self.places.hosts(), &self.live, spec);
         }
         let nodes = take_first(alloc, &self.places, spec)?;
         Ok(Fit::Units(units_from(nodes, spec, now, self.expiration)))
@@ -406,7 +418,7 @@ impl Graph {
         requires { IsSpec spec.now }
         ensures { IsTrue result ↔ NeverFits spec.now self.now.grant }
     {
-        is_small(&self.places, spec)
+        is_small(self.places.hosts(), spec)
     }
 
     /// Whether free units satisfy a job. It takes no memory, and lists no jobs in the way.
@@ -415,6 +427,14 @@ impl Graph {
         ensures { IsTrue result ↔ CanFit spec.now self.now.grant (free_of self.now.grant self.now.live) }
     {
         !is_busy(&self.places, spec)
+    }
+
+    /// How much is free in a rack of 32 hosts in rank order; racks are counted from 0, and there is
+    /// none past the last one. It takes no memory.
+    pub fn rack_free(&self, rack: u32) -> Option<Free>
+        ensures { result ≡ rack_of (free_of self.now.grant self.now.live) rack }
+    {
+        self.places.rack_free(rack)
     }
 
     /// Lets a new job hold free units, by their hosts' ranks and names, as `fit` gives them.

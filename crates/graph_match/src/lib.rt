@@ -5,6 +5,7 @@ pub mod fit;
 pub mod graph;
 pub mod place;
 pub mod pool;
+pub mod racks;
 pub mod rooms;
 pub mod spot;
 #[cfg(test)]
@@ -12,3 +13,4 @@ mod tests;
 
 pub use fit::{Fit, JobList};
 pub use graph::Graph;
+pub use racks::Free;

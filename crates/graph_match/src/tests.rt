@@ -4,11 +4,11 @@ ghost use Rattle.job_rules.specs.Fits.{IsSpec};
 ghost use Rattle.graph_match.specs.Answers.{Answers};
 ghost use Rattle.graph_match.specs.Holds.{IsNew};
 
-use crate::{Fit, Graph};
+use crate::{Fit, Free, Graph};
 use idset::IdSet;
 use job_spec::{JobSpec, Needs, Tasks, WordList};
 use lists::Bytes;
-use resource_set::{Node, NodeList, Resources};
+use resource_set::{Node, NodeList, Resources, read};
 use std::alloc::{AllocError, Global};
 use std::process::Abort;
 use std::test::Fail;
@@ -335,5 +335,51 @@ fn two_hundred_and_fifty_six_jobs_hold_units_at_once(rt: HostRuntime) -> Result<
     }
     let answer = answered(&rt, alloc, &mut graph, 257, slots(256))?;
     assert_eq!(rt; answer.as_str(), "busy 256");
+    Ok(())
+}
+
+/// A grant of 1,024 hosts with 4 cores each.
+const LARGE: &str =
+    r#"{"version":1,"execution":{"R_lite":[{"rank":"0-1023","children":{"core":"0-3"}}],"starttime":0,"expiration":0,"nodelist":["node[0-1023]"]}}"#;
+
+/// Lets a job hold what a graph has for it.
+fn run(
+    rt: &impl Abort,
+    alloc: Global,
+    graph: &mut Graph,
+    id: u64,
+    ask: Ask,
+) -> Result<(), AllocError> {
+    let spec = spec(alloc, ask);
+    assert!(rt; is_spec(&spec));
+    assert!(rt; !graph.give(id));
+    let fit = graph.fit(&spec, 7)?;
+    hold(graph, &spec, id, fit)
+}
+
+const fn cores(count: u64) -> Option<Free> {
+    Some(Free {
+        cores: count,
+        gpus: 0,
+    })
+}
+
+#[test]
+fn the_last_of_1024_hosts_is_found_and_counted(rt: HostRuntime) -> Result<(), Fail> {
+    let alloc = rt.alloc();
+    let Ok(of) = read(alloc, LARGE.as_bytes()) else {
+        return Err(Fail::from("no R"));
+    };
+    let mut graph = Graph::new(alloc, &of)?;
+    assert_eq!(rt; graph.rack_free(0), cores(128));
+    run(&rt, alloc, &mut graph, 1, hosts(1023, 1, true))?;
+    assert_eq!(rt; graph.rack_free(0), cores(0));
+    assert_eq!(rt; graph.rack_free(31), cores(4));
+    assert_eq!(rt; graph.rack_free(32), None);
+    let answer = answered(&rt, alloc, &mut graph, 2, PLAIN)?;
+    assert_eq!(rt; answer.as_str(), "1023:0-0 7-0");
+    assert_eq!(rt; graph.rack_free(31), cores(3));
+    assert!(rt; graph.give(1));
+    assert_eq!(rt; graph.rack_free(31), cores(127));
     Ok(())
 }

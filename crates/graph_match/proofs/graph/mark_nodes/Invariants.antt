@@ -2,4 +2,4 @@ use Rattle.graph_match.proofs.Turns.{IsTurn}
 use Rattle.graph_match.proofs.graph.mark_nodes.Given as goal
 
 abbrev pub invariant-loop-node : goal.invariant-loop-node
-invariant-loop-node l = IsTurn l.free l.nodes l.initial.places.items l.places.items l.node-index
+invariant-loop-node l = IsTurn l.free l.nodes l.initial.places l.places l.node-index

@@ -8,5 +8,5 @@ use Rattle.graph_match.proofs.graph.Graph.never.Goals as goal
 
 pub returns : goal.returns
 returns c = subst (λ g. (c.is_small.result ≡ true) ↔ NeverFits c.args.spec.now g) (ap (λ v. v.grant) c.self.view_is)
-    (never_is c.args.spec.now (map node_of c.self.inside.places.items) c.is_small.result c.requires c.self.invariant.grant
-    (c.is_small.ensures ∙ ap (λ ps. ltb (total (worth c.args.spec.now (map node_of ps)) (map node_of ps)) (wanted c.args.spec.now)) c.deref.ensures.value))
+    (never_is c.args.spec.now (map node_of c.self.inside.places) c.is_small.result c.requires c.self.invariant.grant
+    (c.is_small.ensures ∙ ap (λ ps. ltb (total (worth c.args.spec.now (map node_of ps)) (map node_of ps)) (wanted c.args.spec.now)) c.hosts.ensures))
