@@ -13,6 +13,7 @@ silent {s} {old} {new} events none made m = subst (Makes s old new) (sym none) (
   ready = m.ready;
   size = m.size;
   order = m.order;
+  extends = m.extends;
   does = m.does;
   made = λ set log a. made log;
   legal = λ set log a. tt;

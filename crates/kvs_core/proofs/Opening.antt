@@ -53,7 +53,7 @@ module _ (spaces : List SpaceValue) (new : SpaceValue) where
   long-wide : length (spaces ++ new ∷ []) ≡ length spaces + 1
   long-wide = length-append spaces (new ∷ [])
 
-  get-there : (j : ℕ) → j < length spaces → slice_get (spaces ++ new ∷ []) j ≡ slice_get spaces j
+  pub get-there : (j : ℕ) → j < length spaces → slice_get (spaces ++ new ∷ []) j ≡ slice_get spaces j
   get-there j l =
       slice_get-get_or (spaces ++ new ∷ []) j new (let n = long-wide in omega arith)
       ∙ ap Some (get_or_append_left spaces (new ∷ []) new j l) ∙ sym (slice_get-get_or spaces j new l)

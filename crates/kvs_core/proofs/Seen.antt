@@ -1,5 +1,5 @@
 -- What a request may be told, of a core as its callers see it.
-use Rattle.std.proofs.Common.{◌≡◌, ◌≢◌, ℕ, ◌+◌, ◌<◌, ◌≤◌, [], ◌∷◌, ◌++◌, ◌||◌, None, ◌∙◌, subst, true≢false, get_or}
+use Rattle.std.proofs.Common.{◌≡◌, ℕ, None, subst, get_or}
 use Rattle.kvs_rules.specs.declared.events.KvsAnswer.{KvsAnswer}
 use Rattle.kvs_rules.specs.Log.{Log}
 use Rattle.kvs_rules.specs.Namespaces.{Setting}

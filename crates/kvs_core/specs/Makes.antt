@@ -1,5 +1,5 @@
 -- What a step does of a core, and what rank 0 takes up in one.
-use Rattle.std.specs.Prelude.{◌≡◌, ℕ, ◌<◌, List, [], ◌++◌, Some, None, true, false, map, slice_index_or}
+use Rattle.std.specs.Prelude.{◌≡◌, ℕ, List, [], ◌++◌, Some, None, true, false, map, slice_index_or}
 use Rattle.std.specs.List.{position}
 use Rattle.kvs_rules.specs.declared.events.KvsEvent.{KvsEvent}
 use Rattle.kvs_rules.specs.declared.events.KvsStep.{KvsStep}
@@ -11,6 +11,7 @@ use Rattle.kvs_space.specs.Space.{SpaceValue, is_named}
 use Rattle.kvs_requests.specs.declared.rows.Kind.{Kind}
 use Rattle.kvs_requests.specs.declared.rows.Row.{Row}
 use Rattle.kvs_core.specs.Agrees.{Agrees}
+use Rattle.kvs_core.specs.Histories.{Extends}
 use Rattle.kvs_core.specs.Posted.{posted, posts_landed}
 use Rattle.kvs_core.specs.Steps.{DoesStep}
 use Rattle.kvs_requests.specs.Stages.{is_arrived, kind_of}
@@ -22,6 +23,7 @@ pub record Makes (s : KvsStep) (old new : CoreValue) (events : List KvsEvent) : 
   pub ready : new.spent ≡ false
   pub size : new.size ≡ old.size
   pub order : posts_landed events ++ posted new ≡ posted old
+  pub extends : Extends old new events
   pub does : DoesStep s old new events
   pub made : (set : Setting) (log : Log) → Agrees old set log → AreMadeBy log s events
   pub legal : (set : Setting) (log : Log) → Agrees old set log → IsLegalAfter set log (map Happened events)
@@ -32,6 +34,7 @@ pub record Moves (s : KvsStep) (old new : CoreValue) : Type 0 where
   pub ready : new.spent ≡ false
   pub size : new.size ≡ old.size
   pub order : posted new ≡ posted old
+  pub extends : Extends old new []
   pub does : DoesStep s old new []
   pub agrees : (set : Setting) (log : Log) → Agrees old set log → Agrees new set log
 

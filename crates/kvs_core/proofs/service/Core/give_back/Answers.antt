@@ -1,4 +1,4 @@
-use Rattle.std.proofs.Common.{inl, ◌≡◌, ◌∙◌, ◌<◌, [], Some, length, get_or, ap, sym, subst}
+use Rattle.std.proofs.Common.{inl, ◌≡◌, ◌∙◌, ◌<◌, [], Some, length, get_or, ap, sym, subst, refl}
 use Rattle.kvs_core.specs.Posted.{posted}
 use Rattle.std.specs.List.{position}
 use Rattle.std.proofs.lemmas.List.{get_or_default}
@@ -11,6 +11,8 @@ use Rattle.kvs_requests.specs.Stages.{all_services, kind_of}
 use Rattle.kvs_space.specs.Space.{is_named}
 use Rattle.kvs_core.proofs.Heads.{agrees-of, head-of}
 use Rattle.kvs_core.proofs.Looking.{returned-agrees, returned-fewer, returned-sound}
+use Rattle.kvs_core.proofs.Extending.{as-before}
+use Rattle.kvs_core.specs.Histories.{history_of}
 use Rattle.kvs_core.proofs.service.Core.give_back.Goals as goal
 
 any : Row
@@ -44,6 +46,7 @@ returns-clause-moves c =
       ready = ap (λ v. v.spent) c.self.view_is ∙ c.requires.ready;
       size = ap (λ v. v.size) c.self.view_is;
       order = ap posted c.self.view_is;
+      extends = record { history = as-before (ap history_of c.self.view_is); inside = refl; grant = ap (λ v. v.grant) c.self.view_is };
       does =
           inl (subst (λ v. all_services c.send_back.new.rows.items < all_services v.rows) c.self.view_is
           (returned-fewer s c.args.i within row read c.args.k found back.asked (back.was any) look back.stage (back.goes any) c.send_back.new.rows.items (back.others any)));

@@ -1,4 +1,4 @@
-use Rattle.std.proofs.Common.{refl, inl, ◌≡◌, ◌∙◌, ◌<◌, Some, None, true, false, length, arith, get_or, ap, sym, subst, set as set₁}
+use Rattle.std.proofs.Common.{refl, inl, ◌≡◌, ◌∙◌, ◌<◌, Some, None, true, false, length, arith, get_or, ap, sym, subst, set as set₁, []}
 use Rattle.std.specs.List.{position}
 use Rattle.kvs_requests.specs.declared.rows.Row.{Row}
 use Rattle.kvs_requests.specs.declared.rows.Stage.TheVariants as stage
@@ -14,6 +14,8 @@ use Rattle.kvs_rules.specs.declared.events.KvsAsk.TheVariants as ask
 use Rattle.kvs_core.proofs.Joining.{same-count}
 use Rattle.kvs_core.proofs.Taking.{placed-ask}
 use Rattle.kvs_core.proofs.Fencing.{fence-sound, fence-fewer, fence-agrees, fence-order}
+use Rattle.kvs_core.proofs.Moving.{found-there}
+use Rattle.kvs_core.proofs.Extending.{history-same, of-old}
 use Rattle.kvs_core.proofs.service.Core.join_fence.Goals as goal
 
 pub take_joiner-name-requires-clause-arrived : goal.take_joiner-name-requires-clause-arrived
@@ -86,6 +88,11 @@ returns-clause-moves c =
       size = ap (λ v. v.size) c.self.view_is;
       order =
           fence-order s c.args.i within c.index.result.now c.index.ensures c.args.k found joiner.name joiner.count joiner.txn stage-is c.index_mut-space.result.now c.join.new.self c.index_mut-space.ensures.value c.in_ok-join.ensures.joined c.in_ok-join.ensures.open (ap (λ x. x.removed) c.index_mut-space.ensures.value ∙ subst (λ v. (d : SpaceValue) → (get_or v.spaces c.args.k d).removed ≡ false) e c.requires.living c.index_mut-space.result.now) ∙ ap posted c.self.view_is;
+      extends = record {
+        history = of-old [] c.self.view_is (history-same c.self.inside.spaces.items c.args.k (found-there s c.index.result.now.namespace c.args.k found) c.index_mut-space.result.now c.join.new.self c.index_mut-space.ensures.value (ap (λ x. x.name) c.in_ok-join.ensures.joined) (ap (λ x. x.history) c.in_ok-join.ensures.joined));
+        inside = refl;
+        grant = ap (λ v. v.grant) c.self.view_is;
+      };
       does =
           inl (subst (λ v. all_services c.take_joiner-name.new.rows.items < all_services v.rows) c.self.view_is
           (fence-fewer s c.args.i within c.index.result.now c.index.ensures c.args.k found joiner.name joiner.count joiner.txn stage-is c.index_mut-space.result.now c.join.new.self c.index_mut-space.ensures.value c.in_ok-join.ensures.joined c.in_ok-join.ensures.open (ap (λ x. x.removed) c.index_mut-space.ensures.value ∙ subst (λ v. (d : SpaceValue) → (get_or v.spaces c.args.k d).removed ≡ false) e c.requires.living c.index_mut-space.result.now) c.take_joiner-name.new.rows.items rows-are));

@@ -1,4 +1,4 @@
-use Rattle.std.proofs.Common.{◌≡◌, ◌-◌, map}
+use Rattle.std.proofs.Common.{◌≡◌, map}
 use Rattle.std.specs.List.{filter}
 use Rattle.kvs_core.specs.Steps.{can_step}
 use Rattle.kvs_core.specs.Walk.{between, nth, step_of}

@@ -1,4 +1,4 @@
-use Rattle.std.proofs.Common.{◌≡◌, ◌∙◌, ℕ, ◌+◌, ◌-◌, ◌*◌, ◌/◌, min, refl, ap, sym, subst, map, arith}
+use Rattle.std.proofs.Common.{◌≡◌, ◌∙◌, ◌+◌, ◌-◌, ◌*◌, ◌/◌, min, refl, ap, sym, subst, map, arith}
 use Rattle.std.specs.List.{filter}
 use Rattle.kvs_rules.specs.Brokers.{parent}
 use Rattle.kvs_rules.specs.declared.events.KvsStep.TheVariants as kvs

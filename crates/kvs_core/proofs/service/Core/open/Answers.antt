@@ -21,6 +21,9 @@ use Rattle.kvs_core.proofs.Queueing.{waiting-posts}
 use Rattle.kvs_core.proofs.Taking.{arrived-ask}
 use Rattle.kvs_rules.specs.Steps.{AreMadeBy}
 use Rattle.kvs_rules.specs.declared.events.KvsStep.TheVariants as kvs
+use Rattle.kvs_core.proofs.Extending.{changing-inside, changing-told, history-in, history-wide, of-old, Inside}
+use Rattle.kvs_core.specs.Histories.{landings_in}
+use Rattle.kvs_core.proofs.Landing.{primary-there}
 use Rattle.kvs_core.proofs.service.Core.open.Goals as goal
 
 pub opened-requires-clause-other : goal.opened-requires-clause-other
@@ -67,6 +70,11 @@ returns-clause-makes c =
       order =
           ap (λ es. posts_landed es ++ waiting-posts c.push.new.self.items) c.in_ok-events.ensures ∙ ap waiting-posts c.in_ok-push.ensures.items
           ∙ opened-order s c.args.i within row c.index.ensures is none c.in_ok-space.space name-is c.in_ok-space.ensures.fresh c.in_ok-space.ensures.size c.in_ok-space.ensures.known ∙ ap posted c.self.view_is;
+      extends = record {
+        history = of-old (landings_in c.in_ok-events.events) c.self.view_is (ap history-in c.in_ok-push.ensures.items ∙ history-wide c.self.inside.spaces.items c.in_ok-space.space (primary-there c.self.inside.spaces.items s.first) ∙ ap (λ ls. history-in c.self.inside.spaces.items ++ ls) (sym (ap landings_in told ∙ changing-told row.namespace 0 row.by (unnamed-other s row.namespace none))));
+        inside = subst Inside (sym told) (changing-inside row.namespace 0 row.by (unnamed-other s row.namespace none));
+        grant = ap (λ v. v.grant) c.self.view_is;
+      };
       does = inr (subst (λ es. 1 ≤ length es) (sym c.in_ok-events.ensures) (omega arith));
       made = λ set log a. subst (AreMadeBy log (kvs.Serve 0)) (sym c.in_ok-events.ensures) (inr (refl, refl), (inl refl, tt));
       legal = λ set log a.

@@ -21,6 +21,9 @@ use Rattle.kvs_requests.proofs.Tables.{any}
 use Rattle.kvs_core.proofs.Taking.{arrived-ask}
 use Rattle.kvs_rules.specs.Steps.{AreMadeBy}
 use Rattle.kvs_rules.specs.declared.events.KvsStep.TheVariants as kvs
+use Rattle.kvs_core.proofs.Moving.{found-there}
+use Rattle.kvs_core.proofs.Extending.{changing-inside, changing-told, history-in, history-same, of-old, Inside}
+use Rattle.kvs_core.specs.Histories.{landings_in}
 use Rattle.kvs_core.proofs.service.Core.remove.Goals as goal
 
 pub index_mut-space-requires : goal.index_mut-space-requires
@@ -79,6 +82,11 @@ returns-clause-makes c =
           ap (λ es. posts_landed es ++ waiting-posts (set₁ c.self.inside.spaces.items c.args.k c.remove.new.self)) c.in_ok-events.ensures
           ∙ removed-order s c.args.i within row c.index.ensures is c.args.k found c.requires.other old c.remove.new.self c.index_mut-space.ensures.value c.in_ok-number.number c.in_ok-number.ensures.removed c.dismiss.new.rows.items c.dismiss.ensures
           ∙ ap posted c.self.view_is;
+      extends = record {
+        history = of-old (landings_in c.in_ok-events.events) c.self.view_is (history-same c.self.inside.spaces.items c.args.k (found-there s row.namespace c.args.k found) old c.remove.new.self c.index_mut-space.ensures.value c.in_ok-number.ensures.removed.name c.in_ok-number.ensures.removed.history ∙ ap (λ ls. history-in c.self.inside.spaces.items ++ ls) (sym (ap landings_in told ∙ changing-told old.name c.in_ok-number.number row.by (other-primary s c.args.k (found-there s row.namespace c.args.k found) c.requires.other old c.index_mut-space.ensures.value))));
+        inside = subst Inside (sym told) (changing-inside old.name c.in_ok-number.number row.by (other-primary s c.args.k (found-there s row.namespace c.args.k found) c.requires.other old c.index_mut-space.ensures.value));
+        grant = ap (λ v. v.grant) c.self.view_is;
+      };
       does = inr (subst (λ es. 1 ≤ length es) (sym c.in_ok-events.ensures) (omega arith));
       made = λ set log a. subst (AreMadeBy log (kvs.Serve 0)) (sym c.in_ok-events.ensures) (inr (refl, refl), (inl refl, tt));
       legal = λ set log a.
