@@ -1,5 +1,6 @@
 pub mod Caches
 pub mod Entries
+pub mod Leaving
 pub mod Orders
 pub mod Same
 pub mod Sums

@@ -7,7 +7,7 @@ use Rattle.std.proofs.lemmas.List.{reverse-append}
 use Rattle.fl_digest.specs.declared.BlobRef.{BlobRef}
 use Rattle.fl_digest.specs.Reference.{same_reference}
 use Rattle.cache_node.specs.declared.content.Held.{Held}
-use Rattle.cache_node.specs.Order.{is_pinned, unpinned_bytes, used, stays_within, staying, leaving, dropped, without}
+use Rattle.cache_node.specs.Order.{is_pinned, unpinned_bytes, used, stays_within, staying, leaving, dropped, remaining, without}
 use Rattle.cache_node.proofs.Orders.{ahead, ahead-same, ahead-other, ahead-none, ahead-all, unpinned-cons, unpinned-reverse, size_of_pinned, size_of_unpinned, pinned_stays, unpinned_goes, nothing_goes, without-dropped, reverse-reverse}
 
 -- so many unpinned bytes are left in front of the walk, and what goes is what was listed and what goes of these
@@ -127,3 +127,11 @@ without-unpinned es d =
     ap (λ (l : List (BlobRef × Held)). without (keys_of l) es) (sym (leaving-unpinned (reverse es)))
     ∙ without-dropped (λ e later. is_pinned e.1) es d
     ∙ ap reverse (staying-pinned (reverse es) ∙ filter-reverse (λ e. is_pinned e.1) es) ∙ reverse-reverse (filter (λ e. is_pinned e.1) es)
+
+-- the pinned entries are those that stay where only pinned ones do
+pub remaining-pinned : (es : List (BlobRef × Held)) → remaining (λ e later. is_pinned e.1) es ≡ filter (λ e. is_pinned e.1) es
+remaining-pinned es = ap reverse (staying-pinned (reverse es) ∙ filter-reverse (λ e. is_pinned e.1) es) ∙ reverse-reverse (filter (λ e. is_pinned e.1) es)
+
+-- and the others go
+pub dropped-unpinned : (es : List (BlobRef × Held)) → dropped (λ e later. is_pinned e.1) es ≡ keys_of (filter (λ e. not (is_pinned e.1)) (reverse es))
+dropped-unpinned es = ap (λ (l : List (BlobRef × Held)). keys_of l) (leaving-unpinned (reverse es))

@@ -1,7 +1,7 @@
 -- What a broker keeps of contents.
-use Rattle.std.specs.Prelude.{ℕ, ◌≡◌, List, [], ◌∷◌, Option, Some, None, option_map, IsSome}
+use Rattle.std.specs.Prelude.{ℕ, ◌≡◌, true, List, [], ◌∷◌, Option, Some, None, option_map, IsSome, if◌then◌else◌}
 use Rattle.std.specs.Option.{option_map_or}
-use Rattle.std.specs.List.{AllByRecursion, IsDistinct}
+use Rattle.std.specs.List.{AllByRecursion, IsDistinct, list_any}
 use Rattle.std.specs.Map.{keys_of, lookup, remove_entry, set_value}
 use Rattle.fl_digest.specs.declared.BlobRef.{BlobRef}
 use Rattle.fl_digest.specs.Reference.{same_reference}
@@ -58,6 +58,12 @@ with_pin reference cache = option_map_or (λ held. with_clean (used reference (p
 -- a cache with one pin less, which is no use
 abbrev pub without_pin : BlobRef → Cache → Cache
 without_pin reference cache = option_map_or (λ held. with_clean (set_value (same_reference reference) cache.clean (released held)) cache) (held_at reference cache) cache
+
+-- clean contents without those under these references, each of which was there and stands once
+pub record HasDropped (before after : List (BlobRef × Held)) (gone : List BlobRef) : Type 0 where
+  pub once : IsDistinct same_reference gone
+  pub there : (reference : BlobRef) → list_any (same_reference reference) gone ≡ true → IsSome (lookup (same_reference reference) before)
+  pub left : (reference : BlobRef) → lookup (same_reference reference) after ≡ (if list_any (same_reference reference) gone then None else lookup (same_reference reference) before)
 
 -- dirty contents beside clean ones: each is there once, none is clean too, and its reference is the digest of its bytes
 pub record IsSound (dirty : List (BlobRef × List ℕ)) (clean : List (BlobRef × Held)) : Type 0 where

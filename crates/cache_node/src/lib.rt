@@ -6,7 +6,7 @@ ghost use Rattle.std.specs.Map.{keys_of, lookup, set_value};
 ghost use Rattle.lru.specs.LruCache.{lru_cache};
 ghost use Rattle.fl_digest.specs.Reference.{same_reference};
 ghost use Rattle.cache_node.specs.Order.{Names, is_pinned, unpinned_bytes, filled, stays_within, remaining, dropped};
-ghost use Rattle.cache_node.specs.Cache.{empty_cache, dirty_at, held_at, clean_at, any_at, stored, refused, acknowledged, with_clean, with_pin, without_pin};
+ghost use Rattle.cache_node.specs.Cache.{HasDropped, IsSound, empty_cache, dirty_at, held_at, clean_at, any_at, stored, refused, acknowledged, with_clean, with_pin, without_pin};
 
 mod content;
 #[cfg(test)]
@@ -66,6 +66,13 @@ impl CacheNode {
         Ok(CacheNode { dirty, clean })
     }
 
+    /// Each dirty content stands once, under the digest of its bytes, and isn't clean too.
+    pub fn is_sound(&self)
+        ensures { IsSound self.now.dirty self.now.clean }
+    {
+        let _dirty = &self.dirty;
+    }
+
     /// Keeps bytes as dirty. A content that is there under the reference stays, dirty or clean.
     pub fn put_dirty(&mut self, reference: BlobRef, bytes: Bytes) -> Result<(), AllocError>
         requires { Names reference bytes }
@@ -119,8 +126,10 @@ impl CacheNode {
         ensures gone { IfOk result (λ gone. gone ≡ dropped (stays_within UNPINNED_LIMIT) (filled reference bytes self.old.clean)) }
         ensures rest { OnOk result (self.new ≡ with_clean (remaining (stays_within UNPINNED_LIMIT) (filled reference bytes self.old.clean)) (refused reference self.old)) }
         ensures limit { OnOk result (unpinned_bytes self.new.clean ≤ UNPINNED_LIMIT) }
+        ensures left { IfOk result (λ gone. HasDropped (filled reference bytes self.old.clean) self.new.clean gone) }
         ensures kept { OnErr result (self.new ≡ self.old) }
     {
+        self.clean.are_once();
         let gone = self.clean.fill(&reference, bytes)?;
         self.dirty.pop(&reference);
         Ok(gone)
@@ -174,8 +183,10 @@ impl CacheNode {
     pub fn drop_clean(&mut self) -> Result<RefList, AllocError>
         ensures gone { IfOk result (λ gone. gone ≡ keys_of (filter (λ e. not (is_pinned e.1)) (reverse self.old.clean))) }
         ensures rest { OnOk result (self.new ≡ with_clean (filter (λ e. is_pinned e.1) self.old.clean) self.old) }
+        ensures left { IfOk result (λ gone. HasDropped self.old.clean self.new.clean gone) }
         ensures kept { OnErr result (self.new ≡ self.old) }
     {
+        self.clean.are_once();
         self.clean.drop_unpinned()
     }
 }

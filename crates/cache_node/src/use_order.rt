@@ -1,6 +1,7 @@
 // The clean contents in the order of their use.
 ghost use Rattle.std.specs.Prelude.{◌≡◌, [], ◌∷◌, None, IfOk, IfErr, OnOk, OnErr, IfSome, IsSome, is_some, option_copied, unwrap_or, filter, not, reverse};
 ghost use Rattle.std.specs.Option.{option_map_or};
+ghost use Rattle.std.specs.List.{IsDistinct};
 ghost use Rattle.std.specs.Map.{keys_of, lookup, remove_entry, set_value};
 ghost use Rattle.fl_digest.specs.Reference.{same_reference};
 ghost use Rattle.cache_node.specs.Order.{Names, unpinned, pinned, released, is_pinned, used, unpinned_bytes, filled, stays_within, remaining, dropped, without};
@@ -46,6 +47,13 @@ impl UseOrder {
             total: 0,
             loose: 0,
         })
+    }
+
+    /// Each reference stands once.
+    pub(crate) fn are_once(&self)
+        ensures { IsDistinct same_reference (keys_of self.now) }
+    {
+        let _entries = &self.entries;
     }
 
     /// The content under a reference.
