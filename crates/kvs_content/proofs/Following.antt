@@ -1,0 +1,157 @@
+-- The contents stand where the log leaves them once a broker got and dropped contents.
+use Rattle.std.proofs.Common.{◌≡◌, ℕ, ◌<◌, ◌==◌, ◌⊎◌, inl, inr, List, [], ◌++◌, length, Bool, true, false, ◌||◌, ◌&&◌, cond, Option, Some, None, IsSome, option_map, map, refl, sym, ap, ◌∙◌, subst, arith, true≢false, get_or, set as put, append-nil}
+use Rattle.std.specs.Prelude.{is_some}
+use Rattle.std.specs.List.{AllByRecursion as Each, list_any}
+use Rattle.std.specs.Map.{lookup}
+use Rattle.std.proofs.lemmas.Bool.{cases_eq}
+use Rattle.std.proofs.lemmas.List.{length-set, get_or-set_same, get_or-set_other}
+use Rattle.fl_digest.specs.declared.BlobRef.{BlobRef}
+use Rattle.fl_digest.specs.Reference.{reference_of, same_reference}
+use Rattle.blob_store.specs.Blobs.{blob_at}
+use Rattle.cache_node.specs.declared.content.Held.{Held}
+use Rattle.cache_node.specs.Cache.{clean_at, dirty_at}
+use Rattle.cache_node.proofs.Same.{same_true}
+use Rattle.kvs_rules.specs.declared.events.KvsEvent.{KvsEvent}
+use Rattle.kvs_rules.specs.Log.{Happened, Log}
+use Rattle.kvs_rules.specs.Namespaces.{Setting}
+use Rattle.kvs_rules.specs.Brokers.{has_got, holds, parent}
+use Rattle.kvs_rules.specs.Answers.{IsLegalAfter}
+use Rattle.kvs_content.specs.declared.offers.Offer.{Offer}
+use Rattle.kvs_content.specs.declared.wants.Want.{Want}
+use Rattle.kvs_content.specs.Agrees.{AgreesContent, Follows, IsBlob, IsKept, IsRefused, NodeAgrees, OfferAgrees, WantAgrees}
+use Rattle.kvs_content.specs.Node.{IsDropping, NodeValue, empty_node}
+use Rattle.kvs_content.specs.Sound.{IsDirty}
+use Rattle.kvs_content.specs.Value.{ContentValue, node_at, size_of}
+use Rattle.kvs_content.proofs.Agreeing.{after, each-map, nodes-then, other-number}
+use Rattle.kvs_content.proofs.Events.{coming, drops-legal, gets, got-after, held-after}
+use Rattle.kvs_content.proofs.Later.{blob-later, got-later, offer-later, refused-later, want-later}
+use Rattle.kvs_content.proofs.Lists.{and-left, and-right, equal-itself, or-nothing, same-number}
+
+either : (a b : Bool) → (a || b) ≡ true → (a ≡ true) ⊎ (b ≡ true)
+either true b h = inl refl
+either false b h = inr h
+
+-- nothing else than the broker's node and the lists of messages has changed, and these stand where the log leaves them
+pub agrees-then : (v w : ContentValue) (set : Setting) (log : Log) → AgreesContent v set log → (broker : ℕ) (r : BlobRef) (does : Bool) (gone : List BlobRef) (new : NodeValue)
+    → broker < size_of v → w.nodes ≡ put v.nodes broker new → w.fanout ≡ v.fanout → w.hash ≡ v.hash
+    → (does ≡ true → (broker ≡ 0) ⊎ (has_got log (parent v.fanout broker) r ≡ true))
+    → NodeAgrees set (after log broker r does gone) broker new
+    → ((x : BlobRef) → has_got (after log broker r does gone) 0 x ≡ is_some (blob_at x w.store))
+    → ((x : BlobRef) (bytes : List ℕ) → blob_at x w.store ≡ Some bytes → IsBlob set (after log broker r does gone) x bytes)
+    → ((k : ℕ) (d : Offer) → k < length w.offers → OfferAgrees set (after log broker r does gone) v.fanout (get_or w.offers k d).child (get_or w.offers k d).reference (get_or w.offers k d).stage)
+    → ((k : ℕ) (d : Want) → k < length w.wants → WantAgrees set (after log broker r does gone) v.fanout (get_or w.wants k d))
+    → AgreesContent w set (after log broker r does gone)
+agrees-then v w set log a broker r does gone new within nodes fanout hash may here root store offers wants = record {
+  size = a.size ∙ sym (length-set v.nodes broker new) ∙ ap length (sym nodes);
+  fanout = a.fanout ∙ sym fanout;
+  hash = a.hash ∙ sym hash;
+  root = root;
+  above = λ c x pos l got. subst (λ f. has_got (after log broker r does gone) (parent f c) x ≡ true) (sym fanout)
+      (up c x pos (subst (λ n. c < n) (ap length nodes ∙ length-set v.nodes broker new) l) (either (has_got log c x) _ (sym (got-after log broker r does gone c x) ∙ got)));
+  store = store;
+  nodes = λ b l. subst (λ ns. NodeAgrees set (after log broker r does gone) b (get_or ns b empty_node)) (sym nodes)
+      (nodes-then set log broker r does gone v.nodes empty_node new within (λ c m. a.nodes c m) here b (subst (λ ns. b < length ns) nodes l));
+  offers = λ k d l. subst (λ f. OfferAgrees set (after log broker r does gone) f (get_or w.offers k d).child (get_or w.offers k d).reference (get_or w.offers k d).stage) (sym fanout) (offers k d l);
+  wants = λ k d l. subst (λ f. WantAgrees set (after log broker r does gone) f (get_or w.wants k d)) (sym fanout) (wants k d l);
+} where
+  up : (c : ℕ) (x : BlobRef) → 0 < c → c < size_of v → (has_got log c x ≡ true) ⊎ (gets broker r does c x ≡ true) → has_got (after log broker r does gone) (parent v.fanout c) x ≡ true
+  up c x pos l (inl h) = got-later log (map Happened (coming broker r does gone)) (parent v.fanout c) x (a.above c x pos l h)
+  up c x pos l (inr h) =
+      let same = and-right does _ h in
+      let at : c ≡ broker = same-number c broker (and-left (c == broker) _ same) in
+      let named : x ≡ r = same_true x r (and-right (c == broker) _ same) in
+      elim (may (and-left does _ h)) [
+        | inl e ↦ absurd (omega (arith, at, e))
+        | inr e ↦ got-later log (map Happened (coming broker r does gone)) (parent v.fanout c) x
+            (subst (λ y. has_got log (parent v.fanout c) y ≡ true) (sym named) (subst (λ b. has_got log (parent v.fanout b) r ≡ true) (sym at) e))
+      ]
+
+-- what another broker gets and drops leaves what rank 0 has got
+pub root-other : (v : ContentValue) (set : Setting) (log : Log) → AgreesContent v set log → (broker : ℕ) → 0 < broker → (r : BlobRef) (does : Bool) (gone : List BlobRef) (x : BlobRef)
+    → has_got (after log broker r does gone) 0 x ≡ is_some (blob_at x v.store)
+root-other v set log a broker below r does gone x =
+    got-after log broker r does gone 0 x ∙ ap (λ b. has_got log 0 x || (does && (b && same_reference x r))) (other-number 0 broker (λ e. omega (arith, below, e)))
+    ∙ nothing does (has_got log 0 x) ∙ a.root x
+  where
+    nothing : (d h : Bool) → (h || (d && false)) ≡ h
+    nothing true true = refl
+    nothing true false = refl
+    nothing false true = refl
+    nothing false false = refl
+
+-- what follows is followed by what makes no event
+pub follows-then : (v u w : ContentValue) (events : List KvsEvent) (set : Setting) (log : Log) → size_of u ≡ size_of v → Follows v u events set log → Follows u w [] set (log ++ map Happened events) → Follows v w events set log
+follows-then v u w events set log size first second = record {
+  legal = first.legal;
+  agrees = subst (AgreesContent w set) (append-nil (log ++ map Happened events)) second.agrees;
+  kept = λ b x l k. subst (λ ms. IsKept w set ms b x) (append-nil (log ++ map Happened events)) (second.kept b x (subst (λ n. b < n) (sym size) l) (first.kept b x l k));
+}
+
+module _ (v : ContentValue) (set : Setting) (log : Log) (a : AgreesContent v set log) (broker : ℕ) (within : broker < size_of v) (new : NodeValue) (events : List KvsEvent) (h : IsDropping broker (node_at v broker) new events) where
+  some-held : (x : BlobRef) → IsSome (lookup (same_reference x) (node_at v broker).cache.clean) → holds log broker x ≡ true
+  some-held x s = (a.nodes broker within).held x ∙ by (lookup (same_reference x) (node_at v broker).cache.clean) s
+    where
+      by : (o : Option Held) → IsSome o → is_some (option_map (λ held. held.bytes) o) ≡ true
+      by (Some held) t = refl
+      by None t = absurd (true≢false (sym t))
+
+  any-reference : BlobRef
+  any-reference = reference_of set.hash []
+
+  pub dropped-legal : IsLegalAfter set log (map Happened events)
+  dropped-legal = subst (λ es. IsLegalAfter set log (map Happened es)) (sym h.told) (drops-legal set broker log h.gone h.rest.once (λ x t. some-held x (h.rest.there x t)))
+
+  same-dirty : new.cache.dirty ≡ (node_at v broker).cache.dirty
+  same-dirty = ap (λ k. k.dirty) h.pinned
+
+  here : (r : BlobRef) → NodeAgrees set (after log broker r false h.gone) broker new
+  here r = record {
+    held = λ x. held-after log broker r false h.gone broker x ∙ held x (list_any (same_reference x) h.gone) refl;
+    clean = λ x bytes e. blob-later log (map Happened (coming broker r false h.gone)) set x bytes (clean x bytes (list_any (same_reference x) h.gone) refl (sym (found x) ∙ e));
+    dirty = subst (Each (λ e. IsBlob set (after log broker r false h.gone) e.0 e.1)) (sym same-dirty)
+        (each-map (λ e. IsBlob set log e.0 e.1) (λ e. IsBlob set (after log broker r false h.gone) e.0 e.1) (λ e b. blob-later log (map Happened (coming broker r false h.gone)) set e.0 e.1 b) _ (a.nodes broker within).dirty);
+    refused = subst (Each (IsRefused set (after log broker r false h.gone))) (sym h.refused)
+        (each-map (IsRefused set log) (IsRefused set (after log broker r false h.gone)) (λ x b. refused-later log (map Happened (coming broker r false h.gone)) set x b) _ (a.nodes broker within).refused);
+  } where
+    found : (x : BlobRef) → clean_at x new.cache ≡ option_map (λ held. held.bytes) (cond (list_any (same_reference x) h.gone) None (lookup (same_reference x) (node_at v broker).cache.clean))
+    found x = ap (option_map (λ held. held.bytes)) (h.rest.left x)
+
+    found-at : (x : BlobRef) (n : Bool) → list_any (same_reference x) h.gone ≡ n → option_map (λ held. held.bytes) (cond (list_any (same_reference x) h.gone) None (lookup (same_reference x) (node_at v broker).cache.clean))
+        ≡ option_map (λ held. held.bytes) (cond n None (lookup (same_reference x) (node_at v broker).cache.clean))
+    found-at x n e = ap (λ m. option_map (λ (held : Held). held.bytes) (cond m None (lookup (same_reference x) (node_at v broker).cache.clean))) e
+
+    held : (x : BlobRef) (n : Bool) → list_any (same_reference x) h.gone ≡ n → cond ((broker == broker) && list_any (same_reference x) h.gone) false (holds log broker x) ≡ is_some (clean_at x new.cache)
+    held x true n =
+        ap (λ m. cond ((broker == broker) && m) false (holds log broker x)) n ∙ ap (λ t. cond (t && true) false (holds log broker x)) (equal-itself broker)
+        ∙ sym (ap is_some (found x ∙ found-at x true n))
+    held x false n =
+        ap (λ m. cond ((broker == broker) && m) false (holds log broker x)) n ∙ ap (λ t. cond (t && false) false (holds log broker x)) (equal-itself broker)
+        ∙ (a.nodes broker within).held x ∙ sym (ap is_some (found x ∙ found-at x false n))
+
+    clean : (x : BlobRef) (bytes : List ℕ) (n : Bool) → list_any (same_reference x) h.gone ≡ n → option_map (λ held. held.bytes) (cond (list_any (same_reference x) h.gone) None (lookup (same_reference x) (node_at v broker).cache.clean)) ≡ Some bytes → IsBlob set log x bytes
+    clean x bytes true n e = let bad : None ≡ Some bytes = sym (found-at x true n) ∙ e in absurd (let no : ⊥ = cc in no)
+    clean x bytes false n e = (a.nodes broker within).clean x bytes (sym (found-at x false n) ∙ e)
+
+  kept-dirty : (b : ℕ) (x : BlobRef) → IsDirty v b x → IsDirty (record v { nodes = put v.nodes broker new }) b x
+  kept-dirty b x d = elim (cases_eq b broker) [
+    | inl e ↦ subst (λ k. IsSome (dirty_at x (get_or (put v.nodes broker new) k empty_node).cache)) (sym e)
+        (subst (λ n. IsSome (dirty_at x n.cache)) (sym (get_or-set_same v.nodes broker new empty_node within))
+        (subst (λ es. IsSome (lookup (same_reference x) es)) (sym same-dirty) (subst (λ k. IsDirty v k x) e d)))
+    | inr ne ↦ subst (λ n. IsSome (dirty_at x n.cache)) (sym (get_or-set_other v.nodes broker b new empty_node ne)) d
+  ]
+
+  pub dropped-follows : Follows v (record v { nodes = put v.nodes broker new }) events set log
+  dropped-follows = record {
+    legal = dropped-legal;
+    agrees = subst (λ es. AgreesContent (record v { nodes = put v.nodes broker new }) set (log ++ map Happened es)) (sym h.told)
+        (agrees-then v (record v { nodes = put v.nodes broker new }) set log a broker any-reference false h.gone new within refl refl refl (λ e. absurd (true≢false (sym e))) (here any-reference)
+        (λ x. got-after log broker any-reference false h.gone 0 x ∙ or-nothing (has_got log 0 x) ∙ a.root x)
+        (λ x bytes e. blob-later log (map Happened (coming broker any-reference false h.gone)) set x bytes (a.store x bytes e))
+        (λ k d l. offer-later log (map Happened (coming broker any-reference false h.gone)) set v.fanout _ _ _ (a.offers k d l))
+        (λ k d l. want-later log (map Happened (coming broker any-reference false h.gone)) set v.fanout _ (a.wants k d l)));
+    kept = λ b x l k. elim k [
+      | inl d ↦ inl (kept-dirty b x d)
+      | inr (inl g) ↦ inr (inl (got-later log (map Happened events) b x g))
+      | inr (inr c) ↦ inr (inr (refused-later log (map Happened events) set x c))
+    ];
+  }

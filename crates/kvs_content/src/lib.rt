@@ -1,0 +1,14 @@
+//! The contents of an instance (Flux RFC 10): a write-back cache at each broker, and the store at rank 0.
+#![tactic(auto)]
+
+mod contents;
+mod node;
+mod offers;
+#[cfg(test)]
+mod tests;
+mod wants;
+
+pub use contents::{Answer, Contents, Delivery, Load, Loaded, Stored};
+pub use node::{Flush, KvsEvents, Node};
+pub use offers::{Offer, OfferStage};
+pub use wants::{Gift, Want, WantStage};
