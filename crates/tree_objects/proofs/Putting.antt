@@ -56,11 +56,11 @@ put_new (k ∷ ks) (p ∷ ps) e (suc place) n o w below above =
 
 -- ---- the names rise, and are texts
 
-from_T : (b : Bool) → T b → IsTrue b
+pub from_T : (b : Bool) → T b → IsTrue b
 from_T true h = refl
 from_T false h = absurd h
 
-to_T : (b : Bool) → IsTrue b → T b
+pub to_T : (b : Bool) → IsTrue b → T b
 to_T true h = tt
 to_T false h = absurd (cc)
 

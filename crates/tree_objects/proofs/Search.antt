@@ -54,7 +54,7 @@ find_here (n ∷ ns) (p ∷ ps) e h (suc i) name o w is it =
     let less : name_cmp n name ≡ Less = ap (name_cmp n) is ∙ below_get n ns ps (omega arith) parts.0 i name (omega arith) in
     ap (λ r. cond (is_eq r) (Some (tree_of p)) (finite.find name_cmp name (listed (paired ns ps)))) (turned n name less) ∙ find_here ns ps (omega arith) parts.1 i name o (omega arith) is it
 
-apart : (a b : Name) → (name_cmp b a ≡ Equal → ⊥) → is_eq (name_cmp a b) ≡ false
+pub apart : (a b : Name) → (name_cmp b a ≡ Equal → ⊥) → is_eq (name_cmp a b) ≡ false
 apart a b h =
     elim (name_cmp a b) as (λ r. name_cmp a b ≡ r → is_eq r ≡ false) [
       | Less ↦ λ e. refl

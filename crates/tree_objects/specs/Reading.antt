@@ -3,7 +3,7 @@ use Rattle.std.specs.Prelude.{◌≡◌, ◌≢◌, ◌≤◌, ℕ, ◌==◌, Li
 use Rattle.std.specs.FinMap.Entries as finite
 use Rattle.std.specs.List.{AllByRecursion, list_any}
 use Rattle.std.specs.Option.{option_map_or}
-use Rattle.std.specs.Str.{bytes_eq}
+use Rattle.std.specs.Str.{IsUtf8, bytes_eq}
 use Rattle.base64.specs.Engines.{standard}
 use Rattle.base64.specs.GeneralPurpose.{decode_of, IsBytes}
 use Rattle.fl_digest.specs.declared.BlobRef.{BlobRef}
@@ -125,6 +125,19 @@ abbrev mutual
   pub AreReadable : Entries → Type 0
   AreReadable no_entries = ⊤
   AreReadable (entry name tree es) = IsReadable tree × AreReadable es
+
+-- an object in which all names are texts
+abbrev mutual
+  pub HasTextNames : Tree → Type 0
+  HasTextNames (val bytes) = ⊤
+  HasTextNames (valref references) = ⊤
+  HasTextNames (dir es) = HaveTextNames es
+  HasTextNames (dirref reference) = ⊤
+  HasTextNames (symlink path) = ⊤
+
+  pub HaveTextNames : Entries → Type 0
+  HaveTextNames no_entries = ⊤
+  HaveTextNames (entry name tree es) = IsUtf8 name × HasTextNames tree × HaveTextNames es
 
 -- ---- in the making
 

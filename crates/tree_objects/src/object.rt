@@ -1,5 +1,6 @@
 // Objects and directories of objects.
-ghost use Rattle.std.specs.Prelude.{◌≡◌, ◌++◌, ◌∷◌, [], length, option_map, IsTrue, IfOk, OnOk, OnErr};
+ghost use Rattle.std.specs.Prelude.{◌≡◌, ◌++◌, ◌∷◌, [], length, not, option_map, IsTrue, IfOk, OnOk, OnErr};
+ghost use Rattle.std.specs.Ordering.{eq_by_cmp};
 ghost use Rattle.std.specs.FinMap.Entries as finite;
 ghost use Rattle.std.specs.Str.{IsUtf8};
 ghost use Rattle.tree_rules.specs.Objects.{no_entries, listed};
@@ -97,6 +98,22 @@ impl ObjectMap {
                 }
                 Ok(())
             }
+        }
+    }
+
+    /// Takes the object under a name out, if there is one. It takes no memory.
+    pub fn remove(&mut self, name: &Bytes) -> Option<Object>
+        ensures taken { option_map tree_of result ≡ finite.find name_cmp name.now (listed self.old) }
+        ensures rest { listed self.new
+            ≡ finite.where_key name_cmp (λ other. not (eq_by_cmp name_cmp name.now other))
+            (listed self.old) }
+    {
+        match self.names.binary_search(name) {
+            Ok(place) => {
+                let _name = self.names.remove(place);
+                Some(self.objects.remove(place))
+            }
+            Err(_) => None,
         }
     }
 
