@@ -1,0 +1,56 @@
+use Rattle.std.proofs.Common.{rules, ◌≡◌, ◌<◌, ◌∷◌, ◌++◌, [], ℕ, List, length, IfOk, OnOk, option_map, Some, None, if◌then◌else◌, ◌+◌, ◌-◌, ◌*◌, ◌≤◌, ◌/◌, ◌%◌, Bool, true, false, nat_eq, nat_lt, slice_index_or, slice_set, bit_and, bit_or, Fits, w8, w32, w64, Bor, MutBor, refl, sym, ap, ap₂, ◌∙◌, subst, arith, cond, true≢false, take, drop, get_or, length-take}
+use Rattle.std.specs.List.{AllByRecursion}
+use Rattle.fl_digest.specs.declared.Hash.{Hash}
+use Rattle.kvs_model.specs.Operation.{is_reserved, key_of, op_effect, with_places_above, placed, appended, changed, enters_full_from, first_cause, refusals, is_directory, most_names}
+use Rattle.kvs_model.specs.Store.{Path as Place, Node, Store, Directory, is_within, node_at, with_node, names_in, IsStore}
+use Rattle.kvs_txn.specs.Keys.{IsComponent}
+use Rattle.tree_objects.specs.Level.{tree_of}
+use Rattle.tree_rules.specs.Held.{Table, IsStorableNode}
+use Rattle.tree_store.specs.Landing.{table}
+use Rattle.tree_store.specs.Shown.{Directories, Stands, Shows, IsShown, OpensAbove, Gives, IsNodeOf, IsInDirectory, HasBlob, too_long, append_cause, opened_at, above, with_open, with_object, closed_within}
+use Rattle.fl_digest.specs.Reference.{reference_of}
+use Rattle.std.specs.Prelude.{Option, IsTrue, IsSome, IfSome, nat_le, is_none, ◌&&◌, ◌||◌}
+use Rattle.tree_rules.specs.Objects.{Tree, Entries, no_entries, dir, listed}
+use Rattle.std.proofs.lemmas.Result.{on_ok_weaker}
+use Rattle.plain_store.proofs.Placing.{upto, upto_more, upto_all}
+use Rattle.tree_store.proofs.Placed.{upto_one, in_upto, take_named, opens_within}
+use Rattle.tree_store.proofs.operations.make_places.Goals as goal
+
+pub loop-count-init : goal.loop-count-init
+loop-count-init c = record {
+  low = omega arith;
+  shown = λ h held st shows opens. subst (Shows h held c.args.opened.now) (sym (upto_one st shows.store c.args.at.now)) shows;
+  opens = λ h held st shows opens. subst (λ (s : Store). OpensAbove c.args.opened.now s c.args.at.now) (sym (upto_one st shows.store c.args.at.now)) opens;
+}
+
+pub make_place-requires : goal.make_place-requires
+make_place-requires c = record {
+  named = take_named c.loop-count.count c.args.at.now c.requires;
+  below = omega (arith, length-take c.loop-count.count c.args.at.now, c.loop-count.invariant.low, c.loop-count-test.true);
+}
+
+pub loop-count-preserved : goal.loop-count-preserved
+loop-count-preserved c =
+    let at = c.args.at.now in
+    let count = c.loop-count.count in
+    record {
+      low = omega arith;
+      shown = λ h held st shows opens. (
+          let shown = c.loop-count.invariant.shown h held st shows opens in
+          let above = c.loop-count.invariant.opens h held st shows opens in
+          subst (Shows h held c.make_place.new.opened) (sym (upto_more st at count c.loop-count-test.true))
+          (c.in_ok-make_place.ensures.made h held (upto st at count) shown (opens_within c.loop-count.opened (upto st at count) at count above) (in_upto st at count c.loop-count.invariant.low c.loop-count-test.true)));
+      opens = λ h held st shows opens. (
+          let shown = c.loop-count.invariant.shown h held st shows opens in
+          let above = c.loop-count.invariant.opens h held st shows opens in
+          subst (λ (s : Store). OpensAbove c.make_place.new.opened s at) (sym (upto_more st at count c.loop-count-test.true))
+          (c.in_ok-make_place.ensures.opens h held (upto st at count) at shown (opens_within c.loop-count.opened (upto st at count) at count above) (in_upto st at count c.loop-count.invariant.low c.loop-count-test.true) above));
+    }
+
+pub returns-clause-made : goal.returns-clause-made
+returns-clause-made c = λ h held st shows opens.
+    subst (Shows h held c.loop-count.opened) (upto_all st c.args.at.now c.loop-count.count c.loop-count-test.false) (c.loop-count.invariant.shown h held st shows opens)
+
+pub returns-clause-opens : goal.returns-clause-opens
+returns-clause-opens c = λ h held st shows opens.
+    subst (λ (s : Store). OpensAbove c.loop-count.opened s c.args.at.now) (upto_all st c.args.at.now c.loop-count.count c.loop-count-test.false) (c.loop-count.invariant.opens h held st shows opens)

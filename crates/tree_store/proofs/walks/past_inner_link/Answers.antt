@@ -1,0 +1,42 @@
+use Rattle.std.proofs.Common.{Some, rules, ◌≡◌, ◌≤◌, ◌<◌, ◌++◌, ℕ, length, take, drop, None, IfOk, IfSome, OnOk, IsSome, option_map, ◌+◌, ◌-◌, ◌*◌, ◌/◌, ◌%◌, Bool, true, false, nat_eq, nat_lt, List, [], ◌∷◌, slice_index_or, slice_set, bit_and, bit_or, Fits, w8, w32, w64, Bor, MutBor, refl, sym, ap, ap₂, ◌∙◌, subst, arith, cond, true≢false, length-drop}
+use Rattle.fl_digest.specs.declared.Hash.{Hash}
+use Rattle.kvs_model.specs.Store.{Store, Path as Place, node_at, Directory}
+use Rattle.kvs_model.specs.Walk.{stop, past_inner_link, most_links}
+use Rattle.tree_store.specs.Landing.{table}
+use Rattle.tree_store.specs.Shown.{opened_at, followed, Shows, OpensAbove, Directories, link_target}
+use Rattle.std.specs.Prelude.{Option, IsTrue}
+use Rattle.kvs_model.specs.Operation.{is_directory}
+use Rattle.plain_store.proofs.Walking.{stop_more, stop_here, stop_end}
+use Rattle.tree_store.proofs.Walked.{opens_upto, opens_path, next_at, next_none}
+use borrow.Author.Count.{below_more}
+use Rattle.std.proofs.lemmas.List.{take_all}
+use Rattle.tree_store.proofs.walks.past_inner_link.Goals as goal
+
+pub returns-then-count-path-clause-next : goal.returns-then-count-path-clause-next
+returns-then-count-path-clause-next c = λ h st shows.
+    sym (next_none st c.args.path.now c.in_ok-count.count (c.in_ok-count.ensures.stop h st shows) (omega (arith, c.if-count-path.true)))
+
+pub returns-in-None-clause-next : goal.returns-in-None-clause-next
+returns-in-None-clause-next c = λ h st shows.
+    let path = c.args.path.now in
+    let count = c.in_ok-count.count in
+    let more : 0 < length (drop count path) = omega (arith, length-drop count path, c.in_ok-count.ensures.bound, c.if-count-path.false) in
+    let above = opens_upto c.passed.new.opened st path count c.in_ok-count.ensures.opens in
+    let none : None ≡ link_target (node_at st (take count path)) = c.in-None.ensures h (table c.args.store.now) st (c.in_ok-count.ensures.shown h st shows) above in
+    sym (next_at st path count (c.in_ok-count.ensures.stop h st shows) more ∙ ap (option_map (λ t. t ++ drop count path)) (sym none))
+
+pub returns-in-None-clause-opens : goal.returns-in-None-clause-opens
+returns-in-None-clause-opens c = λ h st shows none.
+    opens_path c.passed.new.opened st c.args.path.now c.in_ok-count.count shows.store c.in_ok-count.ensures.opens (c.in_ok-count.ensures.ends h st shows)
+
+pub returns-in_ok-joined-in-Some-clause-next : goal.returns-in_ok-joined-in-Some-clause-next
+returns-in_ok-joined-in-Some-clause-next c = λ h st shows.
+    let path = c.args.path.now in
+    let count = c.in_ok-count.count in
+    let more : 0 < length (drop count path) = omega (arith, length-drop count path, c.in_ok-count.ensures.bound, c.if-count-path.false) in
+    let above = opens_upto c.passed.new.opened st path count c.in_ok-count.ensures.opens in
+    let some : Some c.in-Some.target.now ≡ link_target (node_at st (take count path)) = c.in-Some.ensures h (table c.args.store.now) st (c.in_ok-count.ensures.shown h st shows) above in
+    let whole : take (length path - count) (drop count path) ≡ drop count path = take_all (length path - count) (drop count path) (omega (arith, length-drop count path)) in
+    ap Some (c.in_ok-joined-in-Some.ensures ∙ ap₂ (λ (front back : List (List ℕ)). front ++ back) c.as_slice.ensures whole)
+    ∙ ap (option_map (λ t. t ++ drop count path)) some
+    ∙ sym (next_at st path count (c.in_ok-count.ensures.stop h st shows) more)

@@ -1,0 +1,4 @@
+pub mod Codes
+pub mod Fresh
+pub mod Landing
+pub mod Shown

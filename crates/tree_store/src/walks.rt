@@ -1,0 +1,113 @@
+// Where a path leads.
+ghost use Rattle.std.specs.Prelude.{◌≡◌, ◌≤◌, ◌<◌, ◌++◌, ℕ, length, take, drop, None, IfOk, IfSome};
+ghost use Rattle.std.specs.Prelude.{OnOk, IsSome, option_map, false};
+ghost use Rattle.fl_digest.specs.declared.Hash.{Hash};
+ghost use Rattle.kvs_model.specs.Operation.{is_directory};
+ghost use Rattle.kvs_model.specs.Store.{Store, node_at};
+ghost use Rattle.kvs_model.specs.Walk.{stop, past_inner_link, most_links};
+ghost use Rattle.tree_store.specs.Landing.{table};
+ghost use Rattle.tree_store.specs.Shown.{opened_at, followed, Shows, IsShown, OpensAbove};
+
+use crate::opened::{Opened, copy_of};
+use blob_store::BlobStore;
+use lists::{Bytes, Copied};
+use std::alloc::{AllocError, Global};
+
+/// How many components a walk along the path passes, to the first place where no directory stands.
+/// Those that it passes are open then.
+fn passed(
+    alloc: Global,
+    store: &BlobStore,
+    opened: &mut Opened,
+    path: &[Bytes],
+) -> Result<usize, AllocError>
+    requires { IsShown (table store.now) opened.old }
+    ensures bound { IfOk result (λ n. n ≤ length path.now) }
+    ensures opens { IfOk result (λ n. (k : ℕ) → k < n
+        → IsSome (opened_at opened.new (take k path.now))) }
+    ensures stop { (hash : Hash) (st : Store) → Shows hash (table store.now) opened.old st
+        → IfOk result (λ n.
+        stop st path.now ≡ record { place = take n path.now; rest = drop n path.now }) }
+    ensures ends { (hash : Hash) (st : Store) → Shows hash (table store.now) opened.old st
+        → IfOk result (λ n. n < length path.now
+        → is_directory (node_at st (take n path.now)) ≡ false) }
+    ensures shown { (hash : Hash) (st : Store) → Shows hash (table store.now) opened.old st
+        → OnOk result (Shows hash (table store.now) opened.new st) }
+{
+    let mut count = 0;
+    while count < path.len() {
+        if !opened.enter(alloc, store, &path[..count])? {
+            return Ok(count);
+        }
+        count += 1;
+    }
+    Ok(count)
+}
+
+/// The components of two paths, one after the other.
+fn joined(alloc: Global, front: &[Bytes], back: &[Bytes]) -> Result<Vec<Bytes>, AllocError>
+    ensures { IfOk result (λ whole. whole.items ≡ front.now ++ back.now) }
+{
+    let mut whole = copy_of(alloc, front)?;
+    for component in back {
+        whole.push(component.copy()?)?;
+    }
+    Ok(whole)
+}
+
+/// The path after the first link before its last place is followed, if there is one.
+fn past_inner_link(
+    alloc: Global,
+    store: &BlobStore,
+    opened: &mut Opened,
+    path: &[Bytes],
+) -> Result<Option<Vec<Bytes>>, AllocError>
+    requires { IsShown (table store.now) opened.old }
+    ensures next { (hash : Hash) (st : Store) → Shows hash (table store.now) opened.old st
+        → IfOk result (λ next. option_map (λ v. v.items) next ≡ past_inner_link st path.now) }
+    ensures shown { (hash : Hash) (st : Store) → Shows hash (table store.now) opened.old st
+        → OnOk result (Shows hash (table store.now) opened.new st) }
+    ensures opens { (hash : Hash) (st : Store) → Shows hash (table store.now) opened.old st
+        → IfOk result (λ next. next ≡ None → OpensAbove opened.new st path.now) }
+{
+    let count = passed(alloc, store, opened, path)?;
+    if count == path.len() {
+        return Ok(None);
+    }
+    match opened.link(&path[..count]) {
+        None => Ok(None),
+        Some(target) => Ok(Some(joined(alloc, target.as_slice(), &path[count..])?)),
+    }
+}
+
+/// The path after at most ten links before its last place are followed, if no more are left.
+/// The directories above it are open then, down to the first place where none stands.
+pub fn resolve(
+    alloc: Global,
+    store: &BlobStore,
+    opened: &mut Opened,
+    path: &[Bytes],
+) -> Result<Option<Vec<Bytes>>, AllocError>
+    requires { IsShown (table store.now) opened.old }
+    ensures end { (hash : Hash) (st : Store) → Shows hash (table store.now) opened.old st
+        → IfOk result (λ end.
+        option_map (λ v. v.items) end ≡ followed st most_links path.now) }
+    ensures shown { (hash : Hash) (st : Store) → Shows hash (table store.now) opened.old st
+        → OnOk result (Shows hash (table store.now) opened.new st) }
+    ensures opens { (hash : Hash) (st : Store) → Shows hash (table store.now) opened.old st
+        → IfOk result (λ end. IfSome end (λ at. OpensAbove opened.new st at.items)) }
+{
+    let mut here = copy_of(alloc, path)?;
+    let mut links = 0u32;
+    while links < 10 {
+        match past_inner_link(alloc, store, opened, here.as_slice())? {
+            None => return Ok(Some(here)),
+            Some(next) => here = next,
+        }
+        links += 1;
+    }
+    match past_inner_link(alloc, store, opened, here.as_slice())? {
+        None => Ok(Some(here)),
+        Some(_) => Ok(None),
+    }
+}
