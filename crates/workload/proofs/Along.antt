@@ -1,13 +1,15 @@
 -- What holds of the empty workload, and stays with each line without a fault, holds of what a text spells.
-use Rattle.std.proofs.Common.{◌≡◌, ℕ, ◌+◌, Bool, true, false, cond, not, List, [], ◌∷◌, length, refl}
+use Rattle.std.proofs.Common.{◌≡◌, ℕ, ◌+◌, Bool, true, false, cond, not, List, [], ◌∷◌, length, refl, sym}
 use Rattle.std.specs.Prelude.{Option, Some, None, codes, nat_lt}
-use Rattle.std.specs.Str.{is_utf8}
+use Rattle.std.specs.Str.{IsUtf8, is_utf8}
+use Rattle.std.proofs.lemmas.Str.{IsUtf8-from_is_utf8}
 use Rattle.workload.specs.Limits.{most_text, most_line}
 use Rattle.workload.specs.Lines.{TextLine, lines_of}
 use Rattle.workload.specs.Words.{first_word, behind_word}
 use Rattle.workload.specs.Verbs.{first_of}
 use Rattle.workload.specs.Grants.{grant_faults, with_grant}
 use Rattle.workload.specs.Reading.{empty, fault_in, first_fault, spelled, with_line, with_lines, with_actor, with_command, actor_faults, command_faults, line_faults, or_else, begins_with, is_passed_over}
+use Rattle.workload.proofs.Texts.{AreTexts, lines_utf8}
 use Rattle.workload.specs.declared.work.Workload.{Workload}
 use Rattle.workload.specs.declared.faults.LineFault.{LineFault}
 use Rattle.workload.specs.declared.faults.LineFault.TheVariants as line_fault
@@ -38,14 +40,19 @@ pub neither : (a b : Option LineFault) → or_else a b ≡ None → (a ≡ None)
 neither None b h = (refl, h)
 neither (Some e) b h = let wrong : Some e ≡ None = h in cc
 
--- lines without a fault keep P
+-- a test whose turn is false
+pub stands : (test : Bool) → not test ≡ false → test ≡ true
+stands true h = refl
+stands false h = sym h
+
+-- lines of UTF-8 without a fault keep P
 module _ (size : ℕ) (P : Workload → Type 0)
     (keeps_actor : (work : Workload) (number : ℕ) (tail : List ℕ) → P work → first_of (actor_faults size work.actors number tail) ≡ None → P (with_actor work tail))
     (keeps_grant : (work : Workload) (number : ℕ) (text : List ℕ) → P work → first_of (grant_faults work number text) ≡ None → P (with_grant work text))
-    (keeps_command : (work : Workload) (number : ℕ) (line : List ℕ) → P work → first_of (command_faults work number line) ≡ None → P (with_command work line))
+    (keeps_command : (work : Workload) (number : ℕ) (line : List ℕ) → IsUtf8 line → P work → first_of (command_faults work number line) ≡ None → P (with_command work line))
   where
-    line_keeps : (work : Workload) (number : ℕ) (line : TextLine) → P work → first_of (line_faults size work number line) ≡ None → P (with_line work line)
-    line_keeps work number line h none =
+    line_keeps : (work : Workload) (number : ℕ) (line : TextLine) → IsUtf8 line.text → P work → first_of (line_faults size work number line) ≡ None → P (with_line work line)
+    line_keeps work number line is h none =
         let passed = is_passed_over (first_word line.text) in
         let actor = begins_with (codes "actor") line.text in
         let grant = begins_with (codes "grant") line.text in
@@ -63,23 +70,23 @@ module _ (size : ℕ) (P : Workload → Type 0)
                 | true ↦ keeps_actor work number rest h
                 | false ↦ elim grant as (λ b. first_of (cond b grants orders) ≡ None → P (cond b (with_grant work rest) (with_command work line.text))) [
                   | true ↦ keeps_grant work number rest h
-                  | false ↦ keeps_command work number line.text h
+                  | false ↦ keeps_command work number line.text is h
                 ]
               ]
         ]) short.1
 
-    lines_keep : (work : Workload) (number : ℕ) (all : List TextLine) → P work → fault_in size work number all ≡ None → P (with_lines work all)
-    lines_keep work number [] h none = h
-    lines_keep work number (line ∷ more) h none =
+    lines_keep : (work : Workload) (number : ℕ) (all : List TextLine) → AreTexts all → P work → fault_in size work number all ≡ None → P (with_lines work all)
+    lines_keep work number [] are h none = h
+    lines_keep work number (line ∷ more) are h none =
         let both = neither (first_of (line_faults size work number line)) (fault_in size (with_line work line) (number + 1) more) none in
-        lines_keep (with_line work line) (number + 1) more (line_keeps work number line h both.0) both.1
+        lines_keep (with_line work line) (number + 1) more are.1 (line_keeps work number line are.0 h both.0) both.1
 
     pub text_keeps : P empty → (text : List ℕ) → first_fault size text ≡ None → P (spelled text)
     unfolding first_fault spelled
     text_keeps start text none = (elim (nat_lt most_text (length text)) as (λ b. cond b (Some line_fault.TooLong) (cond (not (is_utf8 text)) (Some line_fault.NotUtf8) (fault_in size empty 1 (lines_of text))) ≡ None → P (with_lines empty (lines_of text))) [
       | true ↦ λ wrong. absurd (some_is_not_none wrong)
-      | false ↦ elim (not (is_utf8 text)) as (λ b. cond b (Some line_fault.NotUtf8) (fault_in size empty 1 (lines_of text)) ≡ None → P (with_lines empty (lines_of text))) [
-        | true ↦ λ wrong. absurd (some_is_not_none wrong)
-        | false ↦ lines_keep empty 1 (lines_of text) start
-      ]
+      | false ↦ elim (not (is_utf8 text)) as (λ b. not (is_utf8 text) ≡ b → cond b (Some line_fault.NotUtf8) (fault_in size empty 1 (lines_of text)) ≡ None → P (with_lines empty (lines_of text))) [
+        | true ↦ λ _ wrong. absurd (some_is_not_none wrong)
+        | false ↦ λ is. lines_keep empty 1 (lines_of text) (lines_utf8 text (IsUtf8-from_is_utf8 text (stands (is_utf8 text) is))) start
+      ] refl
     ]) none

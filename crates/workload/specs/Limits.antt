@@ -46,3 +46,25 @@ most_gpus = 16
 -- the most members of a fence
 abbrev pub most_members : ℕ
 most_members = 256
+
+-- the most submissions, and the most dependencies that the line of one names
+abbrev pub most_submits : ℕ
+most_submits = 1000
+
+abbrev pub most_needs : ℕ
+most_needs = 32
+
+-- the highest urgency, and the highest severity of an exception
+abbrev pub most_urgency : ℕ
+most_urgency = 31
+
+abbrev pub most_severity : ℕ
+most_severity = 7
+
+-- the most events that are asked for of the job of one label
+abbrev pub most_posts : ℕ
+most_posts = 100
+
+-- the most seconds of all advances together
+abbrev pub most_seconds : ℕ
+most_seconds = 1000000000

@@ -29,3 +29,21 @@ pub const MOST_GPUS: u32 = 16;
 
 /// The most members of a fence.
 pub const MOST_MEMBERS: u64 = 256;
+
+/// The most submissions.
+pub const MOST_SUBMITS: usize = 1_000;
+
+/// The most dependencies of a submission that its line names.
+pub const MOST_NEEDS: usize = 32;
+
+/// The highest urgency.
+pub const MOST_URGENCY: u64 = 31;
+
+/// The highest severity of an exception.
+pub const MOST_SEVERITY: u64 = 7;
+
+/// The most events that are asked for of the job of one label.
+pub const MOST_POSTS: usize = 100;
+
+/// The most seconds of all advances together.
+pub const MOST_SECONDS: u64 = 1_000_000_000;

@@ -2,10 +2,13 @@ ghost use Rattle.std.specs.Prelude.{◌≡◌, ◌≤◌, [], ◌∷◌, length}
 ghost use Rattle.kvs_txn.specs.Keys.{components};
 ghost use Rattle.workload.specs.Limits.{most_actors};
 ghost use Rattle.workload.specs.Words.{first_word, behind_word};
-ghost use Rattle.workload.specs.Verbs.{first_of, faults_of, verb_of, said, one_key, one_name, key_and_text, two_keys, is_past_key, is_past_value, Reads};
+ghost use Rattle.workload.specs.Reading.{offered_verb};
+ghost use Rattle.workload.specs.Verbs.{first_of, faults_of, is_offered, verb_of, said, one_key, one_name, key_and_text, two_keys, is_past_key, is_past_value, Reads};
 
 use crate::faults::{LineFault, Which};
+use crate::jobs::{advance, cancel, info, jobs, raise, result_of, state, urgency, why};
 use crate::limits::{MOST_MEMBERS, MOST_VALUE};
+use crate::submits::submit;
 use crate::words::{can_name, cut, number, number_within};
 use crate::work::{Command, Workload, place};
 use kvs_txn::{Path, PathFault};
@@ -30,6 +33,16 @@ pub enum Verb {
     NsCreate,
     NsRemove,
     NsUse,
+    Submit,
+    Cancel,
+    Raise,
+    Urgency,
+    State,
+    Info,
+    Jobs,
+    Why,
+    Result,
+    Advance,
 }
 
 impl Verb {
@@ -53,8 +66,46 @@ impl Verb {
             "ns-create" => Some(Verb::NsCreate),
             "ns-remove" => Some(Verb::NsRemove),
             "ns-use" => Some(Verb::NsUse),
+            "submit" => Some(Verb::Submit),
+            "cancel" => Some(Verb::Cancel),
+            "raise" => Some(Verb::Raise),
+            "urgency" => Some(Verb::Urgency),
+            "state" => Some(Verb::State),
+            "info" => Some(Verb::Info),
+            "jobs" => Some(Verb::Jobs),
+            "why" => Some(Verb::Why),
+            "result" => Some(Verb::Result),
+            "advance" => Some(Verb::Advance),
             _ => None,
         }
+    }
+
+    /// Whether a workload may have the verb. Those on jobs and on time may stand in none until a
+    /// run carries them out.
+    fn is_offered(self) -> bool
+        ensures { result ≡ is_offered self }
+    {
+        match self {
+            Verb::Submit
+            | Verb::Cancel
+            | Verb::Raise
+            | Verb::Urgency
+            | Verb::State
+            | Verb::Info
+            | Verb::Jobs
+            | Verb::Why
+            | Verb::Result
+            | Verb::Advance => false,
+            _ => true,
+        }
+    }
+
+    /// The verb that a word is, if a workload may have it.
+    pub fn offered(word: &str) -> Option<Verb>
+        ensures { result ≡ offered_verb word.now }
+    {
+        let verb = Verb::of(word)?;
+        if verb.is_offered() { Some(verb) } else { None }
     }
 }
 
@@ -73,7 +124,7 @@ fn key(alloc: Global, line: u64, word: &str) -> Result<Path, LineFault>
 }
 
 /// A value of the line of this number.
-fn value(alloc: Global, line: u64, text: &str) -> Result<Bytes, LineFault>
+pub fn value(alloc: Global, line: u64, text: &str) -> Result<Bytes, LineFault>
     ensures { Reads (first_of ((is_past_value text.now, LineFault.Limit line Which.Value) ∷ [])) (λ bytes. bytes ≡ text.now) result }
 {
     if MOST_VALUE < text.len() {
@@ -264,7 +315,7 @@ fn tell(work: &Workload, line: u64, tail: &str) -> Result<Command, LineFault>
 }
 
 /// The name that stands alone behind a verb.
-fn one_name(alloc: Global, line: u64, tail: &str) -> Result<Bytes, LineFault>
+pub fn one_name(alloc: Global, line: u64, tail: &str) -> Result<Bytes, LineFault>
     ensures { Reads
         (first_of (faults_of line (one_name Command.NsUse tail.now)))
         (λ name. name ≡ first_word tail.now)
@@ -339,5 +390,15 @@ pub fn command(
         Verb::NsCreate => ns_create(alloc, work, line, tail),
         Verb::NsRemove => ns_remove(alloc, work, line, tail),
         Verb::NsUse => ns_use(alloc, work, line, tail),
+        Verb::Submit => submit(alloc, work, line, tail),
+        Verb::Cancel => cancel(alloc, work, line, tail),
+        Verb::Raise => raise(alloc, work, line, tail),
+        Verb::Urgency => urgency(alloc, work, line, tail),
+        Verb::State => state(alloc, work, line, tail),
+        Verb::Info => info(alloc, work, line, tail),
+        Verb::Jobs => jobs(work, line, tail),
+        Verb::Why => why(alloc, work, line, tail),
+        Verb::Result => result_of(alloc, work, line, tail),
+        Verb::Advance => advance(work, line, tail),
     }
 }

@@ -5,33 +5,128 @@ ghost use Rattle.workload.specs.Reading.{empty};
 
 use crate::grant::Grant;
 use fl_digest::BlobRef;
+use job_spec::Scheme;
 use kvs_txn::Path;
 use lists::{Bytes, ListOf};
 use std::alloc::Global;
 
-/// What an actor asks for.
+/// What is shown of a job: one of its keys in the store (Flux RFC 16).
+#[derive(Clone, Copy, Debug, PartialEq, Eq)]
+pub enum InfoKey {
+    Jobspec,
+    R,
+    Eventlog,
+}
+
+/// A dependency on the job of a label (Flux RFC 26).
+#[derive(Drop)]
+pub struct Needed {
+    pub scheme: Scheme,
+    pub label: Bytes,
+}
+
+/// Dependencies on jobs of labels, in their order.
+pub type NeededList = ListOf<Needed>;
+
+/// What an actor asks for. A label names the job that was submitted under it.
 #[derive(Drop)]
 pub enum Command {
-    Put { path: Path, bytes: Bytes },
-    Append { path: Path, bytes: Bytes },
-    Unlink { path: Path },
-    Mkdir { path: Path },
-    Symlink { path: Path, target: Path },
+    Put {
+        path: Path,
+        bytes: Bytes,
+    },
+    Append {
+        path: Path,
+        bytes: Bytes,
+    },
+    Unlink {
+        path: Path,
+    },
+    Mkdir {
+        path: Path,
+    },
+    Symlink {
+        path: Path,
+        target: Path,
+    },
     Commit,
-    Fence { name: Bytes, count: u32 },
-    Get { path: Path },
-    Ls { path: Path },
-    Readlink { path: Path },
+    Fence {
+        name: Bytes,
+        count: u32,
+    },
+    Get {
+        path: Path,
+    },
+    Ls {
+        path: Path,
+    },
+    Readlink {
+        path: Path,
+    },
     Getroot,
-    Wait { number: u64 },
-    Tell { actor: u32 },
-    NsCreate { name: Bytes },
-    NsRemove { name: Bytes },
-    NsUse { name: Bytes },
-    ContentStore { bytes: Bytes },
-    ContentLoad { reference: BlobRef },
+    Wait {
+        number: u64,
+    },
+    Tell {
+        actor: u32,
+    },
+    NsCreate {
+        name: Bytes,
+    },
+    NsRemove {
+        name: Bytes,
+    },
+    NsUse {
+        name: Bytes,
+    },
+    ContentStore {
+        bytes: Bytes,
+    },
+    ContentLoad {
+        reference: BlobRef,
+    },
     ContentFlush,
     ContentDrop,
+    /// A job of this jobspec, whose text needn't be one; the urgency is at most 31.
+    Submit {
+        label: Bytes,
+        urgency: u32,
+        depends: NeededList,
+        spec: Bytes,
+    },
+    Cancel {
+        label: Bytes,
+    },
+    /// An exception of this type, severity (0 to 7) and note.
+    Raise {
+        label: Bytes,
+        kind: Bytes,
+        severity: u32,
+        note: Bytes,
+    },
+    /// Another urgency, at most 31.
+    Urgency {
+        label: Bytes,
+        urgency: u32,
+    },
+    StateOf {
+        label: Bytes,
+    },
+    Info {
+        label: Bytes,
+        key: InfoKey,
+    },
+    Jobs,
+    Why {
+        label: Bytes,
+    },
+    ResultOf {
+        label: Bytes,
+    },
+    /// So many seconds to let pass.
+    Advance {
+        seconds: u64,
+    },
 }
 
 /// An actor: its name, its broker, and the label of the job in whose child instance it stands, if it stands in one.

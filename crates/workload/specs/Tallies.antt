@@ -1,0 +1,43 @@
+-- What the command lines of a workload declare and ask for in all.
+use Rattle.std.specs.Prelude.{ℕ, List, Bool, true, false, count_by}
+use Rattle.std.specs.List.{list_any, sum_by}
+use Rattle.std.specs.Str.{bytes_eq}
+use Rattle.workload.specs.declared.work.Command.{Command}
+use Rattle.workload.specs.declared.work.Command.TheVariants as command
+use Rattle.workload.specs.declared.work.Line.{Line}
+
+-- the command submits a job under this label
+abbrev pub declares : List ℕ → Command → Bool
+declares label (command.Submit other urgency depends spec) = bytes_eq other label
+declares label _ = false
+
+-- the label stands in one of these submissions
+abbrev pub is_declared : List ℕ → List Line → Bool
+is_declared label lines = list_any (λ line. declares label line.command) lines
+
+abbrev pub submits : Command → Bool
+submits (command.Submit label urgency depends spec) = true
+submits _ = false
+
+-- how many jobs these lines submit
+abbrev pub submits_in : List Line → ℕ
+submits_in lines = count_by (λ line. submits line.command) lines
+
+-- the command asks for an event of the job of this label
+abbrev pub posts_on : List ℕ → Command → Bool
+posts_on label (command.Cancel other) = bytes_eq other label
+posts_on label (command.Raise other kind severity note) = bytes_eq other label
+posts_on label (command.Urgency other urgency) = bytes_eq other label
+posts_on label _ = false
+
+-- how many events these lines ask for of the job of this label
+abbrev pub posts_in : List ℕ → List Line → ℕ
+posts_in label lines = count_by (λ line. posts_on label line.command) lines
+
+abbrev pub seconds_of : Command → ℕ
+seconds_of (command.Advance seconds) = seconds
+seconds_of _ = 0
+
+-- how many seconds these lines let pass
+abbrev pub seconds_in : List Line → ℕ
+seconds_in lines = sum_by (λ line. seconds_of line.command) lines
