@@ -179,6 +179,16 @@ staged_with (command.ContentStore bytes) h xs = absurd h
 staged_with (command.ContentLoad reference) h xs = absurd h
 staged_with command.ContentFlush h xs = absurd h
 staged_with command.ContentDrop h xs = absurd h
+staged_with (command.Submit label urgency depends spec) h xs = absurd h
+staged_with (command.Cancel label) h xs = absurd h
+staged_with (command.Raise label kind severity note) h xs = absurd h
+staged_with (command.Urgency label urgency) h xs = absurd h
+staged_with (command.StateOf label) h xs = absurd h
+staged_with (command.Info label key) h xs = absurd h
+staged_with command.Jobs h xs = absurd h
+staged_with (command.Why label) h xs = absurd h
+staged_with (command.ResultOf label) h xs = absurd h
+staged_with (command.Advance seconds) h xs = absurd h
 
 pub staged_on : (work : Workload) (a i : ℕ) (c : Command) → IsKnownCommand c → command_at work (command_of a i) ≡ Some c → staged_at work (command_of a (i + 1)) ≡ ops_after c (staged_at work (command_of a i))
 staged_on work a i c known at =

@@ -95,6 +95,7 @@ none_issued by (entry.Heard i b space number ∷ es) h = absurd h.0
 none_issued by (entry.Got i b reference ∷ es) h = absurd h.0
 none_issued by (entry.Dropped i b reference ∷ es) h = absurd h.0
 none_issued by (entry.Told from to ∷ es) h = absurd h.0
+none_issued by (entry.Ticked second ∷ es) h = absurd h.0
 none_issued by (entry.Closed ∷ es) h = absurd h.0
 
 none_ended : (es : List Entry) → Each IsClosingEntry es → list_any is_end es ≡ false
@@ -107,6 +108,7 @@ none_ended (entry.Heard i b space number ∷ es) h = absurd h.0
 none_ended (entry.Got i b reference ∷ es) h = absurd h.0
 none_ended (entry.Dropped i b reference ∷ es) h = absurd h.0
 none_ended (entry.Told from to ∷ es) h = absurd h.0
+none_ended (entry.Ticked second ∷ es) h = absurd h.0
 none_ended (entry.Closed ∷ es) h = absurd h.0
 
 -- ---- what is left at the end

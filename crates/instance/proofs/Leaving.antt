@@ -154,6 +154,16 @@ is_fence t (command.ContentStore bytes) name count txn e = cc
 is_fence t (command.ContentLoad reference) name count txn e = cc
 is_fence t command.ContentFlush name count txn e = cc
 is_fence t command.ContentDrop name count txn e = cc
+is_fence t (command.Submit label urgency depends spec) name count txn e = cc
+is_fence t (command.Cancel label) name count txn e = cc
+is_fence t (command.Raise label kind severity note) name count txn e = cc
+is_fence t (command.Urgency label urgency) name count txn e = cc
+is_fence t (command.StateOf label) name count txn e = cc
+is_fence t (command.Info label key) name count txn e = cc
+is_fence t command.Jobs name count txn e = cc
+is_fence t (command.Why label) name count txn e = cc
+is_fence t (command.ResultOf label) name count txn e = cc
+is_fence t (command.Advance seconds) name count txn e = cc
 
 is_wait : (t : Txn) (c : Command) (number : ℕ) → ask_of t c ≡ Some (ask.Wait number) → c ≡ command.Wait number
 is_wait t (command.Put path bytes) number e = cc
@@ -176,6 +186,16 @@ is_wait t (command.ContentStore bytes) number e = cc
 is_wait t (command.ContentLoad reference) number e = cc
 is_wait t command.ContentFlush number e = cc
 is_wait t command.ContentDrop number e = cc
+is_wait t (command.Submit label urgency depends spec) number e = cc
+is_wait t (command.Cancel label) number e = cc
+is_wait t (command.Raise label kind severity note) number e = cc
+is_wait t (command.Urgency label urgency) number e = cc
+is_wait t (command.StateOf label) number e = cc
+is_wait t (command.Info label key) number e = cc
+is_wait t command.Jobs number e = cc
+is_wait t (command.Why label) number e = cc
+is_wait t (command.ResultOf label) number e = cc
+is_wait t (command.Advance seconds) number e = cc
 
 -- what a command asks is told by what it is
 command_so : (work : Workload) (by : By) (asked : KvsAsk) (c : Command) → ((t : Txn) (d : Command) → ask_of t d ≡ Some asked → d ≡ c) → ask_at work by ≡ Some asked → command_at work by ≡ Some c

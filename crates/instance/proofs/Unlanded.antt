@@ -134,6 +134,7 @@ entry_asked set c (entry.Got i b reference) legal by h = is_no_author by (happen
 entry_asked set c (entry.Dropped i b reference) legal by h = is_no_author by (happened by (top == i) (event.Dropped b reference) h)
 entry_asked set c (entry.Replied a k given number) legal by h = never _ (answered_none by (record { actor = a; command = k }) number (answer_of given) true) h
 entry_asked set c (entry.Told from to) legal by h = is_no_author by h
+entry_asked set c (entry.Ticked second) legal by h = is_no_author by h
 entry_asked set c entry.Closed legal by h = is_no_author by h
 
 -- each command that was carried out or denied has asked

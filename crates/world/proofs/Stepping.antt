@@ -59,6 +59,7 @@ settled_closing set c (entry.Heard i b space number ∷ es) h = absurd h.0
 settled_closing set c (entry.Got i b reference ∷ es) h = absurd h.0
 settled_closing set c (entry.Dropped i b reference ∷ es) h = absurd h.0
 settled_closing set c (entry.Told from to ∷ es) h = absurd h.0
+settled_closing set c (entry.Ticked second ∷ es) h = absurd h.0
 settled_closing set c (entry.Closed ∷ es) h = absurd h.0
 
 -- the world behind its end
