@@ -1,0 +1,6 @@
+mod Dotted
+mod Landing
+mod Due
+mod Following
+mod Steps
+mod Tested

@@ -1,0 +1,6 @@
+use Rattle.std.proofs.Common.{sym, subst}
+use Rattle.kvs_core.specs.Agrees.{Agrees}
+use Rattle.job_manager.proofs.manager.Manager.take.Goals as goal
+
+pub returns-clause-agrees : goal.returns-clause-agrees
+returns-clause-agrees c = λ set log a. c.take-held.ensures.agrees set log (subst (λ v. Agrees v.core set log) (sym c.self.view_is) a)

@@ -1,0 +1,5 @@
+pub mod Posts
+pub mod Value
+pub mod Managed
+pub mod Follows
+pub mod View

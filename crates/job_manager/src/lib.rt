@@ -1,0 +1,15 @@
+//! The job manager of an instance over its key-value service: what it posts, and its book, which follows what lands (Flux
+//! RFC 16, 20, 21 and 25).
+#![tactic(auto)]
+
+mod keys;
+pub mod laws;
+pub mod manager;
+pub mod post;
+#[cfg(test)]
+mod tests;
+mod txns;
+
+pub use laws::what_lands_is_due;
+pub use manager::Manager;
+pub use post::{Post, Submission};
