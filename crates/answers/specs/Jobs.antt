@@ -1,13 +1,15 @@
 -- The top instance of a run with its jobs and its time: what its commands on jobs ask, which replies
 -- are theirs, and its log.
-use Rattle.std.specs.Prelude.{ℕ, List, [], ◌∷◌, ◌++◌, Option, Some, None, IfSome, is_some, map, option_and_then, option_map, if◌then◌else◌}
-use Rattle.std.specs.List.{cons_option}
+use Rattle.std.specs.Prelude.{◌≡◌, ◌<◌, ◌^◌, ℕ, List, [], ◌∷◌, ◌++◌, Option, Some, None, IfSome, false, is_some, map, option_and_then, option_map, if◌then◌else◌}
+use Rattle.std.specs.List.{AllByRecursion as Each, cons_option}
 use Rattle.std.specs.Option.{option_map_or}
 use Rattle.kvs_txn.specs.declared.txn.By.{By}
-use Rattle.resource_set.specs.declared.node.Resources.{Resources}
+use Rattle.job_rules.specs.Fits.{IsGrant}
+use Rattle.resource_set.specs.Writing.{r_text}
 use Rattle.tap.specs.declared.Ask.{Ask}
 use Rattle.instance_rules.specs.Log as rules
-use Rattle.instance_rules.specs.Log.{Instance, JobAsk, JobReply, Key, JobspecKey, RKey, LogKey, Log, Moment, Named, Served, Issued, Replied, Ticked}
+use Rattle.instance_rules.specs.Log.{Instance, JobAsk, JobReply, Key, JobspecKey, RKey, LogKey, Log, Moment, Named, Served, Issued, Replied, Ticked, IsInRange, now_of}
+use Rattle.instance_rules.specs.Family.{IsTarget, Living, MayTick}
 use Rattle.instance_rules.specs.Legal.{IsLegalMoment}
 use Rattle.answers.specs.declared.chronicle.Entry.{Entry}
 use Rattle.answers.specs.declared.chronicle.Entry.TheVariants as entry
@@ -76,19 +78,17 @@ job_reply_of _ = None
 
 -- ---- the instance and its log
 
--- what the manager of the top instance is given besides: the resources of the run's grant, and what
--- the tap answers
-pub record Managing : Type 0 where
-  pub grant : Resources
-  pub answer : Ask → ℕ
+-- what everyone's job is given as its priority, as long as no run keeps a callback that says more
+abbrev pub default_priority : Ask → ℕ
+default_priority ask = 16
 
 -- the top instance, in which all actors stand, and which is born with the run
-abbrev pub instance_of : Setup → Managing → Instance
-instance_of set given = record {
+abbrev pub instance_of : Setup → Instance
+instance_of set = record {
   service = setting_of set;
   birth = 0;
-  grant = given.grant;
-  answer = given.answer;
+  grant = set.resources;
+  answer = default_priority;
   asks = job_ask_at set.work;
   rank = λ by. broker_of set.work by.actor;
 }
@@ -117,6 +117,50 @@ abbrev pub log_in : Workload → List Entry → Log
 log_in work c = happenings_after work [] c
 
 -- what an entry is to the instance may follow its log
-abbrev pub IsLegalHappening : Setup → Managing → List Entry → Entry → Type 0
-IsLegalHappening set given c e = IfSome (happening_of set.work c e)
-    (IsLegalMoment (instance_of set given) (log_in set.work c))
+abbrev pub IsLegalHappening : Setup → List Entry → Entry → Type 0
+IsLegalHappening set c e = IfSome (happening_of set.work c e)
+    (IsLegalMoment (instance_of set) (log_in set.work c))
+
+-- what a run is given fits together: the text is that of the resources, and the numbers and texts of
+-- commands on jobs are within their ranges
+pub record IsSetup (set : Setup) : Type 0 where
+  pub text : set.grant ≡ r_text set.resources
+  pub grant : IsGrant set.resources.nodes
+  pub asks : (by : By) (ask : JobAsk) → job_ask_at set.work by ≡ Some ask → (by.actor < 2 ^ 32)
+      × IsInRange ask
+
+-- ---- time
+
+-- the second that it is
+abbrev pub second_of : Setup → List Entry → ℕ
+second_of set c = now_of (instance_of set) (log_in set.work c)
+
+-- the top instance as one that lives: no job is its own, and nobody shuts it down
+abbrev pub living_of : Setup → List Entry → Living
+living_of set c = record {
+  number = top;
+  inst = instance_of set;
+  log = log_in set.work c;
+  from = None;
+  shuts = false;
+}
+
+-- the instances that live: the top one alone, until jobs have children
+abbrev pub family_of : Setup → List Entry → List Living
+family_of set c = living_of set c ∷ []
+
+-- time goes on to this second: nothing is due, an advance is open, and nothing that it waits for
+-- comes before
+pub record IsLegalTick (set : Setup) (c : List Entry) (second : ℕ) : Type 0 where
+  pub happens : IsLegalHappening set c (entry.Ticked second)
+  pub may : MayTick (family_of set c) (second_of set c) [] second
+
+-- no advance waits for its second
+abbrev pub HasNoAdvance : Setup → List Entry → Type 0
+HasNoAdvance set c = (target : ℕ) → IsTarget (family_of set c) [] target → ⊥
+
+-- ---- workloads
+
+-- no command of the workload is about jobs or time
+abbrev pub IsWithoutJobs : Workload → Type 0
+IsWithoutJobs work = Each (λ line. job_ask_of line.command ≡ None) work.lines

@@ -1,0 +1,94 @@
+-- What no chronicle with jobs can hold: a submission that is told before it lands, a post of the
+-- manager with nothing due, a tick without an advance.
+use Rattle.std.proofs.Common.{◌≡◌, ℕ, zero, suc, ◌<◌, inl, inr, List, [], ◌∷◌, true, false, Some, None, refl, sym, subst, arith, true≢false, codes, ◌∙◌}
+use Rattle.std.specs.Prelude.{Contains, Option}
+use Rattle.std.specs.List.{AllByRecursion as Each}
+use Rattle.fl_digest.specs.declared.Hash.TheVariants as hash
+use Rattle.kvs_txn.specs.declared.txn.Author.TheVariants as author
+use Rattle.kvs_txn.specs.declared.txn.By.{By}
+use Rattle.kvs_txn.specs.declared.txn.Group.{Group}
+use Rattle.kvs_model.specs.History.{first_store}
+use Rattle.kvs_rules.specs.Log.{same_command}
+use Rattle.kvs_rules.specs.Namespaces.{primary}
+use Rattle.kvs_rules.proofs.Asking.{command_is}
+use Rattle.manager_rules.specs.Jobs.{IsStored, StoredJob}
+use Rattle.manager_rules.specs.Keys.{job_path}
+use Rattle.manager_rules.specs.Posts.{Desk, Post, Submits, Does, IsDuePost}
+use Rattle.instance_rules.specs.Desks.{IsDeskOf, IsDueAt}
+use Rattle.instance_rules.specs.Family.{IsTarget, HasTarget, Living}
+use Rattle.instance_rules.specs.Log as rules
+use Rattle.resource_set.specs.declared.node.Resources.{Resources}
+use Rattle.workload.specs.declared.work.Command.TheVariants as command
+use Rattle.workload.specs.declared.work.Workload.{Workload}
+use Rattle.answers.specs.declared.chronicle.Entry.{Entry}
+use Rattle.answers.specs.declared.chronicle.Entry.TheVariants as entry
+use Rattle.answers.specs.declared.chronicle.Reply.TheVariants as reply
+use Rattle.answers.specs.Chronicle.{Setup}
+use Rattle.answers.specs.Jobs.{family_of, instance_of, job_ask_at, living_of, log_in}
+use Rattle.answers.specs.Legal.{IsLegalEntry}
+use Rattle.answers.proofs.JobLogs.{only}
+use Rattle.answers.proofs.Services.{or_cases}
+
+abbrev work : Workload
+work = record {
+  actors = record { name = codes "a"; rank = 0; of = None } ∷ [];
+  lines =
+      record { actor = 0; command = command.Submit (codes "j") 16 [] (codes "{}") }
+      ∷ record { actor = 0; command = command.Advance 10 }
+      ∷ [];
+  grant = None;
+}
+
+abbrev no_resources : Resources
+no_resources = record { nodes = []; starttime = 0; expiration = 0 }
+
+abbrev setup : Setup
+setup = record { size = 1; fanout = 2; hash = hash.Sha1; grant = codes "grant"; resources = no_resources; work = work }
+
+abbrev e1 : Entry
+e1 = entry.Issued 0 0
+
+-- a submission is not told before its landing
+no_forged_submission : (id number : ℕ) → IsLegalEntry setup (e1 ∷ []) (entry.Replied 0 0 (reply.Submitted id) (Some number)) → ⊥
+no_forged_submission id number h =
+    let there = h.grounds.grounds.1.0.landing in
+    let none : there.0 < 0 = there.1 in
+    absurd (omega (arith, none))
+
+-- in the first store there is no job
+no_job : (jobs : List StoredJob) → Each (IsStored (first_store (codes "grant"))) jobs → (j : StoredJob) → Contains jobs j → ⊥
+unfolding job_path
+no_job [] h j there = absurd (omega (arith, there.1))
+no_job (x ∷ jobs) h j there = let text = h.0.logged.text in cc
+
+no_open : (by : By) → rules.is_issued by (log_in work []) ≡ true → ⊥
+no_open by h = absurd (true≢false (sym h))
+
+nothing_due : (desk : Desk) → IsDeskOf (instance_of setup) (log_in work []) (first_store (codes "grant")) desk → (post : Post) → IsDuePost desk post → ⊥
+nothing_due desk is (Submits x) due = no_open due.from.by ((is.submits due.from).0 due.waits).pending.waits.issued
+nothing_due desk is (Does d) due = no_job desk.scene.jobs is.jobs.stored due.j due.known
+
+-- where nothing is due the manager posts nothing
+abbrev post : Group
+post = record { txn = record { author = author.Manager; ops = [] }; authors = [] }
+
+no_idle_post : (number : ℕ) (authors : List (Option By)) → IsLegalEntry setup [] (entry.Landed 0 primary number authors (post ∷ [])) → ⊥
+no_idle_post number authors h =
+    let due : IsDueAt (instance_of setup) (log_in work []) (first_store (codes "grant")) post = (h.grounds.2 refl (first_store (codes "grant")) refl).0 in
+    nothing_due due.desk due.is due.post due.due
+
+-- time stands where no advance is open
+same_ask : (seconds : ℕ) → job_ask_at work (record { actor = 0; command = 0 }) ≡ Some (rules.Advance seconds) → ⊥
+same_ask seconds e = cc
+
+no_target : (target : ℕ) → HasTarget (living_of setup (e1 ∷ [])) target → ⊥
+no_target target h = elim (or_cases (same_command h.by (record { actor = 0; command = 0 })) false h.waits.issued) [
+  | inl own ↦ same_ask h.seconds (subst (λ b. job_ask_at work b ≡ Some (rules.Advance h.seconds)) (command_is h.by (record { actor = 0; command = 0 }) own) h.asks)
+  | inr none ↦ absurd (true≢false (sym none))
+]
+
+no_idle_tick : (second : ℕ) → IsLegalEntry setup (e1 ∷ []) (entry.Ticked second) → ⊥
+no_idle_tick second h = elim h.grounds.may.wanted [
+  | inl t ↦ no_target h.grounds.may.target (subst (λ l. HasTarget l h.grounds.may.target) (only (living_of setup (e1 ∷ [])) t.0 t.1) t.2)
+  | inr left ↦ absurd (omega (arith, left.1))
+]

@@ -1,0 +1,264 @@
+-- Where a workload has no command on jobs or time, no job stands in the store, the manager has
+-- nothing to do, and nothing keeps a run from its end.
+use Rattle.std.proofs.Common.{◌≡◌, ◌⊎◌, inl, inr, ℕ, suc, ◌<◌, List, [], ◌∷◌, ◌++◌, Bool, true, false, cond, length, Option, Some, None, option_map, unwrap_or, Result, Ok, Err, refl, sym, ap, ap₂, ◌∙◌, subst, arith, append-nil}
+use Rattle.std.specs.Prelude.{Contains, IfSome, is_some, option_and_then}
+use Rattle.std.specs.Option.{option_map_or}
+use Rattle.std.specs.List.{AllByRecursion as Each, cons_option}
+use Rattle.std.proofs.lemmas.List.{length-append}
+use Rattle.kvs_txn.specs.declared.answers.Refusal.{Refusal}
+use Rattle.kvs_txn.specs.declared.txn.Author.{Author}
+use Rattle.kvs_txn.specs.declared.txn.Author.TheVariants as author
+use Rattle.kvs_txn.specs.declared.txn.By.{By}
+use Rattle.kvs_txn.specs.declared.txn.Group.{Group}
+use Rattle.kvs_txn.specs.declared.txn.Scope.TheVariants as scope
+use Rattle.kvs_model.specs.History.{after, after_groups, first_store, landed_on}
+use Rattle.kvs_model.specs.Operation.{effect}
+use Rattle.kvs_model.specs.Store.{Store}
+use Rattle.kvs_rules.specs.declared.events.KvsEvent.TheVariants as event
+use Rattle.kvs_rules.specs.Landings.{IsAdvance, IsLegalLanding, IsManagers, IsUser, IsUsers}
+use Rattle.kvs_rules.specs.Log as service
+use Rattle.kvs_rules.specs.Log.{Asked, Happened}
+use Rattle.kvs_rules.specs.Namespaces.{groups_landed, landed, landings, newest_store, number_landed, primary}
+use Rattle.kvs_rules.specs.Quiet.{AreAllTold}
+use Rattle.kvs_rules.specs.Sequence.{EachAfter, latest}
+use Rattle.kvs_rules.proofs.Logs.{landed_push, number_or_not, own_number}
+use Rattle.kvs_rules.proofs.Sequences.{each_along}
+use Rattle.kvs_rules.proofs.Stores.{after_push, landings_push}
+use Rattle.store_laws.specs.Reserved.{IsUserAuthor}
+use Rattle.manager_rules.specs.declared.asked.Asked.{Asked as Want}
+use Rattle.manager_rules.specs.declared.asked.Asked.TheVariants as asked
+use Rattle.manager_rules.specs.Jobs.{AreJobsOf, StoredJob}
+use Rattle.manager_rules.specs.Posts.{Desk, Post, Submits, Does, IsDuePost}
+use Rattle.manager_rules.specs.Times.{IsIdle}
+use Rattle.manager_rules.proofs.Others.{first_jobs}
+use Rattle.manager_rules.proofs.Stores.{users_leave_jobs}
+use Rattle.manager_rules.proofs.Unique.{jobs_are_one}
+use Rattle.instance_rules.specs.Desks.{AreDueFrom, IsDeskOf, IsDueFor, StandsAsked}
+use Rattle.instance_rules.specs.Family.{IsEndOf, Living, MayClose, OfLiving}
+use Rattle.instance_rules.specs.Legal.{IsDueEvent, OfDesk}
+use Rattle.instance_rules.specs.Log as rules
+use Rattle.instance_rules.specs.Log.{JobAsk, JobReply, Log, Moment, Issued, Replied, Served, child_of, child_told, now_of, service_of}
+use Rattle.workload.specs.declared.work.Workload.{Workload}
+use Rattle.answers.specs.declared.chronicle.Entry.{Entry}
+use Rattle.answers.specs.declared.chronicle.Entry.TheVariants as entry
+use Rattle.answers.specs.Chronicle.{Setup, top}
+use Rattle.answers.specs.Jobs.{IsWithoutJobs, default_priority, family_of, happening_of, happenings_after, instance_of, job_ask_at, job_reply_of, living_of, log_in}
+use Rattle.answers.specs.Legal.{IsLegal, IsLegalEntry}
+use Rattle.answers.specs.Services.{log_of, moment_of, setting_of}
+use Rattle.answers.specs.Whole.{HasToldAll}
+use Rattle.answers.proofs.Carried.{lands_so, legal_in}
+use Rattle.answers.proofs.JobLogs.{asks_nothing, no_advance, only, service_kept}
+use Rattle.answers.proofs.Services.{log_push}
+
+none_in : {A P : Type 0} (x : A) → Contains [] x → P
+none_in x h = absurd (omega (arith, h.1))
+
+as_user : (who : Author) → IsUser who → IsUserAuthor who
+as_user (author.User id) h = tt
+as_user author.Manager h = h
+
+-- ---- no child lives
+
+module _ (id : ℕ) where
+  abbrev told_of : Option Moment → Option (Option (Bool × Bool))
+  told_of None = None
+  told_of (Some m) = child_told id m
+
+  served_tells : (o : Option service.Moment) → told_of (option_map Served o) ≡ None
+  served_tells None = refl
+  served_tells (Some m) = refl
+
+  issued_tells : (by : By) (b : Bool) (o : Option service.Moment) → told_of (cond b (Some (Issued by)) (option_map Served o)) ≡ None
+  issued_tells by true o = refl
+  issued_tells by false o = served_tells o
+
+  replied_tells : (by : By) (number : Option ℕ) (r : Option JobReply) (o : Option service.Moment) → told_of (option_map_or (λ x. Some (Replied by x number)) r (option_map Served o)) ≡ None
+  replied_tells by number None o = served_tells o
+  replied_tells by number (Some x) o = refl
+
+  entry_tells : (work : Workload) (c : List Entry) (e : Entry) → told_of (happening_of work c e) ≡ None
+  entry_tells work c (entry.Issued actor number) = issued_tells (record { actor = actor; command = number }) (is_some (job_ask_at work (record { actor = actor; command = number }))) (moment_of work top c (entry.Issued actor number))
+  entry_tells work c (entry.Replied actor number given at_) = replied_tells (record { actor = actor; command = number }) at_ (job_reply_of given) (moment_of work top c (entry.Replied actor number given at_))
+  entry_tells work c (entry.Ticked second) = refl
+  entry_tells work c e = served_tells (moment_of work top c e)
+
+  skips : (o : Option Moment) (log : Log) → told_of o ≡ None → latest (child_told id) None (cons_option o log) ≡ latest (child_told id) None log
+  skips None log e = refl
+  skips (Some m) log e = ap (λ x. latest (child_told id) (unwrap_or x None) log) e
+
+  after_tells : (work : Workload) (c xs : List Entry) → latest (child_told id) None (happenings_after work c xs) ≡ None
+  after_tells work c [] = refl
+  after_tells work c (e ∷ xs) = skips (happening_of work c e) (happenings_after work (c ++ e ∷ []) xs) (entry_tells work c e) ∙ after_tells work (c ++ e ∷ []) xs
+
+  no_child : (work : Workload) (c : List Entry) → child_of (log_in work c) id ≡ None
+  no_child work c = after_tells work [] c
+
+-- ---- the moments that land nothing in `primary`
+
+no_groups : (m : service.Moment) → number_landed primary m ≡ None → groups_landed primary m ≡ None
+no_groups (Asked by floor) e = refl
+no_groups (Happened (event.Landed other number authors [])) e = refl
+no_groups (Happened (event.Landed other number authors (g ∷ gs))) e = apart (Rattle.std.specs.Str.bytes_eq primary other) e
+  where
+    apart : (b : Bool) → cond b (Some number) None ≡ None → cond b (Some (g ∷ gs)) None ≡ None
+    apart true e = cc
+    apart false e = refl
+no_groups (Happened (event.Denied space authors group refusal)) e = refl
+no_groups (Happened (event.Heard broker space number)) e = refl
+no_groups (Happened (event.Got broker reference)) e = refl
+no_groups (Happened (event.Dropped broker reference)) e = refl
+no_groups (Happened (event.Answered by number given)) e = refl
+
+same_one : (x y : Store) → Some x ≡ Some y → x ≡ y
+same_one x y e = cc
+
+module _ (set : Setup) (without : IsWithoutJobs set.work) where
+  none_asked : (by : By) (ask : JobAsk) → job_ask_at set.work by ≡ Some ask → ⊥
+  none_asked by ask e = let never : ◌≡◌ {A = Option JobAsk} None (Some ask) = sym (asks_nothing set.work without by) ∙ e in cc
+
+  -- ---- a store without jobs
+
+  post_none : (log : Log) (st : Store) → AreJobsOf st [] → (desk : Desk) → IsDeskOf (instance_of set) log st desk → (post : Post) → IsDuePost desk post → ⊥
+  post_none log st are desk is (Submits x) due = none_asked due.from.by _ ((is.submits due.from).0 due.waits).asks
+  post_none log st are desk is (Does d) due = none_in due.j (subst (λ js. Contains js due.j) (jobs_are_one st desk.scene.jobs [] is.jobs are) due.known)
+
+  due_none : (log : Log) (st : Store) → AreJobsOf st [] → (group : Group) (who : Author) → who ≡ author.Manager → IsDueFor (instance_of set) log st group who → ⊥
+  due_none log st are group author.Manager e due = post_none log st are due.desk due.is due.post due.due
+  due_none log st are group (author.User id) e due = cc
+
+  abbrev Kinds : List Group → Type 0
+  Kinds groups = Each (λ group. IsUsers (setting_of set) primary group ⊎ IsManagers (setting_of set) primary group) groups
+
+  groups_leave : (log : Log) (groups : List Group) (st new : Store) → AreJobsOf st [] → Kinds groups → AreDueFrom (instance_of set) log groups st → after_groups scope.Primary groups st ≡ Some new → AreJobsOf new []
+  groups_leave log [] st new are kinds due made = subst (λ s. AreJobsOf s []) (same_one st new made) are
+  groups_leave log (group ∷ groups) st new are kinds due made = on (effect st group.txn scope.Primary) refl (λ mid are2 due2 made2. groups_leave log groups mid new are2 kinds.1 due2 made2) due.1 made
+    where
+      leaves : (mid : Store) → effect st group.txn scope.Primary ≡ Ok mid → IsUsers (setting_of set) primary group ⊎ IsManagers (setting_of set) primary group → AreJobsOf mid []
+      leaves mid e (inl u) = users_leave_jobs st mid group.txn [] (as_user group.txn.author u.0) e are
+      leaves mid e (inr m) = absurd (due_none log st are group group.txn.author m.author due.0)
+
+      on : (r : Result Store Refusal) → effect st group.txn scope.Primary ≡ r
+          → ((mid : Store) → AreJobsOf mid [] → AreDueFrom (instance_of set) log groups mid → after_groups scope.Primary groups mid ≡ Some new → AreJobsOf new [])
+          → IfSome (landed_on r) (AreDueFrom (instance_of set) log groups) → option_and_then (λ mid. after_groups scope.Primary groups mid) (landed_on r) ≡ Some new → AreJobsOf new []
+      on (Ok mid) e more later m = more mid (leaves mid e kinds.0) later m
+      on (Err why) e more later m = cc
+
+  -- the newest store of `primary` is one without jobs
+  pub record HasNoJobs (log : service.Log) : Type 0 where
+    pub counted : landed log primary ≡ length (landings log primary)
+    pub store : Store
+    pub stands : newest_store (setting_of set) log primary ≡ Some store
+    pub are : AreJobsOf store []
+
+  begins : HasNoJobs []
+  begins = record { counted = refl; store = first_store set.grant; stands = refl; are = first_jobs set.grant }
+
+  passes : (log : service.Log) (m : service.Moment) → number_landed primary m ≡ None → HasNoJobs log → HasNoJobs (log ++ m ∷ [])
+  passes log m e h =
+      let number : landed (log ++ m ∷ []) primary ≡ landed log primary = landed_push log m primary ∙ ap (λ o. unwrap_or o (landed log primary)) e in
+      let same : landings (log ++ m ∷ []) primary ≡ landings log primary = landings_push log m primary ∙ ap (λ o. landings log primary ++ cons_option o []) (no_groups m e) ∙ append-nil _ in
+      record {
+        counted = number ∙ h.counted ∙ ap length (sym same);
+        store = h.store;
+        stands = ap₂ (λ ls k. after scope.Primary ls k (first_store set.grant)) same number ∙ h.stands;
+        are = h.are;
+      }
+
+  advances : (c : List Entry) (log : service.Log) (number : ℕ) (authors : List (Option By)) (groups : List Group) → log ≡ service_of (log_in set.work c) → HasNoJobs log → IsAdvance (setting_of set) log primary number authors groups
+      → IsDueEvent (instance_of set) (log_in set.work c) (event.Landed primary number authors groups) → HasNoJobs (log ++ Happened (event.Landed primary number authors groups) ∷ [])
+  advances c log number authors [] same h a due = absurd (a.some refl)
+  advances c log number authors (g ∷ gs) same h a due =
+      let m = Happened (event.Landed primary number authors (g ∷ gs)) in
+      let ls = landings log primary in
+      let more : landings (log ++ m ∷ []) primary ≡ ls ++ (g ∷ gs) ∷ [] = landings_push log m primary in
+      let count : landed (log ++ m ∷ []) primary ≡ suc (length ls) = landed_push log m primary ∙ ap (λ o. unwrap_or o (landed log primary)) (own_number primary number authors (g ∷ gs)) ∙ a.next ∙ ap suc h.counted in
+      let long : length (ls ++ (g ∷ gs) ∷ []) ≡ suc (length ls) = length-append ls ((g ∷ gs) ∷ []) ∙ (omega arith) in
+      let old : h.store ≡ a.old = same_one h.store a.old (sym h.stands ∙ a.standing) in
+      let stood : after scope.Primary ls (length ls) (first_store set.grant) ≡ Some h.store = ap (λ k. after scope.Primary ls k (first_store set.grant)) (sym h.counted) ∙ h.stands in
+      let made : after_groups scope.Primary (g ∷ gs) h.store ≡ Some a.new = ap (after_groups scope.Primary (g ∷ gs)) old ∙ a.made in
+      let here : newest_store (setting_of set) (service_of (log_in set.work c)) primary ≡ Some h.store = ap (λ l. newest_store (setting_of set) l primary) (sym same) ∙ h.stands in
+      record {
+        counted = count ∙ sym long ∙ ap length (sym more);
+        store = a.new;
+        stands = ap₂ (λ l k. after scope.Primary l k (first_store set.grant)) more count ∙ after_push scope.Primary ls (g ∷ gs) (first_store set.grant) h.store stood ∙ made;
+        are = groups_leave (log_in set.work c) (g ∷ gs) h.store a.new h.are a.kinds (due refl h.store here) made;
+      }
+
+  lands : (c : List Entry) (log : service.Log) (number : ℕ) (authors : List (Option By)) (groups : List Group) → log ≡ service_of (log_in set.work c) → HasNoJobs log → IsLegalLanding (setting_of set) log primary number authors groups
+      → IsDueEvent (instance_of set) (log_in set.work c) (event.Landed primary number authors groups) → HasNoJobs (log ++ Happened (event.Landed primary number authors groups) ∷ [])
+  lands c log number authors groups same h legal due = elim legal.form [
+    | inl o ↦ let e : true ≡ false = o.unused in cc
+    | inr more ↦ elim more [
+      | inl r ↦ let e : true ≡ false = r.other in cc
+      | inr a ↦ advances c log number authors groups same h a due
+    ]
+  ]
+
+  pushed : (c : List Entry) (e : Entry) (o : Option service.Moment) → moment_of set.work top c e ≡ o → IsLegalEntry set c e → HasNoJobs (log_of set.work top c) → HasNoJobs (log_of set.work top c ++ cons_option o [])
+  pushed c e None is legal h = subst HasNoJobs (sym (append-nil (log_of set.work top c))) h
+  pushed c e (Some m) is legal h = elim (number_or_not primary m) [
+    | inl none ↦ passes (log_of set.work top c) m none h
+    | inr l ↦
+        let so = lands_so set c e l.number l.authors l.groups (is ∙ ap (λ x. Some x) l.is) in
+        let it : IsLegalEntry set c (entry.Landed so.instance primary l.number l.authors l.groups) = subst (IsLegalEntry set c) so.is legal in
+        let kept = service_kept set.work c in
+        let landing : IsLegalLanding (setting_of set) (log_of set.work top c) primary l.number l.authors l.groups = subst (λ x. IsLegalLanding (setting_of set) x primary l.number l.authors l.groups) kept (legal_in set c so.instance primary l.number l.authors l.groups it) in
+        subst (λ x. HasNoJobs (log_of set.work top c ++ x ∷ [])) (sym l.is) (lands c (log_of set.work top c) l.number l.authors l.groups (sym kept) h landing it.grounds.2)
+  ]
+
+  pub no_jobs : (c : List Entry) → IsLegal set c → HasNoJobs (log_of set.work top c)
+  no_jobs c legal =
+      each_along (IsLegalEntry set) (λ d. HasNoJobs (log_of set.work top d))
+      (λ d e before h again. subst HasNoJobs (sym (log_push set.work top d e)) (pushed d e (moment_of set.work top d e) refl h again))
+      [] c tt legal begins
+
+  -- ---- the end
+
+  module _ (d : List Entry) where
+    abbrev desk_there : Desk
+    desk_there = record {
+      scene = record { now = now_of (instance_of set) (log_in set.work d); grant = set.resources; jobs = []; asked = []; answer = default_priority };
+      birth = 0;
+      submits = [];
+    }
+
+    none_stands : (a : Want) → StandsAsked (instance_of set) (log_in set.work d) a → ⊥
+    none_stands (asked.Cancel by job) h = none_asked by _ h.asks
+    none_stands (asked.Raise by job kind severity note) h = none_asked by _ h.asks
+    none_stands (asked.Urgency by job urgency) h = none_asked by _ h.asks
+    none_stands (asked.Child job living shut) h = let never : ◌≡◌ {A = Option (Bool × Bool)} None (Some (living, shut)) = sym (no_child job set.work d) ∙ h in cc
+
+    desk_is : (st : Store) → AreJobsOf st [] → IsDeskOf (instance_of set) (log_in set.work d) st desk_there
+    desk_is st are = record {
+      now = refl;
+      grant = refl;
+      answer = refl;
+      birth = refl;
+      jobs = are;
+      asked = λ a. (λ i. none_in a i, λ s. absurd (none_stands a s));
+      submits = λ x. (λ i. none_in x i, λ s. absurd (none_asked x.by _ s.asks));
+    }
+
+    is_idle : IsIdle desk_there
+    is_idle = record { posts = λ post due. nothing post due; births = λ id due. none_in due.j due.known }
+      where
+        nothing : (post : Post) → IsDuePost desk_there post → ⊥
+        nothing (Submits x) due = none_in due.from due.waits
+        nothing (Does x) due = none_in due.j due.known
+
+    rests : HasNoJobs (log_of set.work top d) → OfDesk (instance_of set) (log_in set.work d) IsIdle
+    rests h = (h.store, ap (λ l. newest_store (setting_of set) l primary) (service_kept set.work d) ∙ h.stands, (desk_there, desk_is h.store h.are, is_idle))
+
+    no_end : (l : Living) → Contains (family_of set d) l → IsEndOf (family_of set d) l → ⊥
+    no_end l here end = let never : ◌≡◌ {A = Option (ℕ × ℕ)} None (Some (end.parent.number, end.job)) = ap (λ x. x.from) (sym (only (living_of set d) l here)) ∙ end.from in cc
+
+    -- nothing is due, all are told, and no advance waits, where the service's log is that of a legal chronicle
+    pub may_close : (c : List Entry) → IsLegal set c → log_of set.work top d ≡ log_of set.work top c → HasToldAll set d → MayClose (family_of set d) []
+    may_close c legal same told = record {
+      idle = record {
+        idle = λ l here. subst (λ x. OfLiving x IsIdle) (sym (only (living_of set d) l here)) (rests (subst HasNoJobs (sym same) (no_jobs c legal)));
+        stays = no_end;
+      };
+      told = λ l here. subst (λ x. AreAllTold x.inst.service (service_of x.log)) (sym (only (living_of set d) l here)) (subst (AreAllTold (setting_of set)) (sym (service_kept set.work d)) told);
+      advanced = no_advance set without d;
+    }
