@@ -9,6 +9,7 @@ use Rattle.std.proofs.lemmas.Option.{slice_get-get_or}
 use Rattle.std.proofs.lemmas.List.Elements.{All-push}
 use Rattle.kvs_txn.specs.declared.txn.By.{By}
 use Rattle.kvs_rules.specs.declared.events.KvsAsk.{KvsAsk}
+use Rattle.kvs_rules.specs.declared.events.KvsAsk.TheVariants as ask
 use Rattle.kvs_rules.specs.Sequence.{until}
 use Rattle.kvs_rules.specs.Log.{Log, Moment, Asked, asks_now, lands_now, denies_now, answers_now, floor_at, is_asked}
 use Rattle.kvs_rules.specs.Namespaces.{Setting, Request, landed}
@@ -22,7 +23,7 @@ use Rattle.kvs_model.specs.Store.{Name}
 use Rattle.kvs_core.specs.declared.service.Request.{Request as Request₀}
 use Rattle.kvs_core.specs.declared.service.Request.TheVariants as request
 use Rattle.kvs_core.specs.Requests.{IsKnown, IsMade, IfAsked}
-use Rattle.kvs_requests.specs.Rows.{IsKnownAsk, AtPlace, IsPlaced, ArePlaced, awaited}
+use Rattle.kvs_requests.specs.Rows.{is_about_contents, IsKnownAsk, AtPlace, IsPlaced, ArePlaced, awaited}
 use Rattle.kvs_requests.specs.declared.rows.Stage.{Stage}
 use Rattle.kvs_requests.specs.Stages.{joined_in}
 use Rattle.kvs_space.specs.Space.{SpaceValue, number_of, known_at, name_at, carries, queued, is_named, is_known_to}
@@ -133,10 +134,10 @@ module _ {v : CoreValue} (s : IsSound v) {set₀ : Setting} {log : Log} (a : Agr
     named-there None e = tt
     named-there (Some k) e = known-named s a broker within name k e
 
-    pub asked-row : ((entered : Entrants) (set₁ : Setting) (log₁ : Log) (spaces : List SpaceValue) (by₁ : By) (request : Request) → request.ask ≡ asked → IsUndecided log₁ by₁ → entered by₁ ≡ false → IfSome place (λ k. name_at spaces k ≡ Some request.namespace) → StageAgrees entered set₁ log₁ spaces by₁ request st)
+    pub asked-row : is_about_contents asked ≡ false → ((entered : Entrants) (set₁ : Setting) (log₁ : Log) (spaces : List SpaceValue) (by₁ : By) (request : Request) → request.ask ≡ asked → IsUndecided log₁ by₁ → entered by₁ ≡ false → IfSome place (λ k. name_at spaces k ≡ Some request.namespace) → StageAgrees entered set₁ log₁ spaces by₁ request st)
         → ((j : ℕ) → joined_in j st ≡ false)
         → RowsAgree a.entered set₀ (log ++ Asked by floor ∷ []) v.spaces (v.rows ++ record { by = by; broker = broker; namespace = name; need = need; stage = st } ∷ [])
-    asked-row agrees unjoined =
+    asked-row keys agrees unjoined =
         let m : Moment = Asked by floor in
         let u = a.strange by some fresh in
         let undecided : IsUndecided (log ++ m ∷ []) by = record {
@@ -161,6 +162,7 @@ module _ {v : CoreValue} (s : IsSound v) {set₀ : Setting} {log : Log} (a : Agr
           made = made;
           home = refl;
           inside = refl;
+          keys = keys;
           needed = needed;
           staged = agrees a.entered set₀ (log ++ m ∷ []) v.spaces by request refl undecided (a.outside by fresh) (named-there place found);
           tied = λ j d l. unjoined j ∙ sym (uncarried j d l);
@@ -181,6 +183,16 @@ pub asked-request : (v : CoreValue) (set₀ : Setting) (log : Log) (broker : ℕ
 asked-request v set₀ log broker made-by by space floor asked is made P h =
     let m = subst (IsMade set₀ broker) is made in
     subst (λ r. IfAsked v set₀ log r P) (sym is) (λ fresh. h m fresh)
+
+-- what the core carries out isn't about contents
+pub known-keys : (asked : KvsAsk) → IsKnownAsk asked → is_about_contents asked ≡ false
+known-keys (ask.Commit txn) h = refl
+known-keys (ask.Fence name count txn) h = refl
+known-keys (ask.Read query path) h = refl
+known-keys (ask.Wait number) h = refl
+known-keys ask.Create h = refl
+known-keys ask.Remove h = refl
+known-keys _ h = absurd h
 
 pub known-ask : (made-by : Request₀) (by : By) (space : Name) (floor : ℕ) (asked : KvsAsk) → made-by ≡ request.Command by space floor asked → IsKnown made-by → IsKnownAsk asked
 known-ask made-by by space floor asked is known = subst IsKnown is known

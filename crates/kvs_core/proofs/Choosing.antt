@@ -59,7 +59,7 @@ leads v found is from to h = by (is_announced v from to) refl
 parent-within : (fanout to size : ℕ) → to < size → parent fanout to < size
 parent-within fanout to size l = let p = parent-le fanout to in omega arith
 
-within : (v : CoreValue) → IsSound v → (from to : ℕ) → can_step v (kvs.Deliver from to) ≡ true → (from < v.size) × (to < v.size)
+pub within : (v : CoreValue) → IsSound v → (from to : ℕ) → can_step v (kvs.Deliver from to) ≡ true → (from < v.size) × (to < v.size)
 within v sound from to h = by (is_announced v from to) refl
   where
     by : (b : Bool) → is_announced v from to ≡ b → (from < v.size) × (to < v.size)

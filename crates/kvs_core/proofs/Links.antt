@@ -104,7 +104,7 @@ linked fanout size spaces from to (stage.Returning a b space asked) h at =
     inr (subst (λ n. 0 < n) f at.0, subst (λ n. n < size) f at.2, ap (parent fanout) (sym f) ∙ sym at.1 ∙ e)
 linked fanout size spaces from to _ h at = cc
 
-link-of : (v : CoreValue) → IsSound v → (from to : ℕ) → can_step v (kvs.Deliver from to) ≡ true
+pub link-of : (v : CoreValue) → IsSound v → (from to : ℕ) → can_step v (kvs.Deliver from to) ≡ true
     → (to ≡ parent v.fanout from) ⊎ ((0 < to) × (to < v.size) × (parent v.fanout to ≡ from))
 link-of v sound from to h = by (is_announced v from to) refl
   where
@@ -118,14 +118,14 @@ link-of v sound from to h = by (is_announced v from to) refl
         any = record { by = record { actor = 0; command = 0 }; broker = 0; namespace = []; need = 0; stage = stage.Joined 0 work.Commit }
 
 -- the brokers below one
-children : (fanout from to : ℕ) → 0 < fanout → 0 < to → parent fanout to ≡ from → (from * fanout + 1 ≤ to) × (to < from * fanout + 1 + fanout)
+pub children : (fanout from to : ℕ) → 0 < fanout → 0 < to → parent fanout to ≡ from → (from * fanout + 1 ≤ to) × (to < from * fanout + 1 + fanout)
 children fanout from to some pos e =
     let whole = div-add-mod' (to - 1) fanout in
     let part = mod_below (to - 1) fanout some in
     let same : parent fanout to * fanout ≡ from * fanout = ap (λ q. q * fanout) e in
     (omega (arith, whole, part, same, pos), omega (arith, whole, part, same, pos))
 
-times-le : (a f : ℕ) → 0 < f → a ≤ a * f
+pub times-le : (a f : ℕ) → 0 < f → a ≤ a * f
 times-le a f some = omega (arith, mul-le-mul_left a some)
 
 -- the deliveries from a broker that can be made

@@ -155,6 +155,7 @@ module _ {v : CoreValue} (s : IsSound v) (i : ℕ) (within : i < length v.rows) 
             made = r.made;
             home = r.home;
             inside = r.inside;
+            keys = r.keys;
             needed = r.needed;
             staged = returning-staged st goes;
             tied = λ j d l. returning-unjoined st goes j ∙ sym (arrived-unjoined row.stage arrived j) ∙ r.tied j d l;

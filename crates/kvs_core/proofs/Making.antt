@@ -15,6 +15,7 @@ silent {s} {old} {new} events none made m = subst (Makes s old new) (sym none) (
   order = m.order;
   extends = m.extends;
   does = m.does;
+  own = tt;
   made = λ set log a. made log;
   legal = λ set log a. tt;
   agrees = λ set log a. subst (Agrees new set) (sym (append-nil log)) (m.agrees set log a);

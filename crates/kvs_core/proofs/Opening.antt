@@ -36,7 +36,7 @@ use Rattle.kvs_core.specs.Value.{CoreValue}
 use Rattle.kvs_space.specs.Sound.{IsSoundSpace, idle}
 use Rattle.kvs_space.specs.Space.{SpaceValue, carries, is_authored, is_named, known_at, live_in, name_at, number_of, queued}
 use Rattle.kvs_space.proofs.Finding.{found-none, set-all, set-kept}
-use Rattle.kvs_core.proofs.Carried.{IsAwaited, all-joined, each-map, map-append, other-commands, waiting}
+use Rattle.kvs_core.proofs.Carried.{space-plain, IsAwaited, all-joined, each-map, map-append, other-commands, waiting}
 use Rattle.kvs_core.proofs.Delivering.{heard-head, heard-legal, heard-rows, named-apart}
 use Rattle.kvs_core.proofs.Heads.{IsElsewhere, IsHead, agrees-of, removed-kept, rows-of, space-kept, untouched-kept}
 use Rattle.kvs_core.proofs.Heard.{no-space}
@@ -111,6 +111,7 @@ module _ (spaces : List SpaceValue) (new : SpaceValue) where
       made = r.made;
       home = r.home;
       inside = r.inside;
+      keys = r.keys;
       needed = r.needed;
       staged = stage-respaced entered entered set₀ log spaces (spaces ++ new ∷ []) name-kept row.by (λ other e. e, refl) r.request row.stage r.staged;
       tied = tied-wide row (unjoined-wide fanout size row.stage place) r.tied;
@@ -197,7 +198,7 @@ module _ {v : CoreValue} (s : IsSound v) (i : ℕ) (within : i < length v.rows) 
     aside by ne = record { asks = refl; answers = refl; lands = or-false _ ∙ differs by row.by ne; denies = refl }
 
     others : (k : ℕ) (d : SpaceValue) → k < length v.spaces → Each (λ b. IsAside b (Happened (event.Landed row.namespace 0 (Some row.by ∷ []) []))) (waiting (queued (get_or v.spaces k d).merger))
-    others k d l = each-map (IsAwaited set₀ v.rows k) (λ b. IsAside b (Happened (event.Landed row.namespace 0 (Some row.by ∷ []) []))) (waiting (queued (get_or v.spaces k d).merger)) (all-joined (rows-of a) k d l (a.spaces k d l).fresh)
+    others k d l = each-map (IsAwaited set₀ v.rows k) (λ b. IsAside b (Happened (event.Landed row.namespace 0 (Some row.by ∷ []) []))) (waiting (queued (get_or v.spaces k d).merger)) (all-joined (rows-of a) k d l (a.spaces k d l).fresh (space-plain (a.spaces k d l)))
         (λ b h. aside b (other-commands (rows-of a) i row within read k (arrived-unjoined row.stage arrived k) b h))
 
     -- the namespace when rank 0 hasn't heard of it yet
@@ -272,6 +273,7 @@ module _ {v : CoreValue} (s : IsSound v) (i : ℕ) (within : i < length v.rows) 
           made = r.made;
           home = r.home;
           inside = r.inside;
+          keys = r.keys;
           needed = need-kept log m row.by r.request row.need grows refl r.asked r.needed;
           staged = (
             staged.1,

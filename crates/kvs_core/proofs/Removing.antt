@@ -35,7 +35,7 @@ use Rattle.kvs_space.specs.Rulings.{IsRemoving}
 use Rattle.kvs_space.specs.Sound.{IsSoundSpace, idle}
 use Rattle.kvs_space.specs.Space.{SpaceValue, carries, is_named, known_at, name_at, queued}
 use Rattle.kvs_space.proofs.Finding.{eq-true, set-all, set-kept}
-use Rattle.kvs_core.proofs.Carried.{IsAwaited, all-joined, each-map, joined-once, other-commands, untrue, waiting}
+use Rattle.kvs_core.proofs.Carried.{space-plain, IsAwaited, all-joined, each-map, joined-once, other-commands, untrue, waiting}
 use Rattle.kvs_core.proofs.Delivering.{heard-head, heard-legal, heard-rows, named-apart, other-names}
 use Rattle.kvs_core.proofs.Heads.{IsElsewhere, IsHead, agrees-of, head-of, head-then, opened-there, rows-of, space-kept}
 use Rattle.kvs_core.proofs.Landing.{any-kept, last-stands, primary-there}
@@ -174,7 +174,7 @@ module _ {v : CoreValue} (s : IsSound v) (i : ℕ) (within : i < length v.rows) 
     aside by ne = record { asks = refl; answers = refl; lands = or-false _ ∙ differs by row.by ne; denies = refl }
 
     others : (j : ℕ) (d : SpaceValue) → j < length v.spaces → Each (λ b. IsAside b (Happened (event.Landed old.name (suc (landed log old.name)) (Some row.by ∷ []) []))) (waiting (queued (get_or v.spaces j d).merger))
-    others j d l = each-map (IsAwaited set₀ v.rows j) (λ b. IsAside b (Happened (event.Landed old.name (suc (landed log old.name)) (Some row.by ∷ []) []))) (waiting (queued (get_or v.spaces j d).merger)) (all-joined (rows-of a) j d l (a.spaces j d l).fresh)
+    others j d l = each-map (IsAwaited set₀ v.rows j) (λ b. IsAside b (Happened (event.Landed old.name (suc (landed log old.name)) (Some row.by ∷ []) []))) (waiting (queued (get_or v.spaces j d).merger)) (all-joined (rows-of a) j d l (a.spaces j d l).fresh (space-plain (a.spaces j d l)))
         (λ b q. aside b (other-commands (rows-of a) i row within read j (arrived-unjoined row.stage arrived j) b q))
 
     -- the namespace when rank 0 hasn't heard of it yet
@@ -259,6 +259,7 @@ module _ {v : CoreValue} (s : IsSound v) (i : ℕ) (within : i < length v.rows) 
           made = r.made;
           home = r.home;
           inside = r.inside;
+          keys = r.keys;
           needed = need-kept log m row.by r.request row.need grows refl r.asked r.needed;
           staged = (
             staged.1,
@@ -324,6 +325,7 @@ module _ {v : CoreValue} (s : IsSound v) (i : ℕ) (within : i < length v.rows) 
         made = ro.made;
         home = ro.home;
         inside = ro.inside;
+        keys = ro.keys;
         needed = need-kept log m one.by ro.request one.need grows refl ro.asked ro.needed;
         staged = falling-agrees v.fanout one.broker a.entered set₀ (log ++ m ∷ []) (set v.spaces k between) one.by ro.request st f (told-none one.stage refl j);
         tied = tied-then one.by st (falling-unjoined v.fanout one.broker st f k)

@@ -1,7 +1,8 @@
 -- What a step does of a core, and what rank 0 takes up in one.
 use Rattle.std.specs.Prelude.{◌≡◌, ℕ, List, [], ◌++◌, Some, None, true, false, map, slice_index_or}
-use Rattle.std.specs.List.{position}
+use Rattle.std.specs.List.{AllByRecursion as Each, position}
 use Rattle.kvs_rules.specs.declared.events.KvsEvent.{KvsEvent}
+use Rattle.kvs_rules.specs.declared.events.KvsEvent.TheVariants as event
 use Rattle.kvs_rules.specs.declared.events.KvsStep.{KvsStep}
 use Rattle.kvs_rules.specs.Answers.{IsLegalAfter}
 use Rattle.kvs_rules.specs.Log.{Log, Happened}
@@ -17,7 +18,14 @@ use Rattle.kvs_core.specs.Steps.{DoesStep}
 use Rattle.kvs_requests.specs.Stages.{is_arrived, kind_of}
 use Rattle.kvs_core.specs.Value.{CoreValue}
 
--- the events of a step: the job manager's transactions land in the order in which they were taken, and after whatever
+-- a landing or a denial in a namespace, or a broker hears a number of one
+abbrev pub IsOfKeys : KvsEvent → Type 0
+IsOfKeys (event.Landed space number authors groups) = Unit {0}
+IsOfKeys (event.Denied space authors group refusal) = Unit {0}
+IsOfKeys (event.Heard broker space number) = Unit {0}
+IsOfKeys _ = ⊥
+
+-- the events of a step: they are of keys alone, the job manager's transactions land in the order in which they were taken, and after whatever
 -- log agrees with the core the events are those that the step may make, they are legal, and the core agrees with both
 pub record Makes (s : KvsStep) (old new : CoreValue) (events : List KvsEvent) : Type 0 where
   pub ready : new.spent ≡ false
@@ -25,6 +33,7 @@ pub record Makes (s : KvsStep) (old new : CoreValue) (events : List KvsEvent) : 
   pub order : posts_landed events ++ posted new ≡ posted old
   pub extends : Extends old new events
   pub does : DoesStep s old new events
+  pub own : Each IsOfKeys events
   pub made : (set : Setting) (log : Log) → Agrees old set log → AreMadeBy log s events
   pub legal : (set : Setting) (log : Log) → Agrees old set log → IsLegalAfter set log (map Happened events)
   pub agrees : (set : Setting) (log : Log) → Agrees old set log → Agrees new set (log ++ map Happened events)

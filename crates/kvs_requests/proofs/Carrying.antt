@@ -39,7 +39,7 @@ module _ (from to : ℕ) (rows : List Row) (i : ℕ) (row : Row) (read : row ≡
   carry-agrees on joined entered set₀ log spaces all =
       let r : RowAgrees entered set₀ log spaces row = subst (RowAgrees entered set₀ log spaces) (sym read) (all.rows i row carry-within) in
       rows-moved all i carry-within (with_stage new row) (λ d. ap (λ x. x.by) read ∙ ap (λ x. x.by) (get_or_default rows i row d carry-within))
-      (record { asked = r.asked; unanswered = r.unanswered; request = r.request; made = r.made; home = r.home; inside = r.inside; needed = r.needed; staged = on entered set₀ log spaces row.by r.request (subst (StageAgrees entered set₀ log spaces row.by r.request) (sym was) r.staged); tied = λ k d l. joined k ∙ ap (joined_in k) was ∙ r.tied k d l })
+      (record { asked = r.asked; unanswered = r.unanswered; request = r.request; made = r.made; keys = r.keys; home = r.home; inside = r.inside; needed = r.needed; staged = on entered set₀ log spaces row.by r.request (subst (StageAgrees entered set₀ log spaces row.by r.request) (sym was) r.staged); tied = λ k d l. joined k ∙ ap (joined_in k) was ∙ r.tied k d l })
 
   pub carry-is : (fanout : ℕ) → GoesOn fanout to row.broker st new → IsCarried fanout from to rows (set rows i (with_stage new row))
   carry-is fanout goes = record {

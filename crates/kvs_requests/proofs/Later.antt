@@ -304,6 +304,7 @@ row-kept entered set log spaces m row grows upholds aside h = record {
   made = h.made;
   home = h.home;
   inside = h.inside;
+  keys = h.keys;
   needed = need-kept log m row.by h.request row.need grows aside.asks h.asked h.needed;
   staged = stage-kept set row.by log m aside grows h.asked entered spaces upholds h.request row.stage h.staged;
   tied = h.tied;

@@ -27,7 +27,7 @@ use Rattle.kvs_space.specs.Space.{SpaceValue, is_authored, carries, name_at}
 use Rattle.kvs_requests.specs.declared.rows.Stage.{Stage}
 use Rattle.kvs_requests.specs.declared.rows.Stage.TheVariants as stage
 use Rattle.kvs_requests.specs.Agreement.{Entrants, IsMadeAnswer, IsUpheld, MayTell, RowAgrees, RowsAgree, StageAgrees, IsStrange}
-use Rattle.kvs_requests.specs.Rows.{AreApart}
+use Rattle.kvs_requests.specs.Rows.{AreApart, asks_contents}
 use Rattle.kvs_space.proofs.Finding.{set-all, set-kept}
 use Rattle.kvs_requests.proofs.Later.{IsAside, Grows, Upholds, differs, row-kept, answered-kept, undecided-kept}
 
@@ -42,7 +42,7 @@ open-before by log m asks h = record {
   left false b e = refl
 
 -- a moment is about no command that has not asked
-strange-kept : (set : Setting) (log : Log) (m : Moment) → ((by : By) → IsSome (set.asks by) → is_asked by log ≡ false → IsStrange log by) → ((by : By) → IsSome (set.asks by) → is_asked by (log ++ m ∷ []) ≡ false → is_asked by log ≡ false → IsAside by m) → (by : By) → IsSome (set.asks by) → is_asked by (log ++ m ∷ []) ≡ false → IsStrange (log ++ m ∷ []) by
+pub strange-kept : (set : Setting) (log : Log) (m : Moment) → ((by : By) → IsSome (set.asks by) → is_asked by log ≡ false → IsStrange log by) → ((by : By) → IsSome (set.asks by) → is_asked by (log ++ m ∷ []) ≡ false → is_asked by log ≡ false → IsAside by m) → (by : By) → IsSome (set.asks by) → is_asked by (log ++ m ∷ []) ≡ false → IsStrange (log ++ m ∷ []) by
 strange-kept set log m strange aside by some e =
     let was : is_asked by log ≡ false = left (is_asked by log) (asks_now by m) (sym (any_push (asks_now by) log m) ∙ e) in
     let a = aside by some e was in
@@ -54,7 +54,7 @@ strange-kept set log m strange aside by some e =
     left false b e = refl
 
 -- a command that hasn't asked wasn't let wait
-outside-kept : {entered : Entrants} (log : Log) (m : Moment) → ((by : By) → is_asked by log ≡ false → entered by ≡ false) → (by : By) → is_asked by (log ++ m ∷ []) ≡ false → entered by ≡ false
+pub outside-kept : {entered : Entrants} (log : Log) (m : Moment) → ((by : By) → is_asked by log ≡ false → entered by ≡ false) → (by : By) → is_asked by (log ++ m ∷ []) ≡ false → entered by ≡ false
 outside-kept log m outside by e = outside by (left (is_asked by log) (asks_now by m) (sym (any_push (asks_now by) log m) ∙ e))
   where
     left : (a b : Bool) → (a || b) ≡ false → a ≡ false
@@ -141,6 +141,7 @@ row-entered {entered} {set₀} {log} {spaces} entered₁ spaces₁ long names ro
   made = r.made;
   home = r.home;
   inside = r.inside;
+  keys = r.keys;
   needed = r.needed;
   staged = stage-respaced entered entered₁ set₀ log spaces spaces₁ (λ k n e. names k ∙ e) row.by more r.request row.stage r.staged;
   tied = λ k d l. r.tied k d (subst (λ n. k < n) long l) ∙ sym (same k d (subst (λ n. k < n) long l));
@@ -158,7 +159,7 @@ module _ {entered : Entrants} {set₀ : Setting} {log : Log} {spaces : List Spac
     apart = all.apart;
     strange = strange-kept set₀ log m all.strange (λ by some e was. aside by);
     outside = outside-kept log m all.outside;
-    open_rows = λ by h. all.open_rows by (open-before by log m ((aside by).asks) h);
+    open_rows = λ by plain h. all.open_rows by plain (open-before by log m ((aside by).asks) h);
   }
 
   -- the rows beside one row are of other commands
@@ -176,9 +177,9 @@ module _ {entered : Entrants} {set₀ : Setting} {log : Log} {spaces : List Spac
         let ek = set-kept (λ r. r.by) rows i new same k d l in
         all.apart j k d lt l (sym ej ∙ e ∙ ek)
 
-    set-open : (by : By) → IsOpen by log → (k : ℕ) × (k < length (set rows i new)) × ((d : Row) → (get_or (set rows i new) k d).by ≡ by)
-    set-open by h =
-        let at = all.open_rows by h in
+    set-open : (by : By) → asks_contents set₀ by ≡ false → IsOpen by log → (k : ℕ) × (k < length (set rows i new)) × ((d : Row) → (get_or (set rows i new) k d).by ≡ by)
+    set-open by plain h =
+        let at = all.open_rows by plain h in
         (at.0, subst (λ n. at.0 < n) (sym (length-set rows i new)) at.1, λ d. set-kept (λ r. r.by) rows i new same at.0 d at.1 ∙ at.2 d)
 
     asked-there : (d : Row) → is_asked new.by log ≡ true
@@ -212,7 +213,7 @@ module _ {entered : Entrants} {set₀ : Setting} {log : Log} {spaces : List Spac
       apart = set-apart;
       strange = strange-kept set₀ log m all.strange (λ by some e was. aside by (λ q. true≢false (sym (asked-there new) ∙ ap (λ b. is_asked b log) (sym q) ∙ was)));
       outside = outside-kept log m all.outside;
-      open_rows = λ by o. set-open by (open-before by log m (asks by) o);
+      open_rows = λ by plain o. set-open by plain (open-before by log m (asks by) o);
     }
 
   -- rows change with a moment, each being of its command as before
@@ -224,7 +225,7 @@ module _ {entered : Entrants} {set₀ : Setting} {log : Log} {spaces : List Spac
     apart = λ j k d lt l e. let lk = subst (λ n. k < n) long l in all.apart j k d lt lk (sym (same j d (omega arith)) ∙ e ∙ same k d lk);
     strange = strange-kept set₀ log m all.strange (λ by some e was. aside by some was);
     outside = outside-kept log m all.outside;
-    open_rows = λ by o. let at = all.open_rows by (open-before by log m (asks by) o) in (at.0, subst (λ n. at.0 < n) (sym long) at.1, λ d. same at.0 d at.1 ∙ at.2 d);
+    open_rows = λ by plain o. let at = all.open_rows by plain (open-before by log m (asks by) o) in (at.0, subst (λ n. at.0 < n) (sym long) at.1, λ d. same at.0 d at.1 ∙ at.2 d);
   }
 
   -- the table changes, and what it says of the rows stays
@@ -263,15 +264,15 @@ module _ {entered : Entrants} {set₀ : Setting} {log : Log} {spaces : List Spac
           subst (RowAgrees entered set₀ (log ++ m ∷ []) spaces) (sym (ap (λ j. get_or (rows ++ new ∷ []) j d) e ∙ get_or_push rows new d (length rows) refl)) h
     ]
 
-    open-now : (b : By) → IsOpen b (log ++ m ∷ []) → (k : ℕ) × (k < length (rows ++ new ∷ [])) × ((d : Row) → (get_or (rows ++ new ∷ []) k d).by ≡ b)
-    open-now b o = cases (same_command b by) refl
+    open-now : (b : By) → asks_contents set₀ b ≡ false → IsOpen b (log ++ m ∷ []) → (k : ℕ) × (k < length (rows ++ new ∷ [])) × ((d : Row) → (get_or (rows ++ new ∷ []) k d).by ≡ b)
+    open-now b plain o = cases (same_command b by) refl
       where
         cases : (t : Bool) → same_command b by ≡ t → (k : ℕ) × (k < length (rows ++ new ∷ [])) × ((d : Row) → (get_or (rows ++ new ∷ []) k d).by ≡ b)
         cases true e =
             let n = length-append rows (new ∷ []) in
             (length rows, omega arith, λ d. ap (λ r. r.by) (get_or_push rows new d (length rows) refl) ∙ is ∙ sym (command_is b by e))
         cases false e =
-            let at = all.open_rows b (open-before b log m e o) in
+            let at = all.open_rows b plain (open-before b log m e o) in
             let n = length-append rows (new ∷ []) in
             (at.0, (let l = at.1 in omega arith), λ d. ap (λ r. r.by) (get_or_append_left rows (new ∷ []) d at.0 at.1) ∙ at.2 d)
 
@@ -327,9 +328,9 @@ module _ {entered : Entrants} {set₀ : Setting} {log : Log} {spaces : List Spac
               | inr le ↦ le
             ]
 
-    open-now : (b : By) → IsOpen b (log ++ m ∷ []) → (k : ℕ) × (k < length (remove rows i)) × ((d : Row) → (get_or (remove rows i) k d).by ≡ b)
-    open-now b o =
-        let at = all.open_rows b (open-before b log m refl o) in
+    open-now : (b : By) → asks_contents set₀ b ≡ false → IsOpen b (log ++ m ∷ []) → (k : ℕ) × (k < length (remove rows i)) × ((d : Row) → (get_or (remove rows i) k d).by ≡ b)
+    open-now b plain o =
+        let at = all.open_rows b plain (open-before b log m refl o) in
         let ne : at.0 ≢ i = λ e. self (sym (at.2 any-row) ∙ ap (λ j. (get_or rows j any-row).by) e ∙ is any-row) in
         let p = place at.0 at.1 ne in
         (p.0, p.1, λ d. ap (λ r. r.by) (p.2 d) ∙ at.2 d)

@@ -20,7 +20,7 @@ use Rattle.kvs_rules.specs.declared.events.KvsAnswer.{KvsAnswer}
 use Rattle.kvs_rules.specs.declared.events.KvsAnswer.TheVariants as answer
 use Rattle.kvs_space.specs.Space.{SpaceValue, carries, name_at}
 use Rattle.kvs_requests.specs.Stages.{joined_in}
-use Rattle.kvs_requests.specs.Rows.{AreApart, IsRisingAsk, awaited}
+use Rattle.kvs_requests.specs.Rows.{AreApart, IsRisingAsk, asks_contents, awaited, is_about_contents}
 
 -- no landing and no denial names the command
 pub record IsUndecided (log : Log) (by : By) : Type 0 where
@@ -119,16 +119,17 @@ pub record RowAgrees (entered : Entrants) (set : Setting) (log : Log) (spaces : 
   pub unanswered : is_answered row.by log ≡ false
   pub request : Request
   pub made : set.asks row.by ≡ Some request
+  pub keys : is_about_contents request.ask ≡ false
   pub home : request.broker ≡ row.broker
   pub inside : request.namespace ≡ row.namespace
   pub needed : IsNeeded log row.by request row.need
   pub staged : StageAgrees entered set log spaces row.by request row.stage
   pub tied : (k : ℕ) (d : SpaceValue) → k < length spaces → joined_in k row.stage ≡ carries (slice_index_or spaces k d) row.by
 
--- the open requests are those that the log leaves
+-- the open requests are those that the log leaves, of commands that don't ask about contents
 pub record RowsAgree (entered : Entrants) (set : Setting) (log : Log) (spaces : List SpaceValue) (items : List Row) : Type 0 where
   pub rows : (k : ℕ) (d : Row) → k < length items → RowAgrees entered set log spaces (slice_index_or items k d)
   pub apart : AreApart items
   pub strange : (by : By) → IsSome (set.asks by) → is_asked by log ≡ false → IsStrange log by
   pub outside : (by : By) → is_asked by log ≡ false → entered by ≡ false
-  pub open_rows : (by : By) → IsOpen by log → (k : ℕ) × (k < length items) × ((d : Row) → (slice_index_or items k d).by ≡ by)
+  pub open_rows : (by : By) → asks_contents set by ≡ false → IsOpen by log → (k : ℕ) × (k < length items) × ((d : Row) → (slice_index_or items k d).by ≡ by)

@@ -1,10 +1,13 @@
 -- The open requests and their stages.
 use Rattle.std.specs.Prelude.{◌≡◌, ◌≢◌, ℕ, ◌-◌, ◌==◌, ◌<◌, ◌≤◌, List, Bool, true, false, Option, Some, None, length, slice_index_or, slice_set, if◌then◌else◌}
 use Rattle.std.specs.List.{AllPairs, list_any}
+use Rattle.std.specs.Option.{option_map_or}
+use Rattle.kvs_txn.specs.declared.txn.By.{By}
 use Rattle.kvs_txn.specs.declared.txn.Group.{Group}
 use Rattle.kvs_model.specs.Store.{Store}
 use Rattle.kvs_model.specs.Walk.{walk}
 use Rattle.kvs_rules.specs.Landings.{IsUser}
+use Rattle.kvs_rules.specs.Namespaces.{Setting}
 use Rattle.kvs_rules.specs.declared.events.KvsAsk.{KvsAsk}
 use Rattle.kvs_rules.specs.declared.events.KvsAsk.TheVariants as ask
 use Rattle.kvs_rules.specs.declared.events.KvsAnswer.{KvsAnswer}
@@ -34,6 +37,18 @@ IsKnownAsk (ask.Wait number) = Unit {0}
 IsKnownAsk ask.Create = Unit {0}
 IsKnownAsk ask.Remove = Unit {0}
 IsKnownAsk _ = ⊥
+
+-- whether what is asked is about contents, which the service of keys leaves to another
+abbrev pub is_about_contents : KvsAsk → Bool
+is_about_contents (ask.Store bytes) = true
+is_about_contents (ask.Load reference) = true
+is_about_contents ask.Flush = true
+is_about_contents ask.DropClean = true
+is_about_contents _ = false
+
+-- whether the command asks something about contents
+abbrev pub asks_contents : Setting → By → Bool
+asks_contents set by = option_map_or (λ request. is_about_contents request.ask) (set.asks by) false
 
 -- what goes up to rank 0: a user's commit or member of a fence, what opens or removes a namespace, and what reads or waits
 -- in one of which its broker has heard nothing

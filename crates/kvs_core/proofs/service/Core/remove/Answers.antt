@@ -1,5 +1,5 @@
 use Rattle.std.proofs.Common.{inl, refl, ◌≡◌, ◌∙◌, ◌<◌, ◌++◌, Some, true, false, length, map, arith, get_or, ap, sym, subst, set as set₁, inr, ◌≤◌}
-use Rattle.std.specs.List.{position}
+use Rattle.std.specs.List.{AllByRecursion as Each, position}
 use Rattle.kvs_rules.specs.Answers.{IsLegalAfter}
 use Rattle.kvs_rules.specs.Log.{Happened}
 use Rattle.kvs_requests.specs.declared.rows.Kind.TheVariants as kind
@@ -7,6 +7,7 @@ use Rattle.kvs_requests.specs.declared.rows.Row.{Row}
 use Rattle.kvs_requests.specs.declared.rows.Stage.TheVariants as stage
 use Rattle.kvs_requests.specs.declared.rows.Work.TheVariants as work
 use Rattle.kvs_core.specs.Agrees.{Agrees}
+use Rattle.kvs_core.specs.Makes.{IsOfKeys}
 use Rattle.kvs_core.specs.Posted.{posted, posts_landed}
 use Rattle.kvs_requests.specs.Rows.{with_stage}
 use Rattle.kvs_requests.specs.Stages.{is_arrived, kind_of}
@@ -88,6 +89,7 @@ returns-clause-makes c =
         grant = ap (λ v. v.grant) c.self.view_is;
       };
       does = inr (subst (λ es. 1 ≤ length es) (sym c.in_ok-events.ensures) (omega arith));
+      own = subst (Each IsOfKeys) (sym told) (tt, (tt, tt));
       made = λ set log a. subst (AreMadeBy log (kvs.Serve 0)) (sym c.in_ok-events.ensures) (inr (refl, refl), (inl refl, tt));
       legal = λ set log a.
           subst (λ es. IsLegalAfter set log (map Happened es)) (sym told)
