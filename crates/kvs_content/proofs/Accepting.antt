@@ -5,7 +5,8 @@ use Rattle.std.specs.List.{AllByRecursion as Each}
 use Rattle.std.specs.Map.{lookup, remove_entry}
 use Rattle.fl_digest.specs.declared.BlobRef.{BlobRef}
 use Rattle.fl_digest.specs.Reference.{same_reference}
-use Rattle.cache_node.specs.Order.{unpinned}
+use Rattle.cache_node.specs.declared.content.Held.{Held}
+use Rattle.cache_node.specs.Order.{is_pinned, unpinned}
 use Rattle.cache_node.specs.Cache.{Cache, acknowledged, dirty_at}
 use Rattle.cache_node.proofs.Entries.{all-lookup, all-remove}
 use Rattle.cache_node.proofs.Same.{same_refl, same_true}
@@ -65,16 +66,22 @@ module _ (set : Setting) (log : Log) (broker : ℕ) (r : BlobRef) (node : NodeVa
         clean = λ x bytes f. later None x bytes (agrees.clean x bytes f);
         dirty = dirty None;
         refused = refused None;
+        unpinned = agrees.unpinned;
       }
       at (Some bytes) e = record {
         held = λ x. held-after log broker r true [] broker x ∙ held-more (broker == broker) (same_reference x r) (holds log broker x) (equal-itself broker) ∙ held x (same_reference x r) refl;
         clean = λ x found f. later (Some bytes) x found (clean x found (same_reference x r) refl f);
         dirty = all-remove (λ e. IsBlob set (after log broker r true []) e.0 e.1) (same_reference r) node.cache.dirty (dirty (Some bytes));
         refused = refused (Some bytes);
+        unpinned = λ x kept f. free x kept (same_reference x r) refl f;
       } where
         held : (x : BlobRef) (s : Bool) → same_reference x r ≡ s → (same_reference x r || holds log broker x) ≡ is_some (option_map (λ held. held.bytes) (lookup (same_reference x) ((r, unpinned bytes) ∷ node.cache.clean)))
         held x true s = rw s refl
         held x false s = rw s (agrees.held x)
+
+        free : (x : BlobRef) (kept : Held) (s : Bool) → same_reference x r ≡ s → lookup (same_reference x) ((r, unpinned bytes) ∷ node.cache.clean) ≡ Some kept → is_pinned kept ≡ false
+        free x kept true s f = let same : unpinned bytes ≡ kept = let found : Some (unpinned bytes) ≡ Some kept = rw s at f in cc in ap is_pinned (sym same)
+        free x kept false s f = agrees.unpinned x kept (let found : lookup (same_reference x) node.cache.clean ≡ Some kept = rw s at f in found)
 
         clean : (x : BlobRef) (found : List ℕ) (s : Bool) → same_reference x r ≡ s → option_map (λ held. held.bytes) (lookup (same_reference x) ((r, unpinned bytes) ∷ node.cache.clean)) ≡ Some found → IsBlob set log x found
         clean x found true s f = let g = rw s at f in let same : bytes ≡ found = cc in subst (λ y. IsBlob set log y found) (sym (same_true x r s)) (subst (IsBlob set log r) same (dirty-blob bytes e))

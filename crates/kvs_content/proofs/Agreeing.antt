@@ -10,7 +10,7 @@ use Rattle.fl_digest.specs.declared.BlobRef.{BlobRef}
 use Rattle.fl_digest.specs.Reference.{same_reference}
 use Rattle.cache_node.specs.declared.content.Held.{Held}
 use Rattle.cache_node.specs.Cache.{clean_at}
-use Rattle.cache_node.specs.Order.{filled, unpinned}
+use Rattle.cache_node.specs.Order.{filled, is_pinned, unpinned}
 use Rattle.cache_node.proofs.Entries.{all-remove}
 use Rattle.cache_node.proofs.Same.{same_true}
 use Rattle.kvs_rules.specs.declared.events.KvsEvent.{KvsEvent}
@@ -57,6 +57,7 @@ module _ (set : Setting) (log : Log) (broker : ℕ) (r : BlobRef) (does : Bool) 
     clean = λ x bytes e. blob-later log (map Happened (coming broker r does gone)) set x bytes (h.clean x bytes e);
     dirty = each-map (λ e. IsBlob set log e.0 e.1) (λ e. IsBlob set (after log broker r does gone) e.0 e.1) (λ e b. blob-later log (map Happened (coming broker r does gone)) set e.0 e.1 b) node.cache.dirty h.dirty;
     refused = each-map (IsRefused set log) (IsRefused set (after log broker r does gone)) (λ x b. refused-later log (map Happened (coming broker r does gone)) set x b) node.refused h.refused;
+    unpinned = h.unpinned;
   }
 
   -- what one node says of its broker, and the others of theirs
@@ -104,6 +105,7 @@ module _ (set : Setting) (log : Log) (broker : ℕ) (r : BlobRef) (bytes : List 
         (each-map (λ e. IsBlob set log e.0 e.1) (λ e. IsBlob set (after log broker r (fresh r old) h.gone) e.0 e.1) (λ e b. blob-later log (map Happened (coming broker r (fresh r old) h.gone)) set e.0 e.1 b) old.cache.dirty agrees.dirty));
     refused = subst (Each (IsRefused set (after log broker r (fresh r old) h.gone))) (sym h.refused)
         (each-map (IsRefused set log) (IsRefused set (after log broker r (fresh r old) h.gone)) (λ x b. refused-later log (map Happened (coming broker r (fresh r old) h.gone)) set x b) old.refused agrees.refused);
+    unpinned = λ x kept e. free x kept (list_any (same_reference x) h.gone) (same_reference x r) refl refl (sym (h.rest.left x) ∙ e);
   } where
     -- a look-up among the clean contents now
     found-now : (x : BlobRef) → clean_at x new.cache ≡ option_map (λ held. held.bytes) (cond (list_any (same_reference x) h.gone) None (lookup (same_reference x) (filled r bytes old.cache.clean)))
@@ -141,6 +143,16 @@ module _ (set : Setting) (log : Log) (broker : ℕ) (r : BlobRef) (bytes : List 
         by false false n e =
             lhs-at x false false n e ∙ stays-held (broker == broker) (fresh r old) (holds log broker x) ∙ agrees.held x
             ∙ sym (ap is_some (found-at x false n ∙ filled-is x false e))
+
+    free : (x : BlobRef) (kept : Held) (n s : Bool) → list_any (same_reference x) h.gone ≡ n → same_reference x r ≡ s
+        → cond (list_any (same_reference x) h.gone) None (lookup (same_reference x) (filled r bytes old.cache.clean)) ≡ Some kept → is_pinned kept ≡ false
+    free x kept true s n t e = let bad : None ≡ Some kept = rw n at e in absurd (let no : ⊥ = cc in no)
+    free x kept false true n t e = own (lookup (same_reference r) old.cache.clean) refl (let found : Some (unwrap_or (lookup (same_reference r) old.cache.clean) (unpinned bytes)) ≡ Some kept = rw t at (rw n at e) in found)
+      where
+        own : (o : Option Held) → lookup (same_reference r) old.cache.clean ≡ o → Some (unwrap_or (lookup (same_reference r) old.cache.clean) (unpinned bytes)) ≡ Some kept → is_pinned kept ≡ false
+        own None g same = let same₁ : unpinned bytes ≡ kept = let found : Some (unpinned bytes) ≡ Some kept = rw g at same in cc in ap is_pinned (sym same₁)
+        own (Some before) g same = let same₁ : before ≡ kept = let found : Some before ≡ Some kept = rw g at same in cc in ap is_pinned (sym same₁) ∙ agrees.unpinned r before g
+    free x kept false false n t e = agrees.unpinned x kept (sym (lookup-other x r t old.cache.clean) ∙ (let found : lookup (same_reference x) (remove_entry (same_reference r) old.cache.clean) ≡ Some kept = rw t at (rw n at e) in found))
 
     clean : (x : BlobRef) (found : List ℕ) → clean_at x new.cache ≡ Some found → IsBlob set log x found
     clean x found e = by (list_any (same_reference x) h.gone) (same_reference x r) refl refl (sym (found-now x) ∙ e)

@@ -51,4 +51,4 @@ module _ (v : ContentValue) (store : v.store ≡ []) (offers : v.offers ≡ []) 
     nothing e = let no : ⊥ = cc in no
 
     here : {b : ℕ} → NodeAgrees set [] b empty_node
-    here = record { held = λ x. refl; clean = λ x bytes e. absurd (nothing e); dirty = tt; refused = tt }
+    here = record { held = λ x. refl; clean = λ x bytes e. absurd (nothing e); dirty = tt; refused = tt; unpinned = λ x kept e. absurd (let no : ⊥ = cc in no) }

@@ -12,9 +12,8 @@ use Rattle.kvs_rules.specs.Namespaces.{Setting}
 use Rattle.kvs_rules.specs.Sequence.{latest}
 use Rattle.kvs_rules.specs.Brokers.{IsLegalGetting, gets_now, has_got, held_from, holds}
 use Rattle.kvs_rules.specs.Answers.{IsLegalAfter, IsLegalMoment}
-use Rattle.kvs_rules.specs.Steps.{ComesTo}
 use Rattle.kvs_rules.proofs.Sequences.{each_joined, latest_push}
-use Rattle.kvs_content.specs.Node.{dropping, getting}
+use Rattle.kvs_content.specs.Node.{GetsOrDrops, dropping, getting}
 
 latest-append : {A X : Type 0} (given : A → Option X) (first : X) (xs ys : List A) → latest given first (xs ++ ys) ≡ latest given (latest given first xs) ys
 latest-append given first [] ys = refl
@@ -139,10 +138,10 @@ module _ (set : Setting) (broker : ℕ) where
       held x = latest-append (held_from broker x) false log (map Happened (getting broker r does)) ∙ held-now broker r does broker x (holds log broker x)
 
 -- all of them come to the broker
-pub drops-come : (broker : ℕ) (gone : List BlobRef) → Each (ComesTo broker) (dropping broker gone)
+pub drops-come : (broker : ℕ) (gone : List BlobRef) → Each (GetsOrDrops broker) (dropping broker gone)
 drops-come broker [] = tt
 drops-come broker (g ∷ gs) = (refl, drops-come broker gs)
 
-pub comes : (broker : ℕ) (r : BlobRef) (does : Bool) (gone : List BlobRef) → Each (ComesTo broker) (coming broker r does gone)
+pub comes : (broker : ℕ) (r : BlobRef) (does : Bool) (gone : List BlobRef) → Each (GetsOrDrops broker) (coming broker r does gone)
 comes broker r true gone = (refl, drops-come broker gone)
 comes broker r false gone = drops-come broker gone

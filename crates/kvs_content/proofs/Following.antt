@@ -1,7 +1,7 @@
 -- The contents stand where the log leaves them once a broker got and dropped contents.
-use Rattle.std.proofs.Common.{◌≡◌, ℕ, ◌<◌, ◌==◌, ◌⊎◌, inl, inr, List, [], ◌++◌, length, Bool, true, false, ◌||◌, ◌&&◌, cond, Option, Some, None, IsSome, option_map, map, refl, sym, ap, ◌∙◌, subst, arith, true≢false, get_or, set as put, append-nil}
+use Rattle.std.proofs.Common.{◌≡◌, ℕ, suc, Contains, ◌<◌, ◌==◌, ◌⊎◌, inl, inr, List, [], ◌∷◌, ◌++◌, length, Bool, true, false, ◌||◌, ◌&&◌, cond, Option, Some, None, IsSome, option_map, map, refl, sym, ap, ◌∙◌, subst, arith, true≢false, get_or, set as put, append-nil}
 use Rattle.std.specs.Prelude.{is_some}
-use Rattle.std.specs.List.{AllByRecursion as Each, list_any}
+use Rattle.std.specs.List.{AllByRecursion as Each, filter, list_any}
 use Rattle.std.specs.Map.{lookup}
 use Rattle.std.proofs.lemmas.Bool.{cases_eq}
 use Rattle.std.proofs.lemmas.List.{length-set, get_or-set_same, get_or-set_other}
@@ -10,8 +10,10 @@ use Rattle.fl_digest.specs.Reference.{reference_of, same_reference}
 use Rattle.blob_store.specs.Blobs.{blob_at}
 use Rattle.cache_node.specs.declared.content.Held.{Held}
 use Rattle.cache_node.specs.Cache.{clean_at, dirty_at}
+use Rattle.cache_node.specs.Order.{is_pinned}
 use Rattle.cache_node.proofs.Same.{same_true}
 use Rattle.kvs_rules.specs.declared.events.KvsEvent.{KvsEvent}
+use Rattle.kvs_rules.specs.declared.events.KvsEvent.TheVariants as event
 use Rattle.kvs_rules.specs.Log.{Happened, Log}
 use Rattle.kvs_rules.specs.Namespaces.{Setting}
 use Rattle.kvs_rules.specs.Brokers.{has_got, holds, parent}
@@ -19,7 +21,7 @@ use Rattle.kvs_rules.specs.Answers.{IsLegalAfter}
 use Rattle.kvs_content.specs.declared.offers.Offer.{Offer}
 use Rattle.kvs_content.specs.declared.wants.Want.{Want}
 use Rattle.kvs_content.specs.Agrees.{AgreesContent, Follows, IsBlob, IsKept, IsRefused, NodeAgrees, OfferAgrees, WantAgrees}
-use Rattle.kvs_content.specs.Node.{IsDropping, NodeValue, empty_node}
+use Rattle.kvs_content.specs.Node.{IsDropping, NodeValue, dropping, empty_node}
 use Rattle.kvs_content.specs.Sound.{IsDirty}
 use Rattle.kvs_content.specs.Value.{ContentValue, node_at, size_of}
 use Rattle.kvs_content.proofs.Agreeing.{after, each-map, nodes-then, other-number}
@@ -87,6 +89,32 @@ follows-then v u w events set log size first second = record {
   kept = λ b x l k. subst (λ ms. IsKept w set ms b x) (append-nil (log ++ map Happened events)) (second.kept b x (subst (λ n. b < n) (sym size) l) (first.kept b x l k));
 }
 
+-- what is found among the entries that passed has passed
+found-among : (p : Held → Bool) (q : BlobRef → Bool) (es : List (BlobRef × Held)) (kept : Held) → lookup q (filter (λ e. p e.1) es) ≡ Some kept → p kept ≡ true
+found-among p q [] kept h = let no : ⊥ = cc in absurd no
+found-among p q (e ∷ es) kept h = by (λ g. found-among p q es kept g) (p e.1) refl
+  where
+    Rest : Type 0
+    Rest = lookup q (filter (λ e. p e.1) es) ≡ Some kept → p kept ≡ true
+
+    first : Rest → p e.1 ≡ true → (t : Bool) → cond t (Some e.1) (lookup q (filter (λ e. p e.1) es)) ≡ Some kept → p kept ≡ true
+    first rest passes true g = let same : e.1 ≡ kept = cc in ap p (sym same) ∙ passes
+    first rest passes false g = rest g
+
+    by : Rest → (b : Bool) → p e.1 ≡ b → p kept ≡ true
+    by rest true f = first rest f (q e.0) (rw f at h)
+    by rest false f = rest (rw f at h)
+
+-- what is gone was told
+told-in : (broker : ℕ) (gone : List BlobRef) (x : BlobRef) → list_any (same_reference x) gone ≡ true → Contains (dropping broker gone) (event.Dropped broker x)
+told-in broker [] x h = absurd (true≢false (sym h))
+told-in broker (g ∷ gs) x h = by (λ f. told-in broker gs x f) (same_reference x g) refl h
+  where
+    by : (list_any (same_reference x) gs ≡ true → Contains (dropping broker gs) (event.Dropped broker x)) → (b : Bool) → same_reference x g ≡ b → (b || list_any (same_reference x) gs) ≡ true
+        → Contains (dropping broker (g ∷ gs)) (event.Dropped broker x)
+    by rest true e f = (0, omega arith, ap (event.Dropped broker) (sym (same_true x g e)))
+    by rest false e f = let there = rest f in (suc there.0, omega (arith, there.1), there.2)
+
 module _ (v : ContentValue) (set : Setting) (log : Log) (a : AgreesContent v set log) (broker : ℕ) (within : broker < size_of v) (new : NodeValue) (events : List KvsEvent) (h : IsDropping broker (node_at v broker) new events) where
   some-held : (x : BlobRef) → IsSome (lookup (same_reference x) (node_at v broker).cache.clean) → holds log broker x ≡ true
   some-held x s = (a.nodes broker within).held x ∙ by (lookup (same_reference x) (node_at v broker).cache.clean) s
@@ -101,6 +129,25 @@ module _ (v : ContentValue) (set : Setting) (log : Log) (a : AgreesContent v set
   pub dropped-legal : IsLegalAfter set log (map Happened events)
   dropped-legal = subst (λ es. IsLegalAfter set log (map Happened es)) (sym h.told) (drops-legal set broker log h.gone h.rest.once (λ x t. some-held x (h.rest.there x t)))
 
+  -- nothing is pinned, so all that the broker holds goes
+  pub dropped-all : (x : BlobRef) → holds log broker x ≡ true → Contains events (event.Dropped broker x)
+  dropped-all x held = by (lookup (same_reference x) (node_at v broker).cache.clean) refl (list_any (same_reference x) h.gone) refl
+    where
+      old : List (BlobRef × Held)
+      old = (node_at v broker).cache.clean
+
+      here : (o : Option Held) → lookup (same_reference x) old ≡ o → IsSome o
+      here (Some kept) e = refl
+      here None e = sym (ap (λ p. is_some (option_map (λ (k : Held). k.bytes) p)) e) ∙ sym ((a.nodes broker within).held x) ∙ held
+
+      by : (o : Option Held) → lookup (same_reference x) old ≡ o → (n : Bool) → list_any (same_reference x) h.gone ≡ n → Contains events (event.Dropped broker x)
+      by o e true n = subst (λ es. Contains es (event.Dropped broker x)) (sym h.told) (told-in broker h.gone x n)
+      by None e false n = absurd (true≢false (sym (here None e)))
+      by (Some kept) e false n =
+          let now : lookup (same_reference x) new.cache.clean ≡ Some kept = h.rest.left x ∙ ap (λ m. cond m None (lookup (same_reference x) old)) n ∙ e in
+          let pinned : is_pinned kept ≡ true = found-among (λ k. is_pinned k) (same_reference x) old kept (sym (ap (λ c. lookup (same_reference x) c.clean) h.pinned) ∙ now) in
+          absurd (true≢false (sym pinned ∙ (a.nodes broker within).unpinned x kept e))
+
   same-dirty : new.cache.dirty ≡ (node_at v broker).cache.dirty
   same-dirty = ap (λ k. k.dirty) h.pinned
 
@@ -112,7 +159,12 @@ module _ (v : ContentValue) (set : Setting) (log : Log) (a : AgreesContent v set
         (each-map (λ e. IsBlob set log e.0 e.1) (λ e. IsBlob set (after log broker r false h.gone) e.0 e.1) (λ e b. blob-later log (map Happened (coming broker r false h.gone)) set e.0 e.1 b) _ (a.nodes broker within).dirty);
     refused = subst (Each (IsRefused set (after log broker r false h.gone))) (sym h.refused)
         (each-map (IsRefused set log) (IsRefused set (after log broker r false h.gone)) (λ x b. refused-later log (map Happened (coming broker r false h.gone)) set x b) _ (a.nodes broker within).refused);
+    unpinned = λ x kept e. free x kept (list_any (same_reference x) h.gone) refl (sym (h.rest.left x) ∙ e);
   } where
+    free : (x : BlobRef) (kept : Held) (n : Bool) → list_any (same_reference x) h.gone ≡ n → cond (list_any (same_reference x) h.gone) None (lookup (same_reference x) (node_at v broker).cache.clean) ≡ Some kept → is_pinned kept ≡ false
+    free x kept true n e = let bad : None ≡ Some kept = rw n at e in absurd (let no : ⊥ = cc in no)
+    free x kept false n e = (a.nodes broker within).unpinned x kept (let found : lookup (same_reference x) (node_at v broker).cache.clean ≡ Some kept = rw n at e in found)
+
     found : (x : BlobRef) → clean_at x new.cache ≡ option_map (λ held. held.bytes) (cond (list_any (same_reference x) h.gone) None (lookup (same_reference x) (node_at v broker).cache.clean))
     found x = ap (option_map (λ held. held.bytes)) (h.rest.left x)
 

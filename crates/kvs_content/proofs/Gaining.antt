@@ -12,10 +12,9 @@ use Rattle.kvs_rules.specs.declared.events.KvsEvent.{KvsEvent}
 use Rattle.kvs_rules.specs.Log.{Happened, Log}
 use Rattle.kvs_rules.specs.Namespaces.{Setting}
 use Rattle.kvs_rules.specs.Brokers.{has_got, parent}
-use Rattle.kvs_rules.specs.Steps.{ComesTo}
 use Rattle.kvs_content.specs.Agrees.{AgreesContent, Follows, IsBlob}
 use Rattle.kvs_content.specs.Messages.{AreSettled, offers_left}
-use Rattle.kvs_content.specs.Node.{IsGetting}
+use Rattle.kvs_content.specs.Node.{GetsOrDrops, IsGetting}
 use Rattle.kvs_content.specs.Sound.{ArePlaced, IsSoundContent}
 use Rattle.kvs_content.specs.Steps.{AreAlike, IsLighter}
 use Rattle.kvs_content.specs.Value.{ContentValue, node_at, size_of}
@@ -54,8 +53,8 @@ module _ (v w : ContentValue) (broker : ℕ) (r : BlobRef) (bytes : List ℕ) (e
   pub gained-left : sum_by offers_left w.offers ≡ sum_by offers_left v.offers
   gained-left = settled-left v.fanout broker r true v.offers w.offers g.settled
 
-  pub gained-come : Each (ComesTo broker) events
-  gained-come = subst (Each (ComesTo broker)) (sym g.got.told) (comes broker r (fresh r (node_at v broker)) g.got.gone)
+  pub gained-come : Each (GetsOrDrops broker) events
+  gained-come = subst (Each (GetsOrDrops broker)) (sym g.got.told) (comes broker r (fresh r (node_at v broker)) g.got.gone)
 
   module _ (within : broker < size_of v) (p : ArePlaced v) where
     named : Each (λ e. Names e.0 e.1) w.store

@@ -7,7 +7,7 @@ use Rattle.std.proofs.lemmas.Bool.{cases_eq}
 use Rattle.std.proofs.lemmas.List.{length-set, get_or-set_same, get_or-set_other, get_or_default}
 use Rattle.fl_digest.specs.declared.BlobRef.{BlobRef}
 use Rattle.fl_digest.specs.Reference.{same_reference}
-use Rattle.cache_node.specs.Cache.{clean_at}
+use Rattle.cache_node.specs.Cache.{clean_at, held_at}
 use Rattle.kvs_rules.specs.Log.{Log}
 use Rattle.kvs_rules.specs.Namespaces.{Setting}
 use Rattle.kvs_rules.specs.Brokers.{parent}
@@ -104,6 +104,7 @@ module _ (v : ContentValue) (set : Setting) (log : Log) (a : AgreesContent v set
     clean = λ x bytes e. (a.nodes broker within).clean x bytes (ap (clean_at x) (sym flush-cache) ∙ e);
     dirty = subst (λ k. Each (λ e. IsBlob set log e.0 e.1) k.dirty) (sym flush-cache) (a.nodes broker within).dirty;
     refused = flush-refused;
+    unpinned = λ x kept e. (a.nodes broker within).unpinned x kept (ap (held_at x) (sym flush-cache) ∙ e);
   }
 
   pub flush-agrees : AgreesContent (record v { nodes = put v.nodes broker new }) set log

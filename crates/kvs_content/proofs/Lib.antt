@@ -11,6 +11,7 @@ pub mod Getting
 pub mod Hearing
 pub mod Keeping
 pub mod Later
+pub mod Linking
 pub mod Lists
 pub mod Nothing
 pub mod Offering

@@ -130,7 +130,7 @@ module _ (v : ContentValue) (broker : ℕ) (within : broker < size_of v) (r : Bl
       wants = a.wants;
     } where
       here : NodeAgrees set log broker node-dirty
-      here = let n = a.nodes broker within in record { held = n.held; clean = n.clean; dirty = (blob, n.dirty); refused = n.refused }
+      here = let n = a.nodes broker within in record { held = n.held; clean = n.clean; dirty = (blob, n.dirty); refused = n.refused; unpinned = n.unpinned }
 
       node : (b : ℕ) → b < size_of v → NodeAgrees set log b (node_at offering b)
       node b l = elim (cases_eq b broker) [

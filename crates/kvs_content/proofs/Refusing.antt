@@ -40,6 +40,7 @@ module _ (set : Setting) (log : Log) (broker : ℕ) (r : BlobRef) (node : NodeVa
     clean = agrees.clean;
     dirty = agrees.dirty;
     refused = each-push (IsRefused set log) node.refused r agrees.refused clash;
+    unpinned = agrees.unpinned;
   }
 
   -- a broker whose dirty content was refused
@@ -49,6 +50,7 @@ module _ (set : Setting) (log : Log) (broker : ℕ) (r : BlobRef) (node : NodeVa
     clean = agrees.clean;
     dirty = all-remove (λ e. IsBlob set log e.0 e.1) (same_reference r) node.cache.dirty agrees.dirty;
     refused = by (is_some (dirty_at r node.cache));
+    unpinned = agrees.unpinned;
   } where
     by : (b : Bool) → Each (IsRefused set log) (cond b (node.refused ++ r ∷ []) node.refused)
     by true = each-push (IsRefused set log) node.refused r agrees.refused clash

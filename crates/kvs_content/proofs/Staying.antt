@@ -36,6 +36,7 @@ module _ (log : Log) (m : Moment) (other : IsOtherwise m) where
       clean = λ r bytes e. blob-later log (m ∷ []) set r bytes (h.clean r bytes e);
       dirty = each-map (λ e. IsBlob set log e.0 e.1) (λ e. IsBlob set (log ++ m ∷ []) e.0 e.1) (λ e b. blob-later log (m ∷ []) set e.0 e.1 b) node.cache.dirty h.dirty;
       refused = each-map (IsRefused set log) (IsRefused set (log ++ m ∷ [])) (λ r b. refused-later log (m ∷ []) set r b) node.refused h.refused;
+      unpinned = h.unpinned;
     }
 
     pub content-stays : (v : ContentValue) → AgreesContent v set log → AgreesContent v set (log ++ m ∷ [])

@@ -4,7 +4,9 @@ use Rattle.std.specs.List.{AllByRecursion as Each, list_any}
 use Rattle.fl_digest.specs.declared.BlobRef.{BlobRef}
 use Rattle.fl_digest.specs.Reference.{reference_of, same_reference}
 use Rattle.blob_store.specs.Blobs.{blob_at}
-use Rattle.cache_node.specs.Cache.{clean_at}
+use Rattle.cache_node.specs.declared.content.Held.{Held}
+use Rattle.cache_node.specs.Order.{is_pinned}
+use Rattle.cache_node.specs.Cache.{clean_at, held_at}
 use Rattle.kvs_txn.specs.declared.txn.By.{By}
 use Rattle.kvs_rules.specs.declared.events.KvsAsk.TheVariants as ask
 use Rattle.kvs_rules.specs.declared.events.KvsAnswer.{KvsAnswer}
@@ -36,12 +38,13 @@ IsBlob set log reference bytes = (reference ≡ reference_of set.hash bytes) × 
 abbrev pub IsRefused : Setting → Log → BlobRef → Type 0
 IsRefused set log reference = IsClash set log reference × IsTrue (has_got log 0 reference)
 
--- a broker holds what is clean there, and keeps contents alone
+-- a broker holds what is clean there, keeps contents alone, and has pinned none
 pub record NodeAgrees (set : Setting) (log : Log) (broker : ℕ) (node : NodeValue) : Type 0 where
   pub held : (reference : BlobRef) → holds log broker reference ≡ is_some (clean_at reference node.cache)
   pub clean : (reference : BlobRef) (bytes : List ℕ) → clean_at reference node.cache ≡ Some bytes → IsBlob set log reference bytes
   pub dirty : Each (λ e. IsBlob set log e.0 e.1) node.cache.dirty
   pub refused : Each (IsRefused set log) node.refused
+  pub unpinned : (reference : BlobRef) (held : Held) → held_at reference node.cache ≡ Some held → is_pinned held ≡ false
 
 -- what the log says of an offer: its bytes are a content; once it is accepted, the broker above has got the content
 abbrev pub OfferAgrees : Setting → Log → ℕ → ℕ → BlobRef → OfferStage → Type 0

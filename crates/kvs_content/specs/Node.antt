@@ -38,6 +38,12 @@ getting broker reference gets = if gets then event.Got broker reference ∷ [] e
 abbrev pub dropping : ℕ → List BlobRef → List KvsEvent
 dropping broker gone = map (event.Dropped broker) gone
 
+-- the broker gets or drops a content
+abbrev pub GetsOrDrops : ℕ → KvsEvent → Type 0
+GetsOrDrops broker (event.Got b reference) = b ≡ broker
+GetsOrDrops broker (event.Dropped b reference) = b ≡ broker
+GetsOrDrops broker _ = ⊥
+
 -- a broker keeps a content as clean, and drops what goes for it
 pub record IsGetting (broker : ℕ) (reference : BlobRef) (bytes : List ℕ) (old new : NodeValue) (events : List KvsEvent) : Type 0 where
   pub gone : List BlobRef

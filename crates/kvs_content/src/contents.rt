@@ -1,5 +1,5 @@
 //! The contents of an instance, at all brokers.
-ghost use Rattle.std.specs.Prelude.{◌≡◌, ◌≢◌, ℕ, ◌+◌, ◌-◌, ◌*◌, ◌<◌, ◌≤◌, ◌↔◌, ◌++◌, ◌∷◌, [], true, ◌⊎◌, IsTrue, IsSome, IfOk, IfSome, OnOk, None, is_some, length, map, option_map, slice_index_or, slice_set, sum_by};
+ghost use Rattle.std.specs.Prelude.{◌≡◌, ◌≢◌, ℕ, ◌+◌, ◌-◌, ◌*◌, ◌<◌, ◌≤◌, ◌↔◌, ◌++◌, ◌∷◌, [], true, ◌⊎◌, IsTrue, IsSome, IfOk, IfSome, OnOk, Contains, None, is_some, length, map, option_map, slice_index_or, slice_set, sum_by};
 ghost use Rattle.std.specs.List.{AllByRecursion as Each, list_any};
 ghost use Rattle.fl_digest.specs.declared.BlobRef.{BlobRef as Reference};
 ghost use Rattle.fl_digest.specs.Reference.{reference_of};
@@ -8,10 +8,10 @@ ghost use Rattle.cache_node.specs.Cache.{any_at, clean_at};
 ghost use Rattle.kvs_txn.specs.declared.txn.By.{By as Command};
 ghost use Rattle.kvs_rules.specs.Log.{Happened, Log, same_command};
 ghost use Rattle.kvs_rules.specs.Namespaces.{Request as Asked, Setting};
-ghost use Rattle.kvs_rules.specs.Brokers.{IsContent, has_got, parent};
-ghost use Rattle.kvs_rules.specs.Steps.{ComesTo};
+ghost use Rattle.kvs_rules.specs.Brokers.{IsContent, has_got, holds, parent};
+ghost use Rattle.kvs_rules.specs.declared.events.KvsEvent.TheVariants as event;
 ghost use Rattle.kvs_content.specs.Messages.{AreSettled, IsAbove, deliveries_left, is_offer_on, is_want_on, loads_of, offer_of, offers_left, outcome, want_of, wants_left};
-ghost use Rattle.kvs_content.specs.Node.{IsDropping, IsFlush, IsGetting, empty_node};
+ghost use Rattle.kvs_content.specs.Node.{GetsOrDrops, IsDropping, IsFlush, IsGetting, empty_node};
 ghost use Rattle.kvs_content.specs.Steps.{AreAlike, AreLinksEmpty, IsLighter, answered, can_deliver, waiting};
 ghost use Rattle.kvs_content.specs.Sound.{ArePlaced, IsCarried, IsDirty, IsGiftNamed, IsSoundBut, IsSoundContent, IsWantNamed};
 ghost use Rattle.kvs_content.specs.Value.{node_at, size_of};
@@ -165,7 +165,7 @@ impl Contents {
         ensures wants { OnOk result (self.new.wants ≡ self.old.wants) }
         ensures reference { IfOk result (λ made. made.reference
             ≡ reference_of self.old.hash bytes) }
-        ensures made { IfOk result (λ made. Each (ComesTo broker) made.events) }
+        ensures made { IfOk result (λ made. Each (GetsOrDrops broker) made.events) }
         ensures follows { IfOk result (λ made. (set : Setting) (log : Log)
             → AgreesContent self.old set log → IsContent set log bytes
             → Follows self.old self.new made.events set log) }
@@ -202,7 +202,7 @@ impl Contents {
         ensures left { OnOk result (sum_by offers_left self.new.offers
             ≡ sum_by offers_left self.old.offers) }
         ensures wants { OnOk result (self.new.wants ≡ self.old.wants) }
-        ensures made { IfOk result (λ taken. Each (ComesTo 0) taken.events) }
+        ensures made { IfOk result (λ taken. Each (GetsOrDrops 0) taken.events) }
         ensures follows { IfOk result (λ taken. (set : Setting) (log : Log)
             → AgreesContent self.old set log
             → IsBlob set log reference bytes → Follows self.old self.new taken.events set log) }
@@ -320,7 +320,7 @@ impl Contents {
             ≡ sum_by offers_left self.old.offers) }
         ensures wants { OnOk result (self.new.wants ≡ self.old.wants) }
         ensures named { IfOk result (λ found. IsWantNamed reference.now found.stage) }
-        ensures made { IfOk result (λ found. Each (ComesTo 0) found.events) }
+        ensures made { IfOk result (λ found. Each (GetsOrDrops 0) found.events) }
         ensures follows { IfOk result (λ found. FollowsAlways self.old self.new found.events) }
         ensures told { IfOk result (λ found. (set : Setting) (log : Log)
             → AgreesContent self.old set log
@@ -353,7 +353,7 @@ impl Contents {
             ≡ sum_by offers_left self.old.offers) }
         ensures wants { OnOk result (self.new.wants ≡ self.old.wants) }
         ensures named { IfOk result (λ found. IsWantNamed reference.now found.stage) }
-        ensures made { IfOk result (λ found. Each (ComesTo broker) found.events) }
+        ensures made { IfOk result (λ found. Each (GetsOrDrops broker) found.events) }
         ensures follows { IfOk result (λ found. FollowsAlways self.old self.new found.events) }
         ensures told { IfOk result (λ found. (set : Setting) (log : Log)
             → AgreesContent self.old set log
@@ -385,7 +385,7 @@ impl Contents {
         ensures waits { IfOk result (λ made. (other : Command)
             → loads_of other self.new.wants
             ≡ loads_of other self.old.wants + waiting by other made.load) }
-        ensures made { IfOk result (λ made. Each (ComesTo broker) made.events) }
+        ensures made { IfOk result (λ made. Each (GetsOrDrops broker) made.events) }
         ensures follows { IfOk result (λ made. (set : Setting) (log : Log)
             → AgreesContent self.old set log
             → IsLoad self.old set log by broker reference
@@ -429,7 +429,7 @@ impl Contents {
         node.flush()
     }
 
-    /// Drops the clean contents of a broker that aren't pinned.
+    /// Drops the clean contents of a broker that aren't pinned: all that it holds.
     pub fn drop_clean(&mut self, broker: u32) -> Result<KvsEvents, AllocError>
         requires sound { IsSoundContent self.old }
         requires within { broker < size_of self.old }
@@ -439,7 +439,12 @@ impl Contents {
         ensures rest { OnOk result (self.new ≡ record self.old {
           nodes = slice_set self.old.nodes broker (node_at self.new broker);
         }) }
+        ensures made { IfOk result (λ events. Each (GetsOrDrops broker) events) }
         ensures follows { IfOk result (λ events. FollowsAlways self.old self.new events) }
+        ensures all { IfOk result (λ events. (set : Setting) (log : Log)
+            → AgreesContent self.old set log → (reference : Reference)
+            → IsTrue (holds log broker reference)
+            → Contains events (event.Dropped broker reference)) }
     {
         let node = &mut self.nodes[broker as usize];
         let events = node.drop_clean(self.alloc, broker)?;
@@ -457,7 +462,7 @@ impl Contents {
             < deliveries_left (size_of self.old) self.old.offers self.old.wants) }
         ensures waits { IfOk result (λ made. (by : Command)
             → loads_of by self.old.wants ≡ loads_of by self.new.wants + answered by made.answer) }
-        ensures made { IfOk result (λ made. Each (ComesTo to) made.events) }
+        ensures made { IfOk result (λ made. Each (GetsOrDrops to) made.events) }
         ensures follows { IfOk result (λ made. FollowsAlways self.old self.new made.events) }
         ensures told { IfOk result (λ made. (set : Setting) (log : Log)
             → AgreesContent self.old set log
@@ -487,7 +492,7 @@ impl Contents {
         ensures wants { OnOk result (self.new.wants ≡ self.old.wants) }
         ensures left { OnOk result (sum_by offers_left self.new.offers
             < sum_by offers_left self.old.offers) }
-        ensures made { IfOk result (λ events. Each (ComesTo to) events) }
+        ensures made { IfOk result (λ events. Each (GetsOrDrops to) events) }
         ensures follows { IfOk result (λ events. FollowsAlways self.old self.new events) }
     {
         let Offer {
@@ -512,7 +517,7 @@ impl Contents {
         ensures wants { OnOk result (self.new.wants ≡ self.old.wants) }
         ensures left { OnOk result (sum_by offers_left self.new.offers
             ≡ sum_by offers_left self.old.offers) }
-        ensures made { IfOk result (λ events. Each (ComesTo at) events) }
+        ensures made { IfOk result (λ events. Each (GetsOrDrops at) events) }
         ensures follows { IfOk result (λ events. (set : Setting) (log : Log)
             → AgreesContent self.old set log → (0 < at)
             × IsTrue (has_got log (parent self.old.fanout at) reference)
@@ -562,7 +567,7 @@ impl Contents {
         ensures wants { OnOk result (self.new.wants ≡ self.old.wants) }
         ensures left { OnOk result (sum_by offers_left self.new.offers
             < sum_by offers_left self.old.offers + 2 * child) }
-        ensures made { IfOk result (λ events. Each (ComesTo at) events) }
+        ensures made { IfOk result (λ events. Each (GetsOrDrops at) events) }
         ensures follows { IfOk result (λ events. (set : Setting) (log : Log)
             → AgreesContent self.old set log → IsBlob set log reference bytes
             → Follows self.old self.new events set log) }
@@ -621,7 +626,7 @@ impl Contents {
             < deliveries_left (size_of self.old) self.old.offers self.old.wants) }
         ensures waits { IfOk result (λ made. (by : Command)
             → loads_of by self.old.wants ≡ loads_of by self.new.wants + answered by made.answer) }
-        ensures made { IfOk result (λ made. Each (ComesTo to) made.events) }
+        ensures made { IfOk result (λ made. Each (GetsOrDrops to) made.events) }
         ensures follows { IfOk result (λ made. FollowsAlways self.old self.new made.events) }
         ensures told { IfOk result (λ made. (set : Setting) (log : Log)
             → AgreesContent self.old set log
@@ -661,7 +666,7 @@ impl Contents {
         ensures waits { IfOk result (λ made. (other : Command)
             → loads_of other self.old.wants + waiting by other Load.Waits
             ≡ loads_of other self.new.wants + answered other made.answer) }
-        ensures made { IfOk result (λ made. Each (ComesTo at) made.events) }
+        ensures made { IfOk result (λ made. Each (GetsOrDrops at) made.events) }
         ensures follows { IfOk result (λ made. (set : Setting) (log : Log)
             → AgreesContent self.old set log
             → WantAgrees set log self.old.fanout
@@ -703,7 +708,7 @@ impl Contents {
         ensures wants { OnOk result (self.new.wants ≡ self.old.wants) }
         ensures left { OnOk result (sum_by offers_left self.new.offers
             ≡ sum_by offers_left self.old.offers) }
-        ensures made { IfOk result (λ events. Each (ComesTo at) events) }
+        ensures made { IfOk result (λ events. Each (GetsOrDrops at) events) }
         ensures follows { IfOk result (λ events. (set : Setting) (log : Log) (by : Command)
             (request : Asked) → AgreesContent self.old set log
             → GiftAgrees set log self.old.fanout at by request reference gift.now
@@ -746,7 +751,7 @@ impl Contents {
         ensures waits { IfOk result (λ made. (other : Command)
             → loads_of other self.old.wants + waiting by other Load.Waits
             ≡ loads_of other self.new.wants + answered other made.answer) }
-        ensures made { IfOk result (λ made. Each (ComesTo at) made.events) }
+        ensures made { IfOk result (λ made. Each (GetsOrDrops at) made.events) }
         ensures follows { IfOk result (λ made. (set : Setting) (log : Log)
             → AgreesContent self.old set log
             → WantAgrees set log self.old.fanout (want_of by broker at reference
@@ -778,6 +783,22 @@ impl Contents {
             events,
         })
     }
+
+    /// Whether no message is on any link.
+    pub fn is_idle(&self) -> bool
+        requires { IsSoundContent self.now }
+        ensures { IsTrue result ↔ AreLinksEmpty self.now }
+    {
+        self.offers.is_empty() && self.wants.is_empty()
+    }
+
+    /// A message goes from a broker to the one above it, or to one below it.
+    pub fn links(&self)
+        requires { IsSoundContent self.now }
+        ensures { (from to : ℕ) → can_deliver self.now from to ≡ true
+            → (from < size_of self.now) × ((to ≡ parent self.now.fanout from)
+            ⊎ ((0 < to) × (to < size_of self.now) × (parent self.now.fanout to ≡ from))) }
+    {}
 
     /// Where no message is on any link, no content is dirty and no load waits.
     pub fn at_rest(&self)

@@ -4,7 +4,7 @@ use Rattle.std.specs.List.{AllByRecursion as Each}
 use Rattle.cache_node.specs.Cache.{clean_at}
 use Rattle.kvs_rules.specs.Log.{Happened, Log}
 use Rattle.kvs_rules.specs.Namespaces.{Setting}
-use Rattle.kvs_rules.specs.Steps.{ComesTo}
+use Rattle.kvs_content.specs.Node.{GetsOrDrops}
 use Rattle.kvs_content.specs.declared.wants.Gift.{Gift}
 use Rattle.kvs_content.specs.declared.wants.WantStage.TheVariants as wanted
 use Rattle.kvs_content.specs.Agrees.{AgreesContent, IsFound}
@@ -21,7 +21,7 @@ returns-in-Some-clause-told c = λ set log a.
     (has-found c.args.self.now set log a c.args.broker c.requires.within c.args.reference.now c.in-Some.gift found clean)
 
 pub returns-then-broker-eq0-clause-made : goal.returns-then-broker-eq0-clause-made
-returns-then-broker-eq0-clause-made c = subst (λ (b : ℕ). IfOk c.fetch.result (λ found. Each (ComesTo b) found.events)) (sym c.if-broker-eq0.true) c.fetch.ensures.made
+returns-then-broker-eq0-clause-made c = subst (λ (b : ℕ). IfOk c.fetch.result (λ found. Each (GetsOrDrops b) found.events)) (sym c.if-broker-eq0.true) c.fetch.ensures.made
 
 pub returns-then-broker-eq0-clause-told : goal.returns-then-broker-eq0-clause-told
 returns-then-broker-eq0-clause-told c =

@@ -3,7 +3,7 @@ use Rattle.std.specs.Prelude.{is_some}
 use Rattle.std.specs.List.{AllByRecursion as Each, sum_by}
 use Rattle.cache_node.specs.Cache.{clean_at}
 use Rattle.kvs_rules.specs.Brokers.{parent}
-use Rattle.kvs_rules.specs.Steps.{ComesTo}
+use Rattle.kvs_content.specs.Node.{GetsOrDrops}
 use Rattle.kvs_rules.specs.declared.events.KvsEvent.{KvsEvent}
 use Rattle.kvs_content.specs.Agrees.{Follows}
 use Rattle.kvs_content.specs.Messages.{offers_left}
@@ -27,7 +27,7 @@ returns-then-at-eq0-clause-left c =
     omega (arith, more, c.in_ok-accepted.ensures.left, c.requires.child.0)
 
 pub returns-then-at-eq0-clause-made : goal.returns-then-at-eq0-clause-made
-returns-then-at-eq0-clause-made c = subst (λ b. Each (ComesTo b) c.in_ok-accepted.field-0.events) (sym c.if-at-eq0.true) c.in_ok-accepted.ensures.made
+returns-then-at-eq0-clause-made c = subst (λ b. Each (GetsOrDrops b) c.in_ok-accepted.field-0.events) (sym c.if-at-eq0.true) c.in_ok-accepted.ensures.made
 
 pub returns-then-at-eq0-clause-follows : goal.returns-then-at-eq0-clause-follows
 returns-then-at-eq0-clause-follows c = λ set log a blob.

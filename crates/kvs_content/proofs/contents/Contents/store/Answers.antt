@@ -4,7 +4,7 @@ use Rattle.std.specs.List.{AllByRecursion as Each}
 use Rattle.fl_digest.specs.Reference.{reference_of}
 use Rattle.kvs_rules.specs.Log.{Happened}
 use Rattle.kvs_rules.specs.Brokers.{has_got}
-use Rattle.kvs_rules.specs.Steps.{ComesTo}
+use Rattle.kvs_content.specs.Node.{GetsOrDrops}
 use Rattle.kvs_content.specs.Agrees.{Follows, IsKept, IsNoted, IsRuled}
 use Rattle.kvs_content.specs.Sound.{IsSoundContent}
 use Rattle.kvs_content.specs.Value.{ContentValue, node_at, size_of}
@@ -37,7 +37,7 @@ returns-then-broker-eq0-clause-sound c =
     (lighter-sound c.args.self.now c.take_up.new.self done.alike.size c.requires.sound done.placed done.lighter))
 
 pub returns-then-broker-eq0-clause-made : goal.returns-then-broker-eq0-clause-made
-returns-then-broker-eq0-clause-made c = subst (λ b. Each (ComesTo b) c.in_ok-taken.taken.events) (sym c.if-broker-eq0.true) c.in_ok-taken.ensures.made
+returns-then-broker-eq0-clause-made c = subst (λ b. Each (GetsOrDrops b) c.in_ok-taken.taken.events) (sym c.if-broker-eq0.true) c.in_ok-taken.ensures.made
 
 pub returns-then-broker-eq0-clause-follows : goal.returns-then-broker-eq0-clause-follows
 returns-then-broker-eq0-clause-follows c = λ set log a content.
