@@ -1,0 +1,10 @@
+mod Lists
+mod Later
+mod Dropping
+mod Answering
+mod Tables
+mod Stepping
+mod Asking
+mod Taking
+mod Resting
+mod Others

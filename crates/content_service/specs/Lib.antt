@@ -1,0 +1,9 @@
+pub mod Agrees
+pub mod Asks
+pub mod Makes
+pub mod Rows
+pub mod Served
+pub mod Sound
+pub mod Steps
+pub mod Value
+pub mod View
