@@ -2,7 +2,7 @@
 //! RFC 16, 20, 21 and 25).
 #![tactic(auto)]
 
-mod keys;
+pub mod keys;
 pub mod laws;
 pub mod manager;
 pub mod post;
@@ -10,6 +10,7 @@ pub mod post;
 mod tests;
 mod txns;
 
+pub use keys::{log_path, r_path, spec_path};
 pub use laws::what_lands_is_due;
 pub use manager::Manager;
 pub use post::{Post, Submission};
