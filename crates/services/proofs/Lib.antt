@@ -1,0 +1,8 @@
+mod Beside
+mod Links
+mod Linking
+mod Resting
+mod Turning
+mod Walking
+pub mod Waiting
+pub mod Tested

@@ -1,0 +1,9 @@
+//! The services of one instance (Flux RFC 10, 11 and 21): the key-value service with the job manager over it, and the contents.
+//! They stand beside each other over one log.
+#![tactic(auto)]
+
+mod services;
+#[cfg(test)]
+mod tests;
+
+pub use services::Services;
