@@ -6,9 +6,8 @@ use Rattle.std.proofs.lemmas.Bool.{le-ltb, cases_lt}
 use Rattle.std.proofs.lemmas.List.{length-append}
 use Rattle.std.proofs.Math.ListN.{get_or-append}
 use Rattle.std.proofs.lemmas.Option.{slice_get_within, get_or_from_slice_get, slice_get-get_or}
-use Rattle.kvs_core.specs.Agrees.{Agrees}
-use Rattle.kvs_core.specs.Posted.{posted}
-use Rattle.kvs_core.specs.Value.{CoreValue}
+use Rattle.services.specs.Agrees.{AgreesServices}
+use Rattle.services.specs.Value.{ServicesValue}
 use Rattle.workload.specs.declared.work.Actor.{Actor}
 use Rattle.workload.specs.declared.work.Line.{Line}
 use Rattle.workload.specs.declared.work.Workload.{Workload}
@@ -63,9 +62,9 @@ seats_push work seats actors n len old seat first new is a d e low =
     last_of [] x d = refl
     last_of (y ∷ xs) x d = last_of xs x d
 
-pub begin_agrees : (set : Setup) (core : CoreValue) (seats : List Seat) → IsWithin set.size set.work → All (λ l. IsKnownCommand l.command) set.work.lines → posted core ≡ [] → Agrees core (setting_of set) [] → AreFirstSeats set.work seats →
-    AgreesOwn (record { spent = false; seats = seats; core = core }) set []
-begin_agrees set core seats within known unposted agrees first = record {
+pub begin_agrees : (set : Setup) (services : ServicesValue) (seats : List Seat) → IsWithin set.size set.work → All (λ l. IsKnownCommand l.command) set.work.lines → services.manager.posted ≡ None → AgreesServices services (setting_of set) [] → AreFirstSeats set.work seats →
+    AgreesOwn (record { spent = false; seats = seats; services = services }) set []
+begin_agrees set services seats within known unposted agrees first = record {
   within = within;
   known = known;
   legal = tt;
@@ -123,6 +122,10 @@ known_of (command.Mkdir path) h = tt
 known_of (command.Symlink path target) h = tt
 known_of (command.Ls path) h = tt
 known_of (command.Readlink path) h = tt
+known_of (command.ContentStore bytes) h = tt
+known_of (command.ContentLoad reference) h = tt
+known_of command.ContentFlush h = tt
+known_of command.ContentDrop h = tt
 known_of _ h = h
 
 pub all_known : (work : Workload) → All (λ l. IsBuilt l.command) work.lines → All (λ l. IsKnownCommand l.command) work.lines

@@ -9,16 +9,16 @@ use Rattle.kvs_txn.specs.declared.txn.By.{By}
 use Rattle.kvs_rules.specs.declared.events.KvsAnswer.{KvsAnswer}
 use Rattle.kvs_rules.specs.declared.events.KvsEvent.{KvsEvent}
 use Rattle.kvs_rules.specs.declared.events.KvsEvent.TheVariants as event
-use Rattle.kvs_rules.specs.Log.{Log, Moment, Happened, Asked, IsPending, is_asked, is_answered, answers_now, same_command}
+use Rattle.kvs_rules.specs.Log.{IsOpen, Log, Moment, Happened, Asked, IsPending, is_asked, is_answered, answers_now, same_command}
 use Rattle.kvs_rules.specs.Namespaces.{Request, Setting, is_live, landed}
 use Rattle.kvs_rules.specs.Brokers.{heard}
 use Rattle.kvs_model.specs.Store.{Name}
 use Rattle.kvs_rules.specs.declared.events.KvsStep.{KvsStep}
 use Rattle.kvs_rules.specs.Quiet.{IsQuiet, IsShortFence}
 use Rattle.kvs_rules.proofs.Asking.{command_is}
-use Rattle.kvs_core.specs.Agrees.{Agrees}
-use Rattle.kvs_core.specs.Steps.{IsStill, can_step, can_take}
-use Rattle.kvs_requests.specs.Stages.{is_held}
+use Rattle.services.specs.Agrees.{AgreesServices}
+use Rattle.services.specs.Steps.{IsStill, can_step, can_take}
+use Rattle.services.proofs.Waiting.{open_asks, taken_waits}
 use Rattle.workload.specs.declared.work.Command.{Command}
 use Rattle.workload.specs.declared.work.Line.{Line}
 use Rattle.workload.specs.declared.work.Workload.{Workload}
@@ -133,7 +133,7 @@ module _ (v : Own) (h : DoesAgree v) where
 
   -- the last command of a seat that waits for the service is the one that is open
   waits_for : (a k : ℕ) (seat : Seat) → slice_get v.instance.seats a ≡ Some seat → k < seat.issued → is_asked (command_of a k) log ≡ true → is_answered (command_of a k) log ≡ false →
-      has_answer v.instance.core v.instance.seats a ≡ false → can_take v.instance.core (command_of a k) ≡ false
+      has_answer v.instance.services v.instance.seats a ≡ false → can_take v.instance.services (command_of a k) ≡ false
   waits_for a k seat at low asked unanswered idle = on seat.waiting refl
     where
       mine : ActorStands v.set log v.chronicle a (Some seat)
@@ -152,32 +152,28 @@ module _ (v : Own) (h : DoesAgree v) where
           let replied : replied_of seat ≡ seat.issued = ap (λ x. cond (is_free x) seat.issued (seat.issued - 1)) is in
           true≢false (sym (mine.0.answered k asked (omega arith)) ∙ unanswered)
 
-      idle_so : has_come v.instance.core (last_command a seat) seat.waiting ≡ false
-      idle_so = ap (λ o. option_map_or (λ s. has_come v.instance.core (last_command a s) s.waiting) o false) (sym at) ∙ idle
+      idle_so : has_come v.instance.services (last_command a seat) seat.waiting ≡ false
+      idle_so = ap (λ o. option_map_or (λ s. has_come v.instance.services (last_command a s) s.waiting) o false) (sym at) ∙ idle
 
-      on : (w : Waiting) → seat.waiting ≡ w → can_take v.instance.core (command_of a k) ≡ false
+      on : (w : Waiting) → seat.waiting ≡ w → can_take v.instance.services (command_of a k) ≡ false
       on waiting.Nothing is = absurd (free_not is)
-      on waiting.Staged is = absurd (true≢false (ap (has_come v.instance.core (last_command a seat)) (sym is) ∙ idle_so))
-      on waiting.TxnFull is = absurd (true≢false (ap (has_come v.instance.core (last_command a seat)) (sym is) ∙ idle_so))
-      on (waiting.Tell to) is = absurd (true≢false (ap (has_come v.instance.core (last_command a seat)) (sym is) ∙ idle_so))
-      on waiting.Using is = absurd (true≢false (ap (has_come v.instance.core (last_command a seat)) (sym is) ∙ idle_so))
-      on waiting.Service is = ap (λ n. can_take v.instance.core (command_of a n)) (last waiting.Service is refl) ∙ ap (has_come v.instance.core (last_command a seat)) (sym is) ∙ idle_so
+      on waiting.Staged is = absurd (true≢false (ap (has_come v.instance.services (last_command a seat)) (sym is) ∙ idle_so))
+      on waiting.TxnFull is = absurd (true≢false (ap (has_come v.instance.services (last_command a seat)) (sym is) ∙ idle_so))
+      on (waiting.Tell to) is = absurd (true≢false (ap (has_come v.instance.services (last_command a seat)) (sym is) ∙ idle_so))
+      on waiting.Using is = absurd (true≢false (ap (has_come v.instance.services (last_command a seat)) (sym is) ∙ idle_so))
+      on waiting.Service is = ap (λ n. can_take v.instance.services (command_of a n)) (last waiting.Service is refl) ∙ ap (has_come v.instance.services (last_command a seat)) (sym is) ∙ idle_so
 
   -- where nobody can be replied to, no answer waits to be taken
-  none_taken : ((a : ℕ) → has_answer v.instance.core v.instance.seats a ≡ false) → (by : By) → can_take v.instance.core by ≡ false
-  none_taken idle by = on (can_take v.instance.core by) refl
+  none_taken : ((a : ℕ) → has_answer v.instance.services v.instance.seats a ≡ false) → (by : By) → can_take v.instance.services by ≡ false
+  none_taken idle by = on (can_take v.instance.services by) refl
     where
-      on : (b : Bool) → can_take v.instance.core by ≡ b → b ≡ false
+      on : (b : Bool) → can_take v.instance.services by ≡ b → b ≡ false
       on false t = refl
       on true t =
-          let at = any_at (λ row. same_command by row.by && is_held row) v.instance.core.rows t in
-          let some = got v.instance.core.rows at.0 at.1 in
-          let row = get_or v.instance.core.rows at.0 some.0 in
-          let agrees = h.agrees.rows at.0 some.0 at.1 in
-          let same = command_is by row.by (both_first (same_command by row.by) (is_held row) (at.2 some.0)) in
-          sit (subst (λ b. is_asked b log ≡ true) (sym same) agrees.asked) (subst (λ b. is_answered b log ≡ false) (sym same) agrees.unanswered) t (slice_get v.instance.seats by.actor) refl
+          let waits = taken_waits v.instance.services (setting_of v.set) log h.agrees by t in
+          sit waits.asked waits.unanswered t (slice_get v.instance.seats by.actor) refl
         where
-          sit : is_asked by log ≡ true → is_answered by log ≡ false → can_take v.instance.core by ≡ true → (o : Option Seat) → slice_get v.instance.seats by.actor ≡ o → true ≡ false
+          sit : is_asked by log ≡ true → is_answered by log ≡ false → can_take v.instance.services by ≡ true → (o : Option Seat) → slice_get v.instance.seats by.actor ≡ o → true ≡ false
           sit asked unanswered t None at = let low : by.command < 0 = asked_low by asked None at in absurd (omega arith)
           sit asked unanswered t (Some seat) at = sym t ∙ waits_for by.actor by.command seat at (asked_low by asked (Some seat) at) asked unanswered (idle by.actor)
 
@@ -185,15 +181,12 @@ module _ (v : Own) (h : DoesAgree v) where
   module _ (over : IsOver v.set.work.lines v.instance) (quiet : IsQuiet (setting_of v.set) log) where
     waits_short : (by : By) → is_asked by log ≡ true → is_answered by log ≡ false → (request : Request) × ((setting_of v.set).asks by ≡ Some request) × IsPending by log × (IsShortAsk (setting_of v.set) log request.namespace request.ask ⊎ IsAboveAsk log request.namespace request.ask)
     waits_short by asked unanswered =
-        let row_at = h.agrees.open_rows by (record { asked = asked; unanswered = unanswered }) in
-        let some = got v.instance.core.rows row_at.0 row_at.1 in
-        let agrees = h.agrees.rows row_at.0 some.0 row_at.1 in
-        let made = subst (λ b. (setting_of v.set).asks b ≡ Some agrees.request) (row_at.2 some.0) agrees.made in
-        elim (quiet.answered by agrees.request (record { asked = asked; unanswered = unanswered }) made) [
+        let (request, made) = open_asks v.instance.services (setting_of v.set) log h.agrees by (record { asked = asked; unanswered = unanswered }) in
+        elim (quiet.answered by request (record { asked = asked; unanswered = unanswered }) made) [
           | inl above ↦
-              let within = asked_within v.set v.chronicle h.legal by agrees.request made asked in
+              let within = asked_within v.set v.chronicle h.legal by request made asked in
               absurd (omega (arith, above, within))
-          | inr short ↦ (agrees.request, made, short.0, left_asks (setting_of v.set) log agrees.request.namespace agrees.request.ask short.1)
+          | inr short ↦ (request, made, short.0, left_asks (setting_of v.set) log request.namespace request.ask short.1)
         ]
 
     -- an open command waits for what does not come
@@ -231,8 +224,8 @@ module _ (v : Own) (h : DoesAgree v) where
         mine : ActorStands v.set log v.chronicle a (Some seat)
         mine = subst (ActorStands v.set log v.chronicle a) at (h.actors a)
 
-        idle_so : has_come v.instance.core (last_command a seat) seat.waiting ≡ false
-        idle_so = ap (λ o. option_map_or (λ s. has_come v.instance.core (last_command a s) s.waiting) o false) (sym at) ∙ over.answers a
+        idle_so : has_come v.instance.services (last_command a seat) seat.waiting ≡ false
+        idle_so = ap (λ o. option_map_or (λ s. has_come v.instance.services (last_command a s) s.waiting) o false) (sym at) ∙ over.answers a
 
         served : (0 < seat.issued) × (is_asked (command_of a (seat.issued - 1)) log ≡ true) → seat.waiting ≡ waiting.Service → IsStuck v a seat
         served waits is = stuck_so a seat (mine.1.about waits.0) waits.0 waits.1 (open_so (is_answered (command_of a (seat.issued - 1)) log) refl)
@@ -249,10 +242,10 @@ module _ (v : Own) (h : DoesAgree v) where
 
         on : (w : Waiting) → seat.waiting ≡ w → (is_free seat.waiting ≡ true) ⊎ (seat.waiting ≡ waiting.Service) × IsStuck v a seat
         on waiting.Nothing is = inl (ap is_free is)
-        on waiting.Staged is = absurd (true≢false (ap (has_come v.instance.core (last_command a seat)) (sym is) ∙ idle_so))
-        on waiting.TxnFull is = absurd (true≢false (ap (has_come v.instance.core (last_command a seat)) (sym is) ∙ idle_so))
-        on (waiting.Tell to) is = absurd (true≢false (ap (has_come v.instance.core (last_command a seat)) (sym is) ∙ idle_so))
-        on waiting.Using is = absurd (true≢false (ap (has_come v.instance.core (last_command a seat)) (sym is) ∙ idle_so))
+        on waiting.Staged is = absurd (true≢false (ap (has_come v.instance.services (last_command a seat)) (sym is) ∙ idle_so))
+        on waiting.TxnFull is = absurd (true≢false (ap (has_come v.instance.services (last_command a seat)) (sym is) ∙ idle_so))
+        on (waiting.Tell to) is = absurd (true≢false (ap (has_come v.instance.services (last_command a seat)) (sym is) ∙ idle_so))
+        on waiting.Using is = absurd (true≢false (ap (has_come v.instance.services (last_command a seat)) (sym is) ∙ idle_so))
         on waiting.Service is = inr (is, served (subst (Waits v.set log a seat.issued) is mine.1.waits) is)
 
     -- an actor that waits for nothing has no line left
@@ -329,18 +322,18 @@ module _ (v : Own) (h : DoesAgree v) where
             fences (inl f) space name = ap (λ c. option_map_or (λ f. bytes_eq space seat.subject && bytes_eq name f.0) (option_and_then fence_of c) false) f.command
             fences (inr w) space name = ap (λ c. option_map_or (λ f. bytes_eq space seat.subject && bytes_eq name f.0) (option_and_then fence_of c) false) w.command
 
--- where nothing but the end can happen, the service is still
-pub still_so : (v : Own) → DoesAgree v → ((s : KvsStep) → can_step v.instance.core s ≡ false) → ((a : ℕ) → has_answer v.instance.core v.instance.seats a ≡ false) → IsStill v.instance.core
+-- where nothing but the end can happen, the services are still
+pub still_so : (v : Own) → DoesAgree v → ((s : KvsStep) → can_step v.instance.services s ≡ false) → ((a : ℕ) → has_answer v.instance.services v.instance.seats a ≡ false) → IsStill v.instance.services
 still_so v h steps answers = record { steps = steps; answers = none_taken v h answers }
 
--- what the service promises where it is still
+-- what the services promise where they are still
 abbrev pub IsStillQuiet : Own → Type 0
-IsStillQuiet v = (set : Setting) (log : Log) → Agrees v.instance.core set log → IsStill v.instance.core → IsQuiet set log
+IsStillQuiet v = (set : Setting) (log : Log) → AgreesServices v.instance.services set log → IsStill v.instance.services → IsQuiet set log
 
 -- and of the namespaces that live there
 abbrev pub IsStillHeard : Own → Type 0
-IsStillHeard v = (set : Setting) (log : Log) → Agrees v.instance.core set log → IsStill v.instance.core → (broker : ℕ) (space : Name) → broker < set.size → is_live log space ≡ true → IsSome (heard log broker space)
+IsStillHeard v = (set : Setting) (log : Log) → AgreesServices v.instance.services set log → IsStill v.instance.services → (broker : ℕ) (space : Name) → broker < set.size → is_live log space ≡ true → IsSome (heard log broker space)
 
--- where no step of the service and no reply can be made, all brokers are told
-pub told_so : (v : Own) → DoesAgree v → ((s : KvsStep) → can_step v.instance.core s ≡ false) → ((a : ℕ) → has_answer v.instance.core v.instance.seats a ≡ false) → IsStillQuiet v → HasToldAll v.set v.chronicle
+-- where no step of the services and no reply can be made, all brokers are told
+pub told_so : (v : Own) → DoesAgree v → ((s : KvsStep) → can_step v.instance.services s ≡ false) → ((a : ℕ) → has_answer v.instance.services v.instance.seats a ≡ false) → IsStillQuiet v → HasToldAll v.set v.chronicle
 told_so v h steps answers promise = (promise (setting_of v.set) (log_of v.set.work top v.chronicle) h.agrees (still_so v h steps answers)).told

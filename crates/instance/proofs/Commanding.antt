@@ -175,10 +175,14 @@ staged_with (command.NsRemove name) h xs =
     ap (take most_staged) (filter_map-append op_of (since_last takes_staged xs) (command.NsRemove name ∷ []) ∙ append-nil (filter_map op_of (since_last takes_staged xs)))
 staged_with (command.NsUse name) h xs =
     ap (take most_staged) (filter_map-append op_of (since_last takes_staged xs) (command.NsUse name ∷ []) ∙ append-nil (filter_map op_of (since_last takes_staged xs)))
-staged_with (command.ContentStore bytes) h xs = absurd h
-staged_with (command.ContentLoad reference) h xs = absurd h
-staged_with command.ContentFlush h xs = absurd h
-staged_with command.ContentDrop h xs = absurd h
+staged_with (command.ContentStore bytes) h xs =
+    ap (take most_staged) (filter_map-append op_of (since_last takes_staged xs) (command.ContentStore bytes ∷ []) ∙ append-nil (filter_map op_of (since_last takes_staged xs)))
+staged_with (command.ContentLoad reference) h xs =
+    ap (take most_staged) (filter_map-append op_of (since_last takes_staged xs) (command.ContentLoad reference ∷ []) ∙ append-nil (filter_map op_of (since_last takes_staged xs)))
+staged_with command.ContentFlush h xs =
+    ap (take most_staged) (filter_map-append op_of (since_last takes_staged xs) (command.ContentFlush ∷ []) ∙ append-nil (filter_map op_of (since_last takes_staged xs)))
+staged_with command.ContentDrop h xs =
+    ap (take most_staged) (filter_map-append op_of (since_last takes_staged xs) (command.ContentDrop ∷ []) ∙ append-nil (filter_map op_of (since_last takes_staged xs)))
 staged_with (command.Submit label urgency depends spec) h xs = absurd h
 staged_with (command.Cancel label) h xs = absurd h
 staged_with (command.Raise label kind severity note) h xs = absurd h

@@ -28,7 +28,7 @@ use Rattle.answers.specs.Chronicle.{top, issues, is_issued, replies_to}
 use Rattle.answers.specs.Commands.{broker_of, command_at, commands_of, subject_at}
 use Rattle.answers.specs.Legal.{HasEntryGrounds, IsLegalEntry}
 use Rattle.answers.specs.Services.{setting_of, log_of, moment_of}
-use Rattle.answers.specs.Whole.{IsWhole, IsGrounded, IsClosingEntry, has_ended, is_closing, is_end, is_unfinished, joins, leaves_member, leaves_of}
+use Rattle.answers.specs.Whole.{HasToldAll, IsWhole, IsGrounded, IsClosingEntry, has_ended, is_closing, is_end, is_unfinished, joins, leaves_member, leaves_of}
 use Rattle.answers.proofs.Services.{asked_issued, issued_below, log_push}
 use Rattle.instance.specs.declared.seats.Seat.{Seat}
 use Rattle.instance.specs.Seats.{is_free, replied_of}
@@ -41,7 +41,10 @@ use Rattle.instance.proofs.Listing.{any_left, count-append}
 use Rattle.instance.proofs.Ranges.{counted_flat, counted_none, counted_one, counted_range, contained_flat, distinct_passed, each_flat, each_mapped, each_passed, no_more_than}
 use Rattle.instance.proofs.Commanding.{own_length}
 use Rattle.instance.proofs.Leaving.{IsCause, IsDone, IsLeft, IsStuckFence, in_fence, numbers_of, seat_told, told_of}
-use Rattle.instance.proofs.Unlanded.{unasked_uncarried}
+use Rattle.answers.proofs.Carried.{unasked_uncarried}
+use Rattle.answers.proofs.JobLogs.{asks_nothing}
+use Rattle.answers.proofs.Resting.{may_close}
+use Rattle.instance.proofs.Jobless.{without_jobs}
 use Rattle.instance.proofs.Closing.{IsStillHeard, IsStillQuiet, left_of, past_all, still_so}
 use Rattle.instance.proofs.Going.{unended}
 use Rattle.instance.proofs.Seeing.{name_is}
@@ -304,7 +307,7 @@ module _ (v : Own) (h : DoesAgree v) (over : IsOver v.set.work.lines v.instance)
   rest_ending a l k low = (
     λ c. refl,
     refl,
-    λ c same. (refl, subst (IsUndone (command_of a k)) (sym same) (unasked_uncarried v.set v.chronicle h.legal (command_of a k) (unasked a l k low))),
+    λ c same. (refl, subst (IsUndone (command_of a k)) (sym same) (unasked_uncarried v.set (command_of a k) (asks_nothing v.set.work (without_jobs v.set.work h.known) (command_of a k)) v.chronicle h.legal (unasked a l k low))),
   )
 
   all_ending : Each IsEnding left
@@ -606,6 +609,9 @@ module _ (v : Own) (h : DoesAgree v) (over : IsOver v.set.work.lines v.instance)
 
   -- ---- the whole
 
+  told_whole : HasToldAll v.set whole
+  told_whole = subst (λ (l : Log). (broker : ℕ) (space : Name) → broker < v.set.size → IsSome (heard l broker space) → heard l broker space ≡ Some (landed l space)) (sym log_whole) quiet.told
+
   whole_so : IsWhole v.set whole
   whole_so = record {
     earlier = v.chronicle;
@@ -615,7 +621,8 @@ module _ (v : Own) (h : DoesAgree v) (over : IsOver v.set.work.lines v.instance)
     closing = grounded;
     answered = λ by some. replied_once by some;
     no_other = λ by none. not_replied by none;
-    told = subst (λ (l : Log). (broker : ℕ) (space : Name) → broker < v.set.size → IsSome (heard l broker space) → heard l broker space ≡ Some (landed l space)) (sym log_whole) quiet.told;
+    told = told_whole;
+    closes = may_close v.set (without_jobs v.set.work h.known) whole v.chronicle h.legal log_whole told_whole;
   }
 
   pub close_ends : Ends v.set v.chronicle left

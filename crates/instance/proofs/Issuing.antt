@@ -1,6 +1,6 @@
 -- What an issue leaves of a world.
 use Rattle.std.proofs.Common.{◌≡◌, ◌≢◌, ℕ, ◌+◌, ◌-◌, ◌<◌, ◌≤◌, ◌==◌, inl, inr, List, [], ◌∷◌, ◌++◌, length, Bool, true, false, ◌&&◌, ◌||◌, cond, refl, sym, ap, ap₂, ◌∙◌, subst, arith, count_by, Option, Some, None, get_or, eq-eqb, ne_eqb, true≢false, set, take, filter_map}
-use Rattle.std.specs.Prelude.{slice_get, nat_lt}
+use Rattle.std.specs.Prelude.{IfSome, slice_get, nat_lt}
 use Rattle.std.specs.Option.{option_map, option_map_or, option_and_then, is_some}
 use Rattle.std.specs.List.{cons_option}
 use Rattle.std.proofs.lemmas.Bool.{cases_eq, lt-ltb, ltb-true, ltb-false}
@@ -21,9 +21,9 @@ use Rattle.kvs_rules.specs.Log.{Log, Moment, Asked, is_asked, asks_now, same_com
 use Rattle.kvs_model.specs.Store.{Name}
 use Rattle.kvs_rules.specs.Namespaces.{Setting}
 use Rattle.kvs_rules.proofs.Sequences.{each_push}
-use Rattle.kvs_core.specs.Value.{CoreValue}
-use Rattle.kvs_core.specs.Agrees.{Agrees}
-use Rattle.kvs_core.specs.Posted.{posted}
+use Rattle.services.specs.Value.{ServicesValue}
+use Rattle.services.specs.Agrees.{AgreesServices}
+use Rattle.services.specs.Asks.{MayAsk}
 use Rattle.workload.specs.declared.work.Command.{Command}
 use Rattle.workload.specs.declared.work.Command.TheVariants as command
 use Rattle.workload.specs.declared.work.Line.{Line}
@@ -131,7 +131,7 @@ module _ (v : Own) (h : DoesAgree v) (a : ℕ) (seat : Seat) (is : IsIssuing v a
   pub issuer : seat.staged.author ≡ author.User a
   issuer = mine.1.author
 
-  pub issuer_broker : seat.broker < v.instance.core.size
+  pub issuer_broker : seat.broker < v.instance.services.size
   issuer_broker = subst (λ n. seat.broker < n) h.agrees.size mine.1.inside
 
   pub known_next : (d : Line) → IsKnownCommand (get_or v.set.work.lines seat.next d).command
@@ -319,6 +319,10 @@ module _ (v : Own) (h : DoesAgree v) (a : ℕ) (seat : Seat) (is : IsIssuing v a
             (asked_push by log o (ap (λ r. asks_of by (option_map (λ y. Asked by seen) r)) (eq ∙ ap (ask_of txn) (sym same))) ∙ unasked),
         (name, subst (λ n. command_at v.set.work (command_of a n) ≡ Some (command.NsUse name)) back (at ∙ ap Some (sym same))),
       )
+      waits_issued (command.ContentStore bytes) known same = waits_asked (ask.Store bytes) (eq ∙ ap (ask_of txn) (sym same))
+      waits_issued (command.ContentLoad reference) known same = waits_asked (ask.Load reference) (eq ∙ ap (ask_of txn) (sym same))
+      waits_issued command.ContentFlush known same = waits_asked ask.Flush (eq ∙ ap (ask_of txn) (sym same))
+      waits_issued command.ContentDrop known same = waits_asked ask.DropClean (eq ∙ ap (ask_of txn) (sym same))
       waits_issued _ known same = absurd known
 
       -- the actor's seat behind the issue
@@ -379,13 +383,13 @@ module _ (v : Own) (h : DoesAgree v) (a : ℕ) (seat : Seat) (is : IsIssuing v a
         ]
 
         -- the instance behind the issue
-        abbrev pub issued_instance : CoreValue → InstanceValue
-        issued_instance core = record { spent = false; seats = set v.instance.seats a issued_seat; core = core }
+        abbrev pub issued_instance : ServicesValue → InstanceValue
+        issued_instance services = record { spent = false; seats = set v.instance.seats a issued_seat; services = services }
 
-        pub issue_follows_so : (core : CoreValue) → posted core ≡ posted v.instance.core →
-            ((set : Setting) (log : Log) → Agrees v.instance.core set log → IsTheAsk set by begun_seat asked → is_asked by log ≡ false → Agrees core set (log ++ moment_asked by seen asked)) →
-            Follows v.set v.chronicle (step.Issue a) (issued_instance core) (e ∷ [])
-        issue_follows_so core unposted agrees = record {
+        pub issue_follows_so : (services : ServicesValue) → services.manager.posted ≡ v.instance.services.manager.posted →
+            ((set : Setting) (log : Log) → AgreesServices v.instance.services set log → IsTheAsk set by begun_seat asked → is_asked by log ≡ false → AgreesServices services set (log ++ moment_asked by seen asked)) →
+            Follows v.set v.chronicle (step.Issue a) (issued_instance services) (e ∷ [])
+        issue_follows_so services unposted agrees = record {
           made = record { before = []; command = seat.issued; behind = []; split = refl; others = tt };
           legal = (legal_issue, tt);
           settled = λ told. (told tt, tt);
@@ -396,13 +400,13 @@ module _ (v : Own) (h : DoesAgree v) (a : ℕ) (seat : Seat) (is : IsIssuing v a
             seated = length-set v.instance.seats a issued_seat ∙ h.seated;
             legal = each_push (IsLegalEntry v.set) v.chronicle e h.legal legal_issue;
             early = each_append IsEarlierEntry v.chronicle (e ∷ []) h.early (tt, tt);
-            agrees = subst (Agrees core (setting_of v.set)) (sym log_issued) (agrees (setting_of v.set) log h.agrees (issue_asks asked eq).0 unasked);
+            agrees = subst (AgreesServices services (setting_of v.set)) (sym log_issued) (agrees (setting_of v.set) log h.agrees (issue_asks asked eq).0 unasked);
             actors = λ b. subst (λ l. ActorStands v.set l (v.chronicle ++ e ∷ []) b (slice_get (set v.instance.seats a issued_seat) b)) (sym log_issued) (actors_so b);
           };
         }
 
 -- what the code does at an issue: the seat that it begins, its next line, and what it asks of the service
-pub record IsIssued (v : Own) (a : ℕ) (seat begun : Seat) (d : Line) (asked : Option KvsAsk) (next : ℕ) (core : CoreValue) : Type 0 where
+pub record IsIssued (v : Own) (a : ℕ) (seat begun : Seat) (d : Line) (asked : Option KvsAsk) (next : ℕ) (services : ServicesValue) : Type 0 where
   pub is : IsIssuing v a seat
   pub eq : asked ≡ ask_of (record { author = author.User a; ops = seat.staged.ops }) (get_or v.set.work.lines seat.next d).command
   pub began : begun ≡ record seat {
@@ -415,27 +419,33 @@ pub record IsIssued (v : Own) (a : ℕ) (seat begun : Seat) (d : Line) (asked : 
   pub within : next ≤ length v.set.work.lines
   pub passed : (k : ℕ) (l : Line) → begun.next + 1 ≤ k → k < next → (get_or v.set.work.lines k l).actor ≢ a
   pub here : (l : Line) → next < length v.set.work.lines → (get_or v.set.work.lines next l).actor ≡ a
-  pub kept : posted core ≡ posted v.instance.core
-  pub agrees : (set : Setting) (log : Log) → Agrees v.instance.core set log → IsTheAsk set (command_of a seat.issued) begun asked → is_asked (command_of a seat.issued) log ≡ false → Agrees core set (log ++ moment_asked (command_of a seat.issued) (seat_floor begun) asked)
+  pub kept : services.manager.posted ≡ v.instance.services.manager.posted
+  pub agrees : (set : Setting) (log : Log) → AgreesServices v.instance.services set log → IsTheAsk set (command_of a seat.issued) begun asked → is_asked (command_of a seat.issued) log ≡ false → AgreesServices services set (log ++ moment_asked (command_of a seat.issued) (seat_floor begun) asked)
 
 -- the same, with the seat as the code has it
-pub issue_follows : (v : Own) → DoesAgree v → (a : ℕ) (seat begun : Seat) (d : Line) (asked : Option KvsAsk) (next : ℕ) (core : CoreValue) → IsIssued v a seat begun d asked next core →
+pub issue_follows : (v : Own) → DoesAgree v → (a : ℕ) (seat begun : Seat) (d : Line) (asked : Option KvsAsk) (next : ℕ) (services : ServicesValue) → IsIssued v a seat begun d asked next services →
     (es : List Entry) → es ≡ entry.Issued a seat.issued ∷ [] →
     Follows v.set v.chronicle (step.Issue a) (record {
       spent = false;
-      core = core;
+      services = services;
       seats = set v.instance.seats a (record { broker = begun.broker; next = next; last = begun.next; issued = seat.issued + 1; waiting = begun.waiting; staged = begun.staged; space = begun.space; subject = begun.subject; floors = begun.floors });
     }) es
-issue_follows v h a seat begun d asked next core s es same =
+issue_follows v h a seat begun d asked next services s es same =
     let begun_next : begun.next ≡ seat.next = ap (λ x. x.next) s.began in
     let by = command_of a seat.issued in
-    let agrees_so = subst (λ (b : Seat). (set : Setting) (log : Log) → Agrees v.instance.core set log → IsTheAsk set by b asked → is_asked by log ≡ false → Agrees core set (log ++ moment_asked by (seat_floor b) asked)) s.began s.agrees in
+    let agrees_so = subst (λ (b : Seat). (set : Setting) (log : Log) → AgreesServices v.instance.services set log → IsTheAsk set by b asked → is_asked by log ≡ false → AgreesServices services set (log ++ moment_asked by (seat_floor b) asked)) s.began s.agrees in
     let so = issue_follows_so v h a seat s.is d asked s.eq next (subst (λ n. n + 1 ≤ next) begun_next s.after) s.within
-    (λ k l low. s.passed k l (subst (λ n. n + 1 ≤ k) (sym begun_next) low)) s.here core s.kept agrees_so in
-    subst (λ b. Follows v.set v.chronicle (step.Issue a) (record { spent = false; core = core; seats = set v.instance.seats a (record { broker = b.broker; next = next; last = b.next; issued = seat.issued + 1; waiting = b.waiting; staged = b.staged; space = b.space; subject = b.subject; floors = b.floors }) }) es) (sym s.began) (subst (Follows v.set v.chronicle (step.Issue a) (issued_instance v h a seat s.is d asked s.eq next (subst (λ n. n + 1 ≤ next) begun_next s.after) s.within (λ k l low. s.passed k l (subst (λ n. n + 1 ≤ k) (sym begun_next) low)) s.here core)) (sym same) so)
+    (λ k l low. s.passed k l (subst (λ n. n + 1 ≤ k) (sym begun_next) low)) s.here services s.kept agrees_so in
+    subst (λ b. Follows v.set v.chronicle (step.Issue a) (record { spent = false; services = services; seats = set v.instance.seats a (record { broker = b.broker; next = next; last = b.next; issued = seat.issued + 1; waiting = b.waiting; staged = b.staged; space = b.space; subject = b.subject; floors = b.floors }) }) es) (sym s.began) (subst (Follows v.set v.chronicle (step.Issue a) (issued_instance v h a seat s.is d asked s.eq next (subst (λ n. n + 1 ≤ next) begun_next s.after) s.within (λ k l low. s.passed k l (subst (λ n. n + 1 ≤ k) (sym begun_next) low)) s.here services)) (sym same) so)
 
 -- what the code knows where it begins an issue
 pub issuing_at : (v : Own) (lines : List Line) (a : ℕ) (seat : Seat) → v.set.work.lines ≡ lines → can_issue lines v.instance a ≡ true → seat ≡ get_or v.instance.seats a seat → IsIssuing v a seat
 issuing_at v lines a seat same can at =
     let can_so = subst (λ ls. can_issue ls v.instance a ≡ true) (sym same) can in
     issuing_so v a seat can_so (slice_get-get_or v.instance.seats a seat (issuer_within v.set.work.lines v.instance a can_so) ∙ ap Some (sym at))
+
+-- so the services may be asked
+pub may_ask : (services : ServicesValue) (set : Setting) (log : Log) → AgreesServices services set log → (by : By) (seat : Seat) (asked : Option KvsAsk) → IsTheAsk set by seat asked → is_asked by log ≡ false →
+    IfSome asked (MayAsk services by seat.broker seat.subject)
+may_ask services set log agrees by seat None made fresh = tt
+may_ask services set log agrees by seat (Some x) made fresh = record { set = set; log = log; agrees = agrees; made = made; fresh = fresh }

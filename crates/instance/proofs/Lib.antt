@@ -9,7 +9,7 @@ mod Replying
 mod Issuing
 mod Seating
 mod Ranges
-mod Unlanded
+mod Jobless
 mod Leaving
 mod Ending
 mod Closing

@@ -23,7 +23,9 @@ use Rattle.answers.specs.Floors.{floor, raised}
 use Rattle.answers.specs.Legal.{IsLegalEntry, HasEntryGrounds, IsToldAtIssue}
 use Rattle.answers.specs.Services.{setting_of, log_of}
 use Rattle.answers.specs.Whole.{IsEarlierEntry}
+use Rattle.answers.specs.Jobs.{instance_of, log_in}
 use Rattle.answers.proofs.Services.{log_push}
+use Rattle.answers.proofs.Users.{users_due}
 use Rattle.instance.specs.declared.seats.Seat.{Seat}
 use Rattle.instance.specs.declared.seats.Waiting.{Waiting}
 use Rattle.instance.specs.declared.seats.Waiting.TheVariants as waiting
@@ -79,7 +81,7 @@ log_news work c (e ∷ es) n =
 grounds_one : (set : Setup) (c : List Entry) (e : KvsEvent) → IsNews e → Each IsEarlierEntry c → LandsUsers e →
     IsLegalEvent (setting_of set) (log_of set.work top c) e → HasEntryGrounds set c (entered 0 e)
 grounds_one set c (event.Landed space number authors groups) n early users h =
-    ((refl, h), all_unclosed c early authors, users)
+    ((refl, h), all_unclosed c early authors, users_due (instance_of set) (log_in set.work c) space number authors groups users)
 grounds_one set c (event.Denied space authors group refusal) n early users h =
     ((refl, h), all_unclosed c early authors)
 grounds_one set c (event.Heard b space number) n early users h = (refl, h)

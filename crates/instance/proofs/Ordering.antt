@@ -80,7 +80,7 @@ module _ (v : InstanceValue) where
       sym (first_passed (can_answer v) actor 0 (length v.seats) (omega arith) (omega arith) can first)
     where
       seated : (o : Option Seat) → slice_get v.seats actor ≡ o → actor < length v.seats
-      seated None e = absurd (true≢false (sym can ∙ ap (λ o. option_map_or (λ seat. has_come v.core (last_command actor seat) seat.waiting) o false) e))
+      seated None e = absurd (true≢false (sym can ∙ ap (λ o. option_map_or (λ seat. has_come v.services (last_command actor seat) seat.waiting) o false) e))
       seated (Some seat) e = slice_get_within v.seats actor seat e
 
   pub answer-none : ((actor : ℕ) → can_answer v actor ≡ false) → None ≡ slice_get (answers v) 0
@@ -146,11 +146,11 @@ module _ (lines : List Line) (v : InstanceValue) where
   issue-none unissued = sym (ap (λ xs. slice_get xs 0) (none_given (issue_of lines v.seats) (λ j. no-issue j (λ other there issued is. true≢false (sym issued ∙ unissued other))) (range_with_len 0 (length lines))))
 
 -- what the code knows of the actor that comes first
-pub answer-chosen : (v : InstanceValue) (seats : List Seat) → seats ≡ v.seats → (r : Option ℕ) → IfSome r (λ a. has_answer v.core seats a ≡ true) → IfSome r (λ a. (lower : ℕ) → lower < a → has_answer v.core seats lower ≡ false) →
-    (r ≡ None → (a : ℕ) → has_answer v.core seats a ≡ false) → r ≡ slice_get (answers v) 0
-answer-chosen v seats same None some first none = answer-none v (subst (λ xs. (a : ℕ) → has_answer v.core xs a ≡ false) same (none refl))
+pub answer-chosen : (v : InstanceValue) (seats : List Seat) → seats ≡ v.seats → (r : Option ℕ) → IfSome r (λ a. has_answer v.services seats a ≡ true) → IfSome r (λ a. (lower : ℕ) → lower < a → has_answer v.services seats lower ≡ false) →
+    (r ≡ None → (a : ℕ) → has_answer v.services seats a ≡ false) → r ≡ slice_get (answers v) 0
+answer-chosen v seats same None some first none = answer-none v (subst (λ xs. (a : ℕ) → has_answer v.services xs a ≡ false) same (none refl))
 answer-chosen v seats same (Some actor) some first none =
-    answer-first v actor (subst (λ xs. has_answer v.core xs actor ≡ true) same some) (subst (λ xs. (lower : ℕ) → lower < actor → has_answer v.core xs lower ≡ false) same first)
+    answer-first v actor (subst (λ xs. has_answer v.services xs actor ≡ true) same some) (subst (λ xs. (lower : ℕ) → lower < actor → has_answer v.services xs lower ≡ false) same first)
 
 pub issue-chosen : (lines : List Line) (v : InstanceValue) (count : ℕ) (seats : List Seat) → count ≡ length lines → seats ≡ v.seats → HaveNext lines v.seats → (r : Option ℕ) →
     IfSome r (λ a. (has_issue count seats a ≡ true) × (0 ≤ next_of seats a)) → IfSome r (λ a. (other : ℕ) → has_issue count seats other ≡ true → 0 ≤ next_of seats other → next_of seats a ≤ next_of seats other) →

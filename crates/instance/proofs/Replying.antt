@@ -17,9 +17,8 @@ use Rattle.kvs_rules.specs.Log.{Log, Moment, Happened, is_asked, is_answered, an
 use Rattle.kvs_model.specs.Store.{Name}
 use Rattle.kvs_rules.specs.Sequence.{EachAfter}
 use Rattle.kvs_rules.proofs.Sequences.{each_joined, each_push}
-use Rattle.kvs_core.specs.Value.{CoreValue}
-use Rattle.kvs_core.specs.Agrees.{Agrees}
-use Rattle.kvs_core.specs.Posted.{posted}
+use Rattle.services.specs.Agrees.{AgreesServices}
+use Rattle.services.specs.Value.{ServicesValue}
 use Rattle.answers.specs.declared.chronicle.Entry.{Entry}
 use Rattle.answers.specs.declared.chronicle.Entry.TheVariants as entry
 use Rattle.answers.specs.declared.chronicle.Reply.{Reply}
@@ -119,19 +118,19 @@ pub same_self : (by : By) → same_command by by ≡ true
 same_self by = ap₂ (λ a b. a && b) (eq-eqb by.actor by.actor refl) (eq-eqb by.command by.command refl)
 
 -- what is needed of a reply and of the moment that it makes
-pub record IsReply (set : Setup) (log : Log) (c : List Entry) (core : CoreValue) (by : By) (given : Reply) (number : Option ℕ) (o : Option Moment) : Type 0 where
+pub record IsReply (set : Setup) (log : Log) (c : List Entry) (core : ServicesValue) (by : By) (given : Reply) (number : Option ℕ) (o : Option Moment) : Type 0 where
   pub moment : moment_of set.work top c (entry.Replied by.actor by.command given number) ≡ o
   pub legal : HasReplyGrounds set c by number given
   pub early : is_closing given ≡ false
-  pub agrees : Agrees core (setting_of set) (log ++ cons_option o [])
+  pub agrees : AgreesServices core (setting_of set) (log ++ cons_option o [])
   pub told : is_asked by log ≡ true → is_answered by (log ++ cons_option o []) ≡ true
 
-abbrev IsThere : Setup → Log → List Entry → CoreValue → By → Reply → Option ℕ → Type 0
+abbrev IsThere : Setup → Log → List Entry → ServicesValue → By → Reply → Option ℕ → Type 0
 IsThere set log c core by given number = (o : Option Moment) × IsReply set log c core by given number o
 
-module _ (set : Setup) (c : List Entry) (old : CoreValue) (agree : Agrees old (setting_of set) (log_of set.work top c)) (a issued : ℕ)
+module _ (set : Setup) (c : List Entry) (old : ServicesValue) (agree : AgreesServices old (setting_of set) (log_of set.work top c)) (a issued : ℕ)
     (begun : is_issued (command_of a (issued - 1)) c ≡ true) (unreplied : is_replied (command_of a (issued - 1)) c ≡ false) where
-  there : (core : CoreValue) (w : Waiting) (given : Reply) (number : Option ℕ) → Waits set (log_of set.work top c) a issued w → IsGiven old core (command_of a (issued - 1)) w given number →
+  there : (core : ServicesValue) (w : Waiting) (given : Reply) (number : Option ℕ) → Waits set (log_of set.work top c) a issued w → IsGiven old core (command_of a (issued - 1)) w given number →
       IsThere set (log_of set.work top c) c core (command_of a (issued - 1)) given number
   there core waiting.Nothing given number waits h = absurd h
   there core waiting.Staged given number waits h =
@@ -141,7 +140,7 @@ module _ (set : Setup) (c : List Entry) (old : CoreValue) (agree : Agrees old (s
           moment = refl;
           legal = ((begun, unreplied), h.1, waits.2);
           early = refl;
-          agrees = subst (Agrees core (setting_of set)) (sym (append-nil (log_of set.work top c))) (subst (λ v. Agrees v (setting_of set) (log_of set.work top c)) (sym h.2) agree);
+          agrees = subst (AgreesServices core (setting_of set)) (sym (append-nil (log_of set.work top c))) (subst (λ v. AgreesServices v (setting_of set) (log_of set.work top c)) (sym h.2) agree);
           told = λ asked. absurd (true≢false (sym asked ∙ waits.1));
         },
       )
@@ -152,7 +151,7 @@ module _ (set : Setup) (c : List Entry) (old : CoreValue) (agree : Agrees old (s
           moment = refl;
           legal = ((begun, unreplied), h.1, waits.2);
           early = refl;
-          agrees = subst (Agrees core (setting_of set)) (sym (append-nil (log_of set.work top c))) (subst (λ v. Agrees v (setting_of set) (log_of set.work top c)) (sym h.2) agree);
+          agrees = subst (AgreesServices core (setting_of set)) (sym (append-nil (log_of set.work top c))) (subst (λ v. AgreesServices v (setting_of set) (log_of set.work top c)) (sym h.2) agree);
           told = λ asked. absurd (true≢false (sym asked ∙ waits.1));
         },
       )
@@ -164,7 +163,7 @@ module _ (set : Setup) (c : List Entry) (old : CoreValue) (agree : Agrees old (s
           moment = refl;
           legal = ((begun, unreplied), h.1, waits.2);
           early = refl;
-          agrees = subst (Agrees core (setting_of set)) (sym (append-nil (log_of set.work top c))) (subst (λ v. Agrees v (setting_of set) (log_of set.work top c)) (sym h.2) agree);
+          agrees = subst (AgreesServices core (setting_of set)) (sym (append-nil (log_of set.work top c))) (subst (λ v. AgreesServices v (setting_of set) (log_of set.work top c)) (sym h.2) agree);
           told = λ asked. absurd (true≢false (sym asked ∙ waits.1));
         },
       )
@@ -215,7 +214,7 @@ counted_more a issued k n some e = elim (cases_eq k (issued - 1)) [
       | inr above ↦ ap (λ b. cond b 1 0) (le-ltb k (issued - 1) above ∙ sym (le-ltb k issued (omega arith)))
     ]
 
-stands_replied : (set : Setup) (log : Log) (c : List Entry) (core : CoreValue) (a issued : ℕ) (given : Reply) (number : Option ℕ) (o : Option Moment) → 0 < issued →
+stands_replied : (set : Setup) (log : Log) (c : List Entry) (core : ServicesValue) (a issued : ℕ) (given : Reply) (number : Option ℕ) (o : Option Moment) → 0 < issued →
     IsReply set log c core (command_of a (issued - 1)) given number o → ((by : By) → asks_of by o ≡ false) →
     Stands log c a issued (issued - 1) → Stands (log ++ cons_option o []) (c ++ entry.Replied a (issued - 1) given number ∷ []) a issued issued
 stands_replied set log c core a issued given number o some r unasked h = record {
@@ -279,7 +278,7 @@ seat_stands v h a seat e = subst (ActorStands v.set (log_of v.set.work top v.chr
 replied_waiting : (issued : ℕ) (w : Waiting) → is_free w ≡ false → cond (is_free w) issued (issued - 1) ≡ issued - 1
 replied_waiting issued w e = ap (λ b. cond b issued (issued - 1)) e
 
-given_waits : (old core : CoreValue) (by : By) (w : Waiting) (given : Reply) (number : Option ℕ) → IsGiven old core by w given number → is_free w ≡ false
+given_waits : (old core : ServicesValue) (by : By) (w : Waiting) (given : Reply) (number : Option ℕ) → IsGiven old core by w given number → is_free w ≡ false
 given_waits old core by waiting.Nothing given number h = absurd h
 given_waits old core by waiting.Staged given number h = refl
 given_waits old core by waiting.TxnFull given number h = refl
@@ -296,8 +295,8 @@ some_issued set log a issued waiting.Using e h = h.0
 some_issued set log a issued waiting.Service e h = h.0
 
 -- the instance behind a reply to the actor, where the actors stood so
-abbrev pub replied : ℕ → List Seat → Seat → CoreValue → Floors → InstanceValue
-replied a seats seat core floors = record { spent = false; seats = set seats a (replied_seat seat floors); core = core }
+abbrev pub replied : ℕ → List Seat → Seat → ServicesValue → Floors → InstanceValue
+replied a seats seat services floors = record { spent = false; seats = set seats a (replied_seat seat floors); services = services }
 
 -- an instance's chronicle, with what comes before a reply to the actor, and where the actors then stand
 pub record IsReady (v : Own) (a : ℕ) (c : List Entry) (seats : List Seat) : Type 0 where
@@ -309,7 +308,7 @@ pub record IsReady (v : Own) (a : ℕ) (c : List Entry) (seats : List Seat) : Ty
   pub legal : IsLegal v.set c
   pub early : Each IsEarlierEntry c
   pub seated : length seats ≡ length v.instance.seats
-  pub agrees : Agrees v.instance.core (setting_of v.set) (log_of v.set.work top c)
+  pub agrees : AgreesServices v.instance.services (setting_of v.set) (log_of v.set.work top c)
   pub actors : (b : ℕ) → ActorStands v.set (log_of v.set.work top c) c b (slice_get seats b)
 
 -- a reply that tells nobody else comes at once
@@ -348,7 +347,7 @@ module _ (v : Own) (a : ℕ) (c : List Entry) (seats : List Seat) (r : IsReady v
   unreplied = none_counted (replies_to (command_of a (seat.issued - 1))) c (before.ended (seat.issued - 1) ∙ ap (λ b. cond b 1 0) (le-ltb (seat.issued - 1) (seat.issued - 1) (omega arith)))
 
   -- the reply, with its grounds
-  module _ (h : DoesAgree v) (core : CoreValue) (given : Reply) (number : Option ℕ) (kept : posted core ≡ posted v.instance.core) (found : IsThere v.set log c core (command_of a (seat.issued - 1)) given number)
+  module _ (h : DoesAgree v) (services : ServicesValue) (given : Reply) (number : Option ℕ) (kept : services.manager.posted ≡ v.instance.services.manager.posted) (found : IsThere v.set log c services (command_of a (seat.issued - 1)) given number)
       (floors : Floors) (seen : HasSeen seat number floors) where
     abbrev e : Entry
     e = entry.Replied a (seat.issued - 1) given number
@@ -364,7 +363,7 @@ module _ (v : Own) (a : ℕ) (c : List Entry) (seats : List Seat) (r : IsReady v
       | inl same ↦
           subst (λ n. ActorStands v.set (log ++ cons_option found.0 []) (c ++ e ∷ []) n (slice_get (set seats a (replied_seat seat floors)) n)) (sym same)
           (subst (ActorStands v.set (log ++ cons_option found.0 []) (c ++ e ∷ []) a) (sym (get-set_same seats a seat (replied_seat seat floors) sits)) (
-            stands_replied v.set log c core a seat.issued given number found.0 some found.1 unasked before,
+            stands_replied v.set log c services a seat.issued given number found.0 some found.1 unasked before,
             seat_replied v.set log (log ++ cons_option found.0 []) c a seat given number floors seen some mine.1,
           ))
       | inr other ↦
@@ -385,7 +384,7 @@ module _ (v : Own) (a : ℕ) (c : List Entry) (seats : List Seat) (r : IsReady v
     legal_here : IsLegalEntry v.set c e
     legal_here = record { goes_on = unended c r.early; grounds = found.1.legal }
 
-    reply_agrees : AgreesOwn (replied a seats seat core floors) v.set (c ++ e ∷ [])
+    reply_agrees : AgreesOwn (replied a seats seat services floors) v.set (c ++ e ∷ [])
     reply_agrees = record {
       within = h.within;
       known = h.known;
@@ -393,37 +392,37 @@ module _ (v : Own) (a : ℕ) (c : List Entry) (seats : List Seat) (r : IsReady v
       seated = length-set seats a (replied_seat seat floors) ∙ r.seated ∙ h.seated;
       legal = each_push (IsLegalEntry v.set) c e r.legal legal_here;
       early = each_append IsEarlierEntry c (e ∷ []) r.early (found.1.early, tt);
-      agrees = subst (Agrees core (setting_of v.set)) (sym log_grown) found.1.agrees;
+      agrees = subst (AgreesServices services (setting_of v.set)) (sym log_grown) found.1.agrees;
       actors = λ b. subst (λ l. ActorStands v.set l (c ++ e ∷ []) b (slice_get (set seats a (replied_seat seat floors)) b)) (sym log_grown) (actors_so b);
     }
 
-    reply_follows : (es : List Entry) → es ≡ r.before ++ e ∷ [] → Follows v.set v.chronicle (step.Answer a) (replied a seats seat core floors) es
-    reply_follows es eq = subst (Follows v.set v.chronicle (step.Answer a) (replied a seats seat core floors)) (sym eq) (record {
+    reply_follows : (es : List Entry) → es ≡ r.before ++ e ∷ [] → Follows v.set v.chronicle (step.Answer a) (replied a seats seat services floors) es
+    reply_follows es eq = subst (Follows v.set v.chronicle (step.Answer a) (replied a seats seat services floors)) (sym eq) (record {
       made = record { before = r.before; reply = e; split = refl; replies = refl; others = r.others };
       legal = each_joined (IsLegalEntry v.set) v.chronicle r.before (e ∷ []) r.legal_before (subst (λ x. IsLegalEntry v.set x e) r.split legal_here, tt);
-      agrees = subst (AgreesOwn (replied a seats seat core floors) v.set) whole reply_agrees;
+      agrees = subst (AgreesOwn (replied a seats seat services floors) v.set) whole reply_agrees;
       settled = λ told. each_joined (IsToldAtIssue v.set) v.chronicle r.before (e ∷ []) r.quiet (tt, tt);
     })
 
 -- what is known of a reply that is handed over
-pub record IsAnswering (v : Own) (a : ℕ) (seat : Seat) (core : CoreValue) (given : Reply) (number : Option ℕ) : Type 0 where
+pub record IsAnswering (v : Own) (a : ℕ) (seat : Seat) (services : ServicesValue) (given : Reply) (number : Option ℕ) : Type 0 where
   pub sits : slice_get v.instance.seats a ≡ Some seat
-  pub kept : posted core ≡ posted v.instance.core
-  pub said : IsGiven v.instance.core core (last_command a seat) seat.waiting given number
+  pub kept : services.manager.posted ≡ v.instance.services.manager.posted
+  pub said : IsGiven v.instance.services services (last_command a seat) seat.waiting given number
 
-pub answer_follows : (v : Own) → DoesAgree v → (a : ℕ) (seat : Seat) (core : CoreValue) (given : Reply) (number : Option ℕ) → IsAnswering v a seat core given number →
+pub answer_follows : (v : Own) → DoesAgree v → (a : ℕ) (seat : Seat) (services : ServicesValue) (given : Reply) (number : Option ℕ) → IsAnswering v a seat services given number →
     (floors : Floors) → HasSeen seat number floors → (es : List Entry) → es ≡ entry.Replied a (seat.issued - 1) given number ∷ [] →
-    Follows v.set v.chronicle (step.Answer a) (replied a v.instance.seats seat core floors) es
+    Follows v.set v.chronicle (step.Answer a) (replied a v.instance.seats seat services floors) es
 unfolding ready_now
-answer_follows v h a seat core given number is floors seen es eq =
+answer_follows v h a seat services given number is floors seen es eq =
     let r = ready_now v h a in
-    let busy = given_waits v.instance.core core (last_command a seat) seat.waiting given number is.said in
-    reply_follows v a v.chronicle v.instance.seats r seat is.sits busy h core given number is.kept
-    (there v.set v.chronicle v.instance.core r.agrees a seat.issued (begun v a v.chronicle v.instance.seats r seat is.sits busy) (unreplied v a v.chronicle v.instance.seats r seat is.sits busy) core seat.waiting given number
+    let busy = given_waits v.instance.services services (last_command a seat) seat.waiting given number is.said in
+    reply_follows v a v.chronicle v.instance.seats r seat is.sits busy h services given number is.kept
+    (there v.set v.chronicle v.instance.services r.agrees a seat.issued (begun v a v.chronicle v.instance.seats r seat is.sits busy) (unreplied v a v.chronicle v.instance.seats r seat is.sits busy) services seat.waiting given number
     (mine v a v.chronicle v.instance.seats r seat is.sits busy).1.waits is.said) floors seen es eq
 
 -- each actor sits at a broker of the service
-pub seats_inside : (v : Own) → DoesAgree v → (k : ℕ) (d : Seat) → k < length v.instance.seats → (get_or v.instance.seats k d).broker < v.instance.core.size
+pub seats_inside : (v : Own) → DoesAgree v → (k : ℕ) (d : Seat) → k < length v.instance.seats → (get_or v.instance.seats k d).broker < v.instance.services.size
 seats_inside v h k d low =
     let sits : slice_get v.instance.seats k ≡ Some (get_or v.instance.seats k d) = slice_get-get_or v.instance.seats k d low in
     subst (λ n. (get_or v.instance.seats k d).broker < n) h.agrees.size (seat_stands v h k (get_or v.instance.seats k d) sits).1.inside
@@ -543,7 +542,7 @@ module _ (v : Own) (h : DoesAgree v) (a : ℕ) (seat : Seat) (to : ℕ) (sits : 
     legal = each_push (IsLegalEntry v.set) v.chronicle told h.legal legal_told;
     early = each_append IsEarlierEntry v.chronicle (told ∷ []) h.early (tt, tt);
     seated = raised_length v.instance.seats to floors;
-    agrees = subst (Agrees v.instance.core (setting_of v.set)) (sym same_log) h.agrees;
+    agrees = subst (AgreesServices v.instance.services (setting_of v.set)) (sym same_log) h.agrees;
     actors = λ b. subst (λ l. ActorStands v.set l (v.chronicle ++ told ∷ []) b (slice_get (raised v.instance.seats to floors) b)) (append-nil told_log ∙ sym same_log) (told_actors b);
   }
 
@@ -555,7 +554,7 @@ module _ (v : Own) (h : DoesAgree v) (a : ℕ) (seat : Seat) (to : ℕ) (sits : 
     engaged_on : is_free later.waiting ≡ false
     engaged_on = ap is_free same.0 ∙ engaged
 
-    told_there : IsThere v.set (log_of v.set.work top (v.chronicle ++ told ∷ [])) (v.chronicle ++ told ∷ []) v.instance.core (command_of a (later.issued - 1)) reply.Told None
+    told_there : IsThere v.set (log_of v.set.work top (v.chronicle ++ told ∷ [])) (v.chronicle ++ told ∷ []) v.instance.services (command_of a (later.issued - 1)) reply.Told None
     told_there = (
       None,
       record {
@@ -574,20 +573,20 @@ module _ (v : Own) (h : DoesAgree v) (a : ℕ) (seat : Seat) (to : ℕ) (sits : 
           },
         );
         early = refl;
-        agrees = subst (Agrees v.instance.core (setting_of v.set)) (sym (append-nil (log_of v.set.work top (v.chronicle ++ told ∷ [])))) ready_told.agrees;
+        agrees = subst (AgreesServices v.instance.services (setting_of v.set)) (sym (append-nil (log_of v.set.work top (v.chronicle ++ told ∷ [])))) ready_told.agrees;
         told = λ asked. absurd (true≢false (sym asked ∙ ap (is_asked (command_of a (later.issued - 1))) same_log ∙ ap (λ n. is_asked (command_of a (n - 1)) told_log) same.1 ∙ quiet_so));
       },
     )
 
-    pub tell_follows : (es : List Entry) → es ≡ told ∷ entry.Replied a (later.issued - 1) reply.Told None ∷ [] → Follows v.set v.chronicle (step.Answer a) (replied a (raised v.instance.seats to floors) later v.instance.core later.floors) es
+    pub tell_follows : (es : List Entry) → es ≡ told ∷ entry.Replied a (later.issued - 1) reply.Told None ∷ [] → Follows v.set v.chronicle (step.Answer a) (replied a (raised v.instance.seats to floors) later v.instance.services later.floors) es
     unfolding ready_told
     tell_follows es eq =
-        reply_follows v a (v.chronicle ++ told ∷ []) (raised v.instance.seats to floors) ready_told later sits_on engaged_on h v.instance.core reply.Told None refl told_there later.floors (λ space. refl) es eq
+        reply_follows v a (v.chronicle ++ told ∷ []) (raised v.instance.seats to floors) ready_told later sits_on engaged_on h v.instance.services reply.Told None refl told_there later.floors (λ space. refl) es eq
 
 -- an actor that can be replied to has a seat
 pub actor_within : (v : Own) (a : ℕ) → can_answer v.instance a ≡ true → a < length v.instance.seats
 actor_within v a can = on (slice_get v.instance.seats a) refl can
   where
-    on : (o : Option Seat) → slice_get v.instance.seats a ≡ o → option_map_or (λ seat. has_come v.instance.core (last_command a seat) seat.waiting) o false ≡ true → a < length v.instance.seats
+    on : (o : Option Seat) → slice_get v.instance.seats a ≡ o → option_map_or (λ seat. has_come v.instance.services (last_command a seat) seat.waiting) o false ≡ true → a < length v.instance.seats
     on None e t = absurd (true≢false (sym t))
     on (Some seat) e t = slice_get_within v.instance.seats a seat e

@@ -4,21 +4,21 @@ use Rattle.std.specs.Prelude.{slice_get, nat_lt}
 use Rattle.std.specs.Option.{option_map_or}
 use Rattle.std.proofs.lemmas.Bool.{cases_lt, lt-ltb, ltb-true}
 use Rattle.std.proofs.lemmas.Option.{slice_get_past}
-use Rattle.kvs_core.specs.Value.{CoreValue}
+use Rattle.services.specs.Value.{ServicesValue}
 use Rattle.instance.specs.declared.seats.Seat.{Seat}
 use Rattle.instance.specs.Seats.{is_free, last_command, has_come}
 use Rattle.instance.specs.Steps.{has_issue, has_answer}
 
 -- nobody sits past the last seat
-pub answer_past : (core : CoreValue) (seats : List Seat) (a : ℕ) → length seats ≤ a → has_answer core seats a ≡ false
-answer_past core seats a past = ap (λ o. option_map_or (λ seat. has_come core (last_command a seat) seat.waiting) o false) (slice_get_past seats a past)
+pub answer_past : (services : ServicesValue) (seats : List Seat) (a : ℕ) → length seats ≤ a → has_answer services seats a ≡ false
+answer_past services seats a past = ap (λ o. option_map_or (λ seat. has_come services (last_command a seat) seat.waiting) o false) (slice_get_past seats a past)
 
 pub issue_past : (lines : ℕ) (seats : List Seat) (a : ℕ) → length seats ≤ a → has_issue lines seats a ≡ false
 issue_past lines seats a past = ap (λ o. option_map_or (λ seat. is_free seat.waiting && nat_lt seat.next lines) o false) (slice_get_past seats a past)
 
 -- what holds of all that sit holds of all
-pub all_answers : (core : CoreValue) (seats : List Seat) → ((a : ℕ) → a < length seats → has_answer core seats a ≡ false) → (a : ℕ) → has_answer core seats a ≡ false
-all_answers core seats h a = elim (cases_lt a (length seats)) [ inl below ↦ h a below | inr past ↦ answer_past core seats a past ]
+pub all_answers : (services : ServicesValue) (seats : List Seat) → ((a : ℕ) → a < length seats → has_answer services seats a ≡ false) → (a : ℕ) → has_answer services seats a ≡ false
+all_answers services seats h a = elim (cases_lt a (length seats)) [ inl below ↦ h a below | inr past ↦ answer_past services seats a past ]
 
 pub all_issues : (lines : ℕ) (seats : List Seat) → ((a : ℕ) → a < length seats → has_issue lines seats a ≡ false) → (a : ℕ) → has_issue lines seats a ≡ false
 all_issues lines seats h a = elim (cases_lt a (length seats)) [ inl below ↦ h a below | inr past ↦ issue_past lines seats a past ]

@@ -6,8 +6,7 @@ use Rattle.kvs_txn.specs.declared.txn.Author.TheVariants as author
 use Rattle.kvs_txn.specs.declared.txn.By.{By}
 use Rattle.kvs_model.specs.Store.{Name}
 use Rattle.kvs_rules.specs.Log.{Log, is_asked, is_answered}
-use Rattle.kvs_core.specs.Agrees.{Agrees}
-use Rattle.kvs_core.specs.Posted.{posted}
+use Rattle.services.specs.Agrees.{AgreesServices}
 use Rattle.workload.specs.declared.work.Command.TheVariants as command
 use Rattle.workload.specs.declared.work.Line.{Line}
 use Rattle.workload.specs.Laws.{IsWithin}
@@ -81,9 +80,9 @@ pub record AgreesOwn (v : InstanceValue) (set : Setup) (own : List Entry) : Type
   pub known : All (λ l. IsKnownCommand l.command) set.work.lines
   pub legal : IsLegal set own
   pub early : Each IsEarlierEntry own
-  pub unposted : posted v.core ≡ []
+  pub unposted : v.services.manager.posted ≡ None
   pub seated : length v.seats ≡ length set.work.actors
-  pub agrees : Agrees v.core (setting_of set) (log_of set.work top own)
+  pub agrees : AgreesServices v.services (setting_of set) (log_of set.work top own)
   pub actors : (actor : ℕ) → ActorStands set (log_of set.work top own) own actor (slice_get v.seats actor)
 
 -- the lines are those of a workload with which the instance stands

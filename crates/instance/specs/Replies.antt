@@ -6,23 +6,23 @@ use Rattle.kvs_rules.specs.declared.events.KvsEvent.TheVariants as event
 use Rattle.kvs_rules.specs.Log.{Log, Happened}
 use Rattle.kvs_rules.specs.Namespaces.{Setting}
 use Rattle.kvs_rules.specs.Answers.{IsLegalAnswer}
-use Rattle.kvs_core.specs.Value.{CoreValue}
-use Rattle.kvs_core.specs.Agrees.{Agrees}
+use Rattle.services.specs.Agrees.{AgreesServices}
+use Rattle.services.specs.Value.{ServicesValue}
 use Rattle.answers.specs.declared.chronicle.Reply.{Reply}
 use Rattle.answers.specs.declared.chronicle.Reply.TheVariants as reply
 use Rattle.answers.specs.Entering.{reply_of}
 use Rattle.instance.specs.declared.seats.Waiting.{Waiting}
 use Rattle.instance.specs.declared.seats.Waiting.TheVariants as waiting
 
--- an answer that the core handed over
-pub record IsTaken (old new : CoreValue) (by : By) (given : Reply) (number : Option ℕ) : Type 0 where
+-- an answer that the services handed over
+pub record IsTaken (old new : ServicesValue) (by : By) (given : Reply) (number : Option ℕ) : Type 0 where
   pub answer : KvsAnswer
   pub handed : given ≡ reply_of answer
-  pub legal : (set : Setting) (log : Log) → Agrees old set log → IsLegalAnswer set log by number answer
-  pub agrees : (set : Setting) (log : Log) → Agrees old set log → Agrees new set (log ++ Happened (event.Answered by number answer) ∷ [])
+  pub legal : (set : Setting) (log : Log) → AgreesServices old set log → IsLegalAnswer set log by number answer
+  pub agrees : (set : Setting) (log : Log) → AgreesServices old set log → AgreesServices new set (log ++ Happened (event.Answered by number answer) ∷ [])
 
 -- what the actor is told, who waits so
-abbrev pub IsGiven : CoreValue → CoreValue → By → Waiting → Reply → Option ℕ → Type 0
+abbrev pub IsGiven : ServicesValue → ServicesValue → By → Waiting → Reply → Option ℕ → Type 0
 IsGiven old new by waiting.Nothing given number = ⊥
 IsGiven old new by waiting.Staged given number = (given ≡ reply.Staged) × (number ≡ None) × (new ≡ old)
 IsGiven old new by waiting.TxnFull given number = (given ≡ reply.TxnFull) × (number ≡ None) × (new ≡ old)

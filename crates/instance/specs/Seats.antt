@@ -8,8 +8,8 @@ use Rattle.kvs_model.specs.Store.{Name}
 use Rattle.kvs_rules.specs.declared.events.KvsAsk.{KvsAsk}
 use Rattle.kvs_rules.specs.Log.{Log, Asked}
 use Rattle.kvs_rules.specs.Namespaces.{Setting}
-use Rattle.kvs_core.specs.Value.{CoreValue}
-use Rattle.kvs_core.specs.Steps.{can_take}
+use Rattle.services.specs.Steps.{can_take}
+use Rattle.services.specs.Value.{ServicesValue}
 use Rattle.workload.specs.Limits.{most_members}
 use Rattle.workload.specs.declared.work.Command.{Command}
 use Rattle.workload.specs.declared.work.Command.TheVariants as command
@@ -36,6 +36,10 @@ IsKnownCommand (command.Tell actor) = Unit {0}
 IsKnownCommand (command.NsCreate name) = Unit {0}
 IsKnownCommand (command.NsRemove name) = Unit {0}
 IsKnownCommand (command.NsUse name) = Unit {0}
+IsKnownCommand (command.ContentStore bytes) = Unit {0}
+IsKnownCommand (command.ContentLoad reference) = Unit {0}
+IsKnownCommand command.ContentFlush = Unit {0}
+IsKnownCommand command.ContentDrop = Unit {0}
 IsKnownCommand _ = ⊥
 
 -- what an operation that is to be staged behind these finds
@@ -111,10 +115,10 @@ is_telling (waiting.Tell to) = true
 is_telling _ = false
 
 -- whether what the actor waits for is there
-abbrev pub has_come : CoreValue → By → Waiting → Bool
-has_come core by waiting.Nothing = false
-has_come core by waiting.Staged = true
-has_come core by waiting.TxnFull = true
-has_come core by (waiting.Tell to) = true
-has_come core by waiting.Using = true
-has_come core by waiting.Service = can_take core by
+abbrev pub has_come : ServicesValue → By → Waiting → Bool
+has_come services by waiting.Nothing = false
+has_come services by waiting.Staged = true
+has_come services by waiting.TxnFull = true
+has_come services by (waiting.Tell to) = true
+has_come services by waiting.Using = true
+has_come services by waiting.Service = can_take services by

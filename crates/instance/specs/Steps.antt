@@ -2,8 +2,8 @@
 use Rattle.std.specs.Prelude.{◌≡◌, ℕ, ◌&&◌, nat_lt, Bool, false, List, length, slice_get}
 use Rattle.std.specs.Option.{option_map_or}
 use Rattle.kvs_rules.specs.declared.events.KvsStep.{KvsStep}
-use Rattle.kvs_core.specs.Value.{CoreValue}
-use Rattle.kvs_core.specs.Steps.{can_step}
+use Rattle.services.specs.Steps.{can_step}
+use Rattle.services.specs.Value.{ServicesValue}
 use Rattle.workload.specs.declared.work.Line.{Line}
 use Rattle.answers.specs.declared.steps.Step.{Step}
 use Rattle.answers.specs.declared.steps.Step.TheVariants as step
@@ -20,8 +20,8 @@ abbrev pub next_of : List Seat → ℕ → ℕ
 next_of seats actor = option_map_or (λ seat. seat.next) (slice_get seats actor) 0
 
 -- whether the open command of the actor at this seat can be replied
-abbrev pub has_answer : CoreValue → List Seat → ℕ → Bool
-has_answer core seats actor = option_map_or (λ seat. has_come core (last_command actor seat) seat.waiting) (slice_get seats actor) false
+abbrev pub has_answer : ServicesValue → List Seat → ℕ → Bool
+has_answer services seats actor = option_map_or (λ seat. has_come services (last_command actor seat) seat.waiting) (slice_get seats actor) false
 
 -- whether the actor's next command can be issued
 abbrev pub can_issue : List Line → InstanceValue → ℕ → Bool
@@ -29,16 +29,16 @@ can_issue lines v actor = has_issue (length lines) v.seats actor
 
 -- whether the actor's open command can be replied
 abbrev pub can_answer : InstanceValue → ℕ → Bool
-can_answer v actor = has_answer v.core v.seats actor
+can_answer v actor = has_answer v.services v.seats actor
 
--- neither a step of the service nor a reply can be made
+-- neither a step of the services nor a reply can be made
 pub record IsAtRest (v : InstanceValue) : Type 0 where
-  pub steps : (s : KvsStep) → can_step v.core s ≡ false
+  pub steps : (s : KvsStep) → can_step v.services s ≡ false
   pub answers : (actor : ℕ) → can_answer v actor ≡ false
 
 -- nothing can happen but the end
 pub record IsOver (lines : List Line) (v : InstanceValue) : Type 0 where
-  pub steps : (s : KvsStep) → can_step v.core s ≡ false
+  pub steps : (s : KvsStep) → can_step v.services s ≡ false
   pub answers : (actor : ℕ) → can_answer v actor ≡ false
   pub issues : (actor : ℕ) → can_issue lines v actor ≡ false
 

@@ -7,9 +7,10 @@ ghost use Rattle.answers.specs.Entering.{entered};
 ghost use Rattle.answers.specs.Services.{log_of};
 ghost use Rattle.answers.specs.Whole.{HasToldAll};
 ghost use Rattle.kvs_model.specs.Store.{Name};
-ghost use Rattle.kvs_core.specs.Order.{possible};
-ghost use Rattle.kvs_core.specs.Posted.{posted};
-ghost use Rattle.kvs_core.specs.Steps.{can_step};
+ghost use Rattle.resource_set.specs.Valid.{IsR};
+ghost use Rattle.resource_set.specs.Writing.{r_text};
+ghost use Rattle.services.specs.Order.{possible};
+ghost use Rattle.services.specs.Steps.{can_step};
 ghost use Rattle.instance.specs.declared.seats.Seat.{Seat as SeatValue};
 ghost use Rattle.instance.specs.Agrees.{AgreesOwn, AreLinesOf};
 ghost use Rattle.instance.specs.Closings.{closings, numbers_in};
@@ -34,18 +35,20 @@ use kvs_core::{Core, CoreFault, KvsEvents, Setting};
 use kvs_rules::KvsStep;
 use kvs_txn::{Author, By, Txn};
 use lists::{Bytes, ListOf};
+use resource_set::Resources;
+use services::Services;
 use std::alloc::{AllocError, Global};
 use std::marker::Model;
 use workload::{Line, Workload};
 
-/// Actors, whose commands the service of one instance carries out. Which lines of a workload are theirs and what has
+/// Actors, whose commands the services of one instance carry out. Which lines of a workload are theirs and what has
 /// happened is its caller's to keep: the clauses speak of every chronicle of the instance's own that agrees with it.
 #[derive(Drop)]
 pub struct Instance {
     alloc: Global,
     spent: bool,
     seats: Vec<Seat>,
-    core: Core,
+    services: Services,
 }
 
 impl Model for Instance {
@@ -88,13 +91,14 @@ struct Given {
 }
 
 /// What an actor is told that waits so for its command.
-fn reply_to(core: &mut Core, by: By, waiting: Waiting) -> Given
-    requires ready { core.old.spent ≡ false }
-    requires can { has_come core.old by waiting ≡ true }
+fn reply_to(services: &mut Services, by: By, waiting: Waiting) -> Given
+    requires ready { services.old.spent ≡ false }
+    requires can { has_come services.old by waiting ≡ true }
     requires hands { is_telling waiting ≡ false }
-    ensures ready { core.new.spent ≡ false }
-    ensures posted { posted core.new ≡ posted core.old }
-    ensures given { IsGiven core.old core.new by waiting result.reply result.number }
+    ensures ready { services.new.spent ≡ false }
+    ensures posted { services.new.manager.posted ≡ services.old.manager.posted }
+    ensures given { IsGiven services.old services.new by waiting
+        result.reply result.number }
 {
     match waiting {
         Waiting::Nothing | Waiting::Tell { .. } => unreachable!(),
@@ -111,7 +115,7 @@ fn reply_to(core: &mut Core, by: By, waiting: Waiting) -> Given
             number: None,
         },
         Waiting::Service => {
-            let held = core.take(by);
+            let held = services.take(by);
             Given {
                 reply: Reply::of(held.answer),
                 number: held.number,
@@ -156,37 +160,47 @@ fn seated(alloc: Global, work: &Workload, size: u32) -> Result<Vec<Seat>, AllocE
 }
 
 impl Instance {
+    /// The key-value service, which can go on where the instance can.
+    fn core(&self) -> &Core
+        requires { self.now.spent ≡ false }
+        ensures value { result.now ≡ self.now.services.manager.core }
+        ensures ready { result.now.spent ≡ false }
+    {
+        self.services.core()
+    }
+
     /// An instance of some brokers with the actors of a workload, before anything has happened. Its first store has the
     /// text of the grant.
     pub fn new(
         alloc: Global,
         setting: Setting,
-        grant: &Bytes,
+        grant: &Resources,
         work: &Workload,
     ) -> Result<Instance, CoreFault>
+        requires grant { IsR grant.now }
         requires size { (1 ≤ setting.size) × (setting.size ≤ 32) }
         requires fanout { (1 ≤ setting.fanout) × (setting.fanout ≤ 32) }
         requires within { IsWithin setting.size work.now }
         requires built { All (λ l. IsBuilt l.command) work.now.lines }
         ensures ready { IfOk result (λ v. v.spent ≡ false) }
         ensures agrees { IfOk result (λ v. (set : Setup) → set.size ≡ setting.size
-            → set.fanout ≡ setting.fanout → set.grant ≡ grant.now → set.work ≡ work.now
-            → AgreesOwn v set []) }
+            → set.fanout ≡ setting.fanout → set.hash ≡ setting.hash → set.grant ≡ r_text grant.now
+            → set.work ≡ work.now → AgreesOwn v set []) }
     {
-        let core = Core::new(alloc, setting, grant)?;
+        let services = Services::new(alloc, setting, grant)?;
         let seats = seated(alloc, work, setting.size)?;
         Ok(Instance {
             alloc,
             spent: false,
             seats,
-            core,
+            services,
         })
     }
 
-    /// Makes a step of the service, and gives what happened. After an error the instance is spent.
+    /// Makes a step of the services, and gives what happened. After an error the instance is spent.
     pub fn turn(&mut self, step: KvsStep) -> Result<Chronicle, CoreFault>
         requires ready { self.old.spent ≡ false }
-        requires can { can_step self.old.core step ≡ true }
+        requires can { can_step self.old.services step ≡ true }
         ensures ready { OnOk result (self.new.spent ≡ false) }
         ensures makes { IfOk result (Makes self.old (Step.Kvs 0 step) self.new) }
         ensures spent { OnErr result (self.new.spent ≡ true) }
@@ -194,7 +208,7 @@ impl Instance {
         self.spent = true;
         // the job manager posts nothing yet, so what lands is users'
         users_land_where_nothing_is_posted();
-        let events = self.core.turn(step)?;
+        let events = self.services.turn(step)?;
         let made = enter(self.alloc, events)?;
         self.spent = false;
         Ok(made)
@@ -213,7 +227,11 @@ impl Instance {
         self.spent = true;
         let seat = &mut self.seats[actor as usize];
         let command = seat.issued.saturating_sub(1);
-        let Given { reply, number } = reply_to(&mut self.core, By { actor, command }, seat.waiting);
+        let Given { reply, number } = reply_to(
+            &mut self.services,
+            By { actor, command },
+            seat.waiting,
+        );
         seat.waiting = Waiting::Nothing;
         see(&mut seat.floors, &seat.subject, number)?;
         let replied = Entry::Replied {
@@ -280,7 +298,7 @@ impl Instance {
         let seat = &mut self.seats[actor as usize];
         let command = seat.issued;
         let asked = begin(self.alloc, seat, actor, &lines[seat.next].command)?;
-        ask(&mut self.core, By { actor, command }, seat, asked)?;
+        ask(&mut self.services, By { actor, command }, seat, asked)?;
         seat.issued = command + 1;
         seat.last = seat.next;
         seat.next = next_line(lines, seat.next + 1, actor);
@@ -289,12 +307,12 @@ impl Instance {
         Ok(made)
     }
 
-    /// Whether a step of the service can be made.
+    /// Whether a step of the services can be made.
     pub fn can_turn(&self, step: KvsStep) -> bool
         requires { self.now.spent ≡ false }
-        ensures { result ≡ can_step self.now.core step }
+        ensures { result ≡ can_step self.now.services step }
     {
-        self.core.can(step)
+        self.services.can(step)
     }
 
     /// Whether the open command of an actor can be replied.
@@ -302,7 +320,7 @@ impl Instance {
         requires { self.now.spent ≡ false }
         ensures { result ≡ can_answer self.now actor }
     {
-        has_answer(&self.core, &self.seats, actor)
+        has_answer(&self.services, &self.seats, actor)
     }
 
     /// Whether the next command of an actor can be issued, of the workload with these lines.
@@ -312,14 +330,14 @@ impl Instance {
         has_issue(lines.len(), &self.seats, actor)
     }
 
-    /// The first step of the service, in the service's order.
+    /// The first step of the services, in their order.
     pub fn next_turn(&self) -> Option<KvsStep>
         requires { self.now.spent ≡ false }
-        ensures first { result ≡ slice_get (possible self.now.core) 0 }
-        ensures some { IfSome result (λ step. can_step self.now.core step ≡ true) }
-        ensures none { result ≡ None → (step : KvsStep) → can_step self.now.core step ≡ false }
+        ensures first { result ≡ slice_get (possible self.now.services) 0 }
+        ensures some { IfSome result (λ step. can_step self.now.services step ≡ true) }
+        ensures none { result ≡ None → (step : KvsStep) → can_step self.now.services step ≡ false }
     {
-        self.core.next()
+        self.services.next()
     }
 
     /// The lowest actor whose open command can be replied.
@@ -329,7 +347,7 @@ impl Instance {
         ensures some { IfSome result (λ a. can_answer self.now a ≡ true) }
         ensures none { result ≡ None → (a : ℕ) → can_answer self.now a ≡ false }
     {
-        first_answer(&self.core, &self.seats)
+        first_answer(&self.services, &self.seats)
     }
 
     /// The actor whose next line comes first among those that wait for nothing, of the workload with these lines.
@@ -356,16 +374,17 @@ impl Instance {
             → IsOver lines.now self.now → Ends set own left) }
     {
         // where nothing but the end can happen, the service is at rest
-        self.core.still();
-        close_off(self.alloc, &self.core, lines, &self.seats)
+        self.services.still();
+        let core = self.core();
+        close_off(self.alloc, core, lines, &self.seats)
     }
 
-    /// Where neither a step of the service nor a reply can be made, all brokers are told.
+    /// Where neither a step of the services nor a reply can be made, all brokers are told.
     pub fn still(&self)
         requires { self.now.spent ≡ false }
         ensures told { (set : Setup) (own : List EntryValue) → AgreesOwn self.now set own
             → IsAtRest self.now → HasToldAll set own }
     {
-        self.core.still();
+        self.services.still();
     }
 }

@@ -4,18 +4,17 @@ ghost use Rattle.kvs_txn.specs.declared.txn.Author.TheVariants as author;
 ghost use Rattle.workload.specs.declared.work.Line.{Line as LineValue};
 ghost use Rattle.kvs_rules.specs.Log.{Log, is_asked};
 ghost use Rattle.kvs_rules.specs.Namespaces.{Setting as Service};
-ghost use Rattle.kvs_core.specs.Agrees.{Agrees};
-ghost use Rattle.kvs_core.specs.Posted.{posted};
-ghost use Rattle.kvs_requests.specs.Rows.{IsKnownAsk};
+ghost use Rattle.services.specs.Agrees.{AgreesServices};
+ghost use Rattle.services.specs.Asks.{IsServedAsk, MayAsk};
 ghost use Rattle.answers.specs.Commands.{ask_of, op_of, most_staged, subject_of};
 ghost use Rattle.instance.specs.Seats.{room_behind, with_op, waiting_after, waits_for, ops_after, space_after, seat_floor, moment_asked, AreTold, IsKnownCommand, IsTheAsk, has_come, is_free};
 ghost use Rattle.instance.specs.Steps.{has_issue, has_answer, next_of};
 
 use crate::floors::Floors;
-use kvs_core::{Core, Request};
 use kvs_rules::KvsAsk;
 use kvs_txn::{Author, By, Op, Path, Query, StageFault, Txn};
 use lists::{Bytes, Copied};
+use services::Services;
 use std::alloc::{AllocError, Global};
 use std::mem;
 use workload::{Command, Line};
@@ -132,23 +131,33 @@ fn waits_for(command: &Command) -> Waiting
 }
 
 /// The namespace that a command of an actor is about, which works in this one.
-fn subject_of<'a>(command: &'a Command, own: &'a Bytes) -> &'a Bytes
-    ensures { result.now ≡ subject_of command.now own.now }
+fn subject_of(alloc: Global, command: &Command, own: &Bytes) -> Result<Bytes, AllocError>
+    ensures { IfOk result (λ name. name ≡ subject_of command.now own.now) }
 {
     match command {
-        Command::NsCreate { name } | Command::NsRemove { name } => name,
-        _ => own,
+        Command::NsCreate { name } | Command::NsRemove { name } => name.copy(),
+        Command::Submit { .. }
+        | Command::Cancel { .. }
+        | Command::Raise { .. }
+        | Command::Urgency { .. }
+        | Command::StateOf { .. }
+        | Command::Info { .. }
+        | Command::Jobs
+        | Command::Why { .. }
+        | Command::ResultOf { .. }
+        | Command::Advance { .. } => Bytes::of(alloc, b"primary"),
+        _ => own.copy(),
     }
 }
 
 /// Turns an actor to the namespace that a command of its is about, and to the one in which it works from then on.
-fn turn(seat: &mut Seat, command: &Command) -> Result<(), AllocError>
+fn turn(alloc: Global, seat: &mut Seat, command: &Command) -> Result<(), AllocError>
     ensures { OnOk result (seat.new ≡ record seat.old {
       subject = subject_of command.now seat.old.space;
       space = space_after command.now seat.old.space;
     }) }
 {
-    seat.subject = subject_of(command, &seat.space).copy()?;
+    seat.subject = subject_of(alloc, command, &seat.space)?;
     if let Command::NsUse { name } = command {
         seat.space = name.copy()?;
     }
@@ -175,9 +184,9 @@ pub fn begin(
     }) }
     ensures asked { IfOk result (λ asked. asked
         ≡ ask_of (record { author = author.User actor; ops = seat.old.staged.ops }) command.now) }
-    ensures known { IfOk result (λ asked. IfSome asked IsKnownAsk) }
+    ensures known { IfOk result (λ asked. IfSome asked IsServedAsk) }
 {
-    turn(seat, command)?;
+    turn(alloc, seat, command)?;
     if let Some(op) = op_of(command)? {
         seat.waiting = stage(&mut seat.staged, op)?;
         return Ok(None);
@@ -198,43 +207,53 @@ pub fn begin(
         Command::Wait { number } => Ok(Some(KvsAsk::Wait { number: *number })),
         Command::NsCreate { .. } => Ok(Some(KvsAsk::Create)),
         Command::NsRemove { .. } => Ok(Some(KvsAsk::Remove)),
+        Command::ContentStore { bytes } => Ok(Some(KvsAsk::Store {
+            bytes: bytes.copy()?,
+        })),
+        Command::ContentLoad { reference } => Ok(Some(KvsAsk::Load {
+            reference: *reference,
+        })),
+        Command::ContentFlush => Ok(Some(KvsAsk::Flush)),
+        Command::ContentDrop => Ok(Some(KvsAsk::DropClean)),
         Command::Tell { .. } | Command::NsUse { .. } => Ok(None),
         _ => unreachable!(),
     }
 }
 
-/// Asks the service what a command of an actor at this seat asks, if it asks anything.
-pub fn ask(core: &mut Core, by: By, seat: &Seat, asked: Option<KvsAsk>) -> Result<(), AllocError>
-    requires ready { core.old.spent ≡ false }
-    requires within { seat.now.broker < core.old.size }
-    requires known { IfSome asked IsKnownAsk }
-    ensures ready { OnOk result (core.new.spent ≡ false) }
-    ensures posted { OnOk result (posted core.new ≡ posted core.old) }
-    ensures agrees { OnOk result ((set : Service) (log : Log) → Agrees core.old set log
+/// Asks the services what a command of an actor at this seat asks, if it asks anything.
+pub fn ask(
+    services: &mut Services,
+    by: By,
+    seat: &Seat,
+    asked: Option<KvsAsk>,
+) -> Result<(), AllocError>
+    requires ready { services.old.spent ≡ false }
+    requires within { seat.now.broker < services.old.size }
+    requires known { IfSome asked IsServedAsk }
+    requires may { IfSome asked (MayAsk services.old by seat.now.broker seat.now.subject) }
+    ensures ready { OnOk result (services.new.spent ≡ false) }
+    ensures posted { OnOk result (services.new.manager.posted ≡ services.old.manager.posted) }
+    ensures agrees { OnOk result ((set : Service) (log : Log) → AgreesServices services.old set log
         → IsTheAsk set by seat.now asked → is_asked by log ≡ false
-        → Agrees core.new set (log ++ moment_asked by (seat_floor seat.now) asked)) }
+        → AgreesServices services.new set (log ++ moment_asked by (seat_floor seat.now) asked)) }
 {
     let Some(ask) = asked else {
         return Ok(());
     };
-    let request = Request::Command {
-        by,
-        namespace: seat.subject.copy()?,
-        floor: seat.floors.of(&seat.subject),
-        ask,
-    };
-    core.request(seat.broker, request)
+    let namespace = seat.subject.copy()?;
+    let floor = seat.floors.of(&seat.subject);
+    services.ask(by, seat.broker, namespace, floor, ask)
 }
 
 /// Whether what an actor waits for is there.
-pub fn has_come(core: &Core, by: By, waiting: Waiting) -> bool
-    requires { core.now.spent ≡ false }
-    ensures { result ≡ has_come core.now by waiting }
+pub fn has_come(services: &Services, by: By, waiting: Waiting) -> bool
+    requires { services.now.spent ≡ false }
+    ensures { result ≡ has_come services.now by waiting }
 {
     match waiting {
         Waiting::Nothing => false,
         Waiting::Staged | Waiting::TxnFull | Waiting::Tell { .. } | Waiting::Using => true,
-        Waiting::Service => core.can_take(by),
+        Waiting::Service => services.can_take(by),
     }
 }
 
@@ -256,14 +275,14 @@ pub fn has_issue(lines: usize, seats: &[Seat], actor: u32) -> bool
 }
 
 /// Whether the actor's open command can be replied.
-pub fn has_answer(core: &Core, seats: &[Seat], actor: u32) -> bool
-    requires { core.now.spent ≡ false }
-    ensures { result ≡ has_answer core.now seats.now actor }
+pub fn has_answer(services: &Services, seats: &[Seat], actor: u32) -> bool
+    requires { services.now.spent ≡ false }
+    ensures { result ≡ has_answer services.now seats.now actor }
 {
     match seats.get(actor as usize) {
         Some(seat) => {
             let command = seat.issued.saturating_sub(1);
-            has_come(core, By { actor, command }, seat.waiting)
+            has_come(services, By { actor, command }, seat.waiting)
         }
         None => false,
     }
@@ -286,16 +305,16 @@ pub fn raise(alloc: Global, seats: &mut Vec<Seat>, from: u32, to: u32) -> Result
 }
 
 /// The first actor whose open command can be replied.
-pub fn first_answer(core: &Core, seats: &[Seat]) -> Option<u32>
-    requires ready { core.now.spent ≡ false }
+pub fn first_answer(services: &Services, seats: &[Seat]) -> Option<u32>
+    requires ready { services.now.spent ≡ false }
     requires few { length seats.now ≤ 256 }
-    ensures some { IfSome result (λ a. has_answer core.now seats.now a ≡ true) }
+    ensures some { IfSome result (λ a. has_answer services.now seats.now a ≡ true) }
     ensures first { IfSome result (λ a. (lower : ℕ) → lower < a
-        → has_answer core.now seats.now lower ≡ false) }
-    ensures none { result ≡ None → (a : ℕ) → has_answer core.now seats.now a ≡ false }
+        → has_answer services.now seats.now lower ≡ false) }
+    ensures none { result ≡ None → (a : ℕ) → has_answer services.now seats.now a ≡ false }
 {
     for actor in 0..seats.len() as u32 {
-        if has_answer(core, seats, actor) {
+        if has_answer(services, seats, actor) {
             return Some(actor);
         }
     }

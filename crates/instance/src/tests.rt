@@ -5,17 +5,19 @@ ghost use Rattle.instance.specs.Agrees.{AreLinesOf};
 use crate::{Instance, Setting};
 use answers::{Entry, Reply};
 use fl_digest::Hash;
-use lists::Bytes;
 use std::alloc::Global;
 use std::test::Fail;
 use workload::laws::{spelled_commands_are_built, spelled_workloads_are_within};
-use workload::{Line, Workload, read};
+use workload::{Grant, Line, Workload, read};
 
 const SETTING: Setting = Setting {
     size: 2,
     fanout: 2,
     hash: Hash::Sha1,
 };
+
+const GRANT: &str =
+    r#"{"version":1,"execution":{"R_lite":[{"rank":"0","children":{"core":"0-3"}}],"starttime":0,"expiration":0,"nodelist":["node0"]}}"#;
 
 const WORK: &str =
     "actor a 0\nactor b 1\na put k x\na commit\nb get k\na tell b\nb get k\nb wait 7\nb get k\n";
@@ -87,9 +89,29 @@ fn begin(alloc: Global, text: &str) -> Result<(Instance, Workload), Fail>
     let work = read(alloc, text.as_bytes(), SETTING.size)?;
     spelled_workloads_are_within();
     spelled_commands_are_built();
-    let grant = Bytes::of(alloc, b"grant")?;
-    let instance = Instance::new(alloc, SETTING, &grant, &work)?;
+    let grant = Grant::read(alloc, GRANT.as_bytes())?;
+    let instance = Instance::new(alloc, SETTING, grant.resources(), &work)?;
     Ok((instance, work))
+}
+
+/// Makes the first step of the service, and tells whether there is one.
+fn serve_once(
+    alloc: Global,
+    instance: &mut Instance,
+    lines: &[Line],
+    text: &mut Vec<u8>,
+) -> Result<bool, Fail>
+    requires ready { instance.old.spent ≡ false }
+    requires lines { AreLinesOf instance.old lines.now }
+    ensures ready { OnOk result (instance.new.spent ≡ false) }
+    ensures lines { OnOk result (AreLinesOf instance.new lines.now) }
+{
+    let Some(step) = instance.next_turn() else {
+        return Ok(false);
+    };
+    let made = instance.turn(step)?;
+    tell_all(alloc, text, made.as_slice())?;
+    Ok(true)
 }
 
 /// Lets the service make its steps for as long as it can.
@@ -105,9 +127,8 @@ fn serve(
     ensures lines { OnOk result (AreLinesOf instance.new lines.now) }
 {
     for _ in 0..100 {
-        match instance.next_turn() {
-            Some(step) => tell_all(alloc, text, instance.turn(step)?.as_slice())?,
-            None => return Ok(()),
+        if !serve_once(alloc, instance, lines, text)? {
+            return Ok(());
         }
     }
     Ok(())
@@ -154,39 +175,91 @@ fn go_on(
     }
 }
 
+/// Whether this happens where an actor acts, or the service makes its steps.
+fn goes_on_so(
+    alloc: Global,
+    instance: &mut Instance,
+    lines: &[Line],
+    who: Option<u32>,
+    words: &str,
+) -> Result<bool, Fail>
+    requires ready { instance.old.spent ≡ false }
+    requires lines { AreLinesOf instance.old lines.now }
+    ensures ready { OnOk result (instance.new.spent ≡ false) }
+    ensures lines { OnOk result (AreLinesOf instance.new lines.now) }
+{
+    let mut text = Vec::new(alloc);
+    go_on(alloc, instance, lines, who, &mut text)?;
+    Ok(text.as_slice() == words.as_bytes())
+}
+
+/// How many parts of the story happen as they are told, from its beginning.
+fn told_parts(alloc: Global, instance: &mut Instance, lines: &[Line]) -> Result<usize, Fail>
+    requires ready { instance.old.spent ≡ false }
+    requires lines { AreLinesOf instance.old lines.now }
+    ensures ready { OnOk result (instance.new.spent ≡ false) }
+    ensures lines { OnOk result (AreLinesOf instance.new lines.now) }
+{
+    for (place, (who, words)) in STORY.iter().enumerate() {
+        if !goes_on_so(alloc, instance, lines, *who, words)? {
+            return Ok(place);
+        }
+    }
+    Ok(STORY.len())
+}
+
+/// What is told at the end.
+fn ending(alloc: Global, instance: &Instance, lines: &[Line]) -> Result<Vec<u8>, Fail>
+    requires ready { instance.now.spent ≡ false }
+    requires lines { AreLinesOf instance.now lines.now }
+{
+    let left = instance.closings(lines)?;
+    let mut text = Vec::new(alloc);
+    tell_all(alloc, &mut text, left.as_slice())?;
+    Ok(text)
+}
+
 #[test]
 fn actors_are_told_what_the_rules_say(rt: HostRuntime) -> Result<(), Fail> {
-    let alloc = rt.alloc();
-    let (mut instance, work) = begin(alloc, WORK)?;
+    let (mut instance, work) = begin(rt.alloc(), WORK)?;
     let lines = work.lines.as_slice();
-    for (who, words) in STORY {
-        let mut text = Vec::new(alloc);
-        go_on(alloc, &mut instance, lines, who, &mut text)?;
-        assert_eq!(rt; text.as_slice() == words.as_bytes(), true);
-    }
-    let mut text = Vec::new(alloc);
-    tell_all(alloc, &mut text, instance.closings(lines)?.as_slice())?;
+    let parts = told_parts(rt.alloc(), &mut instance, lines)?;
+    let end = ending(rt.alloc(), &instance, lines)?;
+    assert_eq!(rt; parts, STORY.len());
     assert_eq!(rt;
-        text.as_slice() == b"1 unfinished, 1 not reached, ".as_slice(),
+        end.as_slice() == b"1 unfinished, 1 not reached, ".as_slice(),
         true
     );
     Ok(())
 }
 
-#[test]
-fn a_thousand_operations_are_staged_and_no_more(rt: HostRuntime) -> Result<(), Fail> {
-    let alloc = rt.alloc();
+/// The workload of an actor who stages so many puts.
+fn puts(alloc: Global, count: u32) -> Result<String, Fail> {
     let mut source = String::new(alloc);
     source.push_str("actor a 0\n")?;
-    for _ in 0..1001 {
+    for _ in 0..count {
         source.push_str("a put k x\n")?;
     }
-    let (mut instance, work) = begin(alloc, source.as_str())?;
-    let lines = work.lines.as_slice();
+    Ok(source)
+}
+
+/// What happens where the first actor acts so often.
+fn acts(alloc: Global, instance: &mut Instance, lines: &[Line], times: u32) -> Result<Vec<u8>, Fail>
+    requires ready { instance.old.spent ≡ false }
+    requires lines { AreLinesOf instance.old lines.now }
+{
     let mut text = Vec::new(alloc);
-    'acts: for _ in 0..2002 {
-        act(alloc, &mut instance, lines, 0, &mut text)?;
+    for _ in 0..times {
+        act(alloc, instance, lines, 0, &mut text)?;
     }
+    Ok(text)
+}
+
+#[test]
+fn a_thousand_operations_are_staged_and_no_more(rt: HostRuntime) -> Result<(), Fail> {
+    let source = puts(rt.alloc(), 1001)?;
+    let (mut instance, work) = begin(rt.alloc(), source.as_str())?;
+    let text = acts(rt.alloc(), &mut instance, work.lines.as_slice(), 2002)?;
     assert_eq!(rt;
         text.as_slice()
             .ends_with(b"0 staged, 0 issued 1000, 0 full, ".as_slice()),

@@ -1,8 +1,8 @@
 //! The steps that can be made, by number.
 ghost use Rattle.std.specs.Prelude.{◌≡◌, true, false, IfOk};
-ghost use Rattle.kvs_core.specs.Order.{possible};
-ghost use Rattle.kvs_core.specs.Steps.{can_step};
 ghost use Rattle.kvs_core.specs.Walk.{nth};
+ghost use Rattle.services.specs.Order.{possible};
+ghost use Rattle.services.specs.Steps.{can_step};
 ghost use Rattle.instance.specs.Agrees.{AreLinesOf};
 ghost use Rattle.instance.specs.Order.{answers, issues};
 ghost use Rattle.instance.specs.Steps.{can_answer, can_issue};
@@ -13,13 +13,13 @@ use kvs_rules::KvsStep;
 use workload::Line;
 
 impl Instance {
-    /// The step of this number among those of the service, or what the number has left behind them.
+    /// The step of this number among those of the services, or what the number has left behind them.
     pub fn nth_turn(&self, number: u64) -> Result<KvsStep, u64>
         requires { self.now.spent ≡ false }
-        ensures value { result ≡ nth (possible self.now.core) number }
-        ensures can { IfOk result (λ step. can_step self.now.core step ≡ true) }
+        ensures value { result ≡ nth (possible self.now.services) number }
+        ensures can { IfOk result (λ step. can_step self.now.services step ≡ true) }
     {
-        self.core.nth(number)
+        self.services.nth(number)
     }
 
     /// The actor of this number among those whose open command can be replied, or what the number has left behind them.
@@ -30,7 +30,7 @@ impl Instance {
     {
         let mut left = number;
         for actor in 0..self.seats.len() as u32 {
-            if has_answer(&self.core, &self.seats, actor) {
+            if has_answer(&self.services, &self.seats, actor) {
                 if left == 0 {
                     return Ok(actor);
                 }

@@ -3,4 +3,4 @@ use Rattle.instance.specs.Steps.{has_answer}
 use Rattle.instance.proofs.seats.first_answer.Given as goal
 
 abbrev pub invariant-loop-actor : goal.invariant-loop-actor
-invariant-loop-actor l = (a : ℕ) → a < l.actor → has_answer l.core l.seats a ≡ false
+invariant-loop-actor l = (a : ℕ) → a < l.actor → has_answer l.services l.seats a ≡ false

@@ -19,11 +19,11 @@ returns-clause-makes c = λ set own agrees.
     let seat = c.index_mut-seat.result.now in
     let reply = c.reply_to-reply.result.reply in
     let number = c.reply_to-reply.result.number in
-    answer_follows v (subst (λ x. AgreesOwn x set own) (sym c.self.view_is) agrees) a seat c.reply_to-reply.new.core reply number
+    answer_follows v (subst (λ x. AgreesOwn x set own) (sym c.self.view_is) agrees) a seat c.reply_to-reply.new.services reply number
     (record {
       sits = slice_get-get_or w.seats a seat (actor_within v a can) ∙ ap Some (sym c.index_mut-seat.ensures.value);
       kept = c.reply_to-reply.ensures.posted;
-      said = subst (λ n. IsGiven w.core c.reply_to-reply.new.core (record { actor = a; command = n }) seat.waiting reply number) c.saturating_sub-command.ensures c.reply_to-reply.ensures.given;
+      said = subst (λ n. IsGiven w.services c.reply_to-reply.new.services (record { actor = a; command = n }) seat.waiting reply number) c.saturating_sub-command.ensures c.reply_to-reply.ensures.given;
     })
     c.see.new.floors c.in_ok-see.ensures c.in_ok-made.made
     (c.in_ok-made.ensures ∙ ap (λ n. entry.Replied a n reply number ∷ []) c.saturating_sub-command.ensures)

@@ -15,7 +15,7 @@ returns-then-left-eq0-clause-value c =
     let view : length c.self.inside.seats.items ≡ size = ap (λ v. length v.seats) c.self.view_is in
     let rest = range_with_len (at + 1) (size - (at + 1)) in
     let less : at < size = omega (arith, view) in
-    let core : c.self.inside.core ≡ v.core = ap (λ v. v.core) c.self.view_is in
+    let core : c.self.inside.services ≡ v.services = ap (λ v. v.services) c.self.view_is in
     let seats : c.self.inside.seats.items ≡ v.seats = ap (λ v. v.seats) c.self.view_is in
     let has : can_answer v at ≡ true = search rules in
     let zero : c.loop-actor.left ≡ 0 = omega arith in
@@ -31,7 +31,7 @@ loop-actor-preserved c =
     let view : length c.self.inside.seats.items ≡ size = ap (λ v. length v.seats) c.self.view_is in
     let rest = range_with_len (at + 1) (size - (at + 1)) in
     let less : at < size = omega (arith, view) in
-    let core : c.self.inside.core ≡ v.core = ap (λ v. v.core) c.self.view_is in
+    let core : c.self.inside.services ≡ v.services = ap (λ v. v.services) c.self.view_is in
     let seats : c.self.inside.seats.items ≡ v.seats = ap (λ v. v.seats) c.self.view_is in
     let here : nth (filter (can_answer v) (at ∷ rest)) c.loop-actor.left ≡ nth (answers v) c.args.number =
     ap (λ ns. nth (filter (can_answer v) ns) c.loop-actor.left) (sym (peeled at size less)) ∙ c.loop-actor.invariant in

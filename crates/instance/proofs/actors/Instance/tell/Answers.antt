@@ -33,6 +33,6 @@ returns-clause-makes c = λ set own agrees.
     ap (λ xs. slice_get xs a) (sym raises.seats) ∙ slice_get-get_or c.raise.new.seats.items a later within_on ∙ ap Some (sym c.index_mut-seat.ensures.value) in
     let made = c.in_ok-push.ensures.added
     ∙ ap₂ (λ es n. es ++ entry.Replied a n reply.Told None ∷ []) c.in_ok-made.ensures c.saturating_sub.ensures in
-    subst (λ xs. Follows set own (step.Answer a) (replied a xs later w.core later.floors) c.push.new.self) (sym raises.seats)
+    subst (λ xs. Follows set own (step.Answer a) (replied a xs later w.services later.floors) c.push.new.self) (sym raises.seats)
     (tell_follows v (subst (λ x. AgreesOwn x set own) (sym c.self.view_is) agrees) a seat to
     (slice_get-get_or w.seats a seat within ∙ ap Some (at.1 seat)) tells raises.floors raises.joined later sits_on c.push.new.self made)
