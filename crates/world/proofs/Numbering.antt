@@ -4,7 +4,7 @@ use Rattle.std.specs.Prelude.{Some, Ok, Err, min, nat_le, slice_get, if◌then�
 use Rattle.std.proofs.Math.Nat.{mod-eq_of_lt}
 use Rattle.std.proofs.lemmas.Nat.{mod_below}
 use Rattle.std.proofs.lemmas.Bool.Decides.{nat_tests}
-use Rattle.kvs_core.specs.Order.{possible}
+use Rattle.services.specs.Order.{possible}
 use Rattle.kvs_core.specs.Walk.{nth}
 use Rattle.kvs_core.proofs.Walking.{behind, within}
 use Rattle.kvs_rules.specs.declared.events.KvsStep.{KvsStep}
@@ -50,12 +50,12 @@ module _ (v : WorldValue) where
   begun = map step.Issue (issues v.set.work.lines v.instance)
 
   -- the steps before the end, one part behind the other
-  pub by-service : (number : ℕ) (s : KvsStep) → nth (possible v.instance.core) number ≡ Ok s → nth (before_end v) number ≡ Ok (step.Kvs 0 s)
-  by-service number s e = within (map (step.Kvs 0) (possible v.instance.core)) (replies ++ begun) number (step.Kvs 0 s) (mapped (step.Kvs 0) (possible v.instance.core) number s e)
+  pub by-service : (number : ℕ) (s : KvsStep) → nth (possible v.instance.services) number ≡ Ok s → nth (before_end v) number ≡ Ok (step.Kvs 0 s)
+  by-service number s e = within (map (step.Kvs 0) (possible v.instance.services)) (replies ++ begun) number (step.Kvs 0 s) (mapped (step.Kvs 0) (possible v.instance.services) number s e)
 
-  module _ (number left : ℕ) (past : nth (possible v.instance.core) number ≡ Err left) where
+  module _ (number left : ℕ) (past : nth (possible v.instance.services) number ≡ Err left) where
     past-service : nth (before_end v) number ≡ nth (replies ++ begun) left
-    past-service = behind (map (step.Kvs 0) (possible v.instance.core)) (replies ++ begun) number left (unmapped (step.Kvs 0) (possible v.instance.core) number left past)
+    past-service = behind (map (step.Kvs 0) (possible v.instance.services)) (replies ++ begun) number left (unmapped (step.Kvs 0) (possible v.instance.services) number left past)
 
     pub by-answer : (actor : ℕ) → nth (answers v.instance) left ≡ Ok actor → nth (before_end v) number ≡ Ok (step.Answer actor)
     by-answer actor e = past-service ∙ within replies begun left (step.Answer actor) (mapped step.Answer (answers v.instance) left actor e)

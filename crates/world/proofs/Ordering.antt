@@ -2,7 +2,7 @@
 use Rattle.std.proofs.Common.{◌≡◌, ℕ, List, [], ◌∷◌, ◌++◌, map, false, Some, None, refl, sym, ap, ◌∙◌}
 use Rattle.std.specs.Prelude.{slice_get, if◌then◌else◌}
 use Rattle.kvs_rules.specs.declared.events.KvsStep.{KvsStep}
-use Rattle.kvs_core.specs.Order.{possible}
+use Rattle.services.specs.Order.{possible}
 use Rattle.answers.specs.declared.steps.Step.{Step}
 use Rattle.answers.specs.declared.steps.Step.TheVariants as step
 use Rattle.instance.specs.Order.{answers, issues}
@@ -37,12 +37,12 @@ module _ (v : WorldValue) (runs : v.closed ≡ false) where
   going s e = sym (ap (λ b. slice_get (if b then [] else or_close (before_end v)) 0) runs ∙ before_close (before_end v) s e)
 
   -- the service's next step comes first
-  pub service-next : (s : KvsStep) → Some s ≡ slice_get (possible v.instance.core) 0 → Some (step.Kvs 0 s) ≡ slice_get (possible_steps v) 0
-  service-next s e = going (step.Kvs 0 s) (headed (map (step.Kvs 0) (possible v.instance.core)) (replies ++ begun) (step.Kvs 0 s) (mapped (step.Kvs 0) (possible v.instance.core) s (sym e)))
+  pub service-next : (s : KvsStep) → Some s ≡ slice_get (possible v.instance.services) 0 → Some (step.Kvs 0 s) ≡ slice_get (possible_steps v) 0
+  service-next s e = going (step.Kvs 0 s) (headed (map (step.Kvs 0) (possible v.instance.services)) (replies ++ begun) (step.Kvs 0 s) (mapped (step.Kvs 0) (possible v.instance.services) s (sym e)))
 
-  module _ (unserved : None ≡ slice_get (possible v.instance.core) 0) where
+  module _ (unserved : None ≡ slice_get (possible v.instance.services) 0) where
     past-service : before_end v ≡ replies ++ begun
-    past-service = ap (λ steps. map (step.Kvs 0) steps ++ (replies ++ begun)) (emptied (possible v.instance.core) (sym unserved))
+    past-service = ap (λ steps. map (step.Kvs 0) steps ++ (replies ++ begun)) (emptied (possible v.instance.services) (sym unserved))
 
     -- then the reply to the lowest actor that can be replied
     pub answer-next : (actor : ℕ) → Some actor ≡ slice_get (answers v.instance) 0 → Some (step.Answer actor) ≡ slice_get (possible_steps v) 0

@@ -1,6 +1,6 @@
 -- The steps that a world can make, in the order in which it makes them.
 use Rattle.std.specs.Prelude.{List, [], ◌∷◌, ◌++◌, map, if◌then◌else◌}
-use Rattle.kvs_core.specs.Order.{possible}
+use Rattle.services.specs.Order.{possible}
 use Rattle.answers.specs.declared.steps.Step.{Step}
 use Rattle.answers.specs.declared.steps.Step.TheVariants as step
 use Rattle.instance.specs.Order.{answers, issues}
@@ -8,7 +8,7 @@ use Rattle.world.specs.Value.{WorldValue}
 
 -- what can be made before the end: a step of the service, a reply by actor, an issue by line
 abbrev pub before_end : WorldValue → List Step
-before_end v = map (step.Kvs 0) (possible v.instance.core) ++ (map step.Answer (answers v.instance) ++ map step.Issue (issues v.set.work.lines v.instance))
+before_end v = map (step.Kvs 0) (possible v.instance.services) ++ (map step.Answer (answers v.instance) ++ map step.Issue (issues v.set.work.lines v.instance))
 
 -- the end comes where nothing else can
 abbrev pub or_close : List Step → List Step
