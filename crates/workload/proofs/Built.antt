@@ -11,7 +11,7 @@ use Rattle.kvs_txn.specs.Keys.{components}
 use Rattle.workload.specs.Limits.{most_commands, most_members, most_severity, most_urgency, most_value}
 use Rattle.workload.specs.Words.{first_word, behind_word, is_number_within, number_value}
 use Rattle.workload.specs.Actors.{place_of}
-use Rattle.workload.specs.Verbs.{first_of, faults_of, is_offered, is_past_key, is_past_value, name_and_number, one_key, key_and_text, two_keys, raising, urging, submission, said, verb_of}
+use Rattle.workload.specs.Verbs.{first_of, faults_of, is_offered, is_past_key, is_past_value, name_and_number, one_content, one_key, key_and_text, two_keys, raising, urging, submission, said, verb_of}
 use Rattle.workload.specs.Submits.{options_of, urgency_in}
 use Rattle.workload.specs.Reading.{first_fault, offered_verb, spelled, with_command, command_faults, verb_faults}
 use Rattle.workload.specs.Laws.{IsBuilt, IsJobCommand, IsKeyPath}
@@ -53,6 +53,9 @@ number_within word h = (grind (arith, nat_tests), grind (arith, nat_tests))
 fence_built : (number : ℕ) (tail : List ℕ) → first_of (faults_of number (name_and_number 1 most_members command.Fence tail)) ≡ None
     → (1 ≤ number_value (first_word (behind_word tail))) × (number_value (first_word (behind_word tail)) ≤ most_members)
 fence_built number tail none = number_within (first_word (behind_word tail)) (none_applies (faults_of number (name_and_number 1 most_members command.Fence tail)) none).1.1.0
+
+content_built : (number : ℕ) (tail : List ℕ) → first_of (faults_of number (one_content command.ContentStore tail)) ≡ None → length tail ≤ most_value
+content_built number tail none = value_within tail (none_applies (faults_of number (one_content command.ContentStore tail)) none).1.1.1.0
 
 -- ---- commands on jobs and on time
 
@@ -115,6 +118,10 @@ verb_built work number tail verb.Tell may text none = tt
 verb_built work number tail verb.NsCreate may text none = tt
 verb_built work number tail verb.NsRemove may text none = tt
 verb_built work number tail verb.NsUse may text none = tt
+verb_built work number tail verb.ContentStore may text none = content_built number tail none
+verb_built work number tail verb.ContentLoad may text none = tt
+verb_built work number tail verb.ContentFlush may text none = tt
+verb_built work number tail verb.ContentDrop may text none = tt
 verb_built work number tail verb.Submit may text none = unoffered may
 verb_built work number tail verb.Cancel may text none = unoffered may
 verb_built work number tail verb.Raise may text none = unoffered may

@@ -2,20 +2,20 @@ use crate::faults::{LineFault, Which};
 use crate::limits::{MOST_POSTS, MOST_SUBMITS, MOST_VALUE};
 use crate::verbs::{Verb, command};
 use crate::words::cut;
-use crate::work::{Command, InfoKey, Line, LineList, Workload};
+use crate::work::{Command, InfoKey, Line, LineList, Needed, Workload};
 use job_spec::Scheme;
 use lists::ListOf;
 use std::alloc::Global;
 use std::process::Abort;
-use std::str;
 use std::test::Fail;
 
-/// A jobspec of one slot with this command.
-const TRUE_SPEC: &str =
-    r#"{"resources":[{"type":"slot","count":1,"with":[{"type":"core","count":1}],"label":"task"}],"tasks":[{"command":["true"],"slot":"task","count":{"per_slot":1}}],"attributes":{"system":{"duration":0}},"version":1}"#;
+/// A submission of a jobspec of one slot with a command.
+const GOOD: &str =
+    r#"submit j {"resources":[{"type":"slot","count":1,"with":[{"type":"core","count":1}],"label":"task"}],"tasks":[{"command":["true"],"slot":"task","count":{"per_slot":1}}],"attributes":{"system":{"duration":0}},"version":1}"#;
 
-const BROKER_SPEC: &str =
-    r#"{"resources":[{"type":"slot","count":1,"with":[{"type":"core","count":1}],"label":"task"}],"tasks":[{"command":["flux","broker"],"slot":"task","count":{"per_slot":1}}],"attributes":{"system":{"duration":0}},"version":1}"#;
+/// One whose command is a broker.
+const CHILD: &str =
+    r#"submit m {"resources":[{"type":"slot","count":1,"with":[{"type":"core","count":1}],"label":"task"}],"tasks":[{"command":["flux","broker"],"slot":"task","count":{"per_slot":1}}],"attributes":{"system":{"duration":0}},"version":1}"#;
 
 /// Lines with one that a text spells behind them, or those lines and the fault of that text, which
 /// stands in line 1.
@@ -64,75 +64,74 @@ const UNFORMED: Option<LineFault> = Some(LineFault::BadCommand { line: 1 });
 
 const MISNUMBERED: Option<LineFault> = Some(LineFault::BadNumber { line: 1 });
 
+const SUBMISSIONS: [(&str, Option<LineFault>); 22] = [
+    (GOOD, None),
+    ("submit j {}", UNFORMED),
+    ("submit k {}", None),
+    ("submit l{\"version\":2}", None),
+    ("submit", UNFORMED),
+    ("submit m", UNFORMED),
+    ("submit m []", UNFORMED),
+    ("submit {}", UNFORMED),
+    ("submit m.n {}", UNFORMED),
+    ("submit n urgency=0 dep=after:j  dep=afterany:z {}", None),
+    ("submit o dep=afterok:j dep=afternotok:k {}", None),
+    ("submit p urgency=31 {}", None),
+    ("submit m urgency=32 {}", MISNUMBERED),
+    ("submit m urgency= {}", MISNUMBERED),
+    ("submit m urgency {}", UNFORMED),
+    ("submit m urgency=1 urgency=2 {}", UNFORMED),
+    ("submit m dep=after:j urgency=1 {}", UNFORMED),
+    ("submit m dep=before:j {}", UNFORMED),
+    ("submit m dep=after:j.k {}", UNFORMED),
+    ("submit m dep=after {}", UNFORMED),
+    ("submit m urgency=32 other {}", UNFORMED),
+    (CHILD, UNFORMED),
+];
+
 #[test]
 fn submissions_have_their_faults(rt: HostRuntime) -> Result<(), Fail> {
-    let alloc = rt.alloc();
-    let good = format!(in alloc; "submit j {TRUE_SPEC}")?;
-    let child = format!(in alloc; "submit m {BROKER_SPEC}")?;
-    let cases: [(&str, Option<LineFault>); 22] = [
-        (good.as_str(), None),
-        ("submit j {}", UNFORMED),
-        ("submit k {}", None),
-        ("submit l{\"version\":2}", None),
-        ("submit", UNFORMED),
-        ("submit m", UNFORMED),
-        ("submit m []", UNFORMED),
-        ("submit {}", UNFORMED),
-        ("submit m.n {}", UNFORMED),
-        ("submit n urgency=0 dep=after:j  dep=afterany:z {}", None),
-        ("submit o dep=afterok:j dep=afternotok:k {}", None),
-        ("submit p urgency=31 {}", None),
-        ("submit m urgency=32 {}", MISNUMBERED),
-        ("submit m urgency= {}", MISNUMBERED),
-        ("submit m urgency {}", UNFORMED),
-        ("submit m urgency=1 urgency=2 {}", UNFORMED),
-        ("submit m dep=after:j urgency=1 {}", UNFORMED),
-        ("submit m dep=before:j {}", UNFORMED),
-        ("submit m dep=after:j.k {}", UNFORMED),
-        ("submit m dep=after {}", UNFORMED),
-        ("submit m urgency=32 other {}", UNFORMED),
-        (child.as_str(), UNFORMED),
-    ];
-    check(&rt, alloc, &cases)
+    check(&rt, rt.alloc(), &SUBMISSIONS)
 }
+
+const ON_JOBS: [(&str, Option<LineFault>); 32] = [
+    ("cancel j", None),
+    ("cancel", UNFORMED),
+    ("cancel j k", UNFORMED),
+    ("cancel j.k", UNFORMED),
+    ("raise j t 0 a note", None),
+    ("raise j t 7", None),
+    ("raise j t 8 a note", MISNUMBERED),
+    ("raise j t x a note", MISNUMBERED),
+    ("raise j t", UNFORMED),
+    ("raise j t.u 0", UNFORMED),
+    ("urgency j 31", None),
+    ("urgency j 32", MISNUMBERED),
+    ("urgency j", UNFORMED),
+    ("urgency j 1 2", UNFORMED),
+    ("state j", None),
+    ("state", UNFORMED),
+    ("state j k", UNFORMED),
+    ("info j jobspec", None),
+    ("info j R", None),
+    ("info j eventlog", None),
+    ("info j r", UNFORMED),
+    ("info j", UNFORMED),
+    ("info j R R", UNFORMED),
+    ("jobs", None),
+    ("jobs j", UNFORMED),
+    ("why j", None),
+    ("why", UNFORMED),
+    ("result j", None),
+    ("result j.k", UNFORMED),
+    ("advance", UNFORMED),
+    ("advance x", MISNUMBERED),
+    ("advance 1 2", UNFORMED),
+];
 
 #[test]
 fn commands_on_jobs_have_their_faults(rt: HostRuntime) -> Result<(), Fail> {
-    let cases: [(&str, Option<LineFault>); 32] = [
-        ("cancel j", None),
-        ("cancel", UNFORMED),
-        ("cancel j k", UNFORMED),
-        ("cancel j.k", UNFORMED),
-        ("raise j t 0 a note", None),
-        ("raise j t 7", None),
-        ("raise j t 8 a note", MISNUMBERED),
-        ("raise j t x a note", MISNUMBERED),
-        ("raise j t", UNFORMED),
-        ("raise j t.u 0", UNFORMED),
-        ("urgency j 31", None),
-        ("urgency j 32", MISNUMBERED),
-        ("urgency j", UNFORMED),
-        ("urgency j 1 2", UNFORMED),
-        ("state j", None),
-        ("state", UNFORMED),
-        ("state j k", UNFORMED),
-        ("info j jobspec", None),
-        ("info j R", None),
-        ("info j eventlog", None),
-        ("info j r", UNFORMED),
-        ("info j", UNFORMED),
-        ("info j R R", UNFORMED),
-        ("jobs", None),
-        ("jobs j", UNFORMED),
-        ("why j", None),
-        ("why", UNFORMED),
-        ("result j", None),
-        ("result j.k", UNFORMED),
-        ("advance", UNFORMED),
-        ("advance x", MISNUMBERED),
-        ("advance 1 2", UNFORMED),
-    ];
-    check(&rt, rt.alloc(), &cases)
+    check(&rt, rt.alloc(), &ON_JOBS)
 }
 
 #[test]
@@ -163,54 +162,72 @@ fn fault_behind(
     Ok(fault)
 }
 
+const FULL: Option<LineFault> = Some(LineFault::Limit {
+    line: 1,
+    which: Which::Posts,
+});
+
+/// A text that stands so many times before another one, and the fault of that one.
+const COUNTED: [(&str, usize, &str, Option<LineFault>); 5] = [
+    ("cancel j", MOST_POSTS - 1, "cancel j", None),
+    ("cancel j", MOST_POSTS, "raise j t 0", FULL),
+    ("raise j t 0", MOST_POSTS, "urgency j 0", FULL),
+    ("urgency j 0", MOST_POSTS, "cancel j", FULL),
+    ("cancel j", MOST_POSTS, "cancel k", None),
+];
+
 #[test]
 fn events_of_one_job_are_counted(rt: HostRuntime) -> Result<(), Fail> {
-    let alloc = rt.alloc();
-    let full = limit(Which::Posts);
-    assert_eq!(rt;
-        fault_behind(alloc, "cancel j", MOST_POSTS - 1, "cancel j")?,
-        None
-    );
-    assert_eq!(rt;
-        fault_behind(alloc, "cancel j", MOST_POSTS, "raise j t 0")?,
-        full
-    );
-    assert_eq!(rt;
-        fault_behind(alloc, "raise j t 0", MOST_POSTS, "urgency j 0")?,
-        full
-    );
-    assert_eq!(rt;
-        fault_behind(alloc, "urgency j 0", MOST_POSTS, "cancel j")?,
-        full
-    );
-    assert_eq!(rt;
-        fault_behind(alloc, "cancel j", MOST_POSTS, "cancel k")?,
-        None
-    );
+    for (text, times, last, want) in COUNTED {
+        let found = fault_behind(rt.alloc(), text, times, last)?;
+        assert_eq!(rt; found, want, "of {last} behind {text}, {times} times");
+    }
     Ok(())
+}
+
+/// As many submissions as there may be.
+fn submits(alloc: Global) -> Result<LineList, Fail> {
+    let mut lines = ListOf::new(alloc);
+    for number in 0..MOST_SUBMITS {
+        let text = format!(in alloc; "submit j{number} {}", "{}")?;
+        let (more, fault) = with_line(alloc, lines, text.as_str())?;
+        if fault.is_some() {
+            return Err("a fault below the limit".into());
+        }
+        lines = more;
+    }
+    Ok(lines)
+}
+
+/// The fault of one submission more.
+fn fault_behind_submits(alloc: Global) -> Result<Option<LineFault>, Fail> {
+    let lines = submits(alloc)?;
+    let (_, fault) = with_line(alloc, lines, "submit k {}")?;
+    Ok(fault)
+}
+
+/// A raise with a note of this length.
+fn noted(alloc: Global, length: usize) -> Result<String, Fail> {
+    let mut text = String::new(alloc);
+    text.push_str("raise j t 0 ")?;
+    for _ in 0..length {
+        text.push_str("n")?;
+    }
+    Ok(text)
+}
+
+fn fault_of_note(alloc: Global, length: usize) -> Result<Option<LineFault>, Fail> {
+    let text = noted(alloc, length)?;
+    let (_, fault) = with_line(alloc, ListOf::new(alloc), text.as_str())?;
+    Ok(fault)
 }
 
 #[test]
 fn submissions_and_notes_have_their_limits(rt: HostRuntime) -> Result<(), Fail> {
     let alloc = rt.alloc();
-    let mut lines = ListOf::new(alloc);
-    for number in 0..MOST_SUBMITS {
-        let text = format!(in alloc; "submit j{number} {}", "{}")?;
-        let (more, fault) = with_line(alloc, lines, text.as_str())?;
-        assert_eq!(rt; fault, None);
-        lines = more;
-    }
-    let (_, fault) = with_line(alloc, lines, "submit k {}")?;
-    assert_eq!(rt; fault, limit(Which::Submits));
-    let mut note = Vec::from_slice(alloc, b"raise j t 0 ")?;
-    for _ in 0..MOST_VALUE + 1 {
-        note.push(b'n')?;
-    }
-    let Ok(text) = str::from_utf8(note.as_slice()) else {
-        return Err(Fail::new("no text"));
-    };
-    let (_, fault) = with_line(alloc, ListOf::new(alloc), text)?;
-    assert_eq!(rt; fault, limit(Which::Value));
+    assert_eq!(rt; fault_behind_submits(alloc)?, limit(Which::Submits));
+    assert_eq!(rt; fault_of_note(alloc, MOST_VALUE)?, None);
+    assert_eq!(rt; fault_of_note(alloc, MOST_VALUE + 1)?, limit(Which::Value));
     Ok(())
 }
 
@@ -224,55 +241,65 @@ fn told(alloc: Global, text: &str) -> Result<Option<Command>, Fail> {
     }
 }
 
-#[test]
-fn a_submission_tells_its_parts(rt: HostRuntime) -> Result<(), Fail> {
-    let text = "submit j urgency=3 dep=afterok:a dep=after:b {\"k\": 1} ";
-    let Some(
+/// Texts of commands that have parts.
+const PARTED: [&str; 3] = [
+    "submit j urgency=3 dep=afterok:a dep=after:b {\"k\": 1} ",
+    "raise j oom 2  out of memory",
+    "info j eventlog",
+];
+
+fn are_its_needs(depends: &[Needed]) -> bool {
+    match depends {
+        [first, other] => {
+            first.scheme == Scheme::AfterOk && other.label.as_slice() == b"b".as_slice()
+        }
+        _ => false,
+    }
+}
+
+/// Whether a command has the parts that its text of `PARTED` tells.
+fn has_its_parts(command: &Command) -> bool {
+    match command {
         Command::Submit {
             label,
             urgency,
             depends,
             spec,
-        },
-    ) = told(rt.alloc(), text)?
-    else {
-        return Err(Fail::new("no submission"));
-    };
-    assert_eq!(rt; label.as_slice(), b"j".as_slice());
-    assert_eq!(rt; urgency, 3);
-    assert_eq!(rt; depends.as_slice().len(), 2);
-    assert_eq!(rt; depends.as_slice()[0].scheme, Scheme::AfterOk);
-    assert_eq!(rt; depends.as_slice()[1].label.as_slice(), b"b".as_slice());
-    assert_eq!(rt; spec.as_slice(), b"{\"k\": 1} ".as_slice());
-    Ok(())
-}
-
-#[test]
-fn an_exception_tells_its_parts(rt: HostRuntime) -> Result<(), Fail> {
-    let Some(
+        } => {
+            label.as_slice() == b"j".as_slice()
+                && *urgency == 3
+                && are_its_needs(depends.as_slice())
+                && spec.as_slice() == b"{\"k\": 1} ".as_slice()
+        }
         Command::Raise {
             label,
             kind,
             severity,
             note,
-        },
-    ) = told(rt.alloc(), "raise j oom 2  out of memory")?
-    else {
-        return Err(Fail::new("no exception"));
-    };
-    assert_eq!(rt; label.as_slice(), b"j".as_slice());
-    assert_eq!(rt; kind.as_slice(), b"oom".as_slice());
-    assert_eq!(rt; severity, 2);
-    assert_eq!(rt; note.as_slice(), b" out of memory".as_slice());
-    Ok(())
+        } => {
+            label.as_slice() == b"j".as_slice()
+                && kind.as_slice() == b"oom".as_slice()
+                && *severity == 2
+                && note.as_slice() == b" out of memory".as_slice()
+        }
+        Command::Info { label, key } => {
+            label.as_slice() == b"j".as_slice() && *key == InfoKey::Eventlog
+        }
+        _ => false,
+    }
+}
+
+fn tells_its_parts(alloc: Global, text: &str) -> Result<bool, Fail> {
+    match told(alloc, text)? {
+        Some(command) => Ok(has_its_parts(&command)),
+        None => Ok(false),
+    }
 }
 
 #[test]
-fn a_key_of_a_job_is_told(rt: HostRuntime) -> Result<(), Fail> {
-    let Some(Command::Info { label, key }) = told(rt.alloc(), "info j eventlog")? else {
-        return Err(Fail::new("nothing shown"));
-    };
-    assert_eq!(rt; label.as_slice(), b"j".as_slice());
-    assert_eq!(rt; key, InfoKey::Eventlog);
+fn commands_tell_their_parts(rt: HostRuntime) -> Result<(), Fail> {
+    for text in PARTED {
+        assert!(rt; tells_its_parts(rt.alloc(), text)?, "of {text}");
+    }
     Ok(())
 }

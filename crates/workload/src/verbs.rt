@@ -5,6 +5,7 @@ ghost use Rattle.workload.specs.Words.{first_word, behind_word};
 ghost use Rattle.workload.specs.Reading.{offered_verb};
 ghost use Rattle.workload.specs.Verbs.{first_of, faults_of, is_offered, verb_of, said, one_key, one_name, key_and_text, two_keys, is_past_key, is_past_value, Reads};
 
+use crate::contents::{content_drop, content_flush, content_load, content_store};
 use crate::faults::{LineFault, Which};
 use crate::jobs::{advance, cancel, info, jobs, raise, result_of, state, urgency, why};
 use crate::limits::{MOST_MEMBERS, MOST_VALUE};
@@ -33,6 +34,10 @@ pub enum Verb {
     NsCreate,
     NsRemove,
     NsUse,
+    ContentStore,
+    ContentLoad,
+    ContentFlush,
+    ContentDrop,
     Submit,
     Cancel,
     Raise,
@@ -66,6 +71,10 @@ impl Verb {
             "ns-create" => Some(Verb::NsCreate),
             "ns-remove" => Some(Verb::NsRemove),
             "ns-use" => Some(Verb::NsUse),
+            "content-store" => Some(Verb::ContentStore),
+            "content-load" => Some(Verb::ContentLoad),
+            "content-flush" => Some(Verb::ContentFlush),
+            "content-drop" => Some(Verb::ContentDrop),
             "submit" => Some(Verb::Submit),
             "cancel" => Some(Verb::Cancel),
             "raise" => Some(Verb::Raise),
@@ -390,6 +399,10 @@ pub fn command(
         Verb::NsCreate => ns_create(alloc, work, line, tail),
         Verb::NsRemove => ns_remove(alloc, work, line, tail),
         Verb::NsUse => ns_use(alloc, work, line, tail),
+        Verb::ContentStore => content_store(alloc, work, line, tail),
+        Verb::ContentLoad => content_load(work, line, tail),
+        Verb::ContentFlush => content_flush(work, line, tail),
+        Verb::ContentDrop => content_drop(work, line, tail),
         Verb::Submit => submit(alloc, work, line, tail),
         Verb::Cancel => cancel(alloc, work, line, tail),
         Verb::Raise => raise(alloc, work, line, tail),
