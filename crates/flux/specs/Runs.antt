@@ -12,7 +12,7 @@ use Rattle.answers.specs.Stretches.{AreStretches}
 use Rattle.world.specs.declared.order.Schedule.{Schedule}
 use Rattle.world.specs.declared.order.Schedule.TheVariants as schedule
 use Rattle.flux_tools.specs.Tools.{AreToolWords, HasAnswer}
-use Rattle.world.specs.Grant.{grant_text}
+use Rattle.world.specs.Grant.{first_resources, grant_text}
 use Rattle.flux.specs.declared.call.Run.{Run}
 use Rattle.flux.specs.Sides.{Side}
 
@@ -36,6 +36,7 @@ setup_of o work = record {
   fanout = o.fanout;
   hash = o.hash;
   grant = grant_text o.size work;
+  resources = first_resources o.size work;
   work = work;
 }
 

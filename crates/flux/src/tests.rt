@@ -17,7 +17,7 @@ struct Case {
     notice: &'static str,
 }
 
-const RUNS: [Case; 48] = [
+const RUNS: [Case; 51] = [
     Case {
         words: &["run"],
         input: "actor a 1\nactor b 2\na put k x\na fence f 2\nb put k y\nb fence f 2\nb get k\n",
@@ -354,6 +354,27 @@ const RUNS: [Case; 48] = [
         output: "",
         notice: "usage: flux_cli run|idset|hostlist|fluid|R|replay, and for run: --size N --fanout N --hash sha1|sha256 --shuffle SEED --journal",
     },
+    Case {
+        words: &["run"],
+        input: "actor a 3\na content-store abc\na content-store\na content-load sha1-f1d2d2f924e986ac86fdf7b36c94bcdf32beec15\na content-flush\na content-drop\na content-load sha1-a9993e364706816aba3e25717850c26c9cd0d89d\n",
+        status: 0,
+        output: "stored sha1-a9993e364706816aba3e25717850c26c9cd0d89d\nstored sha1-da39a3ee5e6b4b0d3255bfef95601890afd80709\nNoBlob\nflushed\ndropped\nblob abc\n",
+        notice: "done",
+    },
+    Case {
+        words: &["run", "--size=5", "--fanout=1", "--hash=sha256"],
+        input: "actor a 4\nactor b 2\nb content-load sha256-ba7816bf8f01cfea414140de5dae2223b00361a396177a9cb410ff61f20015ad\na content-store abc\nb content-load sha256-ba7816bf8f01cfea414140de5dae2223b00361a396177a9cb410ff61f20015ad\nb content-load sha1-a9993e364706816aba3e25717850c26c9cd0d89d\n",
+        status: 0,
+        output: "NoBlob\nstored sha256-ba7816bf8f01cfea414140de5dae2223b00361a396177a9cb410ff61f20015ad\nblob abc\nNoBlob\n",
+        notice: "done",
+    },
+    Case {
+        words: &["run"],
+        input: "actor a 0\na content-load sha1-abc\n",
+        status: 1,
+        output: "",
+        notice: "line 2: BadCommand",
+    },
 ];
 
 const TOOLS: [Case; 13] = [
@@ -534,6 +555,16 @@ fn a_tell_is_of_every_namespace_in_every_order(rt: HostRuntime) -> Result<(), Fa
         rt.alloc(),
         "actor a 1\nactor b 6\na ns-create n\na ns-use n\na put k x\na commit\na ns-use primary\na tell b\na fence f 2\nb fence f 2\nb ns-use n\nb get k\n",
         "created\nusing\nstaged\ncommitted 1\nusing\ntold\nfenced 1\nfenced 1\nusing\nvalue 1 x\n--\n",
+    )
+}
+
+#[test]
+fn a_flushed_content_is_found_in_every_order(rt: HostRuntime) -> Result<(), Fail> {
+    shuffled(
+        &rt,
+        rt.alloc(),
+        "actor a 5\nactor b 6\na content-store tea at four\na content-flush\na put k x\na commit\nb wait 1\nb content-load sha1-a7117ff95e0a1400af34355bd52dad801b2286ce\na content-drop\na content-load sha1-a7117ff95e0a1400af34355bd52dad801b2286ce\n",
+        "stored sha1-a7117ff95e0a1400af34355bd52dad801b2286ce\nflushed\nstaged\ncommitted 1\nreached 1\nblob tea at four\ndropped\nblob tea at four\n--\n",
     )
 }
 
