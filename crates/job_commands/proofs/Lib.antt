@@ -1,0 +1,9 @@
+pub mod Logs
+pub mod Tables
+pub mod Finding
+pub mod Steps
+pub mod Landings
+pub mod Sole
+pub mod Submitting
+pub mod Desks
+pub mod Numbers

@@ -1,0 +1,6 @@
+pub mod Asks
+pub mod Rows
+pub mod Shown
+pub mod Agrees
+pub mod Moments
+pub mod Desks

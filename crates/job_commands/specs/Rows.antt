@@ -1,0 +1,45 @@
+-- The rows of open commands, and the labels.
+use Rattle.std.specs.Prelude.{◌≡◌, ℕ, ◌<◌, ◌&&◌, List, Bool, true, false, Option, Some, length, slice_index_or, if◌then◌else◌}
+use Rattle.std.specs.Map.{lookup}
+use Rattle.std.specs.Str.{bytes_eq}
+use Rattle.kvs_rules.specs.Log.{same_command}
+use Rattle.kvs_txn.specs.declared.txn.By.{By}
+use Rattle.instance_rules.specs.Desks.{is_submission}
+use Rattle.job_commands.specs.Asks.{told}
+use Rattle.job_commands.specs.declared.row.Row.{Row}
+use Rattle.job_commands.specs.declared.row.Stage.{Stage}
+use Rattle.job_commands.specs.declared.row.Stage.TheVariants as stage
+
+abbrev pub Labels : Type 0
+Labels = List (List ℕ × ℕ)
+
+-- open commands, the labels that name jobs with the ids of these, and how many submissions were
+-- issued at each broker
+pub record CommandsValue : Type 0 where
+  pub labels : Labels
+  pub rows : List Row
+  pub issued : List ℕ
+
+-- the job that a label names
+abbrev pub job_at : List ℕ → Labels → Option ℕ
+job_at label labels = lookup (bytes_eq label) labels
+
+abbrev pub is_of : By → Row → Bool
+is_of by row = same_command by row.by
+
+abbrev pub is_waiting : Stage → Bool
+is_waiting stage.Waits = true
+is_waiting (stage.Landed number) = false
+
+-- a submission that no landing has carried out
+abbrev pub is_submit : Row → Bool
+is_submit row = is_waiting row.stage && is_submission (Some (told row.ask))
+
+-- a row, once the landing of this number has carried out a command
+abbrev pub carried : By → ℕ → Row → Row
+carried by number row = if is_of by row then record row { stage = stage.Landed number } else row
+
+pub record AreCarried (by : By) (number : ℕ) (old new : List Row) : Type 0 where
+  pub same_len : length new ≡ length old
+  pub each : (k : ℕ) (d : Row) → k < length old
+      → slice_index_or new k d ≡ carried by number (slice_index_or old k d)

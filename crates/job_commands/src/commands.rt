@@ -1,0 +1,257 @@
+//! The open job commands of an instance.
+ghost use Rattle.std.specs.Prelude.{true, ◌≡◌, ◌≢◌, ◌↔◌, ℕ, ◌<◌, ◌++◌, List, [], ◌∷◌, None, Some, Option, All, Contains, false, IfNone, IfOk, IfSome, OnErr, OnOk, filter_map, find, length, option_and_then, replicate, slice_index};
+ghost use Rattle.instance_rules.specs.Desks.{Begins, Names, StandsAsked, is_submission};
+ghost use Rattle.instance_rules.specs.Log.{Instance, IsInstance, IsPending, Issued, JobAsk as Asks, JobReply, Log, Named as Needs, Replied, Submit as Submission, child_of, is_decided, is_issued, is_replied, now_of};
+ghost use Rattle.instance_rules.specs.Replies.{AsksForEvent};
+ghost use Rattle.kvs_txn.specs.declared.txn.By.{By as Command};
+ghost use Rattle.kvs_txn.specs.declared.txn.Group.{Group};
+ghost use Rattle.manager_rules.specs.Scene.{IsAsked};
+ghost use Rattle.manager_rules.specs.declared.asked.Asked.{Asked as Question};
+ghost use Rattle.job_commands.specs.Agrees.{AgreesCommands, HasUniqueLabels, IsIdOf, RowAgrees};
+ghost use Rattle.job_commands.specs.Asks.{submitted_label, told};
+ghost use Rattle.job_commands.specs.Desks.{asked_by, asked_in, asked_of};
+ghost use Rattle.job_commands.specs.Moments.{CarriesOut, landing};
+ghost use Rattle.job_commands.specs.Rows.{is_of, job_at};
+ghost use Rattle.job_commands.specs.declared.row.Row.{Row as Open};
+
+use crate::ask::JobAsk;
+use crate::labels::Labels;
+use crate::row::{Row, Stage, carry, forget, row_of};
+use kvs_txn::By;
+use lists::{Bytes, Copied};
+use manager_rules::{Asked, OpenList};
+use std::alloc::{AllocError, Global};
+use std::marker::Model;
+
+/// The open job commands, the jobs that labels name, and how many submissions were issued at each broker.
+#[derive(Drop)]
+pub struct Commands {
+    alloc: Global,
+    labels: Labels,
+    rows: Vec<Row>,
+    issued: Vec<u64>,
+}
+
+impl Model for Commands {
+    ghost use Rattle.job_commands.specs.Rows.{CommandsValue};
+
+    ghost Value = { CommandsValue };
+
+    ghost use Rattle.job_commands.specs.Shown.{value_of};
+
+    ghost view = { value_of };
+}
+
+/// So many zeros.
+fn zeros(alloc: Global, size: u32) -> Result<Vec<u64>, AllocError>
+    ensures { IfOk result (λ list. list.items ≡ replicate size 0) }
+{
+    let mut list = Vec::new(alloc);
+    list.resize(size as usize, 0)?;
+    Ok(list)
+}
+
+/// What a command asks of the job that its label names.
+fn asked_by(labels: &Labels, by: By, ask: &JobAsk) -> Result<Option<Asked>, AllocError>
+    ensures { IfOk result (λ one. one ≡ asked_by labels.now by ask.now) }
+{
+    Ok(match ask {
+        JobAsk::Cancel { label } => match labels.get(label.as_slice()) {
+            Some(job) => Some(Asked::Cancel { by, job }),
+            None => None,
+        },
+        JobAsk::Raise {
+            label,
+            kind,
+            severity,
+            note,
+        } => match labels.get(label.as_slice()) {
+            Some(job) => Some(Asked::Raise {
+                by,
+                job,
+                kind: kind.copy()?,
+                severity: *severity,
+                note: note.copy()?,
+            }),
+            None => None,
+        },
+        JobAsk::Urge { label, urgency } => match labels.get(label.as_slice()) {
+            Some(job) => Some(Asked::Urgency {
+                by,
+                job,
+                urgency: *urgency,
+            }),
+            None => None,
+        },
+        _ => None,
+    })
+}
+
+/// What a command that waits asks of the job that its label names.
+fn asked_in(labels: &Labels, row: &Row) -> Result<Option<Asked>, AllocError>
+    ensures { IfOk result (λ one. one ≡ asked_in labels.now row.now) }
+{
+    match row.stage {
+        Stage::Waits => asked_by(labels, row.by, &row.ask),
+        Stage::Landed { .. } => Ok(None),
+    }
+}
+
+/// The commands that ask for events.
+fn all_asked(alloc: Global, labels: &Labels, rows: &[Row]) -> Result<OpenList, AllocError>
+    ensures { IfOk result (λ list. list ≡ filter_map (asked_in labels.now) rows.now) }
+{
+    let mut list = OpenList::new(alloc);
+    for row in rows {
+        if let Some(one) = asked_in(labels, row)? {
+            list.put(one)?;
+        }
+    }
+    Ok(list)
+}
+
+impl Commands {
+    /// No commands, of so many brokers.
+    pub fn new(alloc: Global, size: u32) -> Result<Commands, AllocError>
+        ensures size { IfOk result (λ v. length v.issued ≡ size) }
+        ensures agrees { IfOk result (λ v. (inst : Instance) → AgreesCommands v inst []) }
+    {
+        Ok(Commands {
+            alloc,
+            labels: Labels::new(alloc),
+            rows: Vec::new(alloc),
+            issued: zeros(alloc, size)?,
+        })
+    }
+
+    /// A command is issued at a broker, at this second.
+    pub fn issue(&mut self, by: By, rank: u32, now: u64, ask: JobAsk) -> Result<(), AllocError>
+        requires within { rank < length self.old.issued }
+        requires few { is_submission (Some (told ask)) ≡ true
+            → slice_index self.old.issued rank < 1000 }
+        ensures agrees { OnOk result ((inst : Instance) (log : Log)
+            → AgreesCommands self.old inst log → inst.asks by ≡ Some (told ask)
+            → inst.rank by ≡ rank → now_of inst log ≡ now → is_issued by log ≡ false
+            → is_replied by log ≡ false → is_decided by log ≡ false
+            → AgreesCommands self.new inst (log ++ Issued by ∷ [])) }
+        ensures size { OnOk result (length self.new.issued ≡ length self.old.issued) }
+        ensures kept { OnErr result (self.new ≡ self.old) }
+    {
+        let place = rank as usize;
+        let sequence = self.issued[place];
+        let submits = ask.is_submit();
+        self.rows.push(Row {
+            by,
+            rank,
+            ask,
+            issued: now,
+            sequence,
+            stage: Stage::Waits,
+        })?;
+        if submits {
+            self.issued[place] = sequence + 1;
+        }
+        Ok(())
+    }
+
+    /// The label under which a command submits a job, if it does.
+    fn label_of(&self, by: By) -> Result<Option<Bytes>, AllocError>
+        ensures { IfOk result (λ label. label
+            ≡ option_and_then (λ row. submitted_label row.ask)
+            (find (is_of by) self.now.rows)) }
+    {
+        match row_of(self.rows.as_slice(), by) {
+            Some(row) => row.ask.submitted(),
+            None => Ok(None),
+        }
+    }
+
+    /// The landing of this number carries out a submission that waits, and gives its job this id, which was made for it.
+    pub fn submitted(&mut self, by: By, id: u64, number: u64) -> Result<(), AllocError>
+        ensures agrees { OnOk result ((inst : Instance) (log : Log) (group : Group)
+            (authors : List (Option Command)) (groups : List Group) (label : List ℕ) (urgency : ℕ)
+            (needs : List Needs) (text : List ℕ) → AgreesCommands self.old inst log
+            → HasUniqueLabels inst → IsPending by log
+            → inst.asks by ≡ Some (Submission label urgency needs text)
+            → IsIdOf self.old by id → CarriesOut inst by group authors groups → Begins group id
+            → AgreesCommands self.new inst (log ++ landing number authors groups ∷ [])) }
+        ensures size { OnOk result (self.new.issued ≡ self.old.issued) }
+        ensures kept { OnErr result (self.new ≡ self.old) }
+    {
+        let label = self.label_of(by)?;
+        self.labels.name(label, id)?;
+        carry(&mut self.rows, by, number);
+        Ok(())
+    }
+
+    /// The landing of this number carries out a command that asks for an event. This takes no memory.
+    pub fn carried(&mut self, by: By, number: u64)
+        ensures agrees { (inst : Instance) (log : Log) (group : Group)
+            (authors : List (Option Command)) (groups : List Group) (ask : Asks)
+            → AgreesCommands self.old inst log → inst.asks by ≡ Some ask → AsksForEvent ask
+            → CarriesOut inst by group authors groups
+            → AgreesCommands self.new inst (log ++ landing number authors groups ∷ []) }
+        ensures size { self.new.issued ≡ self.old.issued }
+    {
+        carry(&mut self.rows, by, number);
+    }
+
+    /// A command is answered. This takes no memory.
+    pub fn reply(&mut self, by: By)
+        ensures agrees { (inst : Instance) (log : Log) (reply : JobReply) (number : Option ℕ)
+            → AgreesCommands self.old inst log
+            → AgreesCommands self.new inst (log ++ Replied by reply number ∷ []) }
+        ensures size { self.new.issued ≡ self.old.issued }
+    {
+        forget(&mut self.rows, by);
+    }
+
+    /// The job that a label names.
+    pub fn job_of(&self, label: &[u8]) -> Option<u64>
+        ensures job { result ≡ job_at label.now self.now.labels }
+        ensures named { (inst : Instance) (log : Log) → AgreesCommands self.now inst log → (id : ℕ)
+            → (result ≡ Some id) ↔ Names inst log label.now id }
+    {
+        self.labels.get(label)
+    }
+
+    /// The rows of the open commands.
+    pub fn rows(&self) -> &[Row]
+        ensures { result.now ≡ self.now.rows }
+    {
+        self.rows.as_slice()
+    }
+
+    /// How many submissions were issued at a broker.
+    pub fn issued(&self, rank: u32) -> u64
+        ensures { result ≡ slice_index self.now.issued rank }
+    {
+        match self.issued.get(rank as usize) {
+            Some(count) => *count,
+            None => 0,
+        }
+    }
+
+    /// The row of an open command.
+    pub fn row(&self, by: By) -> Option<&Row>
+        ensures some { IfSome result (λ row. Contains self.now.rows row.now
+            × (row.now.by ≡ by)) }
+        ensures none { IfNone result ((row : Open) → Contains self.now.rows row → row.by ≢ by) }
+        ensures agrees { (inst : Instance) (log : Log) → AgreesCommands self.now inst log
+            → IfSome result (λ row. RowAgrees inst log row.now) }
+    {
+        row_of(self.rows.as_slice(), by)
+    }
+
+    /// The open commands that ask for events of the jobs that their labels name, in an instance without children.
+    pub fn asked(&self) -> Result<OpenList, AllocError>
+        ensures exact { IfOk result (λ list. (inst : Instance) (log : Log)
+            → AgreesCommands self.now inst log → ((job : ℕ) → child_of log job ≡ None)
+            → (a : Question) → Contains list a ↔ StandsAsked inst log a) }
+        ensures ranges { IfOk result (λ list. (inst : Instance) (log : Log)
+            → AgreesCommands self.now inst log → IsInstance inst → All IsAsked list) }
+        ensures list { IfOk result (λ list. list ≡ asked_of self.now) }
+    {
+        all_asked(self.alloc, &self.labels, self.rows.as_slice())
+    }
+}

@@ -1,0 +1,43 @@
+//! What follows from the words of the contracts.
+ghost use Rattle.std.specs.Prelude.{◌≡◌, ◌≢◌, ◌≤◌, ◌^◌, ◌++◌, ◌∷◌, ℕ, List, [], None, Some, Contains, length};
+ghost use Rattle.instance_rules.specs.Desks.{IsDeskOf};
+ghost use Rattle.instance_rules.specs.Log.{Instance, IsOpen, Issued, Log, Moment, Shutdown, Ticked, child_of, now_of, seconds_open};
+ghost use Rattle.job_commands.specs.Agrees.{AgreesCommands, IsIdOf};
+ghost use Rattle.job_commands.specs.Desks.{desk_of};
+ghost use Rattle.job_commands.specs.Moments.{IsBeside};
+ghost use Rattle.job_commands.specs.Rows.{CommandsValue, job_at};
+ghost use Rattle.kvs_model.specs.Store.{Store};
+ghost use Rattle.kvs_txn.specs.declared.txn.By.{By};
+ghost use Rattle.manager_rules.specs.Jobs.{AreJobsOf, StoredJob};
+
+/// A second, each moment that is about no job command, and the issue of a shutdown leave the commands as they are.
+pub fn other_moments_leave_commands()
+    ensures ticks { (v : CommandsValue) (inst : Instance) (log : Log) (second : ℕ)
+        → AgreesCommands v inst log → AgreesCommands v inst (log ++ Ticked second ∷ []) }
+    ensures others { (v : CommandsValue) (inst : Instance) (log : Log) (m : Moment)
+        → IsBeside inst m → AgreesCommands v inst log → AgreesCommands v inst (log ++ m ∷ []) }
+    ensures shutdowns { (v : CommandsValue) (inst : Instance) (log : Log) (by : By)
+        → inst.asks by ≡ Some Shutdown → AgreesCommands v inst log
+        → AgreesCommands v inst (log ++ Issued by ∷ []) }
+{}
+
+/// The present second is one of those at which an open command has been open.
+pub fn open_commands_are_open_now()
+    ensures { (inst : Instance) (log : Log) (by : By) → IsOpen by log
+        → Contains (seconds_open inst log by) (now_of inst log) }
+{}
+
+/// What the manager looks at, in an instance without children, is what the commands give.
+pub fn the_desk_is_this()
+    ensures { (v : CommandsValue) (inst : Instance) (log : Log) (st : Store)
+        (jobs : List StoredJob) → AgreesCommands v inst log → AreJobsOf st jobs
+        → ((job : ℕ) → child_of log job ≡ None)
+        → IsDeskOf inst log st (desk_of v inst log jobs) }
+{}
+
+/// The id that is made for a submission that waits is that of no job that a label names.
+pub fn new_ids_are_new()
+    ensures { (v : CommandsValue) (inst : Instance) (log : Log) (by : By) (id : ℕ)
+        → AgreesCommands v inst log → length v.issued ≤ 2 ^ 14 → IsIdOf v by id
+        → (label : List ℕ) → job_at label v.labels ≢ Some id }
+{}

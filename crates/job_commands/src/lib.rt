@@ -1,0 +1,17 @@
+//! The open job commands of an instance, and the jobs that its labels name.
+#![tactic(auto)]
+
+pub mod ask;
+pub mod commands;
+mod labels;
+pub mod laws;
+pub mod row;
+#[cfg(test)]
+mod tests;
+
+pub use ask::{JobAsk, Key, Named, NamedList};
+pub use commands::Commands;
+pub use laws::{
+    new_ids_are_new, open_commands_are_open_now, other_moments_leave_commands, the_desk_is_this,
+};
+pub use row::{Row, Stage};
