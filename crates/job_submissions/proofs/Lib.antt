@@ -1,0 +1,4 @@
+pub mod Known
+mod Described
+mod Drawn
+mod Due

@@ -1,0 +1,23 @@
+use Rattle.std.proofs.Common.{[], refl}
+use Rattle.std.specs.Prelude.{Some, None}
+use Rattle.fl_digest.specs.declared.Hash.TheVariants as hash
+use Rattle.instance_rules.specs.Log.{Instance}
+use Rattle.job_commands.specs.Asks.{told}
+use Rattle.job_commands.specs.declared.ask.JobAsk.{JobAsk}
+use Rattle.job_submissions.proofs.tests.submitted.Goals as goal
+
+-- an instance, born at second 5, in which each command asks this at rank 0
+abbrev asking : JobAsk → Instance
+asking asks = record {
+  service = record { size = 1; fanout = 1; hash = hash.Sha1; grant = []; asks = λ by. None };
+  birth = 5;
+  grant = record { nodes = []; starttime = 0; expiration = 0 };
+  answer = λ ask. 0;
+  asks = λ by. Some (told asks);
+  rank = λ by. 0;
+}
+
+pub returns-clause-drawn : goal.returns-clause-drawn
+returns-clause-drawn c =
+    let inst = asking c.in_ok-ask.ask in
+    (c.in_ok-issue.ensures.agrees inst [] (c.in_ok-commands.ensures.agrees inst) refl refl refl refl refl refl).drawn
