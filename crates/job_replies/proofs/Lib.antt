@@ -1,0 +1,5 @@
+mod Reading
+mod Paths
+mod Legal
+mod States
+mod Saying
