@@ -1,0 +1,263 @@
+-- What a log says of job commands, after a further moment.
+use Rattle.std.proofs.Common.{◌≡◌, ℕ, inl, inr, List, [], ◌∷◌, ◌++◌, map, true, false, Option, Some, None, IsSome, Contains, refl, sym, ap, ◌∙◌, subst, true≢false, append_assoc, append-nil}
+use Rattle.std.specs.Prelude.{filter, not}
+use Rattle.std.specs.List.{AllByRecursion as Each}
+use Rattle.std.proofs.lemmas.Bool.{false_from_ne_true, not-true, or_from, or_parts, or_right}
+use Rattle.std.proofs.lemmas.List.Elements.{Contains-append_cases}
+use Rattle.job_rules.proofs.Among.{Among, among_filter, among_from, contains_from}
+use Rattle.kvs_core.specs.Posted.{LandsUsers}
+use Rattle.kvs_model.specs.Store.{Store}
+use Rattle.kvs_rules.proofs.Asking.{command_is}
+use Rattle.kvs_rules.proofs.Sequences.{latest_push}
+use Rattle.kvs_rules.proofs.Stores.{any_push}
+use Rattle.kvs_rules.specs.Answers.{IsLegalAfter}
+use Rattle.kvs_rules.specs.Log as service
+use Rattle.kvs_rules.specs.Log.{same_command}
+use Rattle.kvs_rules.specs.Namespaces.{newest_store, primary}
+use Rattle.kvs_rules.specs.Sequence.{EachAfter}
+use Rattle.kvs_rules.specs.declared.events.KvsEvent.{KvsEvent}
+use Rattle.kvs_txn.specs.declared.txn.By.{By}
+use Rattle.answers.proofs.Users.{users_due}
+use Rattle.instance_rules.specs.Desks.{HasSubmitted, Names}
+use Rattle.instance_rules.specs.Legal.{IsDueEvent, IsLegalMoment}
+use Rattle.instance_rules.specs.Log as rules
+use Rattle.instance_rules.specs.Log.{Instance, IsInstance, IsOpen, JobAsk as Asks, JobReply, Log, Moment, Served, Issued, Replied, SinceIssued, Submit, child_of, child_told, is_decided, is_issued, is_replied, issues_now, now_of, replies_now, service_of, ticked}
+use Rattle.instance_rules.specs.Replies.{FindsNoJob, IsLegalReply, LacksJob}
+use Rattle.job_commands.proofs.Logs.{begun_before, differs, same_self, service_push, undecided_kept}
+use Rattle.job_commands.proofs.Steps.{beside_agrees}
+use Rattle.job_commands.specs.Agrees.{AgreesCommands}
+use Rattle.job_commands.specs.Asks.{named_of, told}
+use Rattle.job_commands.specs.Moments.{IsBeside, decides_now}
+use Rattle.job_commands.specs.Rows.{CommandsValue}
+use Rattle.job_commands.specs.declared.ask.JobAsk.{JobAsk}
+use Rattle.job_commands.specs.declared.ask.JobAsk.TheVariants as ask
+use Rattle.job_commands.specs.declared.ask.Named.{Named}
+use Rattle.job_spec.specs.declared.spec.Depend.{Depend}
+use Rattle.job_submissions.specs.Faults.{Lacks, LacksSome}
+use Rattle.job_submissions.specs.declared.faults.Fault.{Fault}
+use Rattle.job_submissions.specs.declared.faults.Fault.TheVariants as fault
+use Rattle.manager_rules.specs.Jobs.{AreJobsOf, StoredJob}
+use Rattle.job_service.specs.declared.refusals.Refused.{Refused}
+use Rattle.job_service.specs.Agrees.{IsUntold}
+use Rattle.job_service.specs.Makes.{happening}
+use Rattle.job_service.specs.Refusals.{IsFaultOf, is_refusal_of, refusals_of, reply_to}
+use Rattle.job_service.proofs.Naming.{event_beside}
+
+-- what the log says of the commands, the refusals and the time
+pub record Facts (v : CommandsValue) (list : List Refused) (now : ℕ) (inst : Instance) (log : Log) : Type 0 where
+  pub commands : AgreesCommands v inst log
+  pub second : now_of inst log ≡ now
+  pub alone : (job : ℕ) → child_of log job ≡ None
+  pub refused : (r : Refused) → Contains list r → IsLegalReply inst log r.by (reply_to r.fault) None
+  pub untold : (by : By) → IsSome (inst.asks by) → is_issued by log ≡ false → IsUntold by log
+
+-- ---- refusals stay
+
+pub open_kept : (by : By) (log : Log) (m : Moment) → replies_now by m ≡ false → IsOpen by log → IsOpen by (log ++ m ∷ [])
+open_kept by log m quiet h = Rattle.job_commands.proofs.Logs.open_kept by log m quiet h
+
+since_kept : (by : By) (P : Log → Type 0) (log : Log) (m : Moment) → SinceIssued by P log → SinceIssued by P (log ++ m ∷ [])
+since_kept by P log m h = record {
+  past = h.past;
+  later = h.later ++ m ∷ [];
+  split = ap (λ l. l ++ m ∷ []) h.split ∙ append_assoc h.past h.later (m ∷ []);
+  issued = h.issued;
+  held = h.held;
+}
+
+finds_kept : (inst : Instance) (log : Log) (m : Moment) (by : By) (a : Asks) → FindsNoJob inst log by a None → FindsNoJob inst (log ++ m ∷ []) by a None
+finds_kept inst log m by (Submit label urgency named text) h = (h.0, (h.1.0, h.1.1, since_kept by (LacksJob inst h.1.0 named) log m h.1.2))
+finds_kept inst log m by _ h = absurd h.2
+
+pub legal_kept : (inst : Instance) (log : Log) (m : Moment) (by : By) (f : Fault) → replies_now by m ≡ false → decides_now by m ≡ false → IsLegalReply inst log by (reply_to f) None → IsLegalReply inst (log ++ m ∷ []) by (reply_to f) None
+legal_kept inst log m by (fault.BadSpec n) quiet aside h = record {
+  ask = h.ask;
+  made = h.made;
+  waits = open_kept by log m quiet h.waits;
+  tells = undecided_kept by log m aside h.tells;
+  grounds = h.grounds;
+}
+legal_kept inst log m by fault.NoJob quiet aside h = record {
+  ask = h.ask;
+  made = h.made;
+  waits = open_kept by log m quiet h.waits;
+  tells = undecided_kept by log m aside h.tells;
+  grounds = finds_kept inst log m by h.ask h.grounds;
+}
+
+refused_asks : (inst : Instance) (log : Log) (by : By) (r : JobReply) (n : Option ℕ) → IsLegalReply inst log by r n → IsSome (inst.asks by)
+refused_asks inst log by r n h = subst IsSome (sym h.made) refl
+
+-- ---- what a moment that is no issue leaves untold
+
+unissued_before : (by : By) (log : Log) (m : Moment) → is_issued by (log ++ m ∷ []) ≡ false → is_issued by log ≡ false
+unissued_before by log m e = (or_parts (is_issued by log) _ (sym (any_push (issues_now by) log m) ∙ e)).0
+
+untold_kept : (by : By) (log : Log) (m : Moment) → replies_now by m ≡ false → decides_now by m ≡ false → IsUntold by log → IsUntold by (log ++ m ∷ [])
+untold_kept by log m quiet aside h = record {
+  unanswered = any_push (replies_now by) log m ∙ or_from (is_replied by log) _ h.unanswered quiet;
+  undecided = undecided_kept by log m aside h.undecided;
+}
+
+-- ---- something in the service
+
+module _ (v : CommandsValue) (list : List Refused) (now : ℕ) (inst : Instance) where
+  pub served_facts : (log : Log) (m : service.Moment) → IsBeside inst (Served m) → Facts v list now inst log → Facts v list now inst (log ++ Served m ∷ [])
+  served_facts log m beside h = record {
+    commands = beside_agrees v inst log (Served m) beside h.commands;
+    second = latest_push ticked inst.birth log (Served m) ∙ h.second;
+    alone = λ job. latest_push (child_told job) None log (Served m) ∙ h.alone job;
+    refused = λ r c. let l = h.refused r c in legal_kept inst log (Served m) r.by r.fault refl (beside r.by (refused_asks inst log r.by _ None l)).decides l;
+    untold = λ by some e. untold_kept by log (Served m) refl (beside by some).decides (h.untold by some (unissued_before by log (Served m) e));
+  }
+
+  pub service_one : (log : Log) (m : service.Moment) → service_of (log ++ Served m ∷ []) ≡ service_of log ++ m ∷ []
+  service_one log m = service_push log (Served m)
+
+  -- ---- events of users
+
+  module _ (valid : IsInstance inst) where
+    pub users_facts : (es : List KvsEvent) (log : Log) → Each LandsUsers es → IsLegalAfter inst.service (service_of log) (map service.Happened es) → Facts v list now inst log → Facts v list now inst (log ++ map happening es)
+    users_facts [] log users legal h = subst (Facts v list now inst) (sym (append-nil log)) h
+    users_facts (e ∷ es) log users legal h =
+        subst (Facts v list now inst) (append_assoc log (happening e ∷ []) (map happening es))
+        (users_facts es (log ++ happening e ∷ []) users.1
+        (subst (λ l. IsLegalAfter inst.service l (map service.Happened es)) (sym (service_one log (service.Happened e))) legal.1)
+        (served_facts log (service.Happened e) (event_beside inst valid (service_of log) e users.0 legal.0) h))
+
+pub service_all : (es : List KvsEvent) (log : Log) → service_of (log ++ map happening es) ≡ service_of log ++ map service.Happened es
+service_all [] log = ap service_of (append-nil log) ∙ sym (append-nil (service_of log))
+service_all (e ∷ es) log =
+    ap service_of (sym (append_assoc log (happening e ∷ []) (map happening es)))
+    ∙ service_all es (log ++ happening e ∷ [])
+    ∙ ap (λ l. l ++ map service.Happened es) (service_push log (happening e))
+    ∙ append_assoc (service_of log) (service.Happened e ∷ []) (map service.Happened es)
+
+due_event : (inst : Instance) (log : Log) (e : KvsEvent) → LandsUsers e → IsDueEvent inst log e
+due_event inst log (Rattle.kvs_rules.specs.declared.events.KvsEvent.TheVariants.Landed space number authors groups) users = users_due inst log space number authors groups users
+due_event inst log _ users = tt
+
+pub users_legal : (inst : Instance) (es : List KvsEvent) (log : Log) → Each LandsUsers es → IsLegalAfter inst.service (service_of log) (map service.Happened es) → EachAfter (IsLegalMoment inst) log (map happening es)
+users_legal inst [] log users legal = tt
+users_legal inst (e ∷ es) log users legal = (
+  (legal.0, due_event inst log e users.0),
+  users_legal inst es (log ++ happening e ∷ []) users.1 (subst (λ l. IsLegalAfter inst.service l (map service.Happened es)) (sym (service_push log (happening e))) legal.1),
+)
+
+-- ---- an issue
+
+module _ (v new : CommandsValue) (list : List Refused) (now : ℕ) (inst : Instance) (log : Log) (by : By) (h : Facts v list now inst log) where
+  abbrev pub issued : Log
+  issued = log ++ Issued by ∷ []
+
+  pub issued_service : service_of issued ≡ service_of log
+  issued_service = service_push log (Issued by) ∙ append-nil (service_of log)
+
+  begun_old : (other : By) (id : ℕ) → HasSubmitted issued other id → HasSubmitted log other id
+  begun_old other id b = elim (begun_before log (Issued by) other id b.0 b.1) [
+    | inl old ↦ (b.0, old)
+    | inr now ↦ absurd (among_from [] now.group now.one)
+  ]
+
+  names_old : (label : List ℕ) (id : ℕ) → Names inst issued label id → Names inst log label id
+  names_old label id n = record { by = n.by; urgency = n.urgency; needs = n.needs; text = n.text; asks = n.asks; landed = begun_old n.by id n.landed }
+
+  lacks_still : (jobs : List StoredJob) (depends : List Depend) (named : List rules.Named) → LacksSome inst log jobs depends named → LacksSome inst issued jobs depends named
+  lacks_still jobs depends named (inl need) = inl need
+  lacks_still jobs depends named (inr l) = inr (l.0, l.1, λ id n c. l.2 id (names_old _ id n) c)
+
+  module _ (asked : JobAsk) (asks : inst.asks by ≡ Some (told asked)) (fresh : is_issued by log ≡ false)
+      (store : Store) (standing : newest_store inst.service (service_of log) primary ≡ Some store) (jobs : List StoredJob) (are : AreJobsOf store jobs)
+      (lacking : (depends : List Depend) (named : List Named) → Lacks v.labels jobs depends named true → LacksSome inst log jobs depends (map named_of named)) where
+    untold_now : IsUntold by log
+    untold_now = h.untold by (subst IsSome (sym asks) refl) fresh
+
+    waits_now : IsOpen by issued
+    waits_now = record {
+      issued = any_push (issues_now by) log (Issued by) ∙ or_right (is_issued by log) _ (same_self by);
+      unanswered = any_push (replies_now by) log (Issued by) ∙ or_from (is_replied by log) _ untold_now.unanswered refl;
+    }
+
+    undecided_now : is_decided by issued ≡ false
+    undecided_now = undecided_kept by log (Issued by) refl untold_now.undecided
+
+    refused_now : (f : Fault) (a : JobAsk) → inst.asks by ≡ Some (told a) → IsFaultOf v jobs a (Some f) → IsLegalReply inst issued by (reply_to f) None
+    refused_now (fault.BadSpec n) (ask.Submit label urgency needs text) made is = record {
+      ask = told (ask.Submit label urgency needs text);
+      made = made;
+      waits = waits_now;
+      tells = undecided_now;
+      grounds = (refl, is);
+    }
+    refused_now fault.NoJob (ask.Submit label urgency needs text) made is = record {
+      ask = told (ask.Submit label urgency needs text);
+      made = made;
+      waits = waits_now;
+      tells = undecided_now;
+      grounds = (
+        refl,
+        (
+          is.0,
+          is.1,
+          record {
+            past = issued;
+            later = [];
+            split = sym (append-nil issued);
+            issued = waits_now.issued;
+            held = record {
+              store = store;
+              standing = ap (λ l. newest_store inst.service l primary) issued_service ∙ standing;
+              jobs = jobs;
+              are = are;
+              lacks = lacks_still jobs is.0.depends (map named_of needs) (lacking is.0.depends needs is.2);
+            };
+          },
+        ),
+      );
+    }
+    refused_now f _ made is = cc
+
+    pub issue_facts : (found : Option Fault) → IsFaultOf v jobs asked found → AgreesCommands new inst issued → Facts new (list ++ refusals_of by found) now inst issued
+    issue_facts found is agrees = record {
+      commands = agrees;
+      second = latest_push ticked inst.birth log (Issued by) ∙ h.second;
+      alone = λ job. latest_push (child_told job) None log (Issued by) ∙ h.alone job;
+      refused = λ r c. elim (Contains-append_cases list (refusals_of by found) r c) [
+        | inl old ↦ legal_kept inst log (Issued by) r.by r.fault refl refl (h.refused r old)
+        | inr now ↦ at r found is (among_from _ r now)
+      ];
+      untold = λ other some e. untold_kept other log (Issued by) refl refl (h.untold other some (unissued_before other log (Issued by) e));
+    }
+      where
+        at : (r : Refused) (o : Option Fault) → IsFaultOf v jobs asked o → Among r (refusals_of by o) → IsLegalReply inst issued r.by (reply_to r.fault) None
+        at r None is i = absurd i
+        at r (Some f) is (inl same) = subst (λ x. IsLegalReply inst issued x.by (reply_to x.fault) None) same (refused_now f asked asks is)
+        at r (Some f) is (inr none) = absurd none
+
+-- ---- a reply
+
+module _ (v new : CommandsValue) (list : List Refused) (now : ℕ) (inst : Instance) (log : Log) (by : By) (given : JobReply) (number : Option ℕ) (h : Facts v list now inst log) where
+  abbrev pub replied : Log
+  replied = log ++ Replied by given number ∷ []
+
+  pub replied_service : service_of replied ≡ service_of log
+  replied_service = service_push log (Replied by given number) ∙ append-nil (service_of log)
+
+  others : (r : Refused) → Contains (filter (λ x. not (is_refusal_of by x)) list) r → Contains list r × (same_command r.by by ≡ false)
+  others r c =
+      let both = among_filter (λ x. not (is_refusal_of by x)) list r (among_from _ r c) in
+      (contains_from list r both.0, false_from_ne_true _ (λ t. true≢false (sym (subst (λ b. same_command by b ≡ true) (sym (command_is r.by by t)) (same_self by)) ∙ not-true (is_refusal_of by r) both.1)))
+
+  other_command : (other : By) → is_issued by log ≡ true → is_issued other log ≡ false → same_command other by ≡ false
+  other_command other was not_yet = false_from_ne_true _ (λ t. true≢false (sym was ∙ ap (λ b. is_issued b log) (sym (command_is other by t)) ∙ not_yet))
+
+  pub reply_facts : is_issued by log ≡ true → AgreesCommands new inst replied → Facts new (filter (λ x. not (is_refusal_of by x)) list) now inst replied
+  reply_facts was agrees = record {
+    commands = agrees;
+    second = latest_push ticked inst.birth log (Replied by given number) ∙ h.second;
+    alone = λ job. latest_push (child_told job) None log (Replied by given number) ∙ h.alone job;
+    refused = λ r c. let o = others r c in legal_kept inst log (Replied by given number) r.by r.fault o.1 refl (h.refused r o.0);
+    untold = λ other some e.
+        let before = unissued_before other log (Replied by given number) e in
+        untold_kept other log (Replied by given number) (other_command other was before) refl (h.untold other some before);
+  }

@@ -1,0 +1,6 @@
+mod Naming
+mod Facts
+mod Calls
+mod Dues
+mod Staying
+mod Tested

@@ -1,0 +1,25 @@
+use Rattle.std.proofs.Common.{◌∙◌, ◌++◌, [], ◌∷◌, false, refl, sym, ap, subst}
+use Rattle.kvs_rules.specs.Log.{Asked}
+use Rattle.instance_rules.specs.Log.{Served, service_of}
+use Rattle.job_service.specs.Agrees.{AgreesJobs, MayAsk}
+use Rattle.job_service.specs.View.{value_of}
+use Rattle.job_service.proofs.Calls.{asked_agrees, fit}
+use Rattle.job_service.proofs.service.JobService.ask.Goals as goal
+
+pub invariant_of-self-2 : goal.invariant_of-self-2
+invariant_of-self-2 c = λ _.
+    let i = c.self.invariant (ap (λ v. v.spent) c.self.view_is ∙ c.requires.ready) in
+    let m = subst (λ v. MayAsk v c.args.by c.args.broker c.args.namespace c.args.ask) (sym c.self.view_is) c.requires.may in
+    fit (value_of c.self.inside) i false c.ask.new.self c.self.inside.commands c.self.inside.refused.items c.in_ok-ask.ensures.ready c.in_ok-ask.ensures.keeps.size refl
+    (record {
+      inst = m.inst;
+      log = m.log ++ Served (Asked c.args.by c.args.floor) ∷ [];
+      agrees = asked_agrees (value_of c.self.inside) m.inst m.log m.agrees false c.ask.new.self c.args.by c.args.broker c.args.floor c.args.namespace c.args.ask c.in_ok-ask.ensures.keeps m.new
+          (c.in_ok-ask.ensures.agrees m.inst.service (service_of m.log) m.agrees.core m.new.asks m.new.new);
+    })
+
+pub returns-clause-agrees : goal.returns-clause-agrees
+returns-clause-agrees c = λ inst log a new.
+    let b = subst (λ v. AgreesJobs v inst log) (sym c.self.view_is) a in
+    asked_agrees (value_of c.self.inside) inst log b false c.ask.new.self c.args.by c.args.broker c.args.floor c.args.namespace c.args.ask c.in_ok-ask.ensures.keeps new
+    (c.in_ok-ask.ensures.agrees inst.service (service_of log) b.core new.asks new.new)

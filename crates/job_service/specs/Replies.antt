@@ -1,0 +1,27 @@
+-- What job commands are told.
+use Rattle.std.specs.Prelude.{◌≡◌, ℕ, ◌||◌, ◌++◌, [], ◌∷◌, Bool, false, Option, Some, is_some}
+use Rattle.std.specs.Option.{option_map_or}
+use Rattle.answers.specs.Jobs.{job_reply_of}
+use Rattle.answers.specs.declared.chronicle.Reply.{Reply}
+use Rattle.kvs_txn.specs.declared.txn.By.{By}
+use Rattle.instance_rules.specs.Log.{Instance, JobReply, Log, Replied}
+use Rattle.instance_rules.specs.Replies.{IsLegalReply}
+use Rattle.job_replies.specs.Ready.{is_ready}
+use Rattle.job_service.specs.Agrees.{AgreesJobs}
+use Rattle.job_service.specs.Refusals.{fault_for, row_in}
+use Rattle.job_service.specs.Value.{JobServiceValue}
+
+-- whether what the command waits for has come
+abbrev pub is_ready_in : JobServiceValue → By → Bool
+is_ready_in v by = option_map_or (is_ready v.commands.labels v.manager v.second) (row_in v.commands by) false
+
+-- whether the command can be told what became of it: it was refused, or what it waits for has come
+abbrev pub can_reply : JobServiceValue → By → Bool
+can_reply v by = is_some (fault_for v.refused by) || is_ready_in v by
+
+-- the command is told so, which its rules allow, and the service stands behind that
+pub record Answers (new : JobServiceValue) (inst : Instance) (log : Log) (by : By) (given : Reply) (number : Option ℕ) : Type 0 where
+  pub reply : JobReply
+  pub hands : job_reply_of given ≡ Some reply
+  pub legal : IsLegalReply inst log by reply number
+  pub agrees : AgreesJobs new inst (log ++ Replied by reply number ∷ [])

@@ -1,0 +1,14 @@
+-- What a test begins with.
+use Rattle.std.specs.Prelude.{◌≡◌, false, []}
+use Rattle.instance_rules.specs.Log.{Instance}
+use Rattle.job_rules.specs.Fits.{IsGrant}
+use Rattle.resource_set.specs.declared.node.Resources.{Resources}
+use Rattle.job_service.specs.Agrees.{AgreesJobs, IsServedBy}
+use Rattle.job_service.specs.Value.{JobServiceValue}
+
+-- an instance of one broker that is born at second 5, before anything has happened
+pub record IsBegun (v : JobServiceValue) : Type 0 where
+  pub ready : v.spent ≡ false
+  pub grant : Resources
+  pub sets : IsGrant grant.nodes
+  pub agrees : (inst : Instance) → IsServedBy inst 1 2 grant 5 → AgreesJobs v inst []

@@ -1,0 +1,13 @@
+//! The jobs of one instance over its job manager: its job commands, their replies and its time (Flux RFC 14, 16, 21 and 25).
+#![tactic(auto)]
+
+mod due;
+pub mod laws;
+mod refusals;
+mod service;
+#[cfg(test)]
+mod tests;
+
+pub use laws::what_waits_stays_due;
+pub use refusals::Refused;
+pub use service::JobService;
