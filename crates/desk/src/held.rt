@@ -1,4 +1,4 @@
-// What lies under the lock.
+//! What lies under the lock.
 ghost use Rattle.std.specs.Prelude.{◌≡◌, ◌∷◌, ◌++◌, [], true, false, IfOk, OnOk, OnErr, IsErr, MatchBool, MatchResult};
 ghost use mathlib.Core.List.{IsPrefix};
 ghost use Rattle.desk.specs.Value.{new_held};

@@ -1,4 +1,4 @@
-// A worker of some lanes.
+//! A worker of some lanes.
 ghost use Rattle.std.specs.Prelude.{◌≡◌, ◌<◌, ◌==◌, ◌+◌, ◌*◌, ◌-◌, ◌^◌, length, min, take, count_by, slice_index};
 
 use crate::{Held, Machine};

@@ -1,4 +1,4 @@
-// What makes steps.
+//! What makes steps.
 ghost use Rattle.std.specs.Prelude.{◌≡◌, ◌↔◌, ◌∷◌, ◌++◌, ℕ, List, [], Bool, true, false, OnOk, IfOk, IfSome, IsNone, IsTrue};
 
 use std::alloc::AllocError;

@@ -1,4 +1,4 @@
-// Making the words and the seats.
+//! Making the words and the seats.
 ghost use Rattle.std.specs.Prelude.{◌≡◌, ◌≤◌, ◌<◌, [], map, length, IfOk, All};
 ghost use Rattle.root_feed.specs.Rule.{maker_of};
 ghost use Rattle.root_feed.specs.Values.{new_herald, new_heralds, new_pass};

@@ -1,4 +1,4 @@
-// The words, and the token of a seat at them.
+//! The words, and the token of a seat at them.
 ghost use Rattle.std.specs.Prelude.{◌≡◌, ◌≤◌, ◌<◌, [], true, slice_index};
 ghost use Rattle.root_feed.specs.Rule.{LoadsWord, StoresWord, heralded, joined, next_made, reader};
 

@@ -1,4 +1,4 @@
-// Raising one broker's word.
+//! Raising one broker's word.
 ghost use Rattle.std.specs.Prelude.{◌≡◌, ◌<◌, ◌≤◌, [], ◌∷◌, ◌++◌, true, slice_index};
 ghost use Rattle.root_feed.specs.Numbers.{AreRising, IsWithin, load_of};
 ghost use Rattle.root_feed.specs.Rule.{heralded};

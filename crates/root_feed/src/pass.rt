@@ -1,4 +1,4 @@
-// Looking at one broker's word, and what was seen.
+//! Looking at one broker's word, and what was seen.
 ghost use Rattle.std.specs.Prelude.{◌≡◌, ◌<◌, ◌≤◌, [], ◌∷◌, ◌++◌, slice_index};
 ghost use Rattle.root_feed.specs.Looks.{IsAnswer, found_by};
 ghost use Rattle.root_feed.specs.Numbers.{AreRising, IsWithin, greater, load_of};

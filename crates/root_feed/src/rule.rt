@@ -1,4 +1,4 @@
-// What every step on the words keeps, and what each kind of step tells its seat.
+//! What every step on the words keeps, and what each kind of step tells its seat.
 ghost use Rattle.std.specs.Prelude.{◌≡◌, []};
 ghost use Rattle.root_feed.specs.Rule.{Keeps, LoadsWord, StoresWord, first_view, heralded, joined, next_made, reader};
 
