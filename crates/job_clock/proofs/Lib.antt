@@ -1,0 +1,5 @@
+pub mod Targets
+pub mod Least
+pub mod Standing
+pub mod Bearing
+pub mod Times
