@@ -1,11 +1,12 @@
 -- The rows of open commands, and the labels.
-use Rattle.std.specs.Prelude.{◌≡◌, ℕ, ◌<◌, ◌&&◌, List, Bool, true, false, Option, Some, length, slice_index_or, if◌then◌else◌}
+use Rattle.std.specs.Prelude.{◌≡◌, ℕ, ◌<◌, ◌&&◌, List, Bool, true, false, Option, Some, length, slice_index, slice_index_or, if◌then◌else◌}
 use Rattle.std.specs.Map.{lookup}
 use Rattle.std.specs.Str.{bytes_eq}
 use Rattle.kvs_rules.specs.Log.{same_command}
 use Rattle.kvs_txn.specs.declared.txn.By.{By}
 use Rattle.instance_rules.specs.Desks.{is_submission}
 use Rattle.job_commands.specs.Asks.{told}
+use Rattle.job_commands.specs.declared.ask.JobAsk.{JobAsk}
 use Rattle.job_commands.specs.declared.row.Row.{Row}
 use Rattle.job_commands.specs.declared.row.Stage.{Stage}
 use Rattle.job_commands.specs.declared.row.Stage.TheVariants as stage
@@ -34,6 +35,17 @@ is_waiting (stage.Landed number) = false
 -- a submission that no landing has carried out
 abbrev pub is_submit : Row → Bool
 is_submit row = is_waiting row.stage && is_submission (Some (told row.ask))
+
+-- the row of a command that is issued now
+abbrev pub issued_row : CommandsValue → By → ℕ → ℕ → JobAsk → Row
+issued_row v by rank now asks = record {
+  by = by;
+  rank = rank;
+  ask = asks;
+  issued = now;
+  sequence = slice_index v.issued rank;
+  stage = stage.Waits;
+}
 
 -- a row, once the landing of this number has carried out a command
 abbrev pub carried : By → ℕ → Row → Row

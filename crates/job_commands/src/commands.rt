@@ -1,5 +1,5 @@
 //! The open job commands of an instance.
-ghost use Rattle.std.specs.Prelude.{true, ◌≡◌, ◌≢◌, ◌↔◌, ℕ, ◌<◌, ◌++◌, List, [], ◌∷◌, None, Some, Option, All, Contains, false, IfNone, IfOk, IfSome, OnErr, OnOk, filter_map, find, length, option_and_then, replicate, slice_index};
+ghost use Rattle.std.specs.Prelude.{true, ◌≡◌, ◌≢◌, ◌↔◌, ℕ, ◌<◌, ◌++◌, List, [], ◌∷◌, None, Some, Option, All, Contains, false, IfNone, IfOk, IfSome, OnErr, OnOk, filter, filter_map, find, length, not, option_and_then, replicate, slice_index};
 ghost use Rattle.instance_rules.specs.Desks.{Begins, Names, StandsAsked, is_submission};
 ghost use Rattle.instance_rules.specs.Log.{Instance, IsInstance, IsPending, Issued, JobAsk as Asks, JobReply, Log, Named as Needs, Replied, Submit as Submission, child_of, is_decided, is_issued, is_replied, now_of};
 ghost use Rattle.instance_rules.specs.Replies.{AsksForEvent};
@@ -11,7 +11,7 @@ ghost use Rattle.job_commands.specs.Agrees.{AgreesCommands, HasUniqueLabels, IsI
 ghost use Rattle.job_commands.specs.Asks.{submitted_label, told};
 ghost use Rattle.job_commands.specs.Desks.{asked_by, asked_in, asked_of};
 ghost use Rattle.job_commands.specs.Moments.{CarriesOut, landing};
-ghost use Rattle.job_commands.specs.Rows.{is_of, job_at};
+ghost use Rattle.job_commands.specs.Rows.{AreCarried, is_of, issued_row, job_at};
 ghost use Rattle.job_commands.specs.declared.row.Row.{Row as Open};
 
 use crate::ask::JobAsk;
@@ -134,6 +134,9 @@ impl Commands {
             → inst.rank by ≡ rank → now_of inst log ≡ now → is_issued by log ≡ false
             → is_replied by log ≡ false → is_decided by log ≡ false
             → AgreesCommands self.new inst (log ++ Issued by ∷ [])) }
+        ensures rows { OnOk result (self.new.rows
+            ≡ self.old.rows ++ issued_row self.old by rank now ask ∷ []) }
+        ensures labels { OnOk result (self.new.labels ≡ self.old.labels) }
         ensures size { OnOk result (length self.new.issued ≡ length self.old.issued) }
         ensures kept { OnErr result (self.new ≡ self.old) }
     {
@@ -175,6 +178,7 @@ impl Commands {
             → inst.asks by ≡ Some (Submission label urgency needs text)
             → IsIdOf self.old by id → CarriesOut inst by group authors groups → Begins group id
             → AgreesCommands self.new inst (log ++ landing number authors groups ∷ [])) }
+        ensures rows { OnOk result (AreCarried by number self.old.rows self.new.rows) }
         ensures size { OnOk result (self.new.issued ≡ self.old.issued) }
         ensures kept { OnErr result (self.new ≡ self.old) }
     {
@@ -191,6 +195,8 @@ impl Commands {
             → AgreesCommands self.old inst log → inst.asks by ≡ Some ask → AsksForEvent ask
             → CarriesOut inst by group authors groups
             → AgreesCommands self.new inst (log ++ landing number authors groups ∷ []) }
+        ensures rows { AreCarried by number self.old.rows self.new.rows }
+        ensures labels { self.new.labels ≡ self.old.labels }
         ensures size { self.new.issued ≡ self.old.issued }
     {
         carry(&mut self.rows, by, number);
@@ -201,6 +207,8 @@ impl Commands {
         ensures agrees { (inst : Instance) (log : Log) (reply : JobReply) (number : Option ℕ)
             → AgreesCommands self.old inst log
             → AgreesCommands self.new inst (log ++ Replied by reply number ∷ []) }
+        ensures rows { self.new.rows ≡ filter (λ row. not (is_of by row)) self.old.rows }
+        ensures labels { self.new.labels ≡ self.old.labels }
         ensures size { self.new.issued ≡ self.old.issued }
     {
         forget(&mut self.rows, by);
