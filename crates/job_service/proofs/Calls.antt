@@ -1,153 +1,215 @@
 -- A job service through its calls.
-use Rattle.std.proofs.Common.{◌≡◌, ℕ, ◌<◌, ◌≤◌, inl, inr, List, [], ◌∷◌, ◌++◌, length, map, Bool, true, false, Option, Some, None, IsSome, Contains, refl, sym, ap, ◌∙◌, subst, arith, append-nil, true≢false}
-use Rattle.std.specs.Prelude.{filter, not}
+use Rattle.std.proofs.Common.{◌≡◌, ℕ, ◌+◌, ◌-◌, ◌*◌, ◌^◌, ◌<◌, ◌≤◌, Bor, List, [], ◌∷◌, ◌++◌, length, map, Bool, true, false, cond, Option, Some, None, IsSome, Contains, count_by, inl, inr, refl, sym, ap, ◌∙◌, subst, arith, append-nil, true≢false}
+use Rattle.std.specs.Prelude.{IfNone, IfSome, find, option_map}
 use Rattle.std.specs.List.{AllByRecursion as Each}
-use Rattle.answers.specs.Jobs.{default_priority}
+use Rattle.std.specs.Option.{option_copied}
+use Rattle.answers.specs.Jobs.{default_priority, job_reply_of}
+use Rattle.answers.specs.declared.chronicle.Reply.{Reply}
 use Rattle.fl_digest.specs.declared.Hash.TheVariants.{Sha1}
-use Rattle.job_rules.proofs.Among.{among_from}
+use Rattle.instance_rules.specs.Legal.{IsLegalMoment}
+use Rattle.instance_rules.specs.Log.{Instance, Log, Moment, Served, service_of}
+use Rattle.instance_rules.specs.Replies.{IsLegalReply}
+use Rattle.job_book.specs.Contract.{Finds, SaysAs}
+use Rattle.job_book.specs.Value.{BookValue, scene_of}
+use Rattle.job_clock.proofs.Bearing.{begins_childless}
+use Rattle.job_clock.proofs.Times.{begins_in_time}
+use Rattle.job_clock.specs.Children.{AreChildless, AskNoChild, IsChildless}
+use Rattle.job_clock.specs.Targets.{AreInTime}
+use Rattle.job_commands.proofs.Desks.{submits_true}
+use Rattle.job_commands.proofs.Steps.{names_kept}
+use Rattle.job_commands.proofs.Tables.{found}
+use Rattle.job_commands.specs.Agrees.{AgreesCommands}
+use Rattle.job_commands.specs.Desks.{asked_of, desk_of}
+use Rattle.job_commands.specs.Rows.{CommandsValue, is_submit}
+use Rattle.job_commands.specs.declared.row.Row.{Row}
+use Rattle.job_landings.proofs.Landing.{desk_along, service_all, users_beside, users_legal}
+use Rattle.job_landings.proofs.Naming.{asked_beside, event_beside}
+use Rattle.job_landings.proofs.Serving.{desk_same}
+use Rattle.job_landings.specs.Landings.{happening}
+use Rattle.job_manager.specs.Follows.{Finds as FindsPost, Keeps, Stays}
+use Rattle.job_manager.specs.Value.{ManagerValue}
+use Rattle.job_replies.specs.Told.{MayTell, Stands}
+use Rattle.job_rules.proofs.Among.{Among, all_from, among_from, contains_from}
 use Rattle.job_rules.specs.Fits.{IsGrant}
+use Rattle.job_submissions.specs.Made.{AreLabelled}
+use Rattle.job_submissions.specs.declared.faults.Fault.{Fault}
 use Rattle.kvs_core.specs.Agrees.{Agrees}
 use Rattle.kvs_core.specs.Makes as core
 use Rattle.kvs_core.specs.Posted.{LandsUsers, posts_landed}
+use Rattle.kvs_model.specs.Store.{Name}
+use Rattle.kvs_rules.proofs.Asking.{command_is}
 use Rattle.kvs_rules.proofs.Logs.{legal_joined}
 use Rattle.kvs_rules.specs.Answers.{IsLegalAfter, IsLegalAnswer, IsLegalLog}
 use Rattle.kvs_rules.specs.Log as service
+use Rattle.kvs_rules.specs.Sequence.{EachAfter}
 use Rattle.kvs_rules.specs.declared.events.KvsAnswer.{KvsAnswer}
 use Rattle.kvs_rules.specs.declared.events.KvsAsk.{KvsAsk}
 use Rattle.kvs_rules.specs.declared.events.KvsEvent.{KvsEvent}
 use Rattle.kvs_rules.specs.declared.events.KvsEvent.TheVariants as event
 use Rattle.kvs_rules.specs.declared.events.KvsStep.{KvsStep}
-use Rattle.kvs_model.specs.Store.{Name}
 use Rattle.kvs_txn.specs.declared.txn.By.{By}
-use Rattle.resource_set.specs.Writing.{r_text}
-use Rattle.resource_set.specs.declared.node.Resources.{Resources}
-use Rattle.instance_rules.specs.Log.{Instance, JobReply, Log, Moment, Served, Issued, Replied, service_of}
-use Rattle.job_commands.specs.Agrees.{AgreesCommands}
-use Rattle.job_commands.specs.Rows.{CommandsValue}
-use Rattle.job_manager.specs.Follows.{Follows, Keeps, Stays}
-use Rattle.job_manager.specs.Value.{ManagerValue}
-use Rattle.job_submissions.specs.Made.{AreLabelled}
-use Rattle.manager_rules.specs.Jobs.{StoredJob, ids_of}
-use Rattle.std.proofs.Common.{cond, Bor}
-use Rattle.std.specs.Prelude.{IfNone, IfSome, find, option_map}
-use Rattle.std.specs.Option.{option_copied}
-use Rattle.answers.specs.Jobs.{job_reply_of}
-use Rattle.answers.specs.declared.chronicle.Reply.{Reply}
-use Rattle.job_book.specs.Contract.{Finds, SaysAs}
-use Rattle.job_book.specs.Value.{BookValue, scene_of}
-use Rattle.job_commands.proofs.Tables.{found}
-use Rattle.job_commands.specs.Asks.{named_of, told}
-use Rattle.job_commands.specs.Desks.{asked_of}
-use Rattle.job_commands.specs.declared.ask.JobAsk.{JobAsk}
-use Rattle.job_commands.specs.declared.ask.Named.{Named}
-use Rattle.job_commands.specs.declared.row.Row.{Row}
-use Rattle.job_manager.specs.Managed.{IsManaged}
-use Rattle.job_replies.specs.Told.{MayTell, Stands}
-use Rattle.job_rules.proofs.Among.{Among, contains_from}
-use Rattle.job_spec.specs.declared.spec.Depend.{Depend}
-use Rattle.job_submissions.specs.Faults.{Lacks, LacksSome}
-use Rattle.job_submissions.specs.declared.faults.Fault.{Fault}
-use Rattle.kvs_core.specs.Posted.{newest_of}
-use Rattle.kvs_rules.proofs.Asking.{command_is}
-use Rattle.kvs_rules.specs.Namespaces.{newest_store, primary}
-use Rattle.instance_rules.specs.Log.{is_decided, is_issued, is_replied, now_of}
-use Rattle.instance_rules.specs.Replies.{IsLegalReply}
 use Rattle.manager_rules.specs.Due.{IsDue}
+use Rattle.manager_rules.specs.Jobs.{StoredJob, ids_of}
+use Rattle.manager_rules.specs.Posts.{Does, IsDuePost, Post, Submits}
 use Rattle.manager_rules.specs.declared.asked.Asked.{Asked}
 use Rattle.manager_rules.specs.declared.due.Due.{Due}
+use Rattle.resource_set.specs.Writing.{r_text}
+use Rattle.resource_set.specs.declared.node.Resources.{Resources}
 use Rattle.tap.specs.declared.Ask.{Ask}
-use Rattle.job_service.specs.Agrees.{IsNewCommand}
-use Rattle.job_service.specs.Due.{IsEventDue}
-use Rattle.job_service.specs.Refusals.{IsFaultOf, fault_for, is_refusal_of, refusals_of, reply_to, row_in}
-use Rattle.job_service.specs.Replies.{Answers}
+use Rattle.job_service.specs.Agrees.{AgreesJobs, IsAgreed, IsNewAsk, IsServedBy}
+use Rattle.job_service.specs.Due.{IsEventDue, Owes, scene_now}
+use Rattle.job_service.specs.Posted.{IsAlone, IsNamed}
+use Rattle.job_service.specs.Refusals.{fault_for, is_refusal_of, reply_to, row_in}
+use Rattle.job_service.specs.Value.{JobServiceValue}
 use Rattle.job_service.specs.View.{IsFit}
 use Rattle.job_service.specs.declared.refusals.Refused.{Refused}
-use Rattle.job_service.specs.Agrees.{AgreesJobs, IsAgreed, IsNewAsk, IsServedBy}
-use Rattle.job_service.specs.Makes.{happening}
-use Rattle.job_service.specs.Value.{JobServiceValue}
-use Rattle.job_commands.proofs.Steps.{names_kept}
-use Rattle.job_service.proofs.Facts.{Facts, issue_facts, reply_facts, issued_service, replied_service, served_facts, service_all, service_one, users_facts, users_legal}
-use Rattle.job_service.proofs.Naming.{asked_beside, event_beside}
+use Rattle.job_service.proofs.Facts.{Facts, besides_facts, served_facts, service_one}
 
 -- the service with other parts
-abbrev pub with_parts : JobServiceValue → Bool → ManagerValue → CommandsValue → List Refused → JobServiceValue
-with_parts v spent manager commands refused = record { spent = spent; birth = v.birth; second = v.second; manager = manager; commands = commands; refused = refused }
+abbrev pub with_parts : JobServiceValue → Bool → ManagerValue → CommandsValue → List Refused → Option Post → ℕ → JobServiceValue
+with_parts v spent manager commands refused found submitted = record {
+  spent = spent;
+  birth = v.birth;
+  second = v.second;
+  manager = manager;
+  commands = commands;
+  refused = refused;
+  found = found;
+  submitted = submitted;
+  span = v.span;
+}
+
+-- with other seconds of all advances
+abbrev pub spanned : JobServiceValue → ℕ → JobServiceValue
+spanned v span = record v { span = span }
+
+pub respan : (v : JobServiceValue) (inst : Instance) (log : Log) (span : ℕ) → AgreesJobs v inst log → AgreesJobs (spanned v span) inst log
+respan v inst log span a = record {
+  kind = record { valid = a.kind.valid; unique = a.kind.unique; ranks = a.kind.ranks; answer = a.kind.answer; birth = a.kind.birth; grant = a.kind.grant };
+  core = a.core;
+  legal = a.legal;
+  commands = a.commands;
+  second = a.second;
+  alone = a.alone;
+  owes = a.owes;
+  labelled = a.labelled;
+  refused = a.refused;
+  untold = a.untold;
+}
 
 module _ (v : JobServiceValue) (inst : Instance) (log : Log) (a : AgreesJobs v inst log) where
   pub facts : Facts v.commands v.refused v.second inst log
   facts = record { commands = a.commands; second = a.second; alone = a.alone; refused = a.refused; untold = a.untold }
 
-  pub joined : (spent : Bool) (manager : ManagerValue) (commands : CommandsValue) (refused : List Refused) (later : Log) → manager.book ≡ v.manager.book → manager.posted ≡ v.manager.posted
-      → Agrees manager.core inst.service (service_of later) → IsLegalLog inst.service (service_of later) → AreLabelled commands.labels v.manager.book.jobs → Facts commands refused v.second inst later → AgreesJobs (with_parts v spent manager commands refused) inst later
-  joined spent manager commands refused later book posted core legal labelled f = record {
+  pub joined : (spent : Bool) (manager : ManagerValue) (commands : CommandsValue) (refused : List Refused) (found : Option Post) (submitted : ℕ) (later : Log) → manager.book.grant ≡ v.manager.book.grant
+      → Agrees manager.core inst.service (service_of later) → IsLegalLog inst.service (service_of later) → AreLabelled commands.labels manager.book.jobs → Owes manager.posted found (desk_of commands inst later manager.book.jobs) → Facts commands refused v.second inst later
+      → AgreesJobs (with_parts v spent manager commands refused found submitted) inst later
+  joined spent manager commands refused found submitted later grant core legal labelled owes f = record {
     kind = record {
       valid = a.kind.valid;
       unique = a.kind.unique;
       ranks = a.kind.ranks;
       answer = a.kind.answer;
       birth = a.kind.birth;
-      grant = ap (λ b. b.grant) book ∙ a.kind.grant;
+      grant = grant ∙ a.kind.grant;
     };
     core = core;
     legal = legal;
     commands = f.commands;
     second = f.second;
     alone = f.alone;
-    unposted = posted ∙ a.unposted;
-    labelled = subst (λ b. AreLabelled commands.labels b.jobs) (sym book) labelled;
+    owes = owes;
+    labelled = labelled;
     refused = f.refused;
     untold = f.untold;
   }
 
   -- ---- the key-value service
 
-  pub asked_agrees : (spent : Bool) (manager : ManagerValue) (by : By) (broker floor : ℕ) (space : Name) (asked : KvsAsk) → Keeps v.manager manager → IsNewAsk inst log by broker space asked
-      → Agrees manager.core inst.service (service_of log ++ service.Asked by floor ∷ []) → AgreesJobs (with_parts v spent manager v.commands v.refused) inst (log ++ Served (service.Asked by floor) ∷ [])
-  asked_agrees spent manager by broker floor space asked keeps new core =
-      let m : service.Moment = service.Asked by floor in
+  -- where the manager's posts and book stay, and the commands, what is owed does
+  owed : (manager : ManagerValue) (later : Log) → manager.book ≡ v.manager.book → manager.posted ≡ v.manager.posted → desk_of v.commands inst later v.manager.book.jobs ≡ desk_of v.commands inst log v.manager.book.jobs
+      → Owes manager.posted v.found (desk_of v.commands inst later manager.book.jobs)
+  owed manager later book posted same =
+      subst (λ p. Owes p v.found (desk_of v.commands inst later manager.book.jobs)) (sym posted)
+      (subst (λ b. Owes v.manager.posted v.found (desk_of v.commands inst later b.jobs)) (sym book)
+      (subst (Owes v.manager.posted v.found) (sym same) a.owes))
+
+  stays : (spent : Bool) (manager : ManagerValue) (later : Log) → manager.book ≡ v.manager.book → manager.posted ≡ v.manager.posted → desk_of v.commands inst later v.manager.book.jobs ≡ desk_of v.commands inst log v.manager.book.jobs
+      → Agrees manager.core inst.service (service_of later) → IsLegalLog inst.service (service_of later) → Facts v.commands v.refused v.second inst later
+      → AgreesJobs (with_parts v spent manager v.commands v.refused v.found v.submitted) inst later
+  stays spent manager later book posted same core legal f =
+      joined spent manager v.commands v.refused v.found v.submitted later (ap (λ b. b.grant) book) core legal
+      (subst (λ b. AreLabelled v.commands.labels b.jobs) (sym book) a.labelled) (owed manager later book posted same) f
+
+  served : (spent : Bool) (manager : ManagerValue) (m : service.Moment) → Keeps v.manager manager → IsLegalAfter inst.service (service_of log) (m ∷ []) → Agrees manager.core inst.service (service_of log ++ m ∷ [])
+      → Facts v.commands v.refused v.second inst (log ++ Served m ∷ []) → AgreesJobs (with_parts v spent manager v.commands v.refused v.found v.submitted) inst (log ++ Served m ∷ [])
+  served spent manager m keeps legal core f =
       let same = service_one v.commands v.refused v.second inst log m in
-      joined spent manager v.commands v.refused (log ++ Served m ∷ []) keeps.book keeps.posted
+      stays spent manager (log ++ Served m ∷ []) keeps.book keeps.posted (desk_same v.commands inst log m v.manager.book.jobs)
       (subst (Agrees manager.core inst.service) (sym same) core)
-      (subst (IsLegalLog inst.service) (sym same) (legal_joined inst.service [] (service_of log) (m ∷ []) a.legal (((record { broker = broker; namespace = space; ask = asked }, new.asks), new.new), tt)))
-      a.labelled
-      (served_facts v.commands v.refused v.second inst log m (asked_beside inst a.kind.valid (service_of log) by floor) facts)
+      (subst (IsLegalLog inst.service) (sym same) (legal_joined inst.service [] (service_of log) (m ∷ []) a.legal legal))
+      f
+
+  pub asked_agrees : (spent : Bool) (manager : ManagerValue) (by : By) (broker floor : ℕ) (space : Name) (asked : KvsAsk) → Keeps v.manager manager → IsNewAsk inst log by broker space asked
+      → Agrees manager.core inst.service (service_of log ++ service.Asked by floor ∷ []) → AgreesJobs (with_parts v spent manager v.commands v.refused v.found v.submitted) inst (log ++ Served (service.Asked by floor) ∷ [])
+  asked_agrees spent manager by broker floor space asked keeps new core =
+      served spent manager (service.Asked by floor) keeps (((record { broker = broker; namespace = space; ask = asked }, new.asks), new.new), tt) core
+      (served_facts v.commands v.refused v.second inst log (service.Asked by floor) (asked_beside inst a.kind.valid (service_of log) by floor) facts)
 
   pub taken_agrees : (spent : Bool) (manager : ManagerValue) (by : By) (number : Option ℕ) (given : KvsAnswer) → Keeps v.manager manager → IsLegalAnswer inst.service (service_of log) by number given
-      → Agrees manager.core inst.service (service_of log ++ service.Happened (event.Answered by number given) ∷ []) → AgreesJobs (with_parts v spent manager v.commands v.refused) inst (log ++ Served (service.Happened (event.Answered by number given)) ∷ [])
+      → Agrees manager.core inst.service (service_of log ++ service.Happened (event.Answered by number given) ∷ []) → AgreesJobs (with_parts v spent manager v.commands v.refused v.found v.submitted) inst (log ++ Served (service.Happened (event.Answered by number given)) ∷ [])
   taken_agrees spent manager by number given keeps legal core =
       let m : service.Moment = service.Happened (event.Answered by number given) in
-      let same = service_one v.commands v.refused v.second inst log m in
-      joined spent manager v.commands v.refused (log ++ Served m ∷ []) keeps.book keeps.posted
-      (subst (Agrees manager.core inst.service) (sym same) core)
-      (subst (IsLegalLog inst.service) (sym same) (legal_joined inst.service [] (service_of log) (m ∷ []) a.legal (legal, tt)))
-      a.labelled
+      served spent manager m keeps (legal, tt) core
       (served_facts v.commands v.refused v.second inst log m (event_beside inst a.kind.valid (service_of log) (event.Answered by number given) tt legal) facts)
 
-  -- nothing that was posted has landed
-  pub stays : (manager : ManagerValue) (events : List KvsEvent) → Follows v.manager manager events → Stays v.manager manager events
-  stays manager events (inl s) = s
-  stays manager events (inr l) = let wrong : Some l.post ≡ None = sym l.waited ∙ a.unposted in cc
-
-  module _ (spent : Bool) (manager : ManagerValue) (step : KvsStep) (events : List KvsEvent) (makes : core.Makes step v.manager.core manager.core events) (follows : Follows v.manager manager events)
+  -- a step of the service at which no post lands
+  module _ (spent : Bool) (manager : ManagerValue) (step : KvsStep) (events : List KvsEvent) (makes : core.Makes step v.manager.core manager.core events) (s : Stays v.manager manager events)
       (users_land : (es : List KvsEvent) (left : List _) → posts_landed es ++ left ≡ [] → Each LandsUsers es) where
     users : Each LandsUsers events
-    users = users_land events [] (append-nil _ ∙ (stays manager events follows).landed)
+    users = users_land events [] (append-nil _ ∙ s.landed)
 
     legal : IsLegalAfter inst.service (service_of log) (map service.Happened events)
     legal = makes.legal inst.service (service_of log) a.core
 
-    pub turn_legal : Rattle.kvs_rules.specs.Sequence.EachAfter (Rattle.instance_rules.specs.Legal.IsLegalMoment inst) log (map happening events)
+    pub turn_legal : EachAfter (IsLegalMoment inst) log (map happening events)
     turn_legal = users_legal inst events log users legal
 
-    pub turn_agrees : AgreesJobs (with_parts v spent manager v.commands v.refused) inst (log ++ map happening events)
+    pub turn_agrees : AgreesJobs (with_parts v spent manager v.commands v.refused v.found v.submitted) inst (log ++ map happening events)
     turn_agrees =
         let same = service_all events log in
-        let s = stays manager events follows in
-        joined spent manager v.commands v.refused (log ++ map happening events) s.book s.posted
+        stays spent manager (log ++ map happening events) s.book s.posted (desk_along v.commands inst v.manager.book.jobs events log)
         (subst (Agrees manager.core inst.service) (sym same) (makes.agrees inst.service (service_of log) a.core))
         (subst (IsLegalLog inst.service) (sym same) (legal_joined inst.service [] (service_of log) (map service.Happened events) a.legal legal))
-        a.labelled
-        (users_facts v.commands v.refused v.second inst a.kind.valid events log users legal facts)
+        (besides_facts v.commands v.refused v.second inst events log (users_beside inst a.kind.valid events log users legal) facts)
+
+  -- ---- what is told
+
+  pub stands : Stands v.commands v.manager v.second inst log
+  stands = record { commands = a.commands; service = a.core; legal = a.legal; grant = a.kind.grant; second = a.second }
+
+  pub rank_within : (row : Row) → Contains v.commands.rows row → row.rank < v.manager.core.size
+  rank_within row c =
+      let r = a.commands.rows row c in
+      subst (λ n. row.rank < n) a.core.size (subst (λ n. n < inst.service.size) (sym r.rank) (a.kind.ranks row.by (subst IsSome (sym r.asks) refl)))
+
+  pub told_refused : (by : By) (f : Fault) → fault_for v.refused by ≡ Some f → (given : Reply) → job_reply_of given ≡ Some (reply_to f) → MayTell inst log by given None
+  told_refused by f e given hands =
+      let r = at v.refused e in
+      record {
+        reply = reply_to f;
+        hands = hands;
+        legal = subst (λ x. IsLegalReply inst log by (reply_to x) None) r.3 (subst (λ b. IsLegalReply inst log b (reply_to r.0.fault) None) (sym (command_is by r.0.by r.2)) (a.refused r.0 (contains_from v.refused r.0 r.1)));
+      }
+    where
+      at : (list : List Refused) → fault_for list by ≡ Some f → (r : Refused) × Among r list × (is_refusal_of by r ≡ true) × (r.fault ≡ f)
+      at [] e = cc
+      at (r ∷ list) e = pick (is_refusal_of by r) refl (at list) e
+        where
+          pick : (b : Bool) → is_refusal_of by r ≡ b → (fault_for list by ≡ Some f → (x : Refused) × Among x list × (is_refusal_of by x ≡ true) × (x.fault ≡ f))
+              → option_map (λ x. x.fault) (cond b (Some r) (find (is_refusal_of by) list)) ≡ Some f → (x : Refused) × Among x (r ∷ list) × (is_refusal_of by x ≡ true) × (x.fault ≡ f)
+          pick true t more e = let same : r.fault ≡ f = cc in (r, inl refl, t, same)
+          pick false t more e = let m = more e in (m.0, inr m.1, m.2, m.3)
 
 -- ---- the beginning
 
@@ -155,7 +217,50 @@ module _ (spent : Bool) (birth size fanout : ℕ) (grant : Resources) (manager :
     (book : manager.book ≡ record { grant = grant; jobs = [] }) (posted : manager.posted ≡ None) (set : (inst : Instance) → AgreesCommands commands inst [])
     (core : (s : Rattle.kvs_rules.specs.Namespaces.Setting) → s.size ≡ size → s.fanout ≡ fanout → s.grant ≡ r_text grant → Agrees manager.core s []) where
   abbrev begun : JobServiceValue
-  begun = record { spent = spent; birth = birth; second = birth; manager = manager; commands = commands; refused = [] }
+  begun = record { spent = spent; birth = birth; second = birth; manager = manager; commands = commands; refused = []; found = None; submitted = 0; span = 0 }
+
+  -- an instance without commands
+  abbrev plain : Instance
+  plain = record {
+    service = record { size = size; fanout = fanout; hash = Sha1; grant = r_text grant; asks = λ by. None };
+    birth = birth;
+    grant = grant;
+    answer = default_priority;
+    asks = λ by. None;
+    rank = λ by. 0;
+  }
+
+  no_row : (inst : Instance) (row : Row) → Contains commands.rows row → ⊥
+  no_row inst row c = let wrong : false ≡ true = ((set inst).rows row c).waits.issued in cc
+
+  no_jobs : (j : StoredJob) → Contains manager.book.jobs j → ⊥
+  no_jobs j c = absurd (among_from [] j (subst (λ b. Contains b.jobs j) book c))
+
+  nothing_due : (inst : Instance) (post : Post) → IsDuePost (desk_of commands inst [] manager.book.jobs) post → ⊥
+  nothing_due inst (Submits x) h = let wrong : false ≡ true = (submits_true commands inst [] (set inst) h.from h.waits).pending.waits.issued in cc
+  nothing_due inst (Does due) h = no_jobs h.j h.known
+
+  pub begun_owes : (inst : Instance) → Owes manager.posted None (desk_of commands inst [] manager.book.jobs)
+  begun_owes inst = subst (λ p. Owes p None (desk_of commands inst [] manager.book.jobs)) (sym posted) (nothing_due inst)
+
+  no_rows : (rows : List Row) → ((row : Row) → Contains rows row → ⊥) → count_by is_submit rows ≡ 0
+  no_rows [] none = refl
+  no_rows (row ∷ rows) none = absurd (none row (contains_from (row ∷ rows) row (inl refl)))
+
+  pub begun_timed : AreInTime commands birth birth 0
+  begun_timed = begins_in_time commands plain (set plain)
+
+  pub begun_childless : AreChildless manager.book.jobs
+  begun_childless = all_from (λ j. IsChildless j.spec) manager.book.jobs (λ j i. absurd (no_jobs j (contains_from manager.book.jobs j i)))
+
+  pub begun_asking : AskNoChild commands
+  begun_asking = begins_childless commands plain (set plain)
+
+  pub begun_count : length manager.book.jobs + count_by is_submit commands.rows ≤ 0
+  begun_count =
+      let rows = no_rows commands.rows (no_row plain) in
+      let jobs : length manager.book.jobs ≡ 0 = ap (λ b. length b.jobs) book in
+      omega (arith, rows, jobs)
 
   pub begun_agrees : (inst : Instance) → IsServedBy inst size fanout grant birth → AgreesJobs begun inst []
   begun_agrees inst of = record {
@@ -172,21 +277,10 @@ module _ (spent : Bool) (birth size fanout : ℕ) (grant : Resources) (manager :
     commands = set inst;
     second = of.birth;
     alone = λ job. refl;
-    unposted = posted;
+    owes = begun_owes inst;
     labelled = λ id c. absurd (among_from [] id (subst (λ b. Contains (ids_of b.jobs) id) book c));
     refused = λ r c. absurd (among_from [] r c);
     untold = λ by some e. record { unanswered = refl; undecided = refl };
-  }
-
-  -- an instance without commands
-  abbrev plain : Instance
-  plain = record {
-    service = record { size = size; fanout = fanout; hash = Sha1; grant = r_text grant; asks = λ by. None };
-    birth = birth;
-    grant = grant;
-    answer = default_priority;
-    asks = λ by. None;
-    rank = λ by. 0;
   }
 
   pub begun_agreed : IsGrant grant.nodes → IsAgreed begun
@@ -218,95 +312,46 @@ labelled_still v new inst log m jobs old later h = λ id c.
     let l = h id c in
     (l.0, (later.labels l.0 id).1 (names_kept inst log m l.0 id ((old.labels l.0 id).0 l.1)))
 
--- ---- job commands
-
-module _ (v : JobServiceValue) (inst : Instance) (log : Log) (a : AgreesJobs v inst log) (spent : Bool) (commands : CommandsValue) where
-  pub issued_agrees : (by : By) (refused : List Refused) → AgreesCommands commands inst (log ++ Issued by ∷ []) → Facts commands refused v.second inst (log ++ Issued by ∷ []) → AgreesJobs (with_parts v spent v.manager commands refused) inst (log ++ Issued by ∷ [])
-  issued_agrees by refused agrees f =
-      let same = issued_service v.commands commands v.refused v.second inst log by (facts v inst log a) in
-      joined v inst log a spent v.manager commands refused (log ++ Issued by ∷ []) refl refl
-      (subst (Agrees v.manager.core inst.service) (sym same) a.core)
-      (subst (IsLegalLog inst.service) (sym same) a.legal)
-      (labelled_still v.commands commands inst log (Issued by) v.manager.book.jobs a.commands agrees a.labelled)
-      f
-
-  pub replied_agrees : (by : By) (given : JobReply) (number : Option ℕ) (refused : List Refused) → AgreesCommands commands inst (log ++ Replied by given number ∷ [])
-      → Facts commands refused v.second inst (log ++ Replied by given number ∷ []) → AgreesJobs (with_parts v spent v.manager commands refused) inst (log ++ Replied by given number ∷ [])
-  replied_agrees by given number refused agrees f =
-      let same = replied_service v.commands commands v.refused v.second inst log by given number (facts v inst log a) in
-      joined v inst log a spent v.manager commands refused (log ++ Replied by given number ∷ []) refl refl
-      (subst (Agrees v.manager.core inst.service) (sym same) a.core)
-      (subst (IsLegalLog inst.service) (sym same) a.legal)
-      (labelled_still v.commands commands inst log (Replied by given number) v.manager.book.jobs a.commands agrees a.labelled)
-      f
-
-module _ (v : JobServiceValue) (inst : Instance) (log : Log) (a : AgreesJobs v inst log) where
-  pub issue_all : (spent : Bool) (commands : CommandsValue) (by : By) (rank : ℕ) (asked : JobAsk) → IsNewCommand inst log by rank asked → IsManaged v.manager
-      → newest_store inst.service (service_of log) primary ≡ Some (newest_of v.manager.core)
-      → ((x : CommandsValue) (i : Instance) (l : Log) (jobs : List StoredJob) (depends : List Depend) (named : List Named) → AgreesCommands x i l → Lacks x.labels jobs depends named true → LacksSome i l jobs depends (map named_of named))
-      → (found : Option Fault) → IsFaultOf v.commands v.manager.book.jobs asked found
-      → ((i : Instance) (l : Log) → AgreesCommands v.commands i l → i.asks by ≡ Some (told asked) → i.rank by ≡ rank → now_of i l ≡ v.second → is_issued by l ≡ false → is_replied by l ≡ false → is_decided by l ≡ false → AgreesCommands commands i (l ++ Issued by ∷ []))
-      → AgreesJobs (with_parts v spent v.manager commands (v.refused ++ refusals_of by found)) inst (log ++ Issued by ∷ [])
-  issue_all spent commands by rank asked new m newest lacking found is goes_on =
-      let untold = a.untold by (subst IsSome (sym new.asks) refl) new.new in
-      let agrees = goes_on inst log a.commands new.asks new.home a.second new.new untold.unanswered untold.undecided in
-      issued_agrees v inst log a spent commands by (v.refused ++ refusals_of by found) agrees
-      (issue_facts v.commands commands v.refused v.second inst log by (facts v inst log a) asked new.asks new.new (newest_of v.manager.core) newest v.manager.book.jobs m.jobs
-      (λ depends named lacks. lacking v.commands inst log v.manager.book.jobs depends named a.commands lacks) found is agrees)
-
-  pub reply_all : (spent : Bool) (commands : CommandsValue) (by : By) (given : Reply) (number : Option ℕ) → MayTell inst log by given number
-      → ((i : Instance) (l : Log) (r : JobReply) (n : Option ℕ) → AgreesCommands v.commands i l → AgreesCommands commands i (l ++ Replied by r n ∷ []))
-      → Answers (with_parts v spent v.manager commands (filter (λ x. not (is_refusal_of by x)) v.refused)) inst log by given number
-  reply_all spent commands by given number t goes_on =
-      let agrees = goes_on inst log t.reply number a.commands in
-      record {
-        reply = t.reply;
-        hands = t.hands;
-        legal = t.legal;
-        agrees = replied_agrees v inst log a spent commands by t.reply number (filter (λ x. not (is_refusal_of by x)) v.refused) agrees
-            (reply_facts v.commands commands v.refused v.second inst log by t.reply number (facts v inst log a) t.legal.waits.issued agrees);
-      }
-
-  -- ---- what is told
-
-  pub stands : Stands v.commands v.manager v.second inst log
-  stands = record { commands = a.commands; service = a.core; legal = a.legal; grant = a.kind.grant; second = a.second }
-
-  pub rank_within : (row : Row) → Contains v.commands.rows row → row.rank < v.manager.core.size
-  rank_within row c =
-      let r = a.commands.rows row c in
-      subst (λ n. row.rank < n) a.core.size (subst (λ n. n < inst.service.size) (sym r.rank) (a.kind.ranks row.by (subst IsSome (sym r.asks) refl)))
-
-  pub told_refused : (by : By) (f : Fault) → fault_for v.refused by ≡ Some f → (given : Reply) → job_reply_of given ≡ Some (reply_to f) → MayTell inst log by given None
-  told_refused by f e given hands =
-      let r = at v.refused e in
-      record {
-        reply = reply_to f;
-        hands = hands;
-        legal = subst (λ x. IsLegalReply inst log by (reply_to x) None) r.3 (subst (λ b. IsLegalReply inst log b (reply_to r.0.fault) None) (sym (command_is by r.0.by r.2)) (a.refused r.0 (contains_from v.refused r.0 r.1)));
-      }
-    where
-      at : (list : List Refused) → fault_for list by ≡ Some f → (r : Refused) × Among r list × (is_refusal_of by r ≡ true) × (r.fault ≡ f)
-      at [] e = cc
-      at (r ∷ list) e = pick (is_refusal_of by r) refl (at list) e
-        where
-          pick : (b : Bool) → is_refusal_of by r ≡ b → (fault_for list by ≡ Some f → (x : Refused) × Among x list × (is_refusal_of by x ≡ true) × (x.fault ≡ f))
-              → option_map (λ x. x.fault) (cond b (Some r) (find (is_refusal_of by) list)) ≡ Some f → (x : Refused) × Among x (r ∷ list) × (is_refusal_of by x ≡ true) × (x.fault ≡ f)
-          pick true t more e = let same : r.fault ≡ f = cc in (r, inl refl, t, same)
-          pick false t more e = let m = more e in (m.0, inr m.1, m.2, m.3)
-
 -- ---- what the code rests on
 
-pub fit : (v : JobServiceValue) → IsFit v → (spent : Bool) (manager : ManagerValue) (commands : CommandsValue) (refused : List Refused) → manager.spent ≡ false → manager.core.size ≡ v.manager.core.size
-    → length commands.issued ≡ length v.commands.issued → IsAgreed (with_parts v spent manager commands refused) → IsFit (with_parts v spent manager commands refused)
-fit v i spent manager commands refused ready size same agreed = record {
+-- of the time and of children
+pub record GoesOn (v : JobServiceValue) (manager : ManagerValue) (commands : CommandsValue) (span : ℕ) : Type 0 where
+  pub timed : AreInTime commands v.birth v.second span
+  pub near : span ≤ 1000000000
+  pub childless : AreChildless manager.book.jobs
+  pub asking : AskNoChild commands
+
+pub is_soon : (v : JobServiceValue) → IsFit v → 1000 * (v.second - v.birth) < 2 ^ 40
+is_soon v i = let present = i.timed.present in let near = i.near in omega (arith, present, near)
+
+pub fit : (v : JobServiceValue) → IsFit v → (spent : Bool) (manager : ManagerValue) (commands : CommandsValue) (refused : List Refused) (later : Option Post) (submitted span : ℕ) → manager.spent ≡ false → manager.core.size ≡ v.manager.core.size
+    → length commands.issued ≡ length v.commands.issued → IsAlone manager.posted later → IsNamed commands manager.posted → IsNamed commands later
+    → length manager.book.jobs + count_by is_submit commands.rows ≤ submitted → submitted ≤ 1000 → GoesOn v manager commands span → IsAgreed (spanned (with_parts v spent manager commands refused later submitted) span) → IsFit (spanned (with_parts v spent manager commands refused later submitted) span)
+fit v i spent manager commands refused later submitted span ready size same alone posted named counted bounded goes agreed = record {
   ready = ready;
   size = same ∙ i.size ∙ sym size;
   few = subst (λ n. n ≤ 32) (sym size) i.few;
   order = i.order;
-  soon = i.soon;
+  early = i.early;
+  timed = goes.timed;
+  near = goes.near;
+  alone = alone;
+  posted = posted;
+  named = named;
+  counted = counted;
+  bounded = bounded;
+  childless = goes.childless;
+  asking = goes.asking;
   agreed = agreed;
 }
+
+-- so where the manager's posts and book stay, and the commands
+pub fit_still : (v : JobServiceValue) → IsFit v → (spent : Bool) (manager : ManagerValue) → manager.spent ≡ false → manager.core.size ≡ v.manager.core.size → manager.book ≡ v.manager.book → manager.posted ≡ v.manager.posted
+    → IsAgreed (with_parts v spent manager v.commands v.refused v.found v.submitted) → IsFit (with_parts v spent manager v.commands v.refused v.found v.submitted)
+fit_still v i spent manager ready size book posted agreed =
+    fit v i spent manager v.commands v.refused v.found v.submitted v.span ready size refl (subst (λ p. IsAlone p v.found) (sym posted) i.alone) (subst (IsNamed v.commands) (sym posted) i.posted) i.named
+    (subst (λ b. length b.jobs + count_by is_submit v.commands.rows ≤ v.submitted) (sym book) i.counted) i.bounded
+    (record { timed = i.timed; near = i.near; childless = subst (λ b. AreChildless b.jobs) (sym book) i.childless; asking = i.asking }) agreed
 
 pub row_known : (v : CommandsValue) (by : By) (result : Option (Bor Row)) (r : Bor Row) → option_copied result ≡ row_in v by → result ≡ Some r → Contains v.rows r.now × (r.now.by ≡ by)
 row_known v by result r e is = found by v.rows r.now (sym e ∙ ap option_copied is)
@@ -316,6 +361,11 @@ row_known v by result r e is = found by v.rows r.now (sym e ∙ ap option_copied
 pub of_finds : (v : CommandsValue) (book : BookValue) (now : ℕ) (list : List Asked) (says : Ask → ℕ → Type 0) → SaysAs says default_priority → list ≡ asked_of v → (o : Option Due) → Finds book now list says o → IsEventDue v book now o
 of_finds v book now list says known is None h = λ due d. h default_priority known due (subst (λ l. IsDue (scene_of book now l default_priority) due) (sym is) d)
 of_finds v book now list says known is (Some due) h = subst (λ l. IsDue (scene_of book now l default_priority) due) is (h default_priority known)
+
+-- where an event is due, some event is found
+pub none_finds : (says : Ask → ℕ → Type 0) (given : Bool) (old new : ManagerValue) (now : ℕ) (list : List Asked) (v : CommandsValue) → given ≡ false → FindsPost given old new now list says → SaysAs says default_priority → list ≡ asked_of v → (due : Due) → IsDue (scene_now v old.book now) due → ⊥
+none_finds says true old new now list v e h known is due d = cc
+none_finds says false old new now list v e h known is due d = h.0 default_priority known due (subst (λ l. IsDue (scene_of old.book now l default_priority) due) (sym is) d)
 
 -- a list of one that may be lacking
 pub at_some : {A : Type 0} (P : A → Type 0) (o : Option A) (x : A) → o ≡ Some x → IfSome o P → P x

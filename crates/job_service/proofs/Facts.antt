@@ -1,33 +1,29 @@
 -- What a log says of job commands, after a further moment.
-use Rattle.std.proofs.Common.{◌≡◌, ℕ, inl, inr, List, [], ◌∷◌, ◌++◌, map, true, false, Option, Some, None, IsSome, Contains, refl, sym, ap, ◌∙◌, subst, true≢false, append_assoc, append-nil}
+use Rattle.std.proofs.Common.{◌≡◌, ◌≢◌, ℕ, inl, inr, List, [], ◌∷◌, ◌++◌, map, true, false, Option, Some, None, IsSome, Contains, refl, sym, ap, ◌∙◌, subst, true≢false, append_assoc, append-nil}
 use Rattle.std.specs.Prelude.{filter, not}
 use Rattle.std.specs.List.{AllByRecursion as Each}
-use Rattle.std.proofs.lemmas.Bool.{false_from_ne_true, not-true, or_from, or_parts, or_right}
+use Rattle.std.proofs.lemmas.Bool.{not-true, or_from, or_parts, or_right}
 use Rattle.std.proofs.lemmas.List.Elements.{Contains-append_cases}
 use Rattle.job_rules.proofs.Among.{Among, among_filter, among_from, contains_from}
-use Rattle.kvs_core.specs.Posted.{LandsUsers}
 use Rattle.kvs_model.specs.Store.{Store}
-use Rattle.kvs_rules.proofs.Asking.{command_is}
 use Rattle.kvs_rules.proofs.Sequences.{latest_push}
 use Rattle.kvs_rules.proofs.Stores.{any_push}
-use Rattle.kvs_rules.specs.Answers.{IsLegalAfter}
 use Rattle.kvs_rules.specs.Log as service
 use Rattle.kvs_rules.specs.Log.{same_command}
 use Rattle.kvs_rules.specs.Namespaces.{newest_store, primary}
-use Rattle.kvs_rules.specs.Sequence.{EachAfter}
 use Rattle.kvs_rules.specs.declared.events.KvsEvent.{KvsEvent}
 use Rattle.kvs_txn.specs.declared.txn.By.{By}
-use Rattle.answers.proofs.Users.{users_due}
+use Rattle.kvs_txn.specs.declared.txn.Group.{Group}
 use Rattle.instance_rules.specs.Desks.{HasSubmitted, Names}
-use Rattle.instance_rules.specs.Legal.{IsDueEvent, IsLegalMoment}
 use Rattle.instance_rules.specs.Log as rules
-use Rattle.instance_rules.specs.Log.{Instance, IsInstance, IsOpen, JobAsk as Asks, JobReply, Log, Moment, Served, Issued, Replied, SinceIssued, Submit, child_of, child_told, is_decided, is_issued, is_replied, issues_now, now_of, replies_now, service_of, ticked}
+use Rattle.instance_rules.specs.Log.{Instance, IsOpen, IsPending, JobAsk as Asks, JobReply, Log, Moment, Served, Issued, Replied, SinceIssued, Submit, Ticked, child_of, child_told, is_decided, is_issued, is_replied, issues_now, now_of, replies_now, service_of, ticked}
 use Rattle.instance_rules.specs.Replies.{FindsNoJob, IsLegalReply, LacksJob}
+use Rattle.job_commands.proofs.Landings.{aside_other}
 use Rattle.job_commands.proofs.Logs.{begun_before, differs, same_self, service_push, undecided_kept}
-use Rattle.job_commands.proofs.Steps.{beside_agrees}
+use Rattle.job_commands.proofs.Steps.{beside_agrees, tick_beside}
 use Rattle.job_commands.specs.Agrees.{AgreesCommands}
 use Rattle.job_commands.specs.Asks.{named_of, told}
-use Rattle.job_commands.specs.Moments.{IsBeside, decides_now}
+use Rattle.job_commands.specs.Moments.{CarriesOut, IsAside, IsBeside, decides_now, landing as lands_at}
 use Rattle.job_commands.specs.Rows.{CommandsValue}
 use Rattle.job_commands.specs.declared.ask.JobAsk.{JobAsk}
 use Rattle.job_commands.specs.declared.ask.JobAsk.TheVariants as ask
@@ -39,9 +35,8 @@ use Rattle.job_submissions.specs.declared.faults.Fault.TheVariants as fault
 use Rattle.manager_rules.specs.Jobs.{AreJobsOf, StoredJob}
 use Rattle.job_service.specs.declared.refusals.Refused.{Refused}
 use Rattle.job_service.specs.Agrees.{IsUntold}
-use Rattle.job_service.specs.Makes.{happening}
+use Rattle.job_landings.specs.Landings.{happening}
 use Rattle.job_service.specs.Refusals.{IsFaultOf, is_refusal_of, refusals_of, reply_to}
-use Rattle.job_service.proofs.Naming.{event_beside}
 
 -- what the log says of the commands, the refusals and the time
 pub record Facts (v : CommandsValue) (list : List Refused) (now : ℕ) (inst : Instance) (log : Log) : Type 0 where
@@ -114,35 +109,73 @@ module _ (v : CommandsValue) (list : List Refused) (now : ℕ) (inst : Instance)
   pub service_one : (log : Log) (m : service.Moment) → service_of (log ++ Served m ∷ []) ≡ service_of log ++ m ∷ []
   service_one log m = service_push log (Served m)
 
-  -- ---- events of users
+  -- ---- events that are about no job command
 
-  module _ (valid : IsInstance inst) where
-    pub users_facts : (es : List KvsEvent) (log : Log) → Each LandsUsers es → IsLegalAfter inst.service (service_of log) (map service.Happened es) → Facts v list now inst log → Facts v list now inst (log ++ map happening es)
-    users_facts [] log users legal h = subst (Facts v list now inst) (sym (append-nil log)) h
-    users_facts (e ∷ es) log users legal h =
-        subst (Facts v list now inst) (append_assoc log (happening e ∷ []) (map happening es))
-        (users_facts es (log ++ happening e ∷ []) users.1
-        (subst (λ l. IsLegalAfter inst.service l (map service.Happened es)) (sym (service_one log (service.Happened e))) legal.1)
-        (served_facts log (service.Happened e) (event_beside inst valid (service_of log) e users.0 legal.0) h))
+  pub besides_facts : (es : List KvsEvent) (log : Log) → Each (λ e. IsBeside inst (happening e)) es → Facts v list now inst log → Facts v list now inst (log ++ map happening es)
+  besides_facts [] log beside h = subst (Facts v list now inst) (sym (append-nil log)) h
+  besides_facts (e ∷ es) log beside h =
+      subst (Facts v list now inst) (append_assoc log (happening e ∷ []) (map happening es))
+      (besides_facts es (log ++ happening e ∷ []) beside.1 (served_facts log (service.Happened e) beside.0 h))
 
-pub service_all : (es : List KvsEvent) (log : Log) → service_of (log ++ map happening es) ≡ service_of log ++ map service.Happened es
-service_all [] log = ap service_of (append-nil log) ∙ sym (append-nil (service_of log))
-service_all (e ∷ es) log =
-    ap service_of (sym (append_assoc log (happening e ∷ []) (map happening es)))
-    ∙ service_all es (log ++ happening e ∷ [])
-    ∙ ap (λ l. l ++ map service.Happened es) (service_push log (happening e))
-    ∙ append_assoc (service_of log) (service.Happened e ∷ []) (map service.Happened es)
+pub pending_kept : (inst : Instance) (by : By) → IsSome (inst.asks by) → (es : List KvsEvent) (log : Log) → Each (λ e. IsBeside inst (happening e)) es → IsPending by log → IsPending by (log ++ map happening es)
+pending_kept inst by some [] log beside p = subst (IsPending by) (sym (append-nil log)) p
+pending_kept inst by some (e ∷ es) log beside p =
+    subst (IsPending by) (append_assoc log (happening e ∷ []) (map happening es))
+    (pending_kept inst by some es (log ++ happening e ∷ []) beside.1 (record {
+      waits = open_kept by log (happening e) refl p.waits;
+      undecided = undecided_kept by log (happening e) (beside.0 by some).decides p.undecided;
+    }))
 
-due_event : (inst : Instance) (log : Log) (e : KvsEvent) → LandsUsers e → IsDueEvent inst log e
-due_event inst log (Rattle.kvs_rules.specs.declared.events.KvsEvent.TheVariants.Landed space number authors groups) users = users_due inst log space number authors groups users
-due_event inst log _ users = tt
+-- ---- a second
 
-pub users_legal : (inst : Instance) (es : List KvsEvent) (log : Log) → Each LandsUsers es → IsLegalAfter inst.service (service_of log) (map service.Happened es) → EachAfter (IsLegalMoment inst) log (map happening es)
-users_legal inst [] log users legal = tt
-users_legal inst (e ∷ es) log users legal = (
-  (legal.0, due_event inst log e users.0),
-  users_legal inst es (log ++ happening e ∷ []) users.1 (subst (λ l. IsLegalAfter inst.service l (map service.Happened es)) (sym (service_push log (happening e))) legal.1),
-)
+pub ticked_facts : (v : CommandsValue) (list : List Refused) (now second : ℕ) (inst : Instance) (log : Log) → Facts v list now inst log → Facts v list second inst (log ++ Ticked second ∷ [])
+ticked_facts v list now second inst log h = record {
+  commands = beside_agrees v inst log (Ticked second) (tick_beside inst second) h.commands;
+  second = latest_push ticked inst.birth log (Ticked second);
+  alone = λ job. latest_push (child_told job) None log (Ticked second) ∙ h.alone job;
+  refused = λ r c. legal_kept inst log (Ticked second) r.by r.fault refl refl (h.refused r c);
+  untold = λ by some e. untold_kept by log (Ticked second) refl refl (h.untold by some (unissued_before by log (Ticked second) e));
+}
+
+pub ticked_service : (log : Log) (second : ℕ) → service_of (log ++ Ticked second ∷ []) ≡ service_of log
+ticked_service log second = service_push log (Ticked second) ∙ append-nil (service_of log)
+
+-- ---- refusals of other commands
+
+left_refusal : (by : By) (list : List Refused) (r : Refused) → Contains (filter (λ x. not (is_refusal_of by x)) list) r → Contains list r × (r.by ≢ by)
+left_refusal by list r c =
+    let both = among_filter (λ x. not (is_refusal_of by x)) list r (among_from _ r c) in
+    (contains_from list r both.0, λ e. true≢false (sym (same_self by) ∙ ap (same_command by) (sym e) ∙ not-true (is_refusal_of by r) both.1))
+
+-- what was issued is no command that wasn't
+unissued_other : (by other : By) (log : Log) → is_issued by log ≡ true → is_issued other log ≡ false → other ≢ by
+unissued_other by other log was not_yet e = true≢false (sym was ∙ ap (λ b. is_issued b log) (sym e) ∙ not_yet)
+
+-- ---- a landing that carries out a command
+
+module _ (v new : CommandsValue) (list : List Refused) (now : ℕ) (inst : Instance) (log : Log) (by : By) (group : Group) (authors : List (Option By)) (groups : List Group) (number : ℕ)
+    (w : CarriesOut inst by group authors groups) (h : Facts v list now inst log) where
+  abbrev pub landed : Log
+  landed = log ++ lands_at number authors groups ∷ []
+
+  aside : (other : By) → IsSome (inst.asks other) → other ≢ by → IsAside other (lands_at number authors groups)
+  aside other some ne = aside_other inst by group authors groups number w other some ne
+
+  pub landed_facts : is_issued by log ≡ true → AgreesCommands new inst landed → Facts new (filter (λ x. not (is_refusal_of by x)) list) now inst landed
+  landed_facts was agrees =
+      let m = lands_at number authors groups in
+      record {
+        commands = agrees;
+        second = latest_push ticked inst.birth log m ∙ h.second;
+        alone = λ job. latest_push (child_told job) None log m ∙ h.alone job;
+        refused = λ r c.
+            let o = left_refusal by list r c in
+            let l = h.refused r o.0 in
+            legal_kept inst log m r.by r.fault refl (aside r.by (refused_asks inst log r.by _ None l) o.1).decides l;
+        untold = λ other some e.
+            let before = unissued_before other log m e in
+            untold_kept other log m refl (aside other some (unissued_other by other log was before)).decides (h.untold other some before);
+      }
 
 -- ---- an issue
 
@@ -243,21 +276,13 @@ module _ (v new : CommandsValue) (list : List Refused) (now : ℕ) (inst : Insta
   pub replied_service : service_of replied ≡ service_of log
   replied_service = service_push log (Replied by given number) ∙ append-nil (service_of log)
 
-  others : (r : Refused) → Contains (filter (λ x. not (is_refusal_of by x)) list) r → Contains list r × (same_command r.by by ≡ false)
-  others r c =
-      let both = among_filter (λ x. not (is_refusal_of by x)) list r (among_from _ r c) in
-      (contains_from list r both.0, false_from_ne_true _ (λ t. true≢false (sym (subst (λ b. same_command by b ≡ true) (sym (command_is r.by by t)) (same_self by)) ∙ not-true (is_refusal_of by r) both.1)))
-
-  other_command : (other : By) → is_issued by log ≡ true → is_issued other log ≡ false → same_command other by ≡ false
-  other_command other was not_yet = false_from_ne_true _ (λ t. true≢false (sym was ∙ ap (λ b. is_issued b log) (sym (command_is other by t)) ∙ not_yet))
-
   pub reply_facts : is_issued by log ≡ true → AgreesCommands new inst replied → Facts new (filter (λ x. not (is_refusal_of by x)) list) now inst replied
   reply_facts was agrees = record {
     commands = agrees;
     second = latest_push ticked inst.birth log (Replied by given number) ∙ h.second;
     alone = λ job. latest_push (child_told job) None log (Replied by given number) ∙ h.alone job;
-    refused = λ r c. let o = others r c in legal_kept inst log (Replied by given number) r.by r.fault o.1 refl (h.refused r o.0);
+    refused = λ r c. let o = left_refusal by list r c in legal_kept inst log (Replied by given number) r.by r.fault (differs r.by by o.1) refl (h.refused r o.0);
     untold = λ other some e.
         let before = unissued_before other log (Replied by given number) e in
-        untold_kept other log (Replied by given number) (other_command other was before) refl (h.untold other some before);
+        untold_kept other log (Replied by given number) (differs other by (unissued_other by other log was before)) refl (h.untold other some before);
   }

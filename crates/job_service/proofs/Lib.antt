@@ -1,6 +1,12 @@
-mod Naming
 mod Facts
+mod Owing
 mod Calls
-mod Dues
+mod Counting
+mod Landed
+mod Outgoing
+mod Issuing
+mod Turning
+mod Ticking
+mod Held
 mod Staying
 mod Tested

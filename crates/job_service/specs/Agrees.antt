@@ -1,5 +1,5 @@
 -- When a job service stands where the log of an instance leaves it.
-use Rattle.std.specs.Prelude.{◌≡◌, ℕ, ◌<◌, false, IsSome, Some, None, Contains}
+use Rattle.std.specs.Prelude.{◌≡◌, ℕ, ◌<◌, false, IsSome, Some, None, Contains, slice_index}
 use Rattle.answers.specs.Jobs.{default_priority}
 use Rattle.kvs_core.specs.Agrees.{Agrees}
 use Rattle.kvs_rules.specs.Answers.{IsLegalLog}
@@ -11,10 +11,12 @@ use Rattle.instance_rules.specs.Log.{Instance, IsInstance, Log, child_of, is_dec
 use Rattle.instance_rules.specs.Replies.{IsLegalReply}
 use Rattle.job_commands.specs.Agrees.{AgreesCommands, HasUniqueLabels}
 use Rattle.job_commands.specs.Asks.{told}
+use Rattle.job_commands.specs.Desks.{desk_of}
 use Rattle.job_commands.specs.declared.ask.JobAsk.{JobAsk}
 use Rattle.job_submissions.specs.Made.{AreLabelled}
 use Rattle.resource_set.specs.declared.node.Resources.{Resources}
 use Rattle.job_service.specs.declared.refusals.Refused.{Refused}
+use Rattle.job_service.specs.Due.{Owes}
 use Rattle.job_service.specs.Refusals.{reply_to}
 use Rattle.job_service.specs.Value.{JobServiceValue}
 
@@ -52,10 +54,15 @@ pub record AgreesJobs (v : JobServiceValue) (inst : Instance) (log : Log) : Type
   pub commands : AgreesCommands v.commands inst log
   pub second : now_of inst log ≡ v.second
   pub alone : (job : ℕ) → child_of log job ≡ None
-  pub unposted : v.manager.posted ≡ None
+  pub owes : Owes v.manager.posted v.found (desk_of v.commands inst log v.manager.book.jobs)
   pub labelled : AreLabelled v.commands.labels v.manager.book.jobs
   pub refused : (r : Refused) → Contains v.refused r → IsLegalReply inst log r.by (reply_to r.fault) None
   pub untold : (by : By) → IsSome (inst.asks by) → is_issued by log ≡ false → IsUntold by log
+
+-- another submission can be issued at the broker
+pub record HasRoom (v : JobServiceValue) (rank : ℕ) : Type 0 where
+  pub broker : slice_index v.commands.issued rank < 1000
+  pub all : v.submitted < 1000
 
 -- it stands where the log of some instance leaves it
 pub record IsAgreed (v : JobServiceValue) : Type 0 where

@@ -1,17 +1,22 @@
 -- What is due of the job manager.
-use Rattle.std.specs.Prelude.{◌≡◌, ℕ, false, Option, Some, None}
+use Rattle.std.specs.Prelude.{◌≡◌, ℕ, ◌≤◌, ◌<◌, ◌-◌, ◌*◌, ◌^◌, false, All, Contains, Option, Some, None, length}
 use Rattle.answers.specs.Jobs.{default_priority}
-use Rattle.instance_rules.specs.Legal.{OfDesk}
-use Rattle.instance_rules.specs.Log.{Instance, Log, Moment, replies_now}
+use Rattle.instance_rules.specs.Log.{Moment, replies_now}
 use Rattle.job_book.specs.Value.{BookValue, scene_of}
+use Rattle.job_commands.specs.Agrees.{AreDrawn}
 use Rattle.job_commands.specs.Desks.{asked_of}
 use Rattle.job_commands.specs.Rows.{CommandsValue}
 use Rattle.job_commands.specs.Moments.{decides_now}
+use Rattle.job_commands.specs.declared.row.Row.{Row}
+use Rattle.job_manager.specs.Follows.{Places}
+use Rattle.job_manager.specs.Managed.{WasDuePost}
 use Rattle.job_manager.specs.Posts.{command_of}
+use Rattle.job_manager.specs.Value.{ManagerValue}
+use Rattle.job_submissions.specs.Made.{IsMade, MakesNone}
 use Rattle.kvs_txn.specs.declared.txn.By.{By}
 use Rattle.manager_rules.specs.Due.{IsDue}
-use Rattle.manager_rules.specs.Posts.{Desk, IsDuePost, Post}
-use Rattle.manager_rules.specs.Scene.{Scene}
+use Rattle.manager_rules.specs.Posts.{Desk, Does, IsDuePost, Post, Submits}
+use Rattle.manager_rules.specs.Scene.{IsAsked, Scene}
 use Rattle.manager_rules.specs.declared.due.Due.{Due}
 
 -- what the manager looks at of the jobs, everyone's being given the default priority
@@ -23,13 +28,49 @@ abbrev pub IsEventDue : CommandsValue → BookValue → ℕ → Option Due → T
 IsEventDue v book now (Some due) = IsDue (scene_now v book now) due
 IsEventDue v book now None = (due : Due) → IsDue (scene_now v book now) due → ⊥
 
--- of what the manager looks at now, this is due
-abbrev pub IsDueNow : Instance → Log → Post → Type 0
-IsDueNow inst log post = OfDesk inst log (λ desk. IsDuePost desk post)
+-- what can be looked at: the second isn't far behind the birth, and the numbers of the commands are within their ranges
+pub record CanLook (v : CommandsValue) (now birth : ℕ) : Type 0 where
+  pub order : birth ≤ now
+  pub soon : 1000 * (now - birth) < 2 ^ 40
+  pub drawn : AreDrawn v
+  pub short : length v.issued ≤ 2 ^ 14
+  pub asked : All IsAsked (asked_of v)
+
+-- no submission that waits is accepted
+abbrev pub MakeNone : CommandsValue → BookValue → Type 0
+MakeNone v book = (row : Row) → Contains v.rows row → MakesNone v.labels book.jobs row
+
+-- what is due of the open commands and the book: a submission that is made now or an event, or nothing where there is none
+abbrev pub IsFound : CommandsValue → BookValue → ℕ → ℕ → Option Post → Type 0
+IsFound v book now birth (Some (Submits x)) = IsMade v book.jobs now birth x
+IsFound v book now birth (Some (Does due)) = IsDue (scene_now v book now) due
+IsFound v book now birth None = MakeNone v book × ((due : Due) → IsDue (scene_now v book now) due → ⊥)
+
+-- so where nothing is posted; else nothing is looked for
+abbrev pub IsFoundBeside : Option Post → CommandsValue → BookValue → ℕ → ℕ → Option Post → Type 0
+IsFoundBeside (Some post) v book now birth found = found ≡ None
+IsFoundBeside None v book now birth found = IsFound v book now birth found
+
+-- the submission was due at some desk, or the event is due now
+abbrev pub MayBePosted : CommandsValue → BookValue → ℕ → Post → Type 0
+MayBePosted v book now (Submits x) = WasDuePost book (Submits x)
+MayBePosted v book now (Does due) = IsDue (scene_now v book now) due
+
+-- what was found is posted, or an event that is due as well where it was an event; with the id of a job that is submitted
+abbrev pub PostsFound : CommandsValue → ℕ → ManagerValue → ManagerValue → Option ℕ → Post → Type 0
+PostsFound v now old new id (Submits x) = Places (Submits x) old new × (id ≡ Some x.id)
+PostsFound v now old new id (Does due) =
+    ((other : Due) × IsDue (scene_now v old.book now) other × Places (Does other) old new) × (id ≡ None)
 
 -- the manager has nothing to post
 abbrev pub OwesNothing : Desk → Type 0
 OwesNothing desk = (post : Post) → IsDuePost desk post → ⊥
+
+-- what is posted is due, and where nothing is posted what was found is, or nothing is
+abbrev pub Owes : Option Post → Option Post → Desk → Type 0
+Owes (Some post) found desk = IsDuePost desk post
+Owes None (Some post) desk = IsDuePost desk post
+Owes None None desk = OwesNothing desk
 
 -- the moment neither answers the command, nor does a landing or a denial name it then
 pub record IsOpenFor (by : By) (m : Moment) : Type 0 where

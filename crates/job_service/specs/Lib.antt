@@ -4,5 +4,8 @@ pub mod Agrees
 pub mod Replies
 pub mod Makes
 pub mod Due
+pub mod Posted
+pub mod Landed
 pub mod Tested
 pub mod View
+pub mod Times

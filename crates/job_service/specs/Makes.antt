@@ -1,18 +1,14 @@
 -- What a step of the service makes.
 use Rattle.std.specs.Prelude.{◌++◌, List, map}
 use Rattle.kvs_rules.specs.Sequence.{EachAfter}
-use Rattle.kvs_rules.specs.Log.{Happened}
 use Rattle.kvs_rules.specs.Steps.{AreMadeBy}
 use Rattle.kvs_rules.specs.declared.events.KvsEvent.{KvsEvent}
 use Rattle.kvs_rules.specs.declared.events.KvsStep.{KvsStep}
 use Rattle.instance_rules.specs.Legal.{IsLegalMoment}
-use Rattle.instance_rules.specs.Log.{Instance, Log, Moment, Served, service_of}
+use Rattle.instance_rules.specs.Log.{Instance, Log, service_of}
+use Rattle.job_landings.specs.Landings.{happening}
 use Rattle.job_service.specs.Agrees.{AgreesJobs}
 use Rattle.job_service.specs.Value.{JobServiceValue}
-
--- an event of the service, as a moment of the instance
-abbrev pub happening : KvsEvent → Moment
-happening e = Served (Happened e)
 
 -- the events are those that the step may make, each may follow those before it in the log of the instance, what the
 -- job manager lands being due there, and the service stands behind them

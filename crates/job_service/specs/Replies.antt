@@ -1,11 +1,15 @@
 -- What job commands are told.
-use Rattle.std.specs.Prelude.{◌≡◌, ℕ, ◌||◌, ◌++◌, [], ◌∷◌, Bool, false, Option, Some, is_some}
+use Rattle.std.specs.Prelude.{◌≡◌, ℕ, ◌||◌, ◌&&◌, ◌++◌, [], ◌∷◌, Bool, true, false, Option, Some, is_some, not}
 use Rattle.std.specs.Option.{option_map_or}
 use Rattle.answers.specs.Jobs.{job_reply_of}
 use Rattle.answers.specs.declared.chronicle.Reply.{Reply}
 use Rattle.kvs_txn.specs.declared.txn.By.{By}
 use Rattle.instance_rules.specs.Log.{Instance, JobReply, Log, Replied}
 use Rattle.instance_rules.specs.Replies.{IsLegalReply}
+use Rattle.job_commands.specs.Rows.{is_waiting}
+use Rattle.job_commands.specs.declared.ask.JobAsk.{JobAsk}
+use Rattle.job_commands.specs.declared.ask.JobAsk.TheVariants as ask
+use Rattle.job_commands.specs.declared.row.Row.{Row}
 use Rattle.job_replies.specs.Ready.{is_ready}
 use Rattle.job_service.specs.Agrees.{AgreesJobs}
 use Rattle.job_service.specs.Refusals.{fault_for, row_in}
@@ -15,9 +19,26 @@ use Rattle.job_service.specs.Value.{JobServiceValue}
 abbrev pub is_ready_in : JobServiceValue → By → Bool
 is_ready_in v by = option_map_or (is_ready v.commands.labels v.manager v.second) (row_in v.commands by) false
 
--- whether the command can be told what became of it: it was refused, or what it waits for has come
+-- whether a post carries out commands that ask so: for a job or for an event
+abbrev pub asks_manager : JobAsk → Bool
+asks_manager (ask.Submit label urgency needs text) = true
+asks_manager (ask.Cancel label) = true
+asks_manager (ask.Raise label kind severity note) = true
+asks_manager (ask.Urge label urgency) = true
+asks_manager _ = false
+
+-- whether the command waits for a post to carry it out
+abbrev pub is_undone : Row → Bool
+is_undone row = is_waiting row.stage && asks_manager row.ask
+
+-- whether what is posted may carry out the command
+abbrev pub is_kept_back : JobServiceValue → By → Bool
+is_kept_back v by = is_some v.manager.posted && option_map_or is_undone (row_in v.commands by) false
+
+-- whether the command can be told what became of it: it was refused, or what it waits for has come, and nothing that is
+-- posted may carry it out
 abbrev pub can_reply : JobServiceValue → By → Bool
-can_reply v by = is_some (fault_for v.refused by) || is_ready_in v by
+can_reply v by = not (is_kept_back v by) && (is_some (fault_for v.refused by) || is_ready_in v by)
 
 -- the command is told so, which its rules allow, and the service stands behind that
 pub record Answers (new : JobServiceValue) (inst : Instance) (log : Log) (by : By) (given : Reply) (number : Option ℕ) : Type 0 where

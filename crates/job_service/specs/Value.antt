@@ -1,11 +1,13 @@
 -- A job service as its callers see it.
-use Rattle.std.specs.Prelude.{ℕ, Bool, List}
+use Rattle.std.specs.Prelude.{ℕ, Bool, List, Option}
 use Rattle.job_commands.specs.Rows.{CommandsValue}
 use Rattle.job_manager.specs.Value.{ManagerValue}
+use Rattle.manager_rules.specs.Posts.{Post}
 use Rattle.job_service.specs.declared.refusals.Refused.{Refused}
 
--- the second of its birth and the present one, the manager with the service below it, the open job commands, and
--- submissions that are refused
+-- the second of its birth and the present one, the manager with the service below it, the open job commands,
+-- submissions that are refused, what is due and isn't posted, how many submissions were issued, and the seconds of all
+-- advances that were issued, together
 pub record JobServiceValue : Type 0 where
   pub spent : Bool
   pub birth : ℕ
@@ -13,3 +15,6 @@ pub record JobServiceValue : Type 0 where
   pub manager : ManagerValue
   pub commands : CommandsValue
   pub refused : List Refused
+  pub found : Option Post
+  pub submitted : ℕ
+  pub span : ℕ

@@ -1,7 +1,12 @@
 -- A job service's value, from its fields.
-use Rattle.std.specs.Prelude.{◌≡◌, ◌≤◌, ◌<◌, ◌-◌, ◌*◌, ◌^◌, false, length}
+use Rattle.std.specs.Prelude.{◌≡◌, ◌+◌, ◌≤◌, ◌<◌, ◌^◌, false, length, count_by, option_map}
+use Rattle.job_clock.specs.Children.{AreChildless, AskNoChild}
+use Rattle.job_clock.specs.Targets.{AreInTime}
+use Rattle.job_commands.specs.Rows.{is_submit}
+use Rattle.job_manager.specs.Posts.{post_of}
 use Rattle.job_service.specs.declared.service.JobService.TheInside.{Inside}
 use Rattle.job_service.specs.Agrees.{IsAgreed}
+use Rattle.job_service.specs.Posted.{IsAlone, IsNamed, id_posted}
 use Rattle.job_service.specs.Value.{JobServiceValue}
 
 abbrev pub value_of : Inside → JobServiceValue
@@ -12,6 +17,9 @@ value_of s = record {
   manager = s.manager;
   commands = s.commands;
   refused = s.refused.items;
+  found = option_map post_of s.found;
+  submitted = s.submitted;
+  span = s.span;
 }
 
 -- what the code rests on
@@ -20,8 +28,22 @@ pub record IsFit (v : JobServiceValue) : Type 0 where
   pub size : length v.commands.issued ≡ v.manager.core.size
   pub few : v.manager.core.size ≤ 32
   pub order : v.birth ≤ v.second
-  pub soon : 1000 * (v.second - v.birth) < 2 ^ 40
+  pub early : v.birth + 1000000000 < 2 ^ 64
+  pub timed : AreInTime v.commands v.birth v.second v.span
+  pub near : v.span ≤ 1000000000
+  pub alone : IsAlone v.manager.posted v.found
+  pub posted : IsNamed v.commands v.manager.posted
+  pub named : IsNamed v.commands v.found
+  pub counted : length v.manager.book.jobs + count_by is_submit v.commands.rows ≤ v.submitted
+  pub bounded : v.submitted ≤ 1000
+  pub childless : AreChildless v.manager.book.jobs
+  pub asking : AskNoChild v.commands
   pub agreed : IsAgreed v
 
+-- and it knows the id of the job that is posted
+pub record IsHeld (s : Inside) : Type 0 where
+  pub fit : IsFit (value_of s)
+  pub submits : s.submitting ≡ id_posted s.manager.posted
+
 abbrev pub IsFitInside : Inside → Type 0
-IsFitInside s = s.spent ≡ false → IsFit (value_of s)
+IsFitInside s = s.spent ≡ false → IsHeld s

@@ -1,18 +1,20 @@
 //! What is due of the job manager.
-ghost use Rattle.std.specs.Prelude.{◌≡◌, All, IfOk, option_map};
+ghost use Rattle.std.specs.Prelude.{◌≡◌, All, IfOk, false, option_map};
 ghost use Rattle.std.specs.Fn.{FnReturnsAt};
 ghost use Rattle.answers.specs.Jobs.{default_priority};
 ghost use Rattle.job_book.specs.Contract.{SaysAs};
 ghost use Rattle.job_commands.specs.Desks.{asked_of};
+ghost use Rattle.job_manager.specs.Posts.{post_of};
 ghost use Rattle.manager_rules.specs.Scene.{IsAsked};
 ghost use Rattle.tap.specs.Priorities.{AnswersOnce};
-ghost use Rattle.job_service.specs.Due.{IsEventDue};
+ghost use Rattle.job_service.specs.Due.{CanLook, IsEventDue, IsFound, IsFoundBeside};
 
 use job_book::Book;
 use job_commands::Commands;
-use job_manager::Post;
+use job_manager::{Manager, Post};
+use job_submissions::submission;
 use manager_rules::Due;
-use std::alloc::AllocError;
+use std::alloc::{AllocError, Global};
 use tap::{Ask, Tap};
 
 /// An event that is due at this second, if one is, where the tap gives everyone's job the default priority.
@@ -40,4 +42,44 @@ pub fn as_post(event: Option<Due>) -> Option<Post>
         Some(due) => Some(Post::Does(due)),
         None => None,
     }
+}
+
+/// What is due at this second of an instance that was born at another, if anything is: the first submission that is
+/// accepted, and else an event.
+pub fn find(
+    alloc: Global,
+    commands: &Commands,
+    book: &Book,
+    now: u64,
+    birth: u64,
+) -> Result<Option<Post>, AllocError>
+    requires { CanLook commands.now now birth }
+    ensures { IfOk result (λ found. IsFound commands.now book.now now birth
+        (option_map post_of found)) }
+{
+    let found = submission(alloc, commands, book, now, birth)?;
+    if let Some(x) = found {
+        return Ok(Some(Post::Submits(x)));
+    }
+    let tap = Tap::new(|_: &Ask| 16);
+    let event = event_due(commands, book, now, &tap)?;
+    Ok(as_post(event))
+}
+
+/// What is due now, where nothing waits to land.
+pub fn look(
+    alloc: Global,
+    commands: &Commands,
+    manager: &Manager,
+    now: u64,
+    birth: u64,
+) -> Result<Option<Post>, AllocError>
+    requires { CanLook commands.now now birth }
+    ensures { IfOk result (λ found. IsFoundBeside manager.now.posted commands.now manager.now.book
+        now birth (option_map post_of found)) }
+{
+    if manager.is_waiting() {
+        return Ok(None);
+    }
+    find(alloc, commands, manager.book(), now, birth)
 }

@@ -1,13 +1,18 @@
 //! The jobs of one instance over its job manager: its job commands, their replies and its time (Flux RFC 14, 16, 21 and 25).
 #![tactic(auto)]
 
+mod children;
 mod due;
+mod landing;
 pub mod laws;
+mod posting;
 mod refusals;
 mod service;
 #[cfg(test)]
 mod tests;
+mod time;
 
+pub use children::asks_no_child;
 pub use laws::what_waits_stays_due;
 pub use refusals::Refused;
 pub use service::JobService;

@@ -3,11 +3,12 @@ ghost use Rattle.std.specs.Prelude.{◌≡◌, ◌++◌, Some, IfOk, OnOk, filte
 ghost use Rattle.answers.specs.Jobs.{job_reply_of};
 ghost use Rattle.job_service.specs.Refusals.{IsFaultOf, fault_for, is_refusal_of, refusals_of, reply_to, row_in};
 ghost use Rattle.job_commands.specs.Rows.{is_of};
+ghost use Rattle.job_service.specs.Replies.{asks_manager, is_undone};
 ghost use Rattle.std.specs.Option.{option_copied};
 
 use answers::Reply;
 use job_book::Book;
-use job_commands::{Commands, JobAsk, Row};
+use job_commands::{Commands, JobAsk, Row, Stage};
 use job_submissions::{Fault, fault_of};
 use kvs_txn::By;
 use std::alloc::{AllocError, Global};
@@ -77,6 +78,23 @@ pub fn reply_of(fault: Fault) -> Reply
         Fault::BadSpec(number) => Reply::BadSpec(number),
         Fault::NoJob => Reply::NoJob,
     }
+}
+
+/// Whether a post carries out commands that ask so: for a job or for an event.
+fn asks_manager(ask: &JobAsk) -> bool
+    ensures { result ≡ asks_manager ask.now }
+{
+    matches!(
+        ask,
+        JobAsk::Submit { .. } | JobAsk::Cancel { .. } | JobAsk::Raise { .. } | JobAsk::Urge { .. }
+    )
+}
+
+/// Whether a command waits for a post to carry it out.
+pub fn is_undone(row: &Row) -> bool
+    ensures { result ≡ is_undone row.now }
+{
+    matches!(row.stage, Stage::Waits) && asks_manager(&row.ask)
 }
 
 /// Whether a row is of a command.

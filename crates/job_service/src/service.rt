@@ -1,7 +1,8 @@
 //! The jobs of an instance.
-ghost use Rattle.std.specs.Prelude.{◌≡◌, ◌<◌, ◌≤◌, ◌++◌, ◌∷◌, [], true, false, ℕ, Some, IsTrue, slice_index, IfNone, IfOk, IfSome, OnErr, OnOk};
+ghost use Rattle.std.specs.Prelude.{◌≡◌, ◌<◌, ◌≤◌, ◌+◌, ◌^◌, ◌++◌, ◌∷◌, [], true, false, ◌||◌, ℕ, Some, IsTrue, is_some, None, All, IfNone, IfOk, IfSome, OnErr, OnOk};
 ghost use Rattle.instance_rules.specs.Desks.{is_submission};
-ghost use Rattle.instance_rules.specs.Log.{Instance, Issued, Log, Served};
+ghost use Rattle.instance_rules.specs.Family.{IsTarget, Living, MayTick};
+ghost use Rattle.instance_rules.specs.Log.{Instance, Issued, Log, Served, Ticked, now_of};
 ghost use Rattle.instance_rules.specs.Legal.{IsLegalMoment, OfDesk};
 ghost use Rattle.job_commands.specs.Asks.{told};
 ghost use Rattle.job_replies.specs.Told.{MayTell};
@@ -10,18 +11,30 @@ ghost use Rattle.kvs_requests.specs.Rows.{IsKnownAsk};
 ghost use Rattle.kvs_rules.specs.Log.{Asked as AskedAt, Happened};
 ghost use Rattle.kvs_rules.specs.declared.events.KvsEvent.TheVariants as event;
 ghost use Rattle.resource_set.specs.Valid.{IsR};
-ghost use Rattle.job_service.specs.Agrees.{AgreesJobs, IsNewAsk, IsNewCommand, IsServedBy, MayAsk, MayIssue};
-ghost use Rattle.job_manager.specs.Posts.{post_of};
-ghost use Rattle.job_service.specs.Due.{IsDueNow, OwesNothing};
+ghost use Rattle.job_service.specs.Agrees.{AgreesJobs, HasRoom, IsNewAsk, IsNewCommand, IsServedBy, MayAsk, MayIssue};
 ghost use Rattle.job_service.specs.Makes.{Makes};
-ghost use Rattle.job_service.specs.Replies.{Answers, can_reply, is_ready_in};
+ghost use Rattle.job_clock.specs.Children.{AsksNoChild};
+ghost use Rattle.job_clock.specs.Standing.{IsTop};
+ghost use Rattle.job_clock.specs.Targets.{targets_of};
+ghost use Rattle.kvs_txn.specs.declared.txn.By.{By as Command};
+ghost use Rattle.manager_rules.specs.Times.{IsIdle};
+ghost use Rattle.job_service.specs.Times.{HasTime, IsTimeUp, MayGoTo};
+ghost use Rattle.job_service.specs.Replies.{Answers, can_reply, is_kept_back, is_ready_in};
 
-use crate::due::{as_post, event_due};
-use crate::refusals::{Refused, fault_in, forget, refusal_of, remember, reply_of, row_of};
-use job_commands::{Commands, JobAsk, the_desk_is_this};
+use crate::due::look;
+use crate::landing::{command_posted, land};
+use crate::laws::what_waits_stays_due;
+use crate::posting::post;
+use crate::refusals::{
+    Refused, fault_in, forget, is_undone, refusal_of, remember, reply_of, row_of,
+};
+use crate::time::{is_within, seconds_asked};
+use job_clock::next_tick;
+use job_commands::{Commands, JobAsk};
+use job_landings::{number_of_post, what_is_posted_lands_as_it_is_due};
 use job_manager::{Manager, Post};
 use job_replies::{Told, is_ready, tell};
-use job_submissions::{submission, what_is_lacking_is_so_by_the_log, what_is_made_is_due};
+use job_submissions::{what_is_lacking_is_so_by_the_log, what_is_made_is_due};
 use kvs_core::laws::users_land_where_nothing_is_posted;
 use kvs_core::{Core, CoreFault, Held, KvsEvents, Setting};
 use kvs_rules::{KvsAsk, KvsStep};
@@ -30,7 +43,6 @@ use lists::Bytes;
 use resource_set::Resources;
 use std::alloc::{AllocError, Global};
 use std::marker::Model;
-use tap::{Ask, Tap};
 
 /// The jobs of one instance: its job manager over the key-value service, its open job commands, and the time.
 #[derive(Drop)]
@@ -44,6 +56,14 @@ pub struct JobService {
     manager: Manager,
     commands: Commands,
     refused: Vec<Refused>,
+    /// What is due and isn't posted, where nothing is posted.
+    found: Option<Post>,
+    /// The id of the job that is submitted, where a submission is posted.
+    submitting: Option<u64>,
+    /// How many submissions were issued.
+    submitted: u64,
+    /// The seconds of all advances that were issued, together.
+    span: u64,
 }
 
 impl Model for JobService {
@@ -59,7 +79,8 @@ impl Model for JobService {
 }
 
 impl JobService {
-    /// The service of an instance that is born at this second with a grant, before anything has happened.
+    /// The service of an instance that is born at this second with a grant, before anything has happened. Time goes on from
+    /// there by at most 1,000,000,000 seconds.
     pub fn new(
         alloc: Global,
         setting: Setting,
@@ -69,6 +90,7 @@ impl JobService {
         requires size { (1 ≤ setting.size) × (setting.size ≤ 32) }
         requires fanout { (1 ≤ setting.fanout) × (setting.fanout ≤ 32) }
         requires grant { IsR grant.now }
+        requires early { birth + 1000000000 < 2 ^ 64 }
         ensures ready { IfOk result (λ v. v.spent ≡ false) }
         ensures size { IfOk result (λ v. v.manager.core.size ≡ setting.size) }
         ensures agrees { IfOk result (λ v. (inst : Instance)
@@ -85,6 +107,10 @@ impl JobService {
             manager,
             commands,
             refused: Vec::new(alloc),
+            found: None,
+            submitting: None,
+            submitted: 0,
+            span: 0,
         })
     }
 
@@ -140,7 +166,8 @@ impl JobService {
         self.manager.take(by)
     }
 
-    /// Makes a step of the key-value service, and gives what happened. After an error the service is spent.
+    /// Makes a step of the key-value service, and gives what happened. Where the post lands, its command is carried out, and
+    /// what is due next is looked for. After an error the service is spent.
     pub fn turn(&mut self, step: KvsStep) -> Result<KvsEvents, CoreFault>
         requires ready { self.old.spent ≡ false }
         requires can { can_step self.old.manager.core step ≡ true }
@@ -150,43 +177,75 @@ impl JobService {
         ensures spent { OnErr result (self.new.spent ≡ true) }
     {
         self.spent = true;
-        // nothing is posted, so what lands is users'
+        self.manager.keeps();
+        self.manager.core().standing();
         users_land_where_nothing_is_posted();
+        what_is_posted_lands_as_it_is_due();
+        what_is_made_is_due();
         let events = self.manager.turn(step)?;
+        let Some(number) = number_of_post(&events) else {
+            self.spent = false;
+            return Ok(events);
+        };
+        self.manager.book().keeps();
+        let by = command_posted(&events);
+        land(
+            &mut self.commands,
+            &mut self.refused,
+            by,
+            self.submitting.take(),
+            number,
+        )?;
+        self.found = look(
+            self.alloc,
+            &self.commands,
+            &self.manager,
+            self.second,
+            self.birth,
+        )?;
         self.spent = false;
         Ok(events)
     }
 
-    /// What is due of the job manager now, if anything is: the first submission that is accepted, and else an event.
-    pub fn due(&self) -> Result<Option<Post>, AllocError>
-        requires { self.now.spent ≡ false }
-        ensures some { IfOk result (λ found. IfSome found (λ post. (inst : Instance) (log : Log)
-            → AgreesJobs self.now inst log → IsDueNow inst log (post_of post))) }
-        ensures none { IfOk result (λ found. IfNone found ((inst : Instance) (log : Log)
-            → AgreesJobs self.now inst log → OfDesk inst log OwesNothing)) }
+    /// Whether something was found that is due, to be posted.
+    pub fn can_post(&self) -> bool
+        ensures { result ≡ is_some self.now.found }
     {
-        self.manager.keeps();
-        self.manager.core().standing();
-        the_desk_is_this();
-        what_is_made_is_due();
-        let book = self.manager.book();
-        book.keeps();
-        let found = submission(self.alloc, &self.commands, book, self.second, self.birth)?;
-        if let Some(x) = found {
-            return Ok(Some(Post::Submits(x)));
-        }
-        let tap = Tap::new(|_: &Ask| 16);
-        let event = event_due(&self.commands, book, self.second, &tap)?;
-        Ok(as_post(event))
+        self.found.is_some()
     }
 
-    /// Issues a job command at its broker. A submission is looked at once, here: where it is refused, it can be told so at
-    /// once. After an error the service is spent.
+    /// Posts what was found to be due, which then waits in the key-value service to land. Where that is an event, one that is
+    /// due is looked for again. After an error the service is spent.
+    pub fn post(&mut self) -> Result<(), CoreFault>
+        requires ready { self.old.spent ≡ false }
+        requires can { is_some self.old.found ≡ true }
+        ensures ready { OnOk result (self.new.spent ≡ false) }
+        ensures size { OnOk result (self.new.manager.core.size ≡ self.old.manager.core.size) }
+        ensures spent { OnErr result (self.new.spent ≡ true) }
+        ensures posted { OnOk result (is_some self.new.manager.posted ≡ true) }
+        ensures unfound { OnOk result (self.new.found ≡ None) }
+        ensures agrees { OnOk result ((inst : Instance) (log : Log) → AgreesJobs self.old inst log
+            → AgreesJobs self.new inst log) }
+    {
+        self.spent = true;
+        self.manager.keeps();
+        let Some(found) = self.found.take() else {
+            unreachable!()
+        };
+        self.submitting = post(&mut self.manager, &self.commands, self.second, found)?;
+        self.spent = false;
+        Ok(())
+    }
+
+    /// Issues a job command at its broker. A submission is looked at once, here: where it is refused, it can be told so from
+    /// then on. Its text tells no job whose command begins an instance (Flux RFC 14), and all advances together let time go on
+    /// by no more than 1,000,000,000 seconds. After an error the service is spent.
     pub fn issue(&mut self, by: By, rank: u32, ask: JobAsk) -> Result<(), AllocError>
         requires ready { self.old.spent ≡ false }
         requires may { MayIssue self.old by rank ask }
-        requires few { is_submission (Some (told ask)) ≡ true
-            → slice_index self.old.commands.issued rank < 1000 }
+        requires room { is_submission (Some (told ask)) ≡ true → HasRoom self.old rank }
+        requires time { HasTime self.old ask }
+        requires childless { AsksNoChild ask }
         ensures ready { OnOk result (self.new.spent ≡ false) }
         ensures size { OnOk result (self.new.manager.core.size ≡ self.old.manager.core.size) }
         ensures spent { OnErr result (self.new.spent ≡ true) }
@@ -197,31 +256,140 @@ impl JobService {
         self.spent = true;
         self.manager.keeps();
         self.manager.core().standing();
+        self.manager.book().keeps();
         what_is_lacking_is_so_by_the_log();
+        what_waits_stays_due();
+        what_is_made_is_due();
         let fault = fault_in(self.alloc, &self.commands, self.manager.book(), &ask)?;
+        self.submitted += u64::from(ask.is_submit());
+        self.span += seconds_asked(&ask);
         self.commands.issue(by, rank, self.second, ask)?;
         remember(&mut self.refused, by, fault)?;
+        self.found = look(
+            self.alloc,
+            &self.commands,
+            &self.manager,
+            self.second,
+            self.birth,
+        )?;
         self.spent = false;
         Ok(())
     }
 
     /// Whether another submission can be issued at a broker.
     pub fn has_room(&self, rank: u32) -> bool
-        ensures { IsTrue result → slice_index self.now.commands.issued rank < 1000 }
+        ensures { IsTrue result → HasRoom self.now rank }
     {
-        self.commands.issued(rank) < 1000
+        self.commands.issued(rank) < 1000 && self.submitted < 1000
     }
 
-    /// Whether an open job command can be told what became of it. This takes no memory.
+    /// Whether an advance by so many seconds can be issued.
+    pub fn has_time(&self, seconds: u64) -> bool
+        ensures { IsTrue result → self.now.span + seconds ≤ 1000000000 }
+    {
+        is_within(self.span, seconds)
+    }
+
+    /// Whether what is posted may carry out the command.
+    fn is_kept_back(&self, by: By) -> bool
+        ensures { result ≡ is_kept_back self.now by }
+    {
+        self.manager.is_waiting()
+            && match row_of(&self.commands, by) {
+                Some(row) => is_undone(row),
+                None => false,
+            }
+    }
+
+    /// Whether something is posted or due.
+    fn is_busy(&self) -> bool
+        ensures { result ≡ (is_some self.now.manager.posted || is_some self.now.found) }
+    {
+        self.manager.is_waiting() || self.found.is_some()
+    }
+
+    /// The second to which time goes next, if it goes on: nothing is posted or due, and an open advance waits for a later
+    /// second. This takes no memory.
+    pub fn next_second(&self) -> Option<u64>
+        requires { self.now.spent ≡ false }
+        ensures some { IfSome result (MayGoTo self.now) }
+        ensures none { IfNone result (IsTimeUp self.now) }
+    {
+        if self.is_busy() {
+            return None;
+        }
+        next_tick(&self.commands, self.manager.book(), self.second)
+    }
+
+    /// Lets time go on to this second. After an error the service is spent.
+    pub fn tick(&mut self, second: u64) -> Result<(), AllocError>
+        requires ready { self.old.spent ≡ false }
+        requires may { MayGoTo self.old second }
+        ensures ready { OnOk result (self.new.spent ≡ false) }
+        ensures size { OnOk result (self.new.manager.core.size ≡ self.old.manager.core.size) }
+        ensures second { OnOk result (self.new.second ≡ second) }
+        ensures spent { OnErr result (self.new.spent ≡ true) }
+        ensures legal { OnOk result ((inst : Instance) (log : Log) → AgreesJobs self.old inst log
+            → IsLegalMoment inst log (Ticked second)) }
+        ensures may { OnOk result ((inst : Instance) (log : Log) (l : Living)
+            → AgreesJobs self.old inst log → IsTop inst log l
+            → MayTick (l ∷ []) (now_of inst log) [] second) }
+        ensures agrees { OnOk result ((inst : Instance) (log : Log) → AgreesJobs self.old inst log
+            → AgreesJobs self.new inst (log ++ Ticked second ∷ [])) }
+    {
+        self.spent = true;
+        self.manager.keeps();
+        self.manager.core().standing();
+        self.manager.book().keeps();
+        what_is_made_is_due();
+        self.second = second;
+        self.found = look(
+            self.alloc,
+            &self.commands,
+            &self.manager,
+            second,
+            self.birth,
+        )?;
+        self.spent = false;
+        Ok(())
+    }
+
+    /// Where nothing is posted or due, no command can be told and time doesn't go on, nothing is due by the log of the instance
+    /// and none of its advances is left.
+    pub fn still(&self)
+        requires ready { self.now.spent ≡ false }
+        requires unposted { self.now.manager.posted ≡ None }
+        requires unfound { self.now.found ≡ None }
+        requires late { All (λ target. target ≤ self.now.second) (targets_of self.now.commands) }
+        requires untold { (by : Command) → can_reply self.now by ≡ false }
+        ensures idle { (inst : Instance) (log : Log) → AgreesJobs self.now inst log
+            → OfDesk inst log IsIdle }
+        ensures advanced { (inst : Instance) (log : Log) (l : Living) → AgreesJobs self.now inst log
+            → IsTop inst log l → (target : ℕ) → IsTarget (l ∷ []) [] target → ⊥ }
+    {
+        self.manager.keeps();
+        self.manager.core().standing();
+    }
+
+    /// Whether an open job command can be told what became of it. While something is posted, no command is told that waits for
+    /// a job or an event: the post may be what carries it out. This takes no memory.
     pub fn can_reply(&self, by: By) -> bool
         requires { self.now.spent ≡ false }
         ensures { result ≡ can_reply self.now by }
     {
-        refusal_of(self.refused.as_slice(), by).is_some()
-            || match row_of(&self.commands, by) {
-                Some(row) => is_ready(&self.commands, &self.manager, self.second, row),
-                None => false,
-            }
+        !self.is_kept_back(by)
+            && (refusal_of(self.refused.as_slice(), by).is_some() || self.is_ready(by))
+    }
+
+    /// Whether what an open command waits for has come.
+    fn is_ready(&self, by: By) -> bool
+        requires { self.now.spent ≡ false }
+        ensures { result ≡ is_ready_in self.now by }
+    {
+        match row_of(&self.commands, by) {
+            Some(row) => is_ready(&self.commands, &self.manager, self.second, row),
+            None => false,
+        }
     }
 
     /// What an open job command is told for which what it waits for has come.
@@ -271,8 +439,21 @@ impl JobService {
                 return Err(error);
             }
         };
+        self.spent = true;
+        self.manager.keeps();
+        self.manager.book().keeps();
+        what_waits_stays_due();
+        what_is_made_is_due();
         self.commands.reply(by);
         forget(&mut self.refused, by);
+        self.found = look(
+            self.alloc,
+            &self.commands,
+            &self.manager,
+            self.second,
+            self.birth,
+        )?;
+        self.spent = false;
         Ok(told)
     }
 }

@@ -1,10 +1,13 @@
 //! What the first command of an instance is told at once, if it is told.
-ghost use Rattle.std.specs.Prelude.{◌≡◌, false, IfOk};
-ghost use Rattle.instance_rules.specs.Log.{IsInRange};
+ghost use Rattle.std.specs.Prelude.{◌≡◌, ◌++◌, ◌∷◌, [], false, true, IfOk, IfSome, IsTrue, OnOk};
+ghost use Rattle.instance_rules.specs.Log.{Instance, IsInRange, Issued, Log};
 ghost use Rattle.job_commands.specs.Asks.{told};
+ghost use Rattle.job_service.specs.Agrees.{AgreesJobs, IsNewCommand, MayIssue};
+ghost use Rattle.job_service.specs.Replies.{can_reply};
 ghost use Rattle.job_service.specs.Tested.{IsBegun};
+ghost use Rattle.job_service.specs.Times.{HasTime};
 
-use crate::JobService;
+use crate::{JobService, asks_no_child};
 use answers::Reply;
 use fl_digest::Hash;
 use job_book::Book;
@@ -94,64 +97,199 @@ fn begun(alloc: Global) -> Result<JobService, Fail>
     Ok(service)
 }
 
+/// The first command, and the second one.
+const FIRST: By = By {
+    actor: 0,
+    command: 0,
+};
+
+const SECOND: By = By {
+    actor: 0,
+    command: 1,
+};
+
 /// The words for a reply.
 fn words_of(alloc: Global, reply: &Reply) -> Result<String, Fail> {
     Ok(match reply {
         Reply::NoJob => format!(in alloc; "no job")?,
         Reply::BadSpec(number) => format!(in alloc; "bad jobspec {number}")?,
         Reply::Jobs(jobs) => format!(in alloc; "{} jobs", jobs.as_slice().len())?,
+        Reply::Submitted(id) => format!(in alloc; "submitted {id}")?,
+        Reply::Advanced { second } => format!(in alloc; "advanced {second}")?,
         _ => format!(in alloc; "other")?,
     })
 }
 
-/// The instance once its first command is issued.
-fn issued(mut service: JobService, ask: JobAsk) -> Result<JobService, Fail>
-    requires begun { IsBegun service }
-    requires range { IsInRange (told ask) }
-    ensures ready { IfOk result (λ v. v.spent ≡ false) }
+/// Whether all advances together leave time for the command.
+fn has_time(service: &JobService, ask: &JobAsk) -> bool
+    ensures { IsTrue result → HasTime service.now ask.now }
 {
-    if !service.has_room(0) {
+    match ask {
+        JobAsk::Advance { seconds } => service.has_time(*seconds),
+        _ => true,
+    }
+}
+
+/// Issues a command at the one broker.
+fn issue(alloc: Global, service: &mut JobService, by: By, ask: JobAsk) -> Result<(), Fail>
+    requires ready { service.old.spent ≡ false }
+    requires may { MayIssue service.old by 0 ask }
+    ensures ready { OnOk result (service.new.spent ≡ false) }
+    ensures agrees { OnOk result ((inst : Instance) (log : Log) → AgreesJobs service.old inst log
+        → IsNewCommand inst log by 0 ask → AgreesJobs service.new inst (log ++ Issued by ∷ [])) }
+{
+    if !asks_no_child(alloc, &ask)? {
+        return Err("a child".into());
+    }
+    if !service.has_room(0) || !has_time(service, &ask) {
         return Err("no room".into());
     }
-    let by = By {
-        actor: 0,
-        command: 0,
-    };
     service.issue(by, 0, ask)?;
-    Ok(service)
+    Ok(())
 }
 
-/// Whether something is due where the first command waits.
-fn waits(alloc: Global, service: &JobService) -> Result<String, Fail>
-    requires { service.now.spent ≡ false }
+/// What the first command is told at once, or that it waits.
+fn told_of(alloc: Global, service: &mut JobService) -> Result<String, Fail>
+    requires { service.old.spent ≡ false }
 {
-    let due = service.due()?;
-    Ok(if due.is_some() {
-        format!(in alloc; "waits, and something is due")?
-    } else {
-        format!(in alloc; "waits, and nothing is due")?
-    })
-}
-
-/// What the first command of an instance is told at once, or that it waits.
-fn told_of(alloc: Global, mut service: JobService) -> Result<String, Fail>
-    requires { service.spent ≡ false }
-{
-    let by = By {
-        actor: 0,
-        command: 0,
-    };
-    if !service.can_reply(by) {
-        return waits(alloc, &service);
+    if service.can_post() {
+        return Ok(format!(in alloc; "waits, and something is due")?);
     }
-    let told = service.reply(by)?;
+    if !service.can_reply(FIRST) {
+        return Ok(format!(in alloc; "waits, and nothing is due")?);
+    }
+    let told = service.reply(FIRST)?;
     words_of(alloc, &told.reply)
+}
+
+/// What the first command of an instance is told at once.
+fn told_at(alloc: Global, service: &mut JobService, ask: JobAsk) -> Result<String, Fail>
+    requires begun { IsBegun service.old }
+    requires range { IsInRange (told ask) }
+{
+    issue(alloc, service, FIRST, ask)?;
+    told_of(alloc, service)
 }
 
 /// What the command of these words is told.
 fn told(alloc: Global, words: &str) -> Result<String, Fail> {
     let ask = asked(alloc, words)?;
-    let service = begun(alloc)?;
-    let service = issued(service, ask)?;
-    told_of(alloc, service)
+    let mut service = begun(alloc)?;
+    told_at(alloc, &mut service, ask)
+}
+
+/// The first of the two commands that can be told what became of it.
+fn next_told(service: &JobService) -> Option<By>
+    requires { service.now.spent ≡ false }
+    ensures { IfSome result (λ by. can_reply service.now by ≡ true) }
+{
+    if service.can_reply(FIRST) {
+        return Some(FIRST);
+    }
+    if service.can_reply(SECOND) {
+        return Some(SECOND);
+    }
+    None
+}
+
+/// Makes a step of the service, if one can be made.
+fn turn(service: &mut JobService) -> Result<bool, Fail>
+    requires { service.old.spent ≡ false }
+    ensures { OnOk result (service.new.spent ≡ false) }
+{
+    let Some(step) = service.core().next() else {
+        return Ok(false);
+    };
+    service.turn(step)?;
+    Ok(true)
+}
+
+/// Posts what is due, if anything is.
+fn post(service: &mut JobService) -> Result<bool, Fail>
+    requires { service.old.spent ≡ false }
+    ensures { OnOk result (service.new.spent ≡ false) }
+{
+    if !service.can_post() {
+        return Ok(false);
+    }
+    service.post()?;
+    Ok(true)
+}
+
+/// Tells a command what became of it, if one can be told.
+fn tell(alloc: Global, service: &mut JobService, told: &mut String) -> Result<bool, Fail>
+    requires { service.old.spent ≡ false }
+    ensures { OnOk result (service.new.spent ≡ false) }
+{
+    let Some(by) = next_told(service) else {
+        return Ok(false);
+    };
+    let given = service.reply(by)?;
+    let words = words_of(alloc, &given.reply)?;
+    told.push_str(words.as_str())?;
+    told.push_str("; ")?;
+    Ok(true)
+}
+
+/// Lets time go on, if it does.
+fn tick(service: &mut JobService) -> Result<(), Fail>
+    requires { service.old.spent ≡ false }
+    ensures { OnOk result (service.new.spent ≡ false) }
+{
+    if let Some(second) = service.next_second() {
+        service.tick(second)?;
+    }
+    Ok(())
+}
+
+/// Does what can be done first: a step of the service, a post, a reply, or a tick.
+fn act(alloc: Global, service: &mut JobService, told: &mut String) -> Result<(), Fail>
+    requires { service.old.spent ≡ false }
+    ensures { OnOk result (service.new.spent ≡ false) }
+{
+    if turn(service)? {
+        return Ok(());
+    }
+    if post(service)? {
+        return Ok(());
+    }
+    if tell(alloc, service, told)? {
+        return Ok(());
+    }
+    tick(service)
+}
+
+/// What is told, in order, until nothing can be done.
+fn all_told(alloc: Global, service: &mut JobService) -> Result<String, Fail>
+    requires { service.old.spent ≡ false }
+{
+    let mut told = String::new(alloc);
+    for _ in 0..200 {
+        act(alloc, service, &mut told)?;
+    }
+    Ok(told)
+}
+
+/// What is told once a command and an advance are issued.
+fn both_told(alloc: Global, service: &mut JobService, submit: JobAsk) -> Result<String, Fail>
+    requires begun { IsBegun service.old }
+    requires range { IsInRange (told submit) }
+{
+    issue(alloc, service, FIRST, submit)?;
+    issue(alloc, service, SECOND, JobAsk::Advance { seconds: 2 })?;
+    all_told(alloc, service)
+}
+
+/// What is told of a job and an advance.
+fn run_told(alloc: Global) -> Result<String, Fail> {
+    let submit = submission(alloc, SPEC, false)?;
+    let mut service = begun(alloc)?;
+    both_told(alloc, &mut service, submit)
+}
+
+#[test]
+fn an_instance_runs_a_job_and_goes_on_in_time(rt: HostRuntime) -> Result<(), Fail> {
+    let told = run_told(rt.alloc())?;
+    assert_eq!(rt; told.as_str(), "submitted 0; advanced 7; ");
+    Ok(())
 }

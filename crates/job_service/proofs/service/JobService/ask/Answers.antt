@@ -1,16 +1,18 @@
-use Rattle.std.proofs.Common.{◌∙◌, ◌++◌, [], ◌∷◌, false, refl, sym, ap, subst}
+use Rattle.std.proofs.Common.{◌∙◌, ◌++◌, [], ◌∷◌, false, sym, ap, subst}
 use Rattle.kvs_rules.specs.Log.{Asked}
 use Rattle.instance_rules.specs.Log.{Served, service_of}
 use Rattle.job_service.specs.Agrees.{AgreesJobs, MayAsk}
 use Rattle.job_service.specs.View.{value_of}
-use Rattle.job_service.proofs.Calls.{asked_agrees, fit}
+use Rattle.job_service.proofs.Calls.{asked_agrees}
+use Rattle.job_service.proofs.Held.{held_still}
 use Rattle.job_service.proofs.service.JobService.ask.Goals as goal
 
 pub invariant_of-self-2 : goal.invariant_of-self-2
 invariant_of-self-2 c = λ _.
-    let i = c.self.invariant (ap (λ v. v.spent) c.self.view_is ∙ c.requires.ready) in
+    let held = c.self.invariant (ap (λ v. v.spent) c.self.view_is ∙ c.requires.ready) in
     let m = subst (λ v. MayAsk v c.args.by c.args.broker c.args.namespace c.args.ask) (sym c.self.view_is) c.requires.may in
-    fit (value_of c.self.inside) i false c.ask.new.self c.self.inside.commands c.self.inside.refused.items c.in_ok-ask.ensures.ready c.in_ok-ask.ensures.keeps.size refl
+    let keeps = c.in_ok-ask.ensures.keeps in
+    held_still c.self.inside held false c.ask.new.self c.in_ok-ask.ensures.ready keeps.size keeps.book keeps.posted
     (record {
       inst = m.inst;
       log = m.log ++ Served (Asked c.args.by c.args.floor) ∷ [];

@@ -1,25 +1,38 @@
-use Rattle.std.proofs.Common.{◌∙◌, [], false, ◌≤◌, sym, subst, arith}
+use Rattle.std.proofs.Common.{◌≡◌, ◌∙◌, [], false, None, ◌≤◌, refl, sym, subst, arith}
 use Rattle.job_rules.specs.Fits.{IsGrant}
 use Rattle.job_service.specs.Agrees.{AgreesJobs, IsAgreed}
+use Rattle.job_service.specs.Posted.{IsAlone, IsNamed, id_posted}
 use Rattle.job_service.specs.Value.{JobServiceValue}
-use Rattle.job_service.proofs.Calls.{begun_agreed, begun_agrees}
+use Rattle.job_service.proofs.Calls.{begun_agreed, begun_agrees, begun_asking, begun_childless, begun_count, begun_timed}
 use Rattle.job_service.proofs.service.JobService.new.Goals as goal
 
 pub invariant_of-result : goal.invariant_of-result
 invariant_of-result c = λ _.
     let m = c.in_ok-manager.ensures in
     record {
-      ready = m.ready;
-      size = c.in_ok-commands.ensures.size ∙ sym m.size;
-      few = subst (λ n. n ≤ 32) (sym m.size) c.requires.size.1;
-      order = omega arith;
-      soon = omega arith;
-      agreed = subst (λ l. IsAgreed (let v : JobServiceValue = record { spent = false; birth = c.args.birth; second = c.args.birth; manager = c.in_ok-manager.manager; commands = c.in_ok-commands.commands; refused = l } in v)) (sym c.new-3.ensures.items) (begun_agreed false c.args.birth c.args.setting.size c.args.setting.fanout c.args.grant.now c.in_ok-manager.manager c.in_ok-commands.commands m.book m.posted c.in_ok-commands.ensures.agrees m.agrees
-          (subst (λ b. IsGrant b.grant.nodes) (c.book.ensures ∙ m.book) c.keeps.ensures.sets));
+      fit = record {
+        ready = m.ready;
+        size = c.in_ok-commands.ensures.size ∙ sym m.size;
+        few = subst (λ n. n ≤ 32) (sym m.size) c.requires.size.1;
+        order = omega arith;
+        early = c.requires.early;
+        timed = begun_timed false c.args.birth c.args.setting.size c.args.setting.fanout c.args.grant.now c.in_ok-manager.manager c.in_ok-commands.commands m.book m.posted c.in_ok-commands.ensures.agrees m.agrees;
+        near = omega arith;
+        alone = subst (λ p. IsAlone p None) (sym m.posted) tt;
+        posted = subst (IsNamed c.in_ok-commands.commands) (sym m.posted) tt;
+        named = tt;
+        counted = begun_count false c.args.birth c.args.setting.size c.args.setting.fanout c.args.grant.now c.in_ok-manager.manager c.in_ok-commands.commands m.book m.posted c.in_ok-commands.ensures.agrees m.agrees;
+        bounded = omega arith;
+        childless = begun_childless false c.args.birth c.args.setting.size c.args.setting.fanout c.args.grant.now c.in_ok-manager.manager c.in_ok-commands.commands m.book m.posted c.in_ok-commands.ensures.agrees m.agrees;
+        asking = begun_asking false c.args.birth c.args.setting.size c.args.setting.fanout c.args.grant.now c.in_ok-manager.manager c.in_ok-commands.commands m.book m.posted c.in_ok-commands.ensures.agrees m.agrees;
+        agreed = subst (λ l. IsAgreed (let v : JobServiceValue = record { spent = false; birth = c.args.birth; second = c.args.birth; manager = c.in_ok-manager.manager; commands = c.in_ok-commands.commands; refused = l; found = None; submitted = 0; span = 0 } in v)) (sym c.new-3.ensures.items) (begun_agreed false c.args.birth c.args.setting.size c.args.setting.fanout c.args.grant.now c.in_ok-manager.manager c.in_ok-commands.commands m.book m.posted c.in_ok-commands.ensures.agrees m.agrees
+            (subst (λ b. IsGrant b.grant.nodes) (c.book.ensures ∙ m.book) c.keeps.ensures.sets));
+      };
+      submits = subst (λ p. None ≡ id_posted p) (sym m.posted) refl;
     }
 
 pub returns-clause-agrees : goal.returns-clause-agrees
 returns-clause-agrees c = λ inst of.
     let m = c.in_ok-manager.ensures in
-    subst (λ l. AgreesJobs (let v : JobServiceValue = record { spent = false; birth = c.args.birth; second = c.args.birth; manager = c.in_ok-manager.manager; commands = c.in_ok-commands.commands; refused = l } in v) inst []) (sym c.new-3.ensures.items)
+    subst (λ l. AgreesJobs (let v : JobServiceValue = record { spent = false; birth = c.args.birth; second = c.args.birth; manager = c.in_ok-manager.manager; commands = c.in_ok-commands.commands; refused = l; found = None; submitted = 0; span = 0 } in v) inst []) (sym c.new-3.ensures.items)
     (begun_agrees false c.args.birth c.args.setting.size c.args.setting.fanout c.args.grant.now c.in_ok-manager.manager c.in_ok-commands.commands m.book m.posted c.in_ok-commands.ensures.agrees m.agrees inst of)

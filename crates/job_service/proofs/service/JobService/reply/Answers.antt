@@ -1,24 +1,59 @@
-use Rattle.std.proofs.Common.{◌∙◌, ◌++◌, [], ◌∷◌, length, filter, not, refl, sym, ap, subst}
+use Rattle.std.proofs.Common.{◌≡◌, ◌∙◌, ◌++◌, ◌<◌, ◌^◌, [], ◌∷◌, false, true, length, not, sym, ap, subst}
+use Rattle.std.specs.List.{AllByRecursion as Each}
+use Rattle.std.specs.Prelude.{option_map}
 use Rattle.instance_rules.specs.Log.{Replied}
-use Rattle.job_service.specs.Agrees.{AgreesJobs}
-use Rattle.job_service.specs.View.{IsFit, value_of}
-use Rattle.job_service.specs.Refusals.{is_refusal_of}
-use Rattle.job_service.specs.Replies.{Answers}
-use Rattle.job_service.proofs.Calls.{fit, reply_all, with_parts}
+use Rattle.job_clock.proofs.Times.{fewer_in_time}
+use Rattle.job_commands.specs.Rows.{is_of}
+use Rattle.job_manager.specs.Posts.{post_of}
+use Rattle.job_service.specs.Agrees.{AgreesJobs, IsAgreed}
+use Rattle.job_service.specs.View.{value_of}
+use Rattle.job_service.specs.Replies.{Answers, can_reply}
+use Rattle.job_service.proofs.Calls.{is_soon, with_parts}
+use Rattle.job_service.proofs.Held.{held_next}
+use Rattle.job_service.proofs.Issuing.{counted_less, is_free, named_less, not_kept, replied_facts, reply_all, short_next, told_asking}
+use Rattle.job_service.proofs.Owing.{can-look}
 use Rattle.job_service.proofs.service.JobService.reply.Goals as goal
+
+pub look-requires : goal.look-requires
+look-requires c =
+    let held = c.self.invariant (ap (λ v. v.spent) c.self.view_is ∙ c.requires.ready) in
+    let i = held.fit in
+    let v = value_of c.self.inside in
+    let g = i.agreed in
+    let t = c.in-Ok.ensures g.inst g.log (subst (λ w. AgreesJobs w g.inst g.log) c.self.view_is g.agrees) in
+    let f = replied_facts v g.inst g.log g.agrees false c.reply.new.self c.args.by c.in-Ok.told.reply c.in-Ok.told.number t c.reply.ensures.agrees in
+    let short = short_next v i c.reply.new.self (ap length c.reply.ensures.size) in
+    can-look c.reply.new.self c.self.inside.manager.book c.self.inside.second c.self.inside.birth g.inst (g.log ++ Replied c.args.by t.reply c.in-Ok.told.number ∷ []) f.commands g.agrees.kind.valid f.second g.agrees.kind.answer g.agrees.kind.birth g.agrees.kind.grant i.order (is_soon v i) short
 
 pub invariant_of-self-2 : goal.invariant_of-self-2
 invariant_of-self-2 c = λ _.
-    let i = c.self.invariant (ap (λ v. v.spent) c.self.view_is ∙ c.requires.ready) in
+    let held = c.self.invariant (ap (λ v. v.spent) c.self.view_is ∙ c.requires.ready) in
+    let i = held.fit in
+    let v = value_of c.self.inside in
     let g = i.agreed in
-    let told = c.in-Ok.ensures g.inst g.log (subst (λ v. AgreesJobs v g.inst g.log) c.self.view_is g.agrees) in
-    let all = reply_all (value_of c.self.inside) g.inst g.log g.agrees c.self.inside.spent c.reply.new.self c.args.by c.in-Ok.told.reply c.in-Ok.told.number told c.reply.ensures.agrees in
-    subst (λ l. IsFit (with_parts (value_of c.self.inside) c.self.inside.spent c.self.inside.manager c.reply.new.self l)) (sym c.forget.ensures)
-    (fit (value_of c.self.inside) i c.self.inside.spent c.self.inside.manager c.reply.new.self (filter (λ x. not (is_refusal_of c.args.by x)) c.self.inside.refused.items) i.ready refl (ap length c.reply.ensures.size)
+    let t = c.in-Ok.ensures g.inst g.log (subst (λ w. AgreesJobs w g.inst g.log) c.self.view_is g.agrees) in
+    let free = is_free v c.args.by (subst (λ w. can_reply w c.args.by ≡ true) (sym c.self.view_is) c.requires.can) in
+    let smalls = subst (λ b. Each (λ j. j.id < 2 ^ 64) b.jobs) c.book.ensures c.keeps-2.ensures.small in
+    let short = short_next v i c.reply.new.self (ap length c.reply.ensures.size) in
+    let all = reply_all v g.inst g.log g.agrees false c.reply.new.self c.args.by c.in-Ok.told.reply c.in-Ok.told.number t c.reply.ensures.agrees
+    smalls (is_soon v i) short c.what_is_made_is_due.ensures.some c.what_is_made_is_due.ensures.none c.what_waits_stays_due.ensures free (option_map post_of c.in_ok-self-inside.field-0) c.in_ok-self-inside.ensures in
+    held_next c.self.inside held false c.reply.new.self c.forget.new.list c.in_ok-self-inside.field-0 c.self.inside.submitted c.self.inside.span (ap length c.reply.ensures.size)
+    (named_less c.self.inside.commands c.reply.new.self c.args.by c.self.inside.manager.posted c.reply.ensures.rows (not_kept v g.inst g.log g.agrees c.args.by free) i.posted)
+    (counted_less (length c.self.inside.manager.book.jobs) c.self.inside.submitted c.self.inside.commands c.reply.new.self c.args.by c.reply.ensures.rows i.counted)
+    i.bounded (fewer_in_time c.self.inside.commands c.reply.new.self (λ row. not (is_of c.args.by row)) c.self.inside.birth c.self.inside.second c.self.inside.span c.reply.ensures.rows i.timed) i.near
+    (told_asking c.self.inside.commands c.reply.new.self c.args.by c.reply.ensures.rows i.asking) c.in_ok-self-inside.ensures
+    (subst (λ l. IsAgreed (with_parts v false c.self.inside.manager c.reply.new.self l (option_map post_of c.in_ok-self-inside.field-0) c.self.inside.submitted)) (sym c.forget.ensures)
     (record { inst = g.inst; log = g.log ++ Replied c.args.by all.reply c.in-Ok.told.number ∷ []; agrees = all.agrees }))
 
 pub returns-clause-answers : goal.returns-clause-answers
 returns-clause-answers c = λ inst log a.
-    let b = subst (λ v. AgreesJobs v inst log) (sym c.self.view_is) a in
-    subst (λ l. Answers (with_parts (value_of c.self.inside) c.self.inside.spent c.self.inside.manager c.reply.new.self l) inst log c.args.by c.in-Ok.told.reply c.in-Ok.told.number) (sym c.forget.ensures)
-    (reply_all (value_of c.self.inside) inst log b c.self.inside.spent c.reply.new.self c.args.by c.in-Ok.told.reply c.in-Ok.told.number (c.in-Ok.ensures inst log a) c.reply.ensures.agrees)
+    let held = c.self.invariant (ap (λ v. v.spent) c.self.view_is ∙ c.requires.ready) in
+    let i = held.fit in
+    let v = value_of c.self.inside in
+    let b = subst (λ w. AgreesJobs w inst log) (sym c.self.view_is) a in
+    let free = is_free v c.args.by (subst (λ w. can_reply w c.args.by ≡ true) (sym c.self.view_is) c.requires.can) in
+    let smalls = subst (λ b. Each (λ j. j.id < 2 ^ 64) b.jobs) c.book.ensures c.keeps-2.ensures.small in
+    let short = short_next v i c.reply.new.self (ap length c.reply.ensures.size) in
+    subst (λ l. Answers (with_parts v false c.self.inside.manager c.reply.new.self l (option_map post_of c.in_ok-self-inside.field-0) c.self.inside.submitted) inst log c.args.by c.in-Ok.told.reply c.in-Ok.told.number) (sym c.forget.ensures)
+    (reply_all v inst log b false c.reply.new.self c.args.by c.in-Ok.told.reply c.in-Ok.told.number (c.in-Ok.ensures inst log a) c.reply.ensures.agrees
+    smalls (is_soon v i) short c.what_is_made_is_due.ensures.some c.what_is_made_is_due.ensures.none c.what_waits_stays_due.ensures free (option_map post_of c.in_ok-self-inside.field-0) c.in_ok-self-inside.ensures)

@@ -1,18 +1,19 @@
-use Rattle.std.proofs.Common.{◌∙◌, ◌++◌, [], ◌∷◌, refl, sym, ap, subst}
+use Rattle.std.proofs.Common.{◌∙◌, ◌++◌, [], ◌∷◌, sym, ap, subst}
 use Rattle.kvs_rules.specs.Log.{Happened}
 use Rattle.kvs_rules.specs.declared.events.KvsEvent.TheVariants as event
 use Rattle.instance_rules.specs.Log.{Served, service_of}
 use Rattle.job_service.specs.Agrees.{AgreesJobs}
 use Rattle.job_service.specs.View.{value_of}
-use Rattle.job_service.proofs.Calls.{fit, taken_agrees}
+use Rattle.job_service.proofs.Calls.{taken_agrees}
+use Rattle.job_service.proofs.Held.{held_still}
 use Rattle.job_service.proofs.service.JobService.take.Goals as goal
 
 pub invariant_of-self : goal.invariant_of-self
 invariant_of-self c = λ _.
-    let i = c.self.invariant (ap (λ v. v.spent) c.self.view_is ∙ c.requires.ready) in
-    let g = i.agreed in
+    let held = c.self.invariant (ap (λ v. v.spent) c.self.view_is ∙ c.requires.ready) in
+    let g = held.fit.agreed in
     let core = c.take.ensures in
-    fit (value_of c.self.inside) i c.self.inside.spent c.take.new.self c.self.inside.commands c.self.inside.refused.items core.ready core.keeps.size refl
+    held_still c.self.inside held c.self.inside.spent c.take.new.self core.ready core.keeps.size core.keeps.book core.keeps.posted
     (record {
       inst = g.inst;
       log = g.log ++ Served (Happened (event.Answered c.args.by c.take.result.number c.take.result.answer)) ∷ [];

@@ -1,0 +1,92 @@
+-- What the code rests on after its calls.
+use Rattle.std.proofs.Common.{◌≡◌, ℕ, ◌+◌, ◌≤◌, List, Bool, false, length, arith, Option, Some, None, count_by, refl, sym, ap, ◌∙◌, subst}
+use Rattle.std.specs.Global.{Vec}
+use Rattle.std.specs.Prelude.{option_map}
+use Rattle.job_clock.specs.Children.{AreChildless, AskNoChild}
+use Rattle.job_clock.specs.Targets.{AreInTime, IsNextTick, targets_of}
+use Rattle.job_commands.specs.Rows.{CommandsValue, is_submit}
+use Rattle.job_manager.specs.Posts.{post_of}
+use Rattle.job_manager.specs.Value.{ManagerValue}
+use Rattle.job_manager.specs.declared.post.Post.{Post}
+use Rattle.manager_rules.specs.Posts as rules
+use Rattle.job_service.specs.Agrees.{IsAgreed}
+use Rattle.job_service.specs.Due.{IsFoundBeside, PostsFound}
+use Rattle.job_service.specs.Posted.{IsNamed, id_posted}
+use Rattle.job_service.specs.View.{IsHeld, value_of}
+use Rattle.job_service.specs.declared.refusals.Refused.{Refused}
+use Rattle.job_service.specs.declared.service.JobService.TheInside.{Inside}
+use Rattle.job_service.proofs.Calls.{fit, fit_still, spanned, with_parts}
+use Rattle.job_clock.proofs.Times.{in_time_at}
+use Rattle.job_service.proofs.Ticking.{ticked_value}
+use Rattle.job_service.proofs.Outgoing.{alone_posted, book_posted, id_known, named_posted, size_posted}
+use Rattle.job_service.proofs.Owing.{found-alone, found-named}
+
+-- where the posts, the book and the commands stay
+pub held_still : (s : Inside) → IsHeld s → (spent : Bool) (manager : ManagerValue) → manager.spent ≡ false → manager.core.size ≡ s.manager.core.size → manager.book ≡ s.manager.book → manager.posted ≡ s.manager.posted
+    → IsAgreed (with_parts (value_of s) spent manager s.commands s.refused.items (value_of s).found s.submitted) → IsHeld (record s { spent = spent; manager = manager })
+held_still s h spent manager ready size book posted agreed = record {
+  fit = fit_still (value_of s) h.fit spent manager ready size book posted agreed;
+  submits = h.submits ∙ sym (ap id_posted posted);
+}
+
+-- where the manager stays, and what is due is looked for anew
+pub held_next : (s : Inside) → IsHeld s → (spent : Bool) (commands : CommandsValue) (refused : Vec Refused) (later : Option Post) (submitted span : ℕ) → length commands.issued ≡ length s.commands.issued → IsNamed commands s.manager.posted
+    → length s.manager.book.jobs + count_by is_submit commands.rows ≤ submitted → submitted ≤ 1000 → AreInTime commands s.birth s.second span → span ≤ 1000000000 → AskNoChild commands → IsFoundBeside s.manager.posted commands s.manager.book s.second s.birth (option_map post_of later)
+    → IsAgreed (spanned (with_parts (value_of s) spent s.manager commands refused.items (option_map post_of later) submitted) span) → IsHeld (record s { spent = spent; commands = commands; refused = refused; found = later; submitted = submitted; span = span })
+held_next s h spent commands refused later submitted span size named counted bounded timed near asking found agreed =
+    let next = option_map post_of later in
+    record {
+      fit = fit (value_of s) h.fit spent s.manager commands refused.items next submitted span h.fit.ready refl size (found-alone commands s.manager.book s.second s.birth s.manager.posted next found) named (found-named commands s.manager.book s.second s.birth s.manager.posted next found) counted bounded (record { timed = timed; near = near; childless = h.fit.childless; asking = asking }) agreed;
+      submits = h.submits;
+    }
+
+-- where what was found is posted
+pub held_posted : (s : Inside) → IsHeld s → (spent : Bool) (manager : ManagerValue) (id : Option ℕ) (left : Option Post) (post : rules.Post) → left ≡ None → manager.spent ≡ false → (value_of s).found ≡ Some post → PostsFound s.commands s.second s.manager manager id post
+    → IsAgreed (with_parts (value_of s) spent manager s.commands s.refused.items None s.submitted) → IsHeld (record s { spent = spent; manager = manager; found = left; submitting = id })
+held_posted s h spent manager id left post none ready is p agreed =
+    let v = value_of s in
+    subst (λ o. IsHeld (record s { spent = spent; manager = manager; found = o; submitting = id })) (sym none)
+    (record {
+      fit = fit v h.fit spent manager s.commands s.refused.items None s.submitted s.span ready (size_posted v manager id post p) refl (alone_posted v manager id post p) (named_posted v manager id post (subst (IsNamed s.commands) is h.fit.named) p) tt
+          (subst (λ b. length b.jobs + count_by is_submit s.commands.rows ≤ s.submitted) (sym (book_posted v manager id post p)) h.fit.counted) h.fit.bounded
+          (record { timed = h.fit.timed; near = h.fit.near; childless = subst (λ b. AreChildless b.jobs) (sym (book_posted v manager id post p)) h.fit.childless; asking = h.fit.asking }) agreed;
+      submits = id_known v manager id post p;
+    })
+
+-- where a post has landed
+pub held_landed : (s : Inside) → IsHeld s → (spent : Bool) (manager : ManagerValue) (commands : CommandsValue) (refused : Vec Refused) (later : Option Post) → manager.spent ≡ false → manager.core.size ≡ s.manager.core.size → manager.posted ≡ None → length commands.issued ≡ length s.commands.issued
+    → length manager.book.jobs + count_by is_submit commands.rows ≤ s.submitted → AreInTime commands s.birth s.second s.span → AreChildless manager.book.jobs → AskNoChild commands → IsFoundBeside manager.posted commands manager.book s.second s.birth (option_map post_of later)
+    → IsAgreed (with_parts (value_of s) spent manager commands refused.items (option_map post_of later) s.submitted) → IsHeld (record s { spent = spent; manager = manager; commands = commands; refused = refused; found = later; submitting = None })
+held_landed s h spent manager commands refused later ready size posted same counted timed childless asking found agreed =
+    let next = option_map post_of later in
+    record {
+      fit = fit (value_of s) h.fit spent manager commands refused.items next s.submitted s.span ready size same (found-alone commands manager.book s.second s.birth manager.posted next found) (subst (IsNamed commands) (sym posted) tt) (found-named commands manager.book s.second s.birth manager.posted next found) counted h.fit.bounded (record { timed = timed; near = h.fit.near; childless = childless; asking = asking }) agreed;
+      submits = sym (ap id_posted posted);
+    }
+
+-- where time has gone on
+pub held_ticked : (s : Inside) → IsHeld s → (spent : Bool) (second : ℕ) (ends : List ℕ) (later : Option Post) → s.manager.posted ≡ None → IsNextTick (targets_of s.commands) ends s.second second
+    → IsFoundBeside s.manager.posted s.commands s.manager.book second s.birth (option_map post_of later) → IsAgreed (ticked_value (value_of s) spent second (option_map post_of later)) → IsHeld (record s { spent = spent; second = second; found = later })
+held_ticked s h spent second ends later posted next found agreed =
+    let i = h.fit in
+    let f = option_map post_of later in
+    record {
+      fit = record {
+        ready = i.ready;
+        size = i.size;
+        few = i.few;
+        order = (let a = i.order in let b = next.above in omega (arith, a, b));
+        early = i.early;
+        timed = in_time_at s.commands ends s.birth s.second second s.span next i.timed;
+        near = i.near;
+        alone = found-alone s.commands s.manager.book second s.birth s.manager.posted f found;
+        posted = i.posted;
+        named = found-named s.commands s.manager.book second s.birth s.manager.posted f found;
+        counted = i.counted;
+        bounded = i.bounded;
+        childless = i.childless;
+        asking = i.asking;
+        agreed = agreed;
+      };
+      submits = h.submits;
+    }

@@ -1,0 +1,110 @@
+-- What is owed by the log of an instance with which the commands and the book agree.
+use Rattle.std.proofs.Common.{◌≡◌, ℕ, ◌-◌, ◌*◌, ◌^◌, ◌<◌, ◌≤◌, ◌∙◌, ◌&&◌, List, true, length, None, Some, refl, sym, ap, subst, arith}
+use Rattle.std.specs.Prelude.{Contains, Option, false, is_some}
+use Rattle.std.specs.List.{AllByRecursion as Each}
+use Rattle.answers.specs.Jobs.{default_priority}
+use Rattle.instance_rules.specs.Desks.{is_submission}
+use Rattle.instance_rules.specs.Log.{Instance, Log, IsInstance, now_of}
+use Rattle.job_book.specs.Value.{BookValue}
+use Rattle.job_commands.proofs.Desks.{asked_range}
+use Rattle.job_commands.specs.Agrees.{AgreesCommands}
+use Rattle.job_commands.specs.Asks.{told}
+use Rattle.job_commands.specs.Desks.{asked_of, desk_of, submits_of}
+use Rattle.job_commands.specs.Rows.{CommandsValue, is_submit, is_waiting}
+use Rattle.job_commands.specs.declared.row.Row.{Row}
+use Rattle.job_submissions.specs.Made.{AreLabelled, IsMade, MakesNone}
+use Rattle.manager_rules.specs.Due.{IsDue}
+use Rattle.manager_rules.specs.Jobs.{StoredJob}
+use Rattle.manager_rules.specs.Posts.{Desk, Does, IsDuePost, IsSubmission, Post, Submission, Submits}
+use Rattle.manager_rules.specs.Scene.{Scene}
+use Rattle.manager_rules.specs.declared.due.Due.{Due}
+use Rattle.job_service.specs.Due.{CanLook, IsFound, IsFoundBeside, Owes, scene_now}
+use Rattle.job_service.specs.Posted.{IsAlone, IsNamed}
+
+-- what the law of submissions says of one that is made, and of those that aren't
+abbrev pub MadeAreDue : Type 0
+MadeAreDue = (c : CommandsValue) (i : Instance) (l : Log) (jobs : List StoredJob) (s : Submission) → AgreesCommands c i l → IsInstance i → length c.issued ≤ 2 ^ 14 → AreLabelled c.labels jobs → Each (λ j. j.id < 2 ^ 64) jobs → 1000 * (now_of i l - i.birth) < 2 ^ 40
+    → IsMade c jobs (now_of i l) i.birth s → IsSubmission (desk_of c i l jobs).scene i.birth (submits_of c i l) s
+
+abbrev pub UnmadeAreNot : Type 0
+UnmadeAreNot = (c : CommandsValue) (i : Instance) (l : Log) (jobs : List StoredJob) (s : Submission) → ((row : Row) → Contains c.rows row → MakesNone c.labels jobs row) → IsSubmission (desk_of c i l jobs).scene i.birth (submits_of c i l) s → ⊥
+
+module _ (v : CommandsValue) (book : BookValue) (now birth : ℕ) (inst : Instance) (log : Log)
+    (a : AgreesCommands v inst log) (valid : IsInstance inst) (second : now_of inst log ≡ now) (answer : inst.answer ≡ default_priority) (born : inst.birth ≡ birth) (grant : book.grant ≡ inst.grant) where
+  abbrev pub desk : Desk
+  desk = desk_of v inst log book.jobs
+
+  pub scene-is : scene_now v book now ≡ desk.scene
+  scene-is =
+      let now_is = sym second in
+      let answer_is = sym answer in
+      λ i. (let s : Scene = record { now = now_is i; grant = grant i; jobs = book.jobs; asked = asked_of v; answer = answer_is i } in s)
+
+  pub due-there : (due : Due) → IsDue (scene_now v book now) due → IsDuePost desk (Does due)
+  due-there due h = subst (λ s. IsDue s due) scene-is h
+
+  pub due-here : (due : Due) → IsDuePost desk (Does due) → IsDue (scene_now v book now) due
+  due-here due h = subst (λ s. IsDue s due) (sym scene-is) h
+
+  pub can-look : birth ≤ now → 1000 * (now - birth) < 2 ^ 40 → length v.issued ≤ 32 → CanLook v now birth
+  can-look order soon short = record { order = order; soon = soon; drawn = a.drawn; short = omega (arith, short); asked = asked_range v inst log a valid }
+
+  made-now : (x : Submission) → IsMade v book.jobs now birth x → IsMade v book.jobs (now_of inst log) inst.birth x
+  made-now x h = subst (λ n. IsMade v book.jobs n inst.birth x) (sym second) (subst (λ b. IsMade v book.jobs now b x) (sym born) h)
+
+  soon-now : 1000 * (now - birth) < 2 ^ 40 → 1000 * (now_of inst log - inst.birth) < 2 ^ 40
+  soon-now h = subst (λ n. 1000 * (n - inst.birth) < 2 ^ 40) (sym second) (subst (λ b. 1000 * (now - b) < 2 ^ 40) (sym born) h)
+
+  module _ (labelled : AreLabelled v.labels book.jobs) (smalls : Each (λ j. j.id < 2 ^ 64) book.jobs) (soon : 1000 * (now - birth) < 2 ^ 40) (short : length v.issued ≤ 32) (made-due : MadeAreDue) (unmade-not : UnmadeAreNot) where
+    found-owes : (found : Option Post) → IsFound v book now birth found → Owes None found desk
+    found-owes (Some (Submits x)) h = made-due v inst log book.jobs x a valid (omega (arith, short)) labelled smalls (soon-now soon) (made-now x h)
+    found-owes (Some (Does due)) h = due-there due h
+    found-owes None h = none
+      where
+        none : (post : Post) → IsDuePost desk post → ⊥
+        none (Submits x) d = unmade-not v inst log book.jobs x h.0 d
+        none (Does due) d = h.1 due (due-here due d)
+
+    pub beside-owes : (posted found : Option Post) → ((post : Post) → posted ≡ Some post → IsDuePost desk post) → IsFoundBeside posted v book now birth found → Owes posted found desk
+    beside-owes (Some post) found due h = due post refl
+    beside-owes None found due h = found-owes found h
+
+-- ---- what is found is named, and alone
+
+waits-as : (row : Row) → is_waiting row.stage ≡ true → is_submission (Some (told row.ask)) ≡ true → is_submit row ≡ true
+waits-as row w s = ap (λ b. b && is_submission (Some (told row.ask))) w ∙ s
+
+named-found : (v : CommandsValue) (book : BookValue) (now birth : ℕ) (found : Option Post) → IsFound v book now birth found → IsNamed v found
+named-found v book now birth (Some (Submits x)) h =
+    let m = h.made in
+    record {
+      row = h.row;
+      known = h.stands;
+      named = sym m.built.command;
+      waits = waits-as h.row (ap is_waiting m.submits.waits) (ap (λ a. is_submission (Some (told a))) m.submits.asks);
+      millis = 1000 * (now - birth);
+      made = m.built.id;
+    }
+named-found v book now birth (Some (Does due)) h = tt
+named-found v book now birth None h = tt
+
+pub found-named : (v : CommandsValue) (book : BookValue) (now birth : ℕ) (posted found : Option Post) → IsFoundBeside posted v book now birth found → IsNamed v found
+found-named v book now birth (Some post) found none = subst (IsNamed v) (sym none) tt
+found-named v book now birth None found h = named-found v book now birth found h
+
+pub found-alone : (v : CommandsValue) (book : BookValue) (now birth : ℕ) (posted found : Option Post) → IsFoundBeside posted v book now birth found → IsAlone posted found
+found-alone v book now birth (Some post) found none = none
+found-alone v book now birth None found h = tt
+
+-- what is found where nothing waits to land
+pub beside-none : (v : CommandsValue) (book : BookValue) (now birth : ℕ) (posted found : Option Post) → is_some posted ≡ false → IsFound v book now birth found → IsFoundBeside posted v book now birth found
+beside-none v book now birth None found e h = h
+beside-none v book now birth (Some post) found e h = cc
+
+-- ---- what is owed
+
+pub posted-due : (posted found : Option Post) (desk : Desk) → Owes posted found desk → (post : Post) → posted ≡ Some post → IsDuePost desk post
+posted-due posted found desk owes post e = (let o : Owes (Some post) found desk = subst (λ p. Owes p found desk) e owes in o)
+
+pub found-due : (posted found : Option Post) (desk : Desk) → Owes posted found desk → posted ≡ None → (post : Post) → found ≡ Some post → IsDuePost desk post
+found-due posted found desk owes none post e = (let o : Owes None (Some post) desk = subst (λ f. Owes None f desk) e (subst (λ p. Owes p found desk) none owes) in o)

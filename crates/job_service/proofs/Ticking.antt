@@ -1,0 +1,160 @@
+-- A job service when time goes on, and when nothing is left to be done.
+use Rattle.std.proofs.Common.{◌≡◌, ℕ, ◌-◌, ◌*◌, ◌^◌, ◌<◌, ◌≤◌, [], ◌∷◌, ◌++◌, length, Bool, true, false, ◌&&◌, ◌||◌, not, Option, Some, None, Contains, refl, sym, ap, ◌∙◌, subst, arith, true≢false}
+use Rattle.std.specs.Prelude.{All, is_some, nat_le}
+use Rattle.std.specs.List.{AllByRecursion as Each}
+use Rattle.std.specs.Option.{option_map_or}
+use Rattle.std.proofs.lemmas.Bool.{or_right}
+use Rattle.instance_rules.specs.Family.{IsTarget, Living, MayTick}
+use Rattle.instance_rules.specs.Legal.{IsLegalMoment, OfDesk}
+use Rattle.instance_rules.specs.Log.{Instance, Log, Ticked, before_issue, now_of, service_of}
+use Rattle.job_book.specs.Contract.{seconds_left}
+use Rattle.job_clock.proofs.Bearing.{no_births}
+use Rattle.job_clock.proofs.Standing.{at_top, may_tick, of_desk, target_here, tick_legal}
+use Rattle.job_clock.proofs.Targets.{reached_row}
+use Rattle.job_clock.proofs.Times.{in_time_at}
+use Rattle.job_clock.specs.Children.{AreChildless}
+use Rattle.job_clock.specs.Standing.{IsTop, StandsAlone}
+use Rattle.job_clock.specs.Targets.{IsNextTick, IsReached, targets_of}
+use Rattle.job_commands.proofs.Tables.{found, not_found}
+use Rattle.job_commands.specs.Agrees.{AgreesCommands, StageAgrees}
+use Rattle.job_commands.specs.Asks.{told}
+use Rattle.job_commands.specs.Desks.{desk_of}
+use Rattle.job_commands.specs.declared.ask.JobAsk.{JobAsk}
+use Rattle.job_commands.specs.declared.ask.JobAsk.TheVariants as ask
+use Rattle.job_commands.specs.declared.row.Row.{Row}
+use Rattle.job_commands.specs.declared.row.Stage.{Stage}
+use Rattle.job_commands.specs.declared.row.Stage.TheVariants as stage
+use Rattle.job_manager.specs.Managed.{IsManaged}
+use Rattle.job_replies.specs.Ready.{is_ready, is_ready_at}
+use Rattle.job_rules.proofs.Among.{all_at, among_from}
+use Rattle.kvs_core.specs.Agrees.{Agrees}
+use Rattle.kvs_core.specs.Posted.{newest_of}
+use Rattle.kvs_rules.specs.Answers.{IsLegalLog}
+use Rattle.kvs_rules.specs.Namespaces.{newest_store, primary}
+use Rattle.kvs_txn.specs.declared.txn.By.{By}
+use Rattle.manager_rules.specs.Posts.{Desk, Post}
+use Rattle.manager_rules.specs.Times.{IsIdle, seconds_ahead}
+use Rattle.job_service.specs.Agrees.{AgreesJobs}
+use Rattle.job_service.specs.Due.{IsFoundBeside, Owes, OwesNothing}
+use Rattle.job_service.specs.Refusals.{fault_for, row_in}
+use Rattle.job_service.specs.Replies.{can_reply, is_ready_in, is_undone}
+use Rattle.job_service.specs.Times.{MayGoTo}
+use Rattle.job_service.specs.Value.{JobServiceValue}
+use Rattle.job_service.specs.View.{IsFit}
+use Rattle.job_service.proofs.Calls.{facts}
+use Rattle.job_service.proofs.Facts.{ticked_facts, ticked_service}
+use Rattle.job_service.proofs.Owing.{MadeAreDue, UnmadeAreNot, beside-owes}
+
+-- the service at a later second
+abbrev pub ticked_value : JobServiceValue → Bool → ℕ → Option Post → JobServiceValue
+ticked_value v spent second later = record v { spent = spent; second = second; found = later }
+
+-- the later second is near enough
+pub then_soon : (v : JobServiceValue) → IsFit v → (second : ℕ) → MayGoTo v second → (v.birth ≤ second) × (1000 * (second - v.birth) < 2 ^ 40)
+then_soon v i second may =
+    let order = i.order in
+    let above = may.next.above in
+    let near = i.near in
+    let present = (in_time_at v.commands (seconds_left v.second v.manager.book) v.birth v.second second v.span may.next i.timed).present in
+    (omega (arith, order, above), omega (arith, near, present))
+
+module _ (v : JobServiceValue) (inst : Instance) (log : Log) (a : AgreesJobs v inst log) (m : IsManaged v.manager) (newest : newest_store inst.service (service_of log) primary ≡ Some (newest_of v.manager.core))
+    (childless : AreChildless v.manager.book.jobs) (unposted : v.manager.posted ≡ None) (unfound : v.found ≡ None) where
+  abbrev desk : Desk
+  desk = desk_of v.commands inst log v.manager.book.jobs
+
+  idle : IsIdle desk
+  idle = record {
+    posts = (let o : OwesNothing desk = subst (λ f. Owes None f desk) unfound (subst (λ p. Owes p v.found desk) unposted a.owes) in o);
+    births = no_births desk.scene childless;
+  }
+
+  stands : StandsAlone v.commands v.manager.book.jobs inst log
+  stands = record { commands = a.commands; store = newest_of v.manager.core; standing = newest; are = m.jobs; childless = a.alone }
+
+  pub idle_now : OfDesk inst log IsIdle
+  idle_now = of_desk v.commands v.manager.book.jobs inst log stands IsIdle idle
+
+  module _ (second : ℕ) (may : MayGoTo v second) where
+    next : IsNextTick (targets_of v.commands) (seconds_ahead desk.scene) (now_of inst log) second
+    next = subst (λ n. IsNextTick (targets_of v.commands) (seconds_left n v.manager.book) n second) (sym a.second) may.next
+
+    pub ticks_legal : IsLegalMoment inst log (Ticked second)
+    ticks_legal = tick_legal v.commands v.manager.book.jobs inst log stands second idle next
+
+    pub ticks_may : (l : Living) → IsTop inst log l → MayTick (l ∷ []) (now_of inst log) [] second
+    ticks_may l top =
+        at_top l inst log top (λ i g. StandsAlone v.commands v.manager.book.jobs i g → IsIdle (desk_of v.commands i g v.manager.book.jobs) → IsNextTick (targets_of v.commands) (seconds_ahead (desk_of v.commands i g v.manager.book.jobs).scene) (now_of i g) second → MayTick (l ∷ []) (now_of i g) [] second)
+        (λ s at_rest first. may_tick v.commands v.manager.book.jobs l top.from s second at_rest first) stands idle next
+
+  -- ---- no advance is left
+
+  stands_for : (row : Row) (seconds : ℕ) (x : JobAsk) (s : Stage) → row.ask ≡ x → told x ≡ told (ask.Advance seconds) → StageAgrees log row.by x s → (x ≡ ask.Advance seconds) × (s ≡ stage.Waits)
+  stands_for row seconds (ask.Advance other) stage.Waits is e h = (let same : ask.Advance other ≡ ask.Advance seconds = (let n : other ≡ seconds = cc in ap ask.Advance n) in same, refl)
+  stands_for row seconds (ask.Advance other) (stage.Landed number) is e h = absurd h.1
+  stands_for row seconds (ask.Submit label urgency needs text) s is e h = cc
+  stands_for row seconds (ask.Cancel label) s is e h = cc
+  stands_for row seconds (ask.Raise label kind severity note) s is e h = cc
+  stands_for row seconds (ask.Urge label urgency) s is e h = cc
+  stands_for row seconds (ask.StateOf label) s is e h = cc
+  stands_for row seconds (ask.Info label key) s is e h = cc
+  stands_for row seconds ask.Jobs s is e h = cc
+  stands_for row seconds (ask.Why label) s is e h = cc
+  stands_for row seconds (ask.ResultOf label) s is e h = cc
+
+  -- the row that is found of the command of a reached advance is ready
+  ready_at : (row : Row) → Contains v.commands.rows row → IsReached row v.second → (first : Row) → Contains v.commands.rows first → first.by ≡ row.by → is_ready v.commands.labels v.manager v.second first ≡ true
+  ready_at row c reached first d same =
+      let r = a.commands.rows row c in
+      let f = a.commands.rows first d in
+      let both : Some (told first.ask) ≡ Some (told row.ask) = sym f.asks ∙ ap inst.asks same ∙ r.asks in
+      let one : told first.ask ≡ told (ask.Advance reached.seconds) = (let t : told first.ask ≡ told row.ask = cc in t ∙ ap told reached.asks) in
+      let is = stands_for first reached.seconds first.ask first.stage refl one f.staged in
+      let issued : first.issued ≡ row.issued = f.issued ∙ ap (λ b. now_of inst (before_issue b log)) same ∙ sym r.issued in
+      ap (is_ready_at v.commands.labels v.manager v.second first) is.1
+      ∙ ap (λ x. is_ready_at v.commands.labels v.manager v.second (record first { ask = x }) stage.Waits) is.0
+      ∙ ap (λ n. nat_le n v.second && nat_le reached.seconds (v.second - n)) issued
+      ∙ reached.passed
+
+  can_be_told : (row : Row) → Contains v.commands.rows row → IsReached row v.second → can_reply v row.by ≡ true
+  can_be_told row c reached = at (row_in v.commands row.by) refl
+    where
+      at : (o : Option Row) → row_in v.commands row.by ≡ o → can_reply v row.by ≡ true
+      at None e = absurd (not_found row.by v.commands.rows e row c refl)
+      at (Some first) e =
+          let known = found row.by v.commands.rows first e in
+          let ready : is_ready_in v row.by ≡ true = ap (λ o. option_map_or (is_ready v.commands.labels v.manager v.second) o false) e ∙ ready_at row c reached first known.0 known.1 in
+          ap (λ p. not (is_some p && option_map_or is_undone (row_in v.commands row.by) false) && (is_some (fault_for v.refused row.by) || is_ready_in v row.by)) unposted
+          ∙ or_right (is_some (fault_for v.refused row.by)) (is_ready_in v row.by) ready
+
+  pub none_left : All (λ target. target ≤ v.second) (targets_of v.commands) → ((by : By) → can_reply v by ≡ false) → (l : Living) → IsTop inst log l → (target : ℕ) → IsTarget (l ∷ []) [] target → ⊥
+  none_left late untold l top target t =
+      at_top l inst log top (λ i g. AgreesCommands v.commands i g → ⊥)
+      (λ h.
+      let known = target_here v.commands l h target t in
+      let low = all_at (λ n. n ≤ v.second) (targets_of v.commands) target late (among_from (targets_of v.commands) target known) in
+      let r = reached_row v.commands v.second target known low in
+      true≢false (sym (can_be_told r.0 r.1 r.2) ∙ untold r.0.by))
+      a.commands
+
+-- ---- behind the second
+
+module _ (v : JobServiceValue) (inst : Instance) (log : Log) (a : AgreesJobs v inst log) (second : ℕ) (unposted : v.manager.posted ≡ None) where
+  pub ticked_agrees : (spent : Bool) (later : Option Post) → Each (λ j. j.id < 2 ^ 64) v.manager.book.jobs → 1000 * (second - v.birth) < 2 ^ 40 → length v.commands.issued ≤ 32 → MadeAreDue → UnmadeAreNot → IsFoundBeside v.manager.posted v.commands v.manager.book second v.birth later
+      → AgreesJobs (ticked_value v spent second later) inst (log ++ Ticked second ∷ [])
+  ticked_agrees spent later smalls soon short made-due unmade-not h =
+      let f = ticked_facts v.commands v.refused v.second second inst log (facts v inst log a) in
+      let same = ticked_service log second in
+      record {
+        kind = record { valid = a.kind.valid; unique = a.kind.unique; ranks = a.kind.ranks; answer = a.kind.answer; birth = a.kind.birth; grant = a.kind.grant };
+        core = subst (Agrees v.manager.core inst.service) (sym same) a.core;
+        legal = subst (IsLegalLog inst.service) (sym same) a.legal;
+        commands = f.commands;
+        second = f.second;
+        alone = f.alone;
+        owes = beside-owes v.commands v.manager.book second v.birth inst (log ++ Ticked second ∷ []) f.commands a.kind.valid f.second a.kind.answer a.kind.birth a.kind.grant a.labelled smalls soon short made-due unmade-not v.manager.posted later
+            (λ post e. absurd (let wrong : None ≡ Some post = sym unposted ∙ e in cc)) h;
+        labelled = a.labelled;
+        refused = f.refused;
+        untold = f.untold;
+      }

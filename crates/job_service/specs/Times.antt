@@ -1,0 +1,27 @@
+-- How far time goes on.
+use Rattle.std.specs.Prelude.{◌≡◌, ℕ, ◌+◌, ◌≤◌, All, None}
+use Rattle.job_book.specs.Contract.{seconds_left}
+use Rattle.job_clock.specs.Targets.{IsNextTick, targets_of}
+use Rattle.job_commands.specs.declared.ask.JobAsk.{JobAsk}
+use Rattle.job_commands.specs.declared.ask.JobAsk.TheVariants as ask
+use Rattle.job_service.specs.Value.{JobServiceValue}
+
+-- the seconds by which a command lets time go on
+abbrev pub seconds_asked : JobAsk → ℕ
+seconds_asked (ask.Advance seconds) = seconds
+seconds_asked _ = 0
+
+-- all advances together let time go on by no more than 1,000,000,000 seconds
+abbrev pub HasTime : JobServiceValue → JobAsk → Type 0
+HasTime v (ask.Advance seconds) = v.span + seconds ≤ 1000000000
+HasTime v _ = Unit {0}
+
+-- nothing is posted and nothing is due, and time may go to this second
+pub record MayGoTo (v : JobServiceValue) (second : ℕ) : Type 0 where
+  pub unposted : v.manager.posted ≡ None
+  pub unfound : v.found ≡ None
+  pub next : IsNextTick (targets_of v.commands) (seconds_left v.second v.manager.book) v.second second
+
+-- something is posted or due, or no open advance waits for a later second
+abbrev pub IsTimeUp : JobServiceValue → Type 0
+IsTimeUp v = v.manager.posted ≡ None → v.found ≡ None → All (λ target. target ≤ v.second) (targets_of v.commands)
