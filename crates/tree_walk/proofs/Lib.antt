@@ -1,0 +1,6 @@
+mod Pinning
+mod Stored
+mod Passing
+mod Following
+mod Ending
+mod Listing

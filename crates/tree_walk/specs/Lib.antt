@@ -1,0 +1,3 @@
+pub mod Walks
+pub mod Pins
+pub mod Legs
