@@ -1,6 +1,6 @@
 -- A landing that carries out a command on jobs comes after the command's issue.
-use Rattle.std.proofs.Common.{◌≡◌, ◌≢◌, ◌⊎◌, inl, inr, ℕ, zero, suc, ◌≤◌, List, [], ◌∷◌, ◌++◌, Bool, true, false, ◌||◌, ◌&&◌, ◌==◌, cond, Option, Some, None, is_some, option_map, map, refl, sym, ap, ap₂, ◌∙◌, subst, arith, true≢false, append-nil, append_assoc, eq-eqb}
-use Rattle.std.specs.Prelude.{Contains, IfSome}
+use Rattle.std.proofs.Common.{◌≡◌, ◌⊎◌, inl, inr, ℕ, zero, suc, ◌≤◌, List, [], ◌∷◌, ◌++◌, Bool, true, false, ◌||◌, ◌&&◌, ◌==◌, cond, Option, Some, None, is_some, option_map, refl, sym, ap, ◌∙◌, subst, arith, true≢false}
+use Rattle.std.specs.Prelude.{Contains}
 use Rattle.std.specs.List.{cons_option, list_any}
 use Rattle.std.proofs.lemmas.List.Elements.{Contains-append_cases}
 use Rattle.std.proofs.lemmas.List.Folds.{list_any-append}
@@ -10,12 +10,11 @@ use Rattle.kvs_rules.specs.declared.events.KvsAnswer.{KvsAnswer}
 use Rattle.kvs_rules.specs.declared.events.KvsEvent.{KvsEvent}
 use Rattle.kvs_rules.specs.declared.events.KvsEvent.TheVariants as event
 use Rattle.kvs_rules.specs.Landings.{IsLegalLanding, names_of, names_of_group}
-use Rattle.kvs_rules.specs.Log.{Moment, Asked, Happened, Log, denies_now, is_asked, is_author, is_denied, is_landed, lands_now, asks_now, same_command}
+use Rattle.kvs_rules.specs.Log.{Moment, Asked, Happened, Log, denies_now, is_asked, is_author, is_denied, is_landed, lands_now, asks_now}
 use Rattle.kvs_rules.specs.Namespaces.{landed, primary}
 use Rattle.kvs_rules.specs.Sequence.{EachAfter, until}
 use Rattle.kvs_rules.proofs.Logs.{number_rises}
 use Rattle.kvs_rules.proofs.Sequences.{each_along, each_parts, until-append}
-use Rattle.instance_rules.specs.Legal.{IsDueEvent}
 use Rattle.instance_rules.specs.Log as rules
 use Rattle.answers.specs.declared.chronicle.Entry.{Entry}
 use Rattle.answers.specs.declared.chronicle.Entry.TheVariants as entry

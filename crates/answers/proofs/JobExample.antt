@@ -1,6 +1,6 @@
 -- What no chronicle with jobs can hold: a submission that is told before it lands, a post of the
 -- manager with nothing due, a tick without an advance.
-use Rattle.std.proofs.Common.{◌≡◌, ℕ, zero, suc, ◌<◌, inl, inr, List, [], ◌∷◌, true, false, Some, None, refl, sym, subst, arith, true≢false, codes, ◌∙◌}
+use Rattle.std.proofs.Common.{◌≡◌, ℕ, ◌<◌, inl, inr, List, [], ◌∷◌, true, false, Some, None, refl, sym, subst, arith, true≢false, codes}
 use Rattle.std.specs.Prelude.{Contains, Option}
 use Rattle.std.specs.List.{AllByRecursion as Each}
 use Rattle.fl_digest.specs.declared.Hash.TheVariants as hash
@@ -15,7 +15,7 @@ use Rattle.manager_rules.specs.Jobs.{IsStored, StoredJob}
 use Rattle.manager_rules.specs.Keys.{job_path}
 use Rattle.manager_rules.specs.Posts.{Desk, Post, Submits, Does, IsDuePost}
 use Rattle.instance_rules.specs.Desks.{IsDeskOf, IsDueAt}
-use Rattle.instance_rules.specs.Family.{IsTarget, HasTarget, Living}
+use Rattle.instance_rules.specs.Family.{HasTarget}
 use Rattle.instance_rules.specs.Log as rules
 use Rattle.resource_set.specs.declared.node.Resources.{Resources}
 use Rattle.workload.specs.declared.work.Command.TheVariants as command
@@ -24,7 +24,7 @@ use Rattle.answers.specs.declared.chronicle.Entry.{Entry}
 use Rattle.answers.specs.declared.chronicle.Entry.TheVariants as entry
 use Rattle.answers.specs.declared.chronicle.Reply.TheVariants as reply
 use Rattle.answers.specs.Chronicle.{Setup}
-use Rattle.answers.specs.Jobs.{family_of, instance_of, job_ask_at, living_of, log_in}
+use Rattle.answers.specs.Jobs.{instance_of, job_ask_at, living_of, log_in}
 use Rattle.answers.specs.Legal.{IsLegalEntry}
 use Rattle.answers.proofs.JobLogs.{only}
 use Rattle.answers.proofs.Services.{or_cases}

@@ -1,5 +1,5 @@
 -- The log of the top instance has the log of its service in it, and the issues of its job commands.
-use Rattle.std.proofs.Common.{◌≡◌, ℕ, zero, suc, ◌<◌, ◌==◌, ◌&&◌, ◌||◌, inl, inr, List, [], ◌∷◌, ◌++◌, Bool, true, false, cond, Option, Some, None, is_some, option_map, filter_map, refl, sym, ap, ap₂, ◌∙◌, subst, arith, true≢false}
+use Rattle.std.proofs.Common.{◌≡◌, ℕ, zero, suc, ◌==◌, ◌&&◌, ◌||◌, inl, inr, List, [], ◌∷◌, ◌++◌, Bool, true, false, cond, Option, Some, None, is_some, option_map, filter_map, refl, sym, ap, ap₂, ◌∙◌, subst, arith, true≢false}
 use Rattle.std.specs.Prelude.{Contains, slice_get}
 use Rattle.std.specs.Option.{option_and_then, option_map_or}
 use Rattle.std.specs.List.{AllByRecursion as Each, cons_option, list_any}
@@ -11,7 +11,6 @@ use Rattle.kvs_rules.proofs.Asking.{command_is}
 use Rattle.kvs_txn.specs.declared.txn.By.{By}
 use Rattle.kvs_txn.specs.declared.txn.Txn.{Txn}
 use Rattle.kvs_rules.specs.Log as service
-use Rattle.instance_rules.specs.Family.{Living}
 use Rattle.instance_rules.specs.Log as rules
 use Rattle.instance_rules.specs.Log.{IsInstance, JobReply, Moment, Log, Served, Issued, Replied, issues_now, served, service_of}
 use Rattle.answers.specs.declared.chronicle.Entry.{Entry}

@@ -1,7 +1,7 @@
 -- What a due transaction of the manager carries out waits, and what a landing or a denial names has
 -- asked the service or is such a command.
-use Rattle.std.proofs.Common.{◌≡◌, ◌⊎◌, inl, inr, ℕ, List, [], ◌∷◌, ◌++◌, map, Bool, true, false, ◌||◌, cond, refl, sym, ap, ◌∙◌, subst, Option, Some, None, true≢false, Result, Ok, Err}
-use Rattle.std.specs.Prelude.{IfSome, IsSome, IsTrue, Contains, option_and_then}
+use Rattle.std.proofs.Common.{◌≡◌, ◌⊎◌, inl, inr, ℕ, List, [], ◌∷◌, map, Bool, true, false, cond, refl, sym, ap, ◌∙◌, subst, Option, Some, None, true≢false, Result, Ok, Err}
+use Rattle.std.specs.Prelude.{IfSome, IsSome, option_and_then}
 use Rattle.std.specs.Option.{option_map_or}
 use Rattle.std.specs.List.{AllByRecursion as Each, list_any}
 use Rattle.std.proofs.lemmas.List.Folds.{list_any-append}
@@ -11,24 +11,22 @@ use Rattle.kvs_txn.specs.declared.txn.Author.TheVariants as author
 use Rattle.kvs_txn.specs.declared.txn.By.{By}
 use Rattle.kvs_txn.specs.declared.txn.Group.{Group}
 use Rattle.kvs_txn.specs.declared.txn.Op.{Op}
-use Rattle.kvs_txn.specs.declared.txn.Scope.{Scope}
 use Rattle.kvs_txn.specs.declared.txn.Scope.TheVariants as scope
 use Rattle.kvs_model.specs.History.{after_groups, landed_on}
 use Rattle.kvs_model.specs.Operation.{effect}
 use Rattle.kvs_model.specs.Store.{Name, Store}
 use Rattle.kvs_rules.specs.declared.events.KvsEvent.TheVariants as event
-use Rattle.kvs_rules.specs.Landings.{names_of, names_of_group, commands_of, IsFreshCommand, IsUser, IsUsers, IsManagers, AreMembers, IsLegalLanding, IsLegalDenial}
+use Rattle.kvs_rules.specs.Landings.{names_of, names_of_group, commands_of, IsFreshCommand, IsUsers, IsManagers, AreMembers, IsLegalLanding, IsLegalDenial}
 use Rattle.kvs_rules.specs.Log as service
 use Rattle.kvs_rules.specs.Log.{is_asked, is_author, same_command}
 use Rattle.kvs_rules.specs.Namespaces.{Request, Setting, is_primary, newest_store, scope_of}
 use Rattle.kvs_rules.proofs.Asking.{command_is}
-use Rattle.manager_rules.specs.declared.asked.Asked.{Asked}
 use Rattle.manager_rules.specs.declared.asked.Asked.TheVariants as asked
 use Rattle.manager_rules.specs.declared.due.Due.{Due}
-use Rattle.manager_rules.specs.Deeds.{Deed, Validates, Adds, Removes, Loses, Depends, Prioritizes, NeverFits, Takes, Starts, Finishes, Expires, Stops, Releases, Frees, Cleans, Carries, due_of}
-use Rattle.manager_rules.specs.Due.{IsDue, MayDo}
+use Rattle.manager_rules.specs.Deeds.{Deed, Carries, due_of}
+use Rattle.manager_rules.specs.Due.{MayDo}
 use Rattle.manager_rules.specs.Posts.{Desk, Post, Submits, Does, IsDuePost, authors_of}
-use Rattle.instance_rules.specs.Desks.{AreDueFrom, IsDeskOf, IsDueAt, IsDueFor}
+use Rattle.instance_rules.specs.Desks.{AreDueFrom, IsDeskOf, IsDueFor}
 use Rattle.instance_rules.specs.Legal.{IsDueEvent}
 use Rattle.instance_rules.specs.Log.{Instance, IsPending, JobAsk, Log, service_of}
 use Rattle.answers.proofs.Services.{or_cases}

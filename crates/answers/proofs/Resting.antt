@@ -1,6 +1,6 @@
 -- Where a workload has no command on jobs or time, no job stands in the store, the manager has
 -- nothing to do, and nothing keeps a run from its end.
-use Rattle.std.proofs.Common.{◌≡◌, ◌⊎◌, inl, inr, ℕ, suc, ◌<◌, List, [], ◌∷◌, ◌++◌, Bool, true, false, cond, length, Option, Some, None, option_map, unwrap_or, Result, Ok, Err, refl, sym, ap, ap₂, ◌∙◌, subst, arith, append-nil}
+use Rattle.std.proofs.Common.{◌≡◌, ◌⊎◌, inl, inr, ℕ, suc, List, [], ◌∷◌, ◌++◌, Bool, true, false, cond, length, Option, Some, None, option_map, unwrap_or, Result, Ok, Err, refl, sym, ap, ap₂, ◌∙◌, subst, arith, append-nil}
 use Rattle.std.specs.Prelude.{Contains, IfSome, is_some, option_and_then}
 use Rattle.std.specs.Option.{option_map_or}
 use Rattle.std.specs.List.{AllByRecursion as Each, cons_option}
@@ -20,23 +20,22 @@ use Rattle.kvs_rules.specs.Log as service
 use Rattle.kvs_rules.specs.Log.{Asked, Happened}
 use Rattle.kvs_rules.specs.Namespaces.{groups_landed, landed, landings, newest_store, number_landed, primary}
 use Rattle.kvs_rules.specs.Quiet.{AreAllTold}
-use Rattle.kvs_rules.specs.Sequence.{EachAfter, latest}
+use Rattle.kvs_rules.specs.Sequence.{latest}
 use Rattle.kvs_rules.proofs.Logs.{landed_push, number_or_not, own_number}
 use Rattle.kvs_rules.proofs.Sequences.{each_along}
 use Rattle.kvs_rules.proofs.Stores.{after_push, landings_push}
 use Rattle.store_laws.specs.Reserved.{IsUserAuthor}
 use Rattle.manager_rules.specs.declared.asked.Asked.{Asked as Want}
 use Rattle.manager_rules.specs.declared.asked.Asked.TheVariants as asked
-use Rattle.manager_rules.specs.Jobs.{AreJobsOf, StoredJob}
+use Rattle.manager_rules.specs.Jobs.{AreJobsOf}
 use Rattle.manager_rules.specs.Posts.{Desk, Post, Submits, Does, IsDuePost}
 use Rattle.manager_rules.specs.Times.{IsIdle}
 use Rattle.manager_rules.proofs.Others.{first_jobs}
 use Rattle.manager_rules.proofs.Stores.{users_leave_jobs}
 use Rattle.manager_rules.proofs.Unique.{jobs_are_one}
 use Rattle.instance_rules.specs.Desks.{AreDueFrom, IsDeskOf, IsDueFor, StandsAsked}
-use Rattle.instance_rules.specs.Family.{IsEndOf, Living, MayClose, OfLiving}
+use Rattle.instance_rules.specs.Family.{IsEndOf, IsFamilyIdle, Living, MayClose, OfLiving}
 use Rattle.instance_rules.specs.Legal.{IsDueEvent, OfDesk}
-use Rattle.instance_rules.specs.Log as rules
 use Rattle.instance_rules.specs.Log.{JobAsk, JobReply, Log, Moment, Issued, Replied, Served, child_of, child_told, now_of, service_of}
 use Rattle.workload.specs.declared.work.Workload.{Workload}
 use Rattle.answers.specs.declared.chronicle.Entry.{Entry}
@@ -45,7 +44,7 @@ use Rattle.answers.specs.Chronicle.{Setup, top}
 use Rattle.answers.specs.Jobs.{IsWithoutJobs, default_priority, family_of, happening_of, happenings_after, instance_of, job_ask_at, job_reply_of, living_of, log_in}
 use Rattle.answers.specs.Legal.{IsLegal, IsLegalEntry}
 use Rattle.answers.specs.Services.{log_of, moment_of, setting_of}
-use Rattle.answers.specs.Whole.{HasToldAll}
+use Rattle.answers.specs.Whole.{HasComeToRest, HasToldAll}
 use Rattle.answers.proofs.Carried.{lands_so, legal_in}
 use Rattle.answers.proofs.JobLogs.{asks_nothing, no_advance, only, service_kept}
 use Rattle.answers.proofs.Services.{log_push}
@@ -252,13 +251,21 @@ module _ (set : Setup) (without : IsWithoutJobs set.work) where
     no_end : (l : Living) → Contains (family_of set d) l → IsEndOf (family_of set d) l → ⊥
     no_end l here end = let never : ◌≡◌ {A = Option (ℕ × ℕ)} None (Some (end.parent.number, end.job)) = ap (λ x. x.from) (sym (only (living_of set d) l here)) ∙ end.from in cc
 
-    -- nothing is due, all are told, and no advance waits, where the service's log is that of a legal chronicle
+    -- nothing is due where the service's log is that of a legal chronicle
+    pub family_idle : (c : List Entry) → IsLegal set c → log_of set.work top d ≡ log_of set.work top c → IsFamilyIdle (family_of set d)
+    family_idle c legal same = record {
+      idle = λ l here. subst (λ x. OfLiving x IsIdle) (sym (only (living_of set d) l here)) (rests (subst HasNoJobs (sym same) (no_jobs c legal)));
+      stays = no_end;
+    }
+
+    -- nor is anything due, all are told, and no advance waits
     pub may_close : (c : List Entry) → IsLegal set c → log_of set.work top d ≡ log_of set.work top c → HasToldAll set d → MayClose (family_of set d) []
     may_close c legal same told = record {
-      idle = record {
-        idle = λ l here. subst (λ x. OfLiving x IsIdle) (sym (only (living_of set d) l here)) (rests (subst HasNoJobs (sym same) (no_jobs c legal)));
-        stays = no_end;
-      };
+      idle = family_idle c legal same;
       told = λ l here. subst (λ x. AreAllTold x.inst.service (service_of x.log)) (sym (only (living_of set d) l here)) (subst (AreAllTold (setting_of set)) (sym (service_kept set.work d)) told);
       advanced = no_advance set without d;
     }
+
+  -- where a legal chronicle has told all brokers, it has come to rest
+  pub comes_to_rest : (c : List Entry) → IsLegal set c → HasToldAll set c → HasComeToRest set c
+  comes_to_rest c legal told = record { told = told; idle = family_idle c c legal refl }

@@ -1,6 +1,6 @@
 -- The top instance of a run with its jobs and its time: what its commands on jobs ask, which replies
 -- are theirs, and its log.
-use Rattle.std.specs.Prelude.{◌≡◌, ◌<◌, ◌^◌, ℕ, List, [], ◌∷◌, ◌++◌, Option, Some, None, IfSome, false, is_some, map, option_and_then, option_map, if◌then◌else◌}
+use Rattle.std.specs.Prelude.{◌≡◌, ◌<◌, ◌^◌, ℕ, List, [], ◌∷◌, ◌++◌, Option, Some, None, IfSome, false, is_some, map, max, min, option_and_then, option_map, if◌then◌else◌}
 use Rattle.std.specs.List.{AllByRecursion as Each, cons_option}
 use Rattle.std.specs.Option.{option_map_or}
 use Rattle.kvs_txn.specs.declared.txn.By.{By}
@@ -78,9 +78,10 @@ job_reply_of _ = None
 
 -- ---- the instance and its log
 
--- what everyone's job is given as its priority, as long as no run keeps a callback that says more
+-- the priority that a job is given, as long as no run keeps a callback that says more: its urgency, within the range of
+-- priorities
 abbrev pub default_priority : Ask → ℕ
-default_priority ask = 16
+default_priority ask = min (max ask.urgency 1) 4294967294
 
 -- the top instance, in which all actors stand, and which is born with the run
 abbrev pub instance_of : Setup → Instance
