@@ -45,6 +45,11 @@ pub stands : (test : Bool) → not test ≡ false → test ≡ true
 stands true h = refl
 stands false h = sym h
 
+-- and one whose turn is true
+pub fails : (test : Bool) → not test ≡ true → test ≡ false
+fails true h = sym h
+fails false h = refl
+
 -- lines of UTF-8 without a fault keep P
 module _ (size : ℕ) (P : Workload → Type 0)
     (keeps_actor : (work : Workload) (number : ℕ) (tail : List ℕ) → P work → first_of (actor_faults size work.actors number tail) ≡ None → P (with_actor work tail))

@@ -1,5 +1,5 @@
 -- Texts of references: what they write, and that no two references are written alike.
-use Rattle.std.proofs.Common.{◌≡◌, ℕ, zero, suc, ◌+◌, ◌*◌, ◌%◌, ◌<◌, true, false, Bool, List, [], ◌∷◌, ◌++◌, inl, inr, length, eqb, refl, sym, ap, ap₂, ◌∙◌, arith, Result, Ok, Err}
+use Rattle.std.proofs.Common.{◌≡◌, ℕ, zero, suc, ◌+◌, ◌*◌, ◌<◌, true, false, Bool, List, [], ◌∷◌, ◌++◌, inl, inr, length, eqb, refl, sym, ap, ap₂, ◌∙◌, arith, Result, Ok, Err}
 use Rattle.std.specs.Prelude.{codes, drop, take, ◌&&◌, ◌||◌, ◌↔◌, IfNone, IfSome, IsOk}
 use Rattle.std.specs.Result.{result_ok, result_unwrap_or}
 use Rattle.std.proofs.lemmas.Bool.{eq-eqb, eqb-true}

@@ -78,7 +78,7 @@ fn order(alloc: Global, work: &Workload, line: u64, text: &str) -> Result<Comman
     ensures { Reads (first_of (verb_faults work.now line text.now)) (λ c. command_of work.now text.now ≡ Some c) result }
 {
     let (word, tail) = cut(text);
-    let Some(verb) = Verb::offered(word) else {
+    let Some(verb) = Verb::of(word) else {
         return Err(LineFault::BadCommand { line });
     };
     command(alloc, work, verb, line, tail)

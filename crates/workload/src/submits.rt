@@ -142,7 +142,7 @@ fn begins_instance(alloc: Global, text: &[u8]) -> Result<bool, AllocError>
 }
 
 /// The command `submit`. A text that is no jobspec is no fault of the line: the submission is told
-/// so.
+/// so. One whose command begins an instance is.
 pub fn submit(alloc: Global, work: &Workload, line: u64, tail: &str) -> Result<Command, LineFault>
     ensures { Reads
         (first_of (faults_of line (said work.now Verb.Submit tail.now)))

@@ -2,8 +2,7 @@ ghost use Rattle.std.specs.Prelude.{◌≡◌, ◌≤◌, [], ◌∷◌, length}
 ghost use Rattle.kvs_txn.specs.Keys.{components};
 ghost use Rattle.workload.specs.Limits.{most_actors};
 ghost use Rattle.workload.specs.Words.{first_word, behind_word};
-ghost use Rattle.workload.specs.Reading.{offered_verb};
-ghost use Rattle.workload.specs.Verbs.{first_of, faults_of, is_offered, verb_of, said, one_key, one_name, key_and_text, two_keys, is_past_key, is_past_value, Reads};
+ghost use Rattle.workload.specs.Verbs.{first_of, faults_of, verb_of, said, one_key, one_name, key_and_text, two_keys, is_past_key, is_past_value, Reads};
 
 use crate::contents::{content_drop, content_flush, content_load, content_store};
 use crate::faults::{LineFault, Which};
@@ -87,34 +86,6 @@ impl Verb {
             "advance" => Some(Verb::Advance),
             _ => None,
         }
-    }
-
-    /// Whether a workload may have the verb. Those on jobs and on time may stand in none until a
-    /// run carries them out.
-    fn is_offered(self) -> bool
-        ensures { result ≡ is_offered self }
-    {
-        match self {
-            Verb::Submit
-            | Verb::Cancel
-            | Verb::Raise
-            | Verb::Urgency
-            | Verb::State
-            | Verb::Info
-            | Verb::Jobs
-            | Verb::Why
-            | Verb::Result
-            | Verb::Advance => false,
-            _ => true,
-        }
-    }
-
-    /// The verb that a word is, if a workload may have it.
-    pub fn offered(word: &str) -> Option<Verb>
-        ensures { result ≡ offered_verb word.now }
-    {
-        let verb = Verb::of(word)?;
-        if verb.is_offered() { Some(verb) } else { None }
     }
 }
 

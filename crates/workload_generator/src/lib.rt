@@ -1,6 +1,5 @@
-//! Workloads that a seed draws: eight actors at seven brokers, and commands whose keys meet. The
-//! text has the form of `workload`, and besides the verbs `submit LABEL JOBSPEC` and
-//! `advance SECONDS`, which that doesn't read yet.
+//! Workloads that a seed draws: eight actors at seven brokers, and commands whose keys meet, among
+//! them `submit LABEL JOBSPEC` and `advance SECONDS`. The text is one that `workload` reads.
 #![tactic(auto)]
 
 ghost use Rattle.std.specs.Prelude.{◌≡◌, IfOk};

@@ -76,6 +76,23 @@ fn a_seed_draws_these_lines(rt: HostRuntime) -> Result<(), Fail> {
     Ok(())
 }
 
+/// How many actors and command lines are read of a workload.
+fn sizes(alloc: Global, seed: u64, count: u32) -> Result<(usize, usize), Fail> {
+    let text = generate(alloc, seed, count)?;
+    match workload::read(alloc, text.as_slice(), 7) {
+        Ok(work) => Ok((work.actors.as_slice().len(), work.lines.as_slice().len())),
+        Err(_) => Err("it spells a workload".into()),
+    }
+}
+
+#[test]
+fn what_a_seed_draws_is_read(rt: HostRuntime) -> Result<(), Fail> {
+    for seed in [0, 7, u64::MAX] {
+        assert_eq!(rt; sizes(rt.alloc(), seed, 300)?, (8, 300), "of {seed}");
+    }
+    Ok(())
+}
+
 #[test]
 fn no_commands_are_actors_alone(rt: HostRuntime) -> Result<(), Fail> {
     let text = text_of(rt.alloc(), 7, 0)?;

@@ -1,5 +1,4 @@
-use Rattle.std.proofs.Common.{subst, sym}
-use Rattle.std.specs.Prelude.{IfNone, IfSome}
+use Rattle.std.proofs.Common.{sym}
 use Rattle.workload.proofs.References.{read_so, unread_so}
 use Rattle.workload.proofs.contents.reference.Goals as goal
 
