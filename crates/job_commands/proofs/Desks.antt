@@ -1,12 +1,10 @@
 -- What the manager looks at is what the open commands and the labels give.
-use Rattle.std.proofs.Common.{◌≡◌, ℕ, zero, suc, ◌<◌, ◌≤◌, ◌||◌, ◌&&◌, ◌⊎◌, inl, inr, List, [], ◌∷◌, ◌++◌, length, Bool, true, false, cond, Option, Some, None, IsSome, Contains, map, refl, sym, ap, ap₂, ◌∙◌, subst, true≢false, count_by, arith}
-use Rattle.std.specs.Prelude.{◌↔◌, All, IsTrue, filter_map, option_map, option_and_then, slice_index, unwrap_or}
+use Rattle.std.proofs.Common.{◌≡◌, ℕ, zero, suc, ◌<◌, ◌||◌, ◌&&◌, ◌⊎◌, inl, inr, List, [], ◌∷◌, length, Bool, true, false, cond, Option, Some, None, Contains, map, refl, sym, ap, ap₂, ◌∙◌, subst, true≢false, count_by, arith}
+use Rattle.std.specs.Prelude.{All, filter_map, option_map, option_and_then, slice_index}
 use Rattle.std.specs.List.{cons_option}
-use Rattle.std.proofs.lemmas.Bool.{cases_lt}
 use Rattle.job_rules.proofs.Among.{Among, all_from, among_from, contains_from}
 use Rattle.job_spec.specs.declared.spec.Depend.{Depend}
 use Rattle.kvs_model.specs.Store.{Store}
-use Rattle.kvs_rules.proofs.Asking.{command_is}
 use Rattle.kvs_rules.specs.Log.{same_command}
 use Rattle.kvs_rules.specs.Sequence.{latest}
 use Rattle.kvs_txn.specs.declared.txn.By.{By}
@@ -15,9 +13,9 @@ use Rattle.manager_rules.specs.declared.asked.Asked.TheVariants as asked
 use Rattle.manager_rules.specs.Jobs.{AreJobsOf, StoredJob}
 use Rattle.manager_rules.specs.Posts as posts
 use Rattle.manager_rules.specs.Scene.{IsAsked}
-use Rattle.instance_rules.specs.Desks.{AreNamed, AsksOf, IsDeskOf, Names, StandsAsked, StandsSubmitted, is_submission, submits_at}
+use Rattle.instance_rules.specs.Desks.{AreNamed, IsDeskOf, StandsAsked, StandsSubmitted, is_submission, submits_at}
 use Rattle.instance_rules.specs.Log as rules
-use Rattle.instance_rules.specs.Log.{Instance, IsInstance, IsOpen, IsPending, JobAsk as Asks, Log, Served, Issued, Replied, Ticked, Born, Gone, Named as NamedJob, Submit, child_of, is_decided, is_issued, now_of, seconds_from, seconds_open, ticked}
+use Rattle.instance_rules.specs.Log.{Instance, IsInstance, IsOpen, IsPending, JobAsk as Asks, Log, Served, Issued, Replied, Ticked, Born, Gone, Named as NamedJob, Submit, before_issue, child_of, is_decided, is_issued, now_of, seconds_from, seconds_open, ticked}
 use Rattle.job_commands.specs.Agrees.{AgreesCommands, RowAgrees, StageAgrees}
 use Rattle.job_commands.specs.Asks.{named_of, told}
 use Rattle.job_commands.specs.Desks.{asked_at, asked_by, asked_in, asked_of, desk_of, needs_of, submit_at, submit_by, submits_of}
@@ -84,6 +82,24 @@ open_now by now (Gone job shut ∷ log) e = open_now by now log e
 
 pub opens_now : (inst : Instance) (log : Log) (by : By) → IsOpen by log → Contains (seconds_open inst log by) (now_of inst log)
 opens_now inst log by h = contains_from _ _ (open_now by inst.birth log h.issued)
+
+-- the second before a command is issued
+open_at : (by : By) (now : ℕ) (log : Log) → is_issued by log ≡ true → Among (latest ticked now (before_issue by log)) (seconds_from by now log)
+open_at by now [] e = absurd (true≢false (sym e))
+open_at by now (Issued other ∷ log) e = at (same_command by other) (open_at by now log) e
+  where
+    at : (b : Bool) → (is_issued by log ≡ true → Among (latest ticked now (before_issue by log)) (seconds_from by now log)) → (b || is_issued by log) ≡ true
+        → Among (latest ticked now (cond b [] (Issued other ∷ before_issue by log))) (cond b (now ∷ filter_map ticked log) (seconds_from by now log))
+    at true more e = inl refl
+    at false more e = more e
+open_at by now (Ticked second ∷ log) e = open_at by second log e
+open_at by now (Served m ∷ log) e = open_at by now log e
+open_at by now (Replied other reply number ∷ log) e = open_at by now log e
+open_at by now (Born job ∷ log) e = open_at by now log e
+open_at by now (Gone job shut ∷ log) e = open_at by now log e
+
+pub opens_at_issue : (inst : Instance) (log : Log) (by : By) → IsOpen by log → Contains (seconds_open inst log by) (now_of inst (before_issue by log))
+opens_at_issue inst log by h = contains_from _ _ (open_at by inst.birth log h.issued)
 
 -- ---- events
 
@@ -226,7 +242,7 @@ module _ (v : CommandsValue) (inst : Instance) (log : Log) (h : AgreesCommands v
 
   -- a submission that waits has a sequence number below the count of its broker, which is one
   at_broker : (row : Row) → Contains v.rows row → is_submit row ≡ true → row.rank < length v.issued
-  at_broker row c w = let low = h.drawn.below row c w in within v.issued row.rank (omega arith)
+  at_broker row c w = let low = (h.drawn.rows row c w).below in within v.issued row.rank (omega arith)
 
   submit_stands : (row : Row) → Contains v.rows row → (s : Stage) → row.stage ≡ s → (x : JobAsk) → row.ask ≡ x → (given : posts.Submit) → submit_at v inst log row s ≡ Some given → StandsSubmitted inst log given
   submit_stands row c (stage.Landed number) is x same given e = cc

@@ -1,11 +1,10 @@
 -- The jobs that labels name, as the table of labels is seen.
-use Rattle.std.proofs.Common.{◌≡◌, ℕ, Bool, true, false, cond, List, [], ◌∷◌, Option, Some, None, Bor, refl, sym, ap, ◌∙◌, subst, true≢false, bytes_eq}
-use Rattle.std.specs.Option.{option_copied}
+use Rattle.std.proofs.Common.{◌≡◌, ℕ, Bool, true, false, cond, List, [], ◌∷◌, Option, Some, refl, sym, ap, ◌∙◌, subst, true≢false, bytes_eq}
 use Rattle.std.specs.Map.{lookup}
 use Rattle.std.specs.Global.{Vec}
 use Rattle.std.specs.Cmp.Lexicographic.{bytes_decides}
 use Rattle.indexmap.specs.IndexMap.{insert_entry}
-use Rattle.job_commands.specs.Rows.{Labels, job_at}
+use Rattle.job_commands.specs.Rows.{job_at}
 use Rattle.job_commands.specs.Shown.{shown}
 
 abbrev pub Table : Type 0

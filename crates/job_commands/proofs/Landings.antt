@@ -1,24 +1,20 @@
 -- The commands' table agrees with the log after a landing that carries out a command.
-use Rattle.std.proofs.Common.{◌≡◌, ◌≢◌, ℕ, ◌+◌, ◌<◌, ◌⊎◌, inl, inr, List, [], ◌∷◌, ◌++◌, length, Bool, true, false, cond, Option, Some, None, IsSome, Contains, map, refl, sym, ap, ◌∙◌, subst, true≢false, count_by, arith, bytes_eq}
-use Rattle.std.specs.Prelude.{IsTrue, slice_index, flat_map}
+use Rattle.std.proofs.Common.{◌≡◌, ◌≢◌, ℕ, ◌<◌, ◌⊎◌, inl, inr, List, [], ◌∷◌, ◌++◌, length, Bool, true, false, cond, Option, Some, IsSome, Contains, refl, sym, ap, ◌∙◌, subst, true≢false, arith, bytes_eq}
+use Rattle.std.specs.Prelude.{IsTrue, slice_index}
 use Rattle.std.specs.List.{list_any}
 use Rattle.std.specs.Cmp.Lexicographic.{bytes_decides}
 use Rattle.std.proofs.lemmas.Bool.{cond-false, cond-true, false_from_ne_true, or_from, or_left, or_right}
 use Rattle.job_rules.proofs.Among.{Among, among_flat, among_flattened, among_from, among_map, any_at, any_from, contains_from}
-use Rattle.fluid_ids.specs.Ids.{id_of}
 use Rattle.kvs_rules.proofs.Asking.{command_is}
 use Rattle.kvs_rules.proofs.Sequences.{until-append}
-use Rattle.kvs_rules.specs.Landings.{names_of, names_of_group}
-use Rattle.kvs_rules.specs.Log as service
-use Rattle.kvs_rules.specs.Log.{is_author, same_command}
-use Rattle.kvs_rules.specs.Namespaces.{primary}
-use Rattle.kvs_rules.specs.declared.events.KvsEvent.TheVariants as event
+use Rattle.kvs_rules.specs.Landings.{names_of_group}
+use Rattle.kvs_rules.specs.Log.{is_author}
 use Rattle.kvs_txn.specs.declared.txn.By.{By}
 use Rattle.kvs_txn.specs.declared.txn.Group.{Group}
-use Rattle.instance_rules.specs.Desks.{Begins, HasBegun, HasSubmitted, Names, submits_at}
-use Rattle.instance_rules.specs.Log.{Instance, IsOpen, IsPending, JobAsk as Asks, Log, Moment, Named, Served, Submit, is_decided, issues_now, now_of, service_of}
+use Rattle.instance_rules.specs.Desks.{Begins, HasBegun, HasSubmitted, Names}
+use Rattle.instance_rules.specs.Log.{Instance, IsOpen, JobAsk as Asks, Log, Moment, Named, Submit, is_decided, issues_now, now_of}
 use Rattle.instance_rules.specs.Replies.{AsksForEvent, IsCarriedOut}
-use Rattle.job_commands.specs.Agrees.{AgreesCommands, HasLanded, HasRow, HasUniqueLabels, IsDrawn, RowAgrees, StageAgrees}
+use Rattle.job_commands.specs.Agrees.{AgreesCommands, HasLanded, HasRow, HasUniqueLabels, IsDrawn, RowAgrees, StageAgrees, id_at}
 use Rattle.job_commands.specs.Asks.{told}
 use Rattle.job_commands.specs.Moments.{CarriesOut, IsAside, landing as lands_at}
 use Rattle.job_commands.specs.Rows.{AreCarried, CommandsValue, carried, is_of, is_submit, job_at}
@@ -27,9 +23,10 @@ use Rattle.job_commands.specs.declared.ask.JobAsk.TheVariants as ask
 use Rattle.job_commands.specs.declared.row.Row.{Row}
 use Rattle.job_commands.specs.declared.row.Stage.TheVariants as stage
 use Rattle.job_commands.proofs.Finding.{bytes_same}
-use Rattle.job_commands.proofs.Logs.{BeginsNow, begun_before, count_push, decided_kept, decided_push, open_before, open_kept, row_kept, same_self, serves}
+use Rattle.job_commands.proofs.Logs.{begun_before, count_push, decided_kept, decided_push, open_before, open_kept, row_kept, same_self, serves}
+use Rattle.job_commands.proofs.Marks.{drawn_same}
 use Rattle.job_commands.proofs.Steps.{asks_some, names_kept}
-use Rattle.job_commands.proofs.Tables.{carried_at, carried_by, carried_past, drawn_fewer, drawn_still, from_carried, is_its, of_it, of_other, to_carried, waits_past}
+use Rattle.job_commands.proofs.Tables.{carried_at, carried_by, carried_past, drawn_fewer, drawn_still, from_carried, of_it, of_other, to_carried, waits_past}
 
 in_group : (x : By) (o : Option By) (bys : List By) → Among o (names_of_group bys) → is_author x o ≡ true → Among x bys
 in_group x o [] (inl e) t = absurd (true≢false (sym t ∙ ap (is_author x) (sym e)))
@@ -86,7 +83,7 @@ module _ (inst : Instance) (by : By) (group : Group) (authors : List (Option By)
           inr (is_it now.group other now.one c some, subst (λ g. Begins g id) (w.only now.group other now.one c some) now.begins)
     ]
 
-    module _ (v new : CommandsValue) (rows : AreCarried by number v.rows new.rows) (issued : new.issued ≡ v.issued) (h : AgreesCommands v inst log)
+    module _ (v new : CommandsValue) (rows : AreCarried by number v.rows new.rows) (issued : new.issued ≡ v.issued) (marks : new.marks ≡ v.marks) (h : AgreesCommands v inst log)
         (some : IsSome (inst.asks by)) (lands : (asked : JobAsk) → inst.asks by ≡ Some (told asked) → HasLanded later by number asked) where
       row_its : (y : Row) → Contains v.rows y → y.by ≡ by → RowAgrees inst later (record y { stage = stage.Landed number })
       row_its y c e =
@@ -135,19 +132,19 @@ module _ (inst : Instance) (by : By) (group : Group) (authors : List (Option By)
       ]
 
       pub lands_agrees : ((label : List ℕ) (id : ℕ) → (job_at label new.labels ≡ Some id → Names inst later label id) × (Names inst later label id → job_at label new.labels ≡ Some id))
-          → ((label : List ℕ) (id : ℕ) → job_at label new.labels ≡ Some id → IsDrawn new id) → AgreesCommands new inst later
+          → ((label : List ℕ) (id : ℕ) → job_at label new.labels ≡ Some id → IsDrawn new inst.birth id) → AgreesCommands new inst later
       lands_agrees labels used = record {
         labels = λ label id. let both = labels label id in (both.0, both.1);
         rows = rows_later;
         all = all_later;
         issued = λ rank t. ap (λ l. slice_index l rank) issued ∙ h.issued rank (subst (λ l. rank < length l) issued t) ∙ sym (count_push inst rank log landing ∙ omega arith);
-        drawn = drawn_fewer v new waits_before issued used h.drawn;
+        drawn = drawn_fewer v new waits_before issued marks inst.birth used h.drawn;
         decided = decided_later;
       }
 
     -- ---- an event
 
-    module _ (v new : CommandsValue) (labels : new.labels ≡ v.labels) (rows : AreCarried by number v.rows new.rows) (issued : new.issued ≡ v.issued) (h : AgreesCommands v inst log)
+    module _ (v new : CommandsValue) (labels : new.labels ≡ v.labels) (rows : AreCarried by number v.rows new.rows) (issued : new.issued ≡ v.issued) (marks : new.marks ≡ v.marks) (h : AgreesCommands v inst log)
         (asked : Asks) (asks : inst.asks by ≡ Some asked) (event : AsksForEvent asked) where
       no_submission : (label : List ℕ) (urgency : ℕ) (needs : List Named) (text : List ℕ) → inst.asks by ≡ Some (Submit label urgency needs text) → ⊥
       no_submission label urgency needs text e =
@@ -188,16 +185,16 @@ module _ (inst : Instance) (by : By) (group : Group) (authors : List (Option By)
 
       pub event_agrees : AgreesCommands new inst later
       event_agrees =
-          lands_agrees v new rows issued h (asks_some inst by asked asks) event_lands
+          lands_agrees v new rows issued marks h (asks_some inst by asked asks) event_lands
           (λ label id. (
             λ e. names_kept inst log landing label id ((h.labels label id).0 (sym (ap (job_at label) labels) ∙ e)),
             λ n. ap (job_at label) labels ∙ (h.labels label id).1 (names_before label id n),
           ))
-          (λ label id e. drawn_still v new (waits_before v new rows issued h (asks_some inst by asked asks) event_lands) issued id (h.drawn.used label id (sym (ap (job_at label) labels) ∙ e)))
+          (λ label id e. drawn_still v new (waits_before v new rows issued marks h (asks_some inst by asked asks) event_lands) issued marks inst.birth id (h.drawn.used label id (sym (ap (job_at label) labels) ∙ e)))
 
     -- ---- a submission
 
-    module _ (v new : CommandsValue) (rows : AreCarried by number v.rows new.rows) (issued : new.issued ≡ v.issued) (h : AgreesCommands v inst log)
+    module _ (v new : CommandsValue) (rows : AreCarried by number v.rows new.rows) (issued : new.issued ≡ v.issued) (marks : new.marks ≡ v.marks) (h : AgreesCommands v inst log)
         (label : List ℕ) (urgency : ℕ) (needs : List Named) (text : List ℕ) (asks : inst.asks by ≡ Some (Submit label urgency needs text))
         (id : ℕ) (begins : Begins group id) (sole : (other : ℕ) → Begins group other → other ≡ id)
         (labels : (other : List ℕ) → job_at other new.labels ≡ cond (bytes_eq other label) (Some id) (job_at other v.labels))
@@ -254,28 +251,28 @@ module _ (inst : Instance) (by : By) (group : Group) (authors : List (Option By)
       some_by : IsSome (inst.asks by)
       some_by = asks_some inst by _ asks
 
-      drawn_now : (l : List ℕ) (i : ℕ) → IsDrawn new id → job_at l new.labels ≡ Some i → IsDrawn new i
+      drawn_now : (l : List ℕ) (i : ℕ) → IsDrawn new inst.birth id → job_at l new.labels ≡ Some i → IsDrawn new inst.birth i
       drawn_now l i d e = at (bytes_eq l label) refl
         where
-          at : (b : Bool) → bytes_eq l label ≡ b → IsDrawn new i
+          at : (b : Bool) → bytes_eq l label ≡ b → IsDrawn new inst.birth i
           at true t =
               let one : Some id ≡ Some i = sym (labels l ∙ cond-true (bytes_eq l label) _ _ t) ∙ e in
               let same : id ≡ i = cc in
-              subst (IsDrawn new) same d
-          at false t = drawn_still v new (waits_before v new rows issued h some_by lands) issued i (h.drawn.used l i (sym (labels l ∙ cond-false (bytes_eq l label) _ _ t) ∙ e))
+              subst (IsDrawn new inst.birth) same d
+          at false t = drawn_still v new (waits_before v new rows issued marks h some_by lands) issued marks inst.birth i (h.drawn.used l i (sym (labels l ∙ cond-false (bytes_eq l label) _ _ t) ∙ e))
 
-      pub submitted_agrees : (row : Row) → Contains v.rows row → row.by ≡ by → is_submit row ≡ true → (millis : ℕ) → id ≡ id_of millis row.rank row.sequence → AgreesCommands new inst later
-      submitted_agrees row known of waits millis made =
-          lands_agrees v new rows issued h some_by lands (λ l i. (from_table l i, to_table l i)) (λ l i. drawn_now l i drawn)
+      pub submitted_agrees : (row : Row) → Contains v.rows row → row.by ≡ by → is_submit row ≡ true → id ≡ id_at inst.birth row.rank row.issued row.sequence → AgreesCommands new inst later
+      submitted_agrees row known of waits made =
+          lands_agrees v new rows issued marks h some_by lands (λ l i. (from_table l i, to_table l i)) (λ l i. drawn_now l i drawn)
         where
-          drawn : IsDrawn new id
+          drawn : IsDrawn new inst.birth id
           drawn = record {
-            millis = millis;
             rank = row.rank;
+            second = row.issued;
             sequence = row.sequence;
             made = made;
-            below = subst (λ l. row.sequence < slice_index l row.rank) (sym issued) (h.drawn.below row known waits);
-            other = λ r c e rank sequence.
-                waits_other v new rows issued h some_by lands r c e
-                (h.drawn.apart r row (waits_before v new rows issued h some_by lands r c e) known e waits rank sequence ∙ of);
+            drawn = drawn_same v new issued marks inst.birth row.rank row.issued row.sequence (h.drawn.rows row known waits);
+            other = λ r c e rank second sequence.
+                waits_other v new rows issued marks h some_by lands r c e
+                (h.drawn.apart r row (waits_before v new rows issued marks h some_by lands r c e) known e waits rank second sequence ∙ of);
           }

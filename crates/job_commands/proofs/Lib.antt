@@ -1,5 +1,7 @@
 pub mod Logs
+pub mod Marks
 pub mod Tables
+pub mod Tallies
 pub mod Finding
 pub mod Steps
 pub mod Landings

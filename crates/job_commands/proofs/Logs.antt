@@ -1,9 +1,9 @@
 -- What a further moment leaves of what the log says of job commands.
-use Rattle.std.proofs.Common.{◌≡◌, ◌≢◌, ℕ, ◌+◌, ◌==◌, ◌⊎◌, inl, inr, List, [], ◌∷◌, ◌++◌, Bool, true, false, cond, ◌||◌, ◌&&◌, Option, Some, None, IsSome, Contains, refl, sym, ap, ap₂, ◌∙◌, subst, true≢false, count_by, arith}
-use Rattle.std.specs.Prelude.{IsTrue, filter_map}
+use Rattle.std.proofs.Common.{◌≡◌, ◌≢◌, ℕ, ◌+◌, ◌==◌, ◌⊎◌, inl, inr, [], ◌∷◌, ◌++◌, Bool, true, false, cond, ◌||◌, ◌&&◌, Option, Some, None, IsSome, Contains, refl, sym, ap, ap₂, ◌∙◌, subst, true≢false, count_by, arith}
+use Rattle.std.specs.Prelude.{filter_map}
 use Rattle.std.specs.List.{list_any}
-use Rattle.std.proofs.lemmas.Bool.{or_cases, or_parts, or_from, or_left, or_right, false_from_ne_true}
-use Rattle.std.proofs.lemmas.List.Elements.{Contains-append_left, Contains-append_right, Contains-append_cases, Contains-push, filter_map-append}
+use Rattle.std.proofs.lemmas.Bool.{or_parts, or_from, or_left, false_from_ne_true}
+use Rattle.std.proofs.lemmas.List.Elements.{Contains-append_left, Contains-append_cases, Contains-push, filter_map-append}
 use Rattle.std.proofs.lemmas.List.Folds.{list_any-append}
 use Rattle.std.proofs.lemmas.List.Sums.{sum_by-append}
 use Rattle.std.proofs.lemmas.Bool.Decides.{nat_tests}
@@ -14,15 +14,13 @@ use Rattle.kvs_rules.proofs.Stores.{any_push}
 use Rattle.kvs_rules.specs.Log as service
 use Rattle.kvs_rules.specs.Log.{same_command}
 use Rattle.kvs_rules.specs.Namespaces.{primary}
-use Rattle.kvs_rules.specs.Sequence.{until}
 use Rattle.kvs_rules.specs.declared.events.KvsEvent.TheVariants as event
 use Rattle.kvs_txn.specs.declared.txn.By.{By}
 use Rattle.kvs_txn.specs.declared.txn.Group.{Group}
-use Rattle.instance_rules.specs.Desks.{Begins, HasBegun, HasSubmitted, Names, is_submission, submits_at}
-use Rattle.instance_rules.specs.Log.{Instance, IsOpen, JobAsk, Log, Moment, Served, Issued, Replied, Ticked, Born, Gone, before_issue, is_decided, is_issued, is_replied, issues_now, replies_now, now_of, served, service_of}
+use Rattle.instance_rules.specs.Desks.{Begins, HasBegun, HasSubmitted, is_submission, submits_at}
+use Rattle.instance_rules.specs.Log.{Instance, IsOpen, JobAsk, Log, Moment, Served, Issued, Replied, Ticked, Born, Gone, is_decided, is_issued, is_replied, issues_now, replies_now, now_of, served, service_of}
 use Rattle.instance_rules.specs.Replies.{IsCarriedOut}
 use Rattle.job_commands.specs.Agrees.{HasLanded, RowAgrees, StageAgrees}
-use Rattle.job_commands.specs.Asks.{told}
 use Rattle.job_commands.specs.Moments.{IsAside, decides_now, groups_of}
 use Rattle.job_commands.specs.declared.ask.JobAsk.{JobAsk as Ask}
 use Rattle.job_commands.specs.declared.ask.JobAsk.TheVariants as ask

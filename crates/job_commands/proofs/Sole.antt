@@ -1,14 +1,13 @@
 -- A transaction that begins a job begins no other.
-use Rattle.std.proofs.Common.{◌≡◌, ℕ, zero, suc, ◌<◌, ◌/◌, ◌^◌, ◌&&◌, Bool, true, false, List, [], ◌∷◌, ◌++◌, Ok, length, refl, sym, ap, ◌∙◌, subst, arith, true≢false}
+use Rattle.std.proofs.Common.{◌≡◌, ℕ, zero, suc, ◌<◌, ◌/◌, ◌^◌, true, List, [], ◌∷◌, ◌++◌, Ok, length, refl, sym, ap, ◌∙◌, subst, arith}
 use Rattle.std.specs.Prelude.{nat_lt, slice_index}
 use Rattle.std.specs.List.{list_all}
 use Rattle.std.proofs.lemmas.Bool.{and_parts, ltb-true}
 use Rattle.fluid_ids.specs.Texts.{base_16, meaning, printed}
 use Rattle.fluid_ids.specs.declared.forms.Form.TheVariants.{Dothex}
 use Rattle.fluid_ids.proofs.Rereads.{printed_again}
-use Rattle.kvs_model.specs.Store.{Name, Path}
+use Rattle.kvs_model.specs.Store.{Path}
 use Rattle.kvs_txn.specs.declared.txn.Group.{Group}
-use Rattle.kvs_txn.specs.declared.txn.Op.{Op}
 use Rattle.kvs_txn.specs.declared.txn.Op.TheVariants as op
 use Rattle.instance_rules.specs.Desks.{Begins}
 use Rattle.manager_rules.specs.Keys.{job_path, log_path, spec_path}

@@ -1,11 +1,9 @@
 -- The commands' table agrees with the log after a moment, an issue or an answer.
-use Rattle.std.proofs.Common.{◌≡◌, ◌≢◌, ℕ, suc, ◌+◌, ◌<◌, ◌≤◌, ◌==◌, ◌&&◌, ◌||◌, ◌⊎◌, inl, inr, List, [], ◌∷◌, ◌++◌, length, Bool, true, false, cond, Option, Some, None, IsSome, Contains, refl, sym, ap, ◌∙◌, subst, true≢false, count_by, arith}
-use Rattle.std.specs.Prelude.{◌↔◌, IsTrue, filter, not, slice_index, slice_set}
-use Rattle.std.specs.List.{list_any}
+use Rattle.std.proofs.Common.{◌≡◌, ◌≢◌, ℕ, ◌+◌, ◌-◌, ◌<◌, ◌≤◌, ◌==◌, ◌&&◌, ◌||◌, ◌⊎◌, inl, inr, List, [], ◌∷◌, ◌++◌, length, Bool, true, false, cond, Option, Some, None, IsSome, Contains, refl, sym, ap, ◌∙◌, subst, true≢false, count_by, arith}
+use Rattle.std.specs.Prelude.{filter, not, slice_index}
 use Rattle.std.proofs.lemmas.Bool.{and_from, and_parts, cond-true, eq-eqb, eqb-true, or_from, or_right}
 use Rattle.std.proofs.lemmas.List.Elements.{Contains-append_left, Contains-push, Contains-push_cases}
 use Rattle.job_rules.proofs.Among.{among_from}
-use Rattle.fluid_ids.specs.Ids.{id_of}
 use Rattle.kvs_rules.proofs.Asking.{command_is}
 use Rattle.kvs_rules.specs.Log.{same_command}
 use Rattle.kvs_rules.specs.Sequence.{until}
@@ -14,15 +12,16 @@ use Rattle.kvs_rules.proofs.Stores.{any_push}
 use Rattle.instance_rules.specs.Desks.{HasSubmitted, Names, is_submission, submits_at}
 use Rattle.instance_rules.specs.Log as rules
 use Rattle.instance_rules.specs.Log.{Instance, IsOpen, JobAsk as Asks, JobReply, Log, Moment, Issued, Replied, Ticked, before_issue, is_decided, is_issued, is_replied, issues_now, now_of, replies_now}
-use Rattle.job_commands.specs.Agrees.{AgreesCommands, HasRow, IsDrawn, RowAgrees, StageAgrees}
+use Rattle.job_commands.specs.Agrees.{AgreesCommands, HasRow, IsDrawn, RowAgrees, StageAgrees, WasDrawn}
 use Rattle.job_commands.specs.Asks.{told}
 use Rattle.job_commands.specs.Moments.{IsAside, IsBeside}
-use Rattle.job_commands.specs.Rows.{CommandsValue, is_of, is_submit, is_waiting, job_at}
+use Rattle.job_commands.specs.Rows.{CommandsValue, is_of, is_submit, is_waiting, job_at, mark_at, mark_now, unmarked}
 use Rattle.job_commands.specs.declared.ask.JobAsk.{JobAsk}
 use Rattle.job_commands.specs.declared.ask.JobAsk.TheVariants as ask
 use Rattle.job_commands.specs.declared.row.Row.{Row}
 use Rattle.job_commands.specs.declared.row.Stage.TheVariants as stage
-use Rattle.job_commands.proofs.Logs.{begun_before, begun_kept, count_push, decided_kept, differs, issued_kept, not_now, open_before, open_kept, row_kept, same_self, submits_none, submitted_kept, undecided_kept}
+use Rattle.job_commands.proofs.Logs.{begun_before, count_push, decided_kept, differs, not_now, open_before, row_kept, same_self, submits_none, submitted_kept, undecided_kept}
+use Rattle.job_commands.proofs.Marks.{IsMarked, drawn_kept, drawn_more, mark_count, mark_of, mark_same, mark_second}
 use Rattle.job_commands.proofs.Tables.{IsCounted, drawn_fewer, drawn_still, from_forgotten, to_forgotten}
 
 pub asks_some : (inst : Instance) (by : By) (a : Asks) → inst.asks by ≡ Some a → IsSome (inst.asks by)
@@ -71,7 +70,7 @@ aside_reply by other reply number ne = record { issues = refl; replies = differs
 
 module _ (v new : CommandsValue) (inst : Instance) (log : Log) (by : By) (reply : JobReply) (number : Option ℕ)
     (labels : new.labels ≡ v.labels) (rows : new.rows ≡ filter (λ row. not (is_of by row)) v.rows) (issued : new.issued ≡ v.issued)
-    (h : AgreesCommands v inst log) where
+    (marks : new.marks ≡ v.marks) (h : AgreesCommands v inst log) where
   abbrev replied : Moment
   replied = Replied by reply number
 
@@ -87,8 +86,8 @@ module _ (v new : CommandsValue) (inst : Instance) (log : Log) (by : By) (reply 
   names_same : (label : List ℕ) (id : ℕ) → Names inst (log ++ replied ∷ []) label id → Names inst log label id
   names_same label id n = record { by = n.by; urgency = n.urgency; needs = n.needs; text = n.text; asks = n.asks; landed = begun_same n.by id n.landed }
 
-  used : (label : List ℕ) (id : ℕ) → job_at label new.labels ≡ Some id → IsDrawn new id
-  used label id e = drawn_still v new (λ row c w. (kept row c).0) issued id (h.drawn.used label id (sym (ap (job_at label) labels) ∙ e))
+  used : (label : List ℕ) (id : ℕ) → job_at label new.labels ≡ Some id → IsDrawn new inst.birth id
+  used label id e = drawn_still v new (λ row c w. (kept row c).0) issued marks inst.birth id (h.drawn.used label id (sym (ap (job_at label) labels) ∙ e))
 
   not_answered : (other : By) → other ≡ by → is_replied other (log ++ replied ∷ []) ≡ false → ⊥
   not_answered other same quiet =
@@ -109,23 +108,24 @@ module _ (v new : CommandsValue) (inst : Instance) (log : Log) (by : By) (reply 
     rows = λ row c. let k = kept row c in row_kept inst log replied row (aside_reply by row.by reply number k.1) (h.rows row k.0);
     all = all_rows;
     issued = λ rank w. ap (λ l. slice_index l rank) issued ∙ h.issued rank (subst (λ l. rank < length l) issued w) ∙ sym (count_push inst rank log replied ∙ omega arith);
-    drawn = drawn_fewer v new (λ row c w. (kept row c).0) issued used h.drawn;
+    drawn = drawn_fewer v new (λ row c w. (kept row c).0) issued marks inst.birth used h.drawn;
     decided = λ other id some begun. decided_kept other log replied (h.decided other id some (begun_same other id begun));
   }
 
 -- ---- the beginning
 
-pub new_agrees : (v : CommandsValue) (inst : Instance) → v.labels ≡ [] → v.rows ≡ [] → ((k : ℕ) → slice_index v.issued k ≡ 0) → AgreesCommands v inst []
-new_agrees v inst labels rows zero = record {
+pub new_agrees : (v : CommandsValue) (inst : Instance) → v.labels ≡ [] → v.rows ≡ [] → ((k : ℕ) → slice_index v.issued k ≡ 0) → ((k : ℕ) → mark_at v.marks k ≡ unmarked) → AgreesCommands v inst []
+new_agrees v inst labels rows zero unset = record {
   labels = λ label id. (λ e. (let none : None ≡ Some id = sym (ap (job_at label) labels) ∙ e in cc), λ n. absurd (among_from [] _ n.landed.1.landing));
   rows = λ row c. absurd (no_row row c);
   all = λ by asked e o. absurd (true≢false (sym o.issued));
   issued = λ rank w. zero rank;
   drawn = record {
-    below = λ row c w. absurd (no_row row c);
+    rows = λ row c w. absurd (no_row row c);
     apart = λ a b ca cb wa wb. absurd (no_row a ca);
     used = λ label id e. (let none : None ≡ Some id = sym (ap (job_at label) labels) ∙ e in cc);
     few = λ rank. let z = zero rank in omega arith;
+    counts = λ rank. let none : (mark_at v.marks rank).count ≡ 0 = ap (λ m. m.count) (unset rank) in omega arith;
   };
   decided = λ by id some begun. absurd (among_from [] _ begun.1.landing);
 }
@@ -149,8 +149,10 @@ aside_issue by other ne = record { issues = differs other by ne; replies = refl;
 
 module _ (v new : CommandsValue) (row : Row) (inst : Instance) (log : Log)
     (labels : new.labels ≡ v.labels) (rows : new.rows ≡ v.rows ++ row ∷ []) (counted : IsCounted row v.issued new.issued)
-    (few : is_submission (Some (told row.ask)) ≡ true → slice_index v.issued row.rank < 1000) (sequence : row.sequence ≡ slice_index v.issued row.rank) (fresh : row.stage ≡ stage.Waits)
-    (h : AgreesCommands v inst log) (asks : inst.asks row.by ≡ Some (told row.ask)) (rank_is : inst.rank row.by ≡ row.rank) (now : now_of inst log ≡ row.issued)
+    (marked : IsMarked row (mark_of v row) v.marks new.marks)
+    (few : is_submission (Some (told row.ask)) ≡ true → slice_index v.issued row.rank < 1000) (later : is_submission (Some (told row.ask)) ≡ true → (mark_at v.marks row.rank).second ≤ row.issued)
+    (sequence : row.sequence ≡ slice_index v.issued row.rank - (mark_of v row).count) (fresh : row.stage ≡ stage.Waits)
+    (h : AgreesCommands v inst log) (asks : inst.asks row.by ≡ Some (told row.ask)) (rank_is : inst.rank row.by ≡ row.rank) (now : now_of inst log ≡ row.issued) (since : inst.birth ≤ row.issued)
     (unissued : is_issued row.by log ≡ false) (unanswered : is_replied row.by log ≡ false) (undecided : is_decided row.by log ≡ false) where
   abbrev issue : Moment
   issue = Issued row.by
@@ -204,58 +206,114 @@ module _ (v new : CommandsValue) (row : Row) (inst : Instance) (log : Log)
   counted_at : (rank : ℕ) → submits_at inst rank issue ≡ ((row.rank == rank) && is_submission (Some (told row.ask)))
   counted_at rank = ap (λ r. (r == rank) && is_submission (inst.asks row.by)) rank_is ∙ ap (λ o. (row.rank == rank) && is_submission o) asks
 
-  more : (rank : ℕ) → slice_index v.issued rank ≤ slice_index new.issued rank
-  more rank = let e = counted.1 rank in omega arith
+  -- what was given out before was so still
+  drawn_still_so : (rank second k : ℕ) → WasDrawn v inst.birth rank second k → WasDrawn new inst.birth rank second k
+  drawn_still_so rank second k d = at (row.rank == rank) refl (is_submission (Some (told row.ask))) refl (counted.1 rank) (marked rank)
+    where
+      at : (b : Bool) → (row.rank == rank) ≡ b → (t : Bool) → is_submission (Some (told row.ask)) ≡ t → slice_index new.issued rank ≡ slice_index v.issued rank + cond (b && t) 1 0
+          → mark_at new.marks rank ≡ cond (b && t) (mark_of v row) (mark_at v.marks rank) → WasDrawn new inst.birth rank second k
+      at true same true sub count mark =
+          let is : row.rank ≡ rank = eqb-true row.rank rank same in
+          drawn_more v new inst.birth rank second k row.issued count
+          (mark ∙ ap (λ r. mark_now (mark_at v.marks r) (slice_index v.issued r) row.issued) is)
+          (subst (λ r. (mark_at v.marks r).second ≤ row.issued) is (later sub)) d
+      at true same false sub count mark = drawn_kept v new inst.birth rank second k (count ∙ omega arith) mark d
+      at false same t sub count mark = drawn_kept v new inst.birth rank second k (count ∙ omega arith) mark d
+
+  submits : is_submit row ≡ true → is_submission (Some (told row.ask)) ≡ true
+  submits w = (and_parts (is_waiting row.stage) _ w).1
+
+  counts_it : is_submit row ≡ true → ((row.rank == row.rank) && is_submission (Some (told row.ask))) ≡ true
+  counts_it w = and_from (row.rank == row.rank) _ (eq-eqb row.rank row.rank refl) (submits w)
 
   submit_counted : is_submit row ≡ true → slice_index new.issued row.rank ≡ slice_index v.issued row.rank + 1
-  submit_counted w =
-      counted.1 row.rank
-      ∙ ap (λ b. slice_index v.issued row.rank + cond b 1 0) (and_from (row.rank == row.rank) _ (eq-eqb row.rank row.rank refl) (and_parts (is_waiting row.stage) _ w).1)
+  submit_counted w = counted.1 row.rank ∙ ap (λ b. slice_index v.issued row.rank + cond b 1 0) (counts_it w)
 
-  -- what was drawn before was drawn with another sequence number
-  drawn_past : (id : ℕ) → IsDrawn v id → IsDrawn new id
+  submit_marked : is_submit row ≡ true → mark_at new.marks row.rank ≡ mark_of v row
+  submit_marked w = marked row.rank ∙ ap (λ b. cond b (mark_of v row) (mark_at v.marks row.rank)) (counts_it w)
+
+  -- no more were issued before the second than in all
+  base : (mark_of v row).count ≤ slice_index v.issued row.rank
+  base = mark_count (mark_at v.marks row.rank) (slice_index v.issued row.rank) row.issued (h.drawn.counts row.rank)
+
+  given_out : is_submit row ≡ true → WasDrawn new inst.birth row.rank row.issued row.sequence
+  given_out w =
+      let count = submit_counted w in
+      let mark = submit_marked w in
+      let second : (mark_at new.marks row.rank).second ≡ row.issued = ap (λ m. m.second) mark ∙ mark_second (mark_at v.marks row.rank) (slice_index v.issued row.rank) row.issued in
+      let before : (mark_at new.marks row.rank).count ≡ (mark_of v row).count = ap (λ m. m.count) mark in
+      let s = sequence in
+      let b = base in
+      record {
+        since = since;
+        marked = omega (arith, second);
+        below = omega (arith, count, s);
+        within = λ e. omega (arith, count, before, s, b);
+      }
+
+  -- nothing was given out with the numbers of the new row
+  fresh_number : is_submit row ≡ true → (rank second k : ℕ) → WasDrawn v inst.birth rank second k → row.rank ≡ rank → row.issued ≡ second → row.sequence ≡ k → ⊥
+  fresh_number w rank second k d same at is =
+      let old : WasDrawn v inst.birth row.rank row.issued row.sequence =
+      subst (λ r. WasDrawn v inst.birth r row.issued row.sequence) (sym same)
+      (subst (λ n. WasDrawn v inst.birth rank n row.sequence) (sym at) (subst (WasDrawn v inst.birth rank second) (sym is) d)) in
+      let not_past = old.marked in
+      let not_later = later (submits w) in
+      let present : (mark_at v.marks row.rank).second ≡ row.issued = omega (arith, not_past, not_later) in
+      let low = old.within (sym present) in
+      let mark : (mark_of v row).count ≡ (mark_at v.marks row.rank).count = ap (λ m. m.count) (mark_same (mark_at v.marks row.rank) (slice_index v.issued row.rank) row.issued present) in
+      let s = sequence in
+      omega (arith, low, mark, s)
+
+  -- what was drawn before was drawn in another second or with another sequence number
+  drawn_past : (id : ℕ) → IsDrawn v inst.birth id → IsDrawn new inst.birth id
   drawn_past id d = record {
-    millis = d.millis;
     rank = d.rank;
+    second = d.second;
     sequence = d.sequence;
     made = d.made;
-    below = (let a = more d.rank in let b = d.below in omega arith);
-    other = λ r c w e s. elim (cases r c) [
-      | inl old ↦ d.other r old w e s
-      | inr same ↦
-          let b = d.below in
-          let one : row.sequence ≡ d.sequence = ap (λ x. x.sequence) same ∙ s in
-          let two : slice_index v.issued row.rank ≡ slice_index v.issued d.rank = ap (slice_index v.issued) (ap (λ x. x.rank) same ∙ e) in
-          let three = sequence in
-          absurd (omega arith)
+    drawn = drawn_still_so d.rank d.second d.sequence d.drawn;
+    other = λ r c w e n s. elim (cases r c) [
+      | inl old ↦ d.other r old w e n s
+      | inr same ↦ fresh_number (ap is_submit same ∙ w) d.rank d.second d.sequence d.drawn (ap (λ x. x.rank) same ∙ e) (ap (λ x. x.issued) same ∙ n) (ap (λ x. x.sequence) same ∙ s)
     ];
   }
 
-  seq_below : (r : Row) → Contains new.rows r → is_submit r ≡ true → r.sequence < slice_index new.issued r.rank
-  seq_below r c w = elim (cases r c) [
-    | inl old ↦ (let a = more r.rank in let b = h.drawn.below r old w in omega arith)
-    | inr same ↦ subst (λ x. x.sequence < slice_index new.issued x.rank) same (let a = submit_counted (ap is_submit same ∙ w) in let b = sequence in omega arith)
+  rows_drawn : (r : Row) → Contains new.rows r → is_submit r ≡ true → WasDrawn new inst.birth r.rank r.issued r.sequence
+  rows_drawn r c w = elim (cases r c) [
+    | inl old ↦ drawn_still_so r.rank r.issued r.sequence (h.drawn.rows r old w)
+    | inr same ↦ subst (λ x. WasDrawn new inst.birth x.rank x.issued x.sequence) same (given_out (ap is_submit same ∙ w))
   ]
 
-  -- an older submission has a lower number
-  lower : (r : Row) → Contains v.rows r → is_submit r ≡ true → r.rank ≡ row.rank → r.sequence ≡ row.sequence → ⊥
-  lower r c w e s =
-      let a : r.sequence < slice_index v.issued r.rank = h.drawn.below r c w in
-      let b : slice_index v.issued r.rank ≡ slice_index v.issued row.rank = ap (slice_index v.issued) e in
-      let d = sequence in
-      omega arith
-
-  seq_apart : (a b : Row) → Contains new.rows a → Contains new.rows b → is_submit a ≡ true → is_submit b ≡ true → a.rank ≡ b.rank → a.sequence ≡ b.sequence → a.by ≡ b.by
-  seq_apart a b ca cb wa wb e s = elim (cases a ca) [
+  rows_apart : (a b : Row) → Contains new.rows a → Contains new.rows b → is_submit a ≡ true → is_submit b ≡ true → a.rank ≡ b.rank → a.issued ≡ b.issued → a.sequence ≡ b.sequence → a.by ≡ b.by
+  rows_apart a b ca cb wa wb e n s = elim (cases a ca) [
     | inl olda ↦ elim (cases b cb) [
-      | inl oldb ↦ h.drawn.apart a b olda oldb wa wb e s
-      | inr same ↦ absurd (lower a olda wa (e ∙ sym (ap (λ x. x.rank) same)) (s ∙ sym (ap (λ x. x.sequence) same)))
+      | inl oldb ↦ h.drawn.apart a b olda oldb wa wb e n s
+      | inr same ↦ absurd (fresh_number (ap is_submit same ∙ wb) a.rank a.issued a.sequence (h.drawn.rows a olda wa) (ap (λ x. x.rank) same ∙ sym e) (ap (λ x. x.issued) same ∙ sym n) (ap (λ x. x.sequence) same ∙ sym s))
     ]
     | inr same ↦ elim (cases b cb) [
-      | inl oldb ↦ absurd (lower b oldb wb (sym e ∙ sym (ap (λ x. x.rank) same)) (sym s ∙ sym (ap (λ x. x.sequence) same)))
+      | inl oldb ↦ absurd (fresh_number (ap is_submit same ∙ wa) b.rank b.issued b.sequence (h.drawn.rows b oldb wb) (ap (λ x. x.rank) same ∙ e) (ap (λ x. x.issued) same ∙ n) (ap (λ x. x.sequence) same ∙ s))
       | inr too ↦ sym (ap (λ x. x.by) same) ∙ ap (λ x. x.by) too
     ]
   ]
+
+  counts_still : (rank : ℕ) → (mark_at new.marks rank).count ≤ slice_index new.issued rank
+  counts_still rank = at (row.rank == rank) refl (is_submission (Some (told row.ask))) (counted.1 rank) (marked rank)
+    where
+      at : (b : Bool) → (row.rank == rank) ≡ b → (t : Bool) → slice_index new.issued rank ≡ slice_index v.issued rank + cond (b && t) 1 0
+          → mark_at new.marks rank ≡ cond (b && t) (mark_of v row) (mark_at v.marks rank) → (mark_at new.marks rank).count ≤ slice_index new.issued rank
+      at true same true count mark =
+          let low : (mark_of v row).count ≤ slice_index v.issued rank = subst (λ r. (mark_of v row).count ≤ slice_index v.issued r) (eqb-true row.rank rank same) base in
+          let is : (mark_at new.marks rank).count ≡ (mark_of v row).count = ap (λ m. m.count) mark in
+          omega (arith, count, low, is)
+      at true same false count mark =
+          let low = h.drawn.counts rank in
+          let is : (mark_at new.marks rank).count ≡ (mark_at v.marks rank).count = ap (λ m. m.count) mark in
+          omega (arith, count, low, is)
+      at false same t count mark =
+          let low = h.drawn.counts rank in
+          let is : (mark_at new.marks rank).count ≡ (mark_at v.marks rank).count = ap (λ m. m.count) mark in
+          omega (arith, count, low, is)
 
   few_still : (rank : ℕ) → slice_index new.issued rank ≤ 1024
   few_still rank = at (row.rank == rank) refl (is_submission (Some (told row.ask))) refl (counted.1 rank)
@@ -276,7 +334,13 @@ module _ (v new : CommandsValue) (row : Row) (inst : Instance) (log : Log)
     issued = λ rank w. counted.1 rank
         ∙ ap (λ n. n + cond ((row.rank == rank) && is_submission (Some (told row.ask))) 1 0) (h.issued rank (subst (λ n. rank < n) counted.0 w))
         ∙ sym (count_push inst rank log issue ∙ ap (λ b. count_by (submits_at inst rank) log + cond b 1 0) (counted_at rank));
-    drawn = record { below = seq_below; apart = seq_apart; used = λ label id e. drawn_past id (h.drawn.used label id (sym (ap (job_at label) labels) ∙ e)); few = few_still };
+    drawn = record {
+      rows = rows_drawn;
+      apart = rows_apart;
+      used = λ label id e. drawn_past id (h.drawn.used label id (sym (ap (job_at label) labels) ∙ e));
+      few = few_still;
+      counts = counts_still;
+    };
     decided = λ other id some begun. decided_kept other log issue (h.decided other id some (begun_old other id begun));
   }
 

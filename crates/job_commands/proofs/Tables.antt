@@ -1,5 +1,5 @@
 -- Rows after a change, and the sequence numbers of submissions.
-use Rattle.std.proofs.Common.{◌≡◌, ◌≢◌, ℕ, ◌+◌, ◌==◌, ◌&&◌, Bor, arith, ◌<◌, ◌≤◌, ◌⊎◌, inl, inr, List, [], ◌∷◌, ◌++◌, length, Bool, true, false, cond, Option, Some, None, Contains, refl, sym, ap, ◌∙◌, subst, true≢false, get_or}
+use Rattle.std.proofs.Common.{◌≡◌, ◌≢◌, ℕ, ◌+◌, ◌==◌, ◌&&◌, Bor, arith, ◌<◌, ◌≤◌, ◌⊎◌, inl, inr, List, [], ◌∷◌, length, Bool, true, false, cond, Option, Some, None, Contains, refl, sym, ap, ◌∙◌, subst, true≢false, get_or}
 use Rattle.std.specs.Prelude.{IfNone, IfSome, filter, find, not, slice_index, slice_set}
 use Rattle.std.specs.Option.{option_copied}
 use Rattle.std.proofs.lemmas.Bool.{cases_eq, cond-false, cond-true, eq-eqb, eqb-true, ne_eqb, not-true}
@@ -12,10 +12,11 @@ use Rattle.kvs_txn.specs.declared.txn.By.{By}
 use Rattle.instance_rules.specs.Desks.{is_submission}
 use Rattle.job_commands.specs.Agrees.{AreDrawn, IsDrawn}
 use Rattle.job_commands.specs.Asks.{told}
-use Rattle.job_commands.specs.Rows.{AreCarried, CommandsValue, carried, is_of, is_submit, job_at}
+use Rattle.job_commands.specs.Rows.{AreCarried, CommandsValue, carried, is_of, is_submit, job_at, mark_at}
 use Rattle.job_commands.specs.declared.row.Row.{Row}
 use Rattle.job_commands.specs.declared.row.Stage.TheVariants as stage
 use Rattle.job_commands.proofs.Logs.{differs, same_self}
+use Rattle.job_commands.proofs.Marks.{drawn_same}
 
 -- ---- carrying out
 
@@ -102,22 +103,23 @@ not_found by rows e row c = of_other by row (at rows e (among_from rows row c))
 abbrev pub WaitAmong : CommandsValue → CommandsValue → Type 0
 WaitAmong old new = (row : Row) → Contains new.rows row → is_submit row ≡ true → Contains old.rows row
 
-pub drawn_still : (old new : CommandsValue) → WaitAmong old new → new.issued ≡ old.issued → (id : ℕ) → IsDrawn old id → IsDrawn new id
-drawn_still old new fewer same id d = record {
-  millis = d.millis;
+pub drawn_still : (old new : CommandsValue) → WaitAmong old new → new.issued ≡ old.issued → new.marks ≡ old.marks → (birth id : ℕ) → IsDrawn old birth id → IsDrawn new birth id
+drawn_still old new fewer same marks birth id d = record {
   rank = d.rank;
+  second = d.second;
   sequence = d.sequence;
   made = d.made;
-  below = subst (λ l. d.sequence < slice_index l d.rank) (sym same) d.below;
+  drawn = drawn_same old new same marks birth d.rank d.second d.sequence d.drawn;
   other = λ row c w. d.other row (fewer row c w) w;
 }
 
-pub drawn_fewer : (old new : CommandsValue) → WaitAmong old new → new.issued ≡ old.issued → ((label : List ℕ) (id : ℕ) → job_at label new.labels ≡ Some id → IsDrawn new id) → AreDrawn old → AreDrawn new
-drawn_fewer old new fewer same used h = record {
-  below = λ row c w. subst (λ l. row.sequence < slice_index l row.rank) (sym same) (h.below row (fewer row c w) w);
+pub drawn_fewer : (old new : CommandsValue) → WaitAmong old new → new.issued ≡ old.issued → new.marks ≡ old.marks → (birth : ℕ) → ((label : List ℕ) (id : ℕ) → job_at label new.labels ≡ Some id → IsDrawn new birth id) → AreDrawn old birth → AreDrawn new birth
+drawn_fewer old new fewer same marks birth used h = record {
+  rows = λ row c w. drawn_same old new same marks birth row.rank row.issued row.sequence (h.rows row (fewer row c w) w);
   apart = λ a b ca cb wa wb. h.apart a b (fewer a ca wa) (fewer b cb wb) wa wb;
   used = used;
   few = λ rank. subst (λ l. slice_index l rank ≤ 1024) (sym same) (h.few rank);
+  counts = λ rank. subst (λ l. (mark_at new.marks rank).count ≤ slice_index l rank) (sym same) (subst (λ l. (mark_at l rank).count ≤ slice_index old.issued rank) (sym marks) (h.counts rank));
 }
 
 -- ---- what a look-up of a row returns
@@ -147,10 +149,10 @@ set_at xs i x k w = elim (cases_eq i k) [
   | inr other ↦ get_or-set_other xs i k x 0 (λ e. other (sym e)) ∙ sym (cond-false (i == k) _ _ (ne_eqb i k other))
 ]
 
-pub counted_more : (row : Row) (old : List ℕ) → row.rank < length old → row.sequence ≡ slice_index old row.rank → is_submission (Some (told row.ask)) ≡ true → IsCounted row old (slice_set old row.rank (row.sequence + 1))
-counted_more row old w s t = (length-set old row.rank _, λ rank. set_at old row.rank (row.sequence + 1) rank w ∙ at rank (row.rank == rank) refl (is_submission (Some (told row.ask))) t)
+pub counted_more : (row : Row) (old : List ℕ) → row.rank < length old → is_submission (Some (told row.ask)) ≡ true → IsCounted row old (slice_set old row.rank (slice_index old row.rank + 1))
+counted_more row old w t = (length-set old row.rank _, λ rank. set_at old row.rank (slice_index old row.rank + 1) rank w ∙ at rank (row.rank == rank) refl (is_submission (Some (told row.ask))) t)
   where
-    at : (rank : ℕ) (b : Bool) → (row.rank == rank) ≡ b → (c : Bool) → c ≡ true → cond b (row.sequence + 1) (slice_index old rank) ≡ slice_index old rank + cond (b && c) 1 0
+    at : (rank : ℕ) (b : Bool) → (row.rank == rank) ≡ b → (c : Bool) → c ≡ true → cond b (slice_index old row.rank + 1) (slice_index old rank) ≡ slice_index old rank + cond (b && c) 1 0
     at rank true e true u = let same : slice_index old row.rank ≡ slice_index old rank = ap (slice_index old) (eqb-true row.rank rank e) in omega arith
     at rank false e true u = omega arith
     at rank b e false u = absurd (true≢false (sym u))

@@ -1,12 +1,12 @@
 -- What the open commands and the labels have to do with the log of an instance.
-use Rattle.std.specs.Prelude.{◌≡◌, ◌↔◌, ℕ, ◌<◌, ◌≤◌, ◌^◌, List, true, false, IsTrue, IsSome, Some, Contains, count_by, length, slice_index}
+use Rattle.std.specs.Prelude.{◌≡◌, ◌↔◌, ℕ, ◌+◌, ◌-◌, ◌*◌, ◌<◌, ◌≤◌, List, true, false, IsTrue, IsSome, Some, Contains, count_by, length, slice_index}
 use Rattle.fluid_ids.specs.Ids.{id_of}
 use Rattle.kvs_txn.specs.declared.txn.By.{By}
 use Rattle.instance_rules.specs.Desks.{HasBegun, HasSubmitted, Names, submits_at}
 use Rattle.instance_rules.specs.Log.{Instance, IsOpen, Log, Named, Submit, before_issue, is_decided, now_of}
 use Rattle.instance_rules.specs.Replies.{IsCarriedOut}
 use Rattle.job_commands.specs.Asks.{told}
-use Rattle.job_commands.specs.Rows.{CommandsValue, is_submit, job_at}
+use Rattle.job_commands.specs.Rows.{CommandsValue, is_submit, job_at, mark_at}
 use Rattle.job_commands.specs.declared.ask.JobAsk.{JobAsk}
 use Rattle.job_commands.specs.declared.ask.JobAsk.TheVariants as ask
 use Rattle.job_commands.specs.declared.row.Row.{Row}
@@ -40,34 +40,48 @@ pub record RowAgrees (inst : Instance) (log : Log) (row : Row) : Type 0 where
 
 -- ---- ids
 
--- the id was made from a rank and a sequence number below those that were given out at the rank,
--- and no submission that waits has the two
-pub record IsDrawn (v : CommandsValue) (id : ℕ) : Type 0 where
-  pub millis : ℕ
-  pub rank : ℕ
-  pub sequence : ℕ
-  pub made : id ≡ id_of millis rank sequence
+-- this sequence number was given out at this broker in this second, which is no earlier than the
+-- birth and no later than the broker's mark
+pub record WasDrawn (v : CommandsValue) (birth rank second sequence : ℕ) : Type 0 where
+  pub since : birth ≤ second
+  pub marked : second ≤ (mark_at v.marks rank).second
   pub below : sequence < slice_index v.issued rank
+  pub within : second ≡ (mark_at v.marks rank).second
+      → sequence + (mark_at v.marks rank).count < slice_index v.issued rank
+
+-- the id of this second, counted from the birth, at a broker with a sequence number (RFC 19)
+abbrev pub id_at : ℕ → ℕ → ℕ → ℕ → ℕ
+id_at birth rank second sequence = id_of (1000 * (second - birth)) rank sequence
+
+-- the id was made from what was given out, and no submission that waits has the same
+pub record IsDrawn (v : CommandsValue) (birth id : ℕ) : Type 0 where
+  pub rank : ℕ
+  pub second : ℕ
+  pub sequence : ℕ
+  pub made : id ≡ id_at birth rank second sequence
+  pub drawn : WasDrawn v birth rank second sequence
   pub other : (row : Row) → Contains v.rows row → is_submit row ≡ true → row.rank ≡ rank
-      → row.sequence ≡ sequence → ⊥
+      → row.issued ≡ second → row.sequence ≡ sequence → ⊥
 
--- each submission that waits has a sequence number of its own at its broker, and no job has it
-pub record AreDrawn (v : CommandsValue) : Type 0 where
-  pub below : (row : Row) → Contains v.rows row → is_submit row ≡ true
-      → row.sequence < slice_index v.issued row.rank
+-- each submission that waits has a sequence number of its own at its broker in its second, and no
+-- job has it
+pub record AreDrawn (v : CommandsValue) (birth : ℕ) : Type 0 where
+  pub rows : (row : Row) → Contains v.rows row → is_submit row ≡ true
+      → WasDrawn v birth row.rank row.issued row.sequence
   pub apart : (a b : Row) → Contains v.rows a → Contains v.rows b → is_submit a ≡ true
-      → is_submit b ≡ true → a.rank ≡ b.rank → a.sequence ≡ b.sequence → a.by ≡ b.by
-  pub used : (label : List ℕ) (id : ℕ) → job_at label v.labels ≡ Some id → IsDrawn v id
+      → is_submit b ≡ true → a.rank ≡ b.rank → a.issued ≡ b.issued → a.sequence ≡ b.sequence
+      → a.by ≡ b.by
+  pub used : (label : List ℕ) (id : ℕ) → job_at label v.labels ≡ Some id → IsDrawn v birth id
   pub few : (rank : ℕ) → slice_index v.issued rank ≤ 1024
+  pub counts : (rank : ℕ) → (mark_at v.marks rank).count ≤ slice_index v.issued rank
 
--- the id was made for this submission, which waits
-pub record IsIdOf (v : CommandsValue) (by : By) (id : ℕ) : Type 0 where
+-- the id was made for this submission, which waits, in an instance that was born at this second
+pub record IsIdOf (v : CommandsValue) (birth : ℕ) (by : By) (id : ℕ) : Type 0 where
   pub row : Row
   pub known : Contains v.rows row
   pub named : row.by ≡ by
   pub waits : is_submit row ≡ true
-  pub millis : ℕ
-  pub made : id ≡ id_of millis row.rank row.sequence
+  pub made : id ≡ id_at birth row.rank row.issued row.sequence
 
 -- ---- the whole
 
@@ -85,7 +99,7 @@ pub record AgreesCommands (v : CommandsValue) (inst : Instance) (log : Log) : Ty
       → HasRow v by
   pub issued : (rank : ℕ) → rank < length v.issued
       → slice_index v.issued rank ≡ count_by (submits_at inst rank) log
-  pub drawn : AreDrawn v
+  pub drawn : AreDrawn v inst.birth
   pub decided : (by : By) (id : ℕ) → IsSome (inst.asks by) → HasSubmitted log by id
       → IsTrue (is_decided by log)
 

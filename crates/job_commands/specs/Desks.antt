@@ -1,5 +1,5 @@
 -- What the manager looks at, from the open commands and the labels.
-use Rattle.std.specs.Prelude.{ℕ, List, [], ◌∷◌, Option, Some, None, filter_map, option_map, option_and_then, slice_index}
+use Rattle.std.specs.Prelude.{List, [], ◌∷◌, Option, Some, None, filter_map, option_map, option_and_then, slice_index}
 use Rattle.job_spec.specs.declared.spec.Depend.{Depend}
 use Rattle.manager_rules.specs.declared.asked.Asked.{Asked}
 use Rattle.manager_rules.specs.declared.asked.Asked.TheVariants as asked

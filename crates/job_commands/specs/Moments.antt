@@ -1,5 +1,5 @@
 -- Moments that are about no open command, and landings that carry one out.
-use Rattle.std.specs.Prelude.{◌≡◌, ℕ, ◌||◌, List, [], ◌∷◌, Bool, true, false, IsSome, Option, Contains}
+use Rattle.std.specs.Prelude.{◌≡◌, ℕ, ◌||◌, List, [], ◌∷◌, Bool, false, IsSome, Option, Contains}
 use Rattle.kvs_rules.specs.Landings.{names_of}
 use Rattle.kvs_rules.specs.Log as service
 use Rattle.kvs_rules.specs.Namespaces.{primary}

@@ -1,5 +1,5 @@
 -- The rows of open commands, and the labels.
-use Rattle.std.specs.Prelude.{◌≡◌, ℕ, ◌<◌, ◌&&◌, List, Bool, true, false, Option, Some, length, slice_index, slice_index_or, if◌then◌else◌}
+use Rattle.std.specs.Prelude.{◌≡◌, ℕ, ◌-◌, ◌<◌, ◌≤◌, ◌==◌, ◌&&◌, List, Bool, true, false, Option, Some, length, slice_index, slice_index_or, if◌then◌else◌}
 use Rattle.std.specs.Map.{lookup}
 use Rattle.std.specs.Str.{bytes_eq}
 use Rattle.kvs_rules.specs.Log.{same_command}
@@ -10,16 +10,18 @@ use Rattle.job_commands.specs.declared.ask.JobAsk.{JobAsk}
 use Rattle.job_commands.specs.declared.row.Row.{Row}
 use Rattle.job_commands.specs.declared.row.Stage.{Stage}
 use Rattle.job_commands.specs.declared.row.Stage.TheVariants as stage
+use Rattle.job_commands.specs.declared.tally.Mark.{Mark}
 
 abbrev pub Labels : Type 0
 Labels = List (List ℕ × ℕ)
 
--- open commands, the labels that name jobs with the ids of these, and how many submissions were
--- issued at each broker
+-- open commands, the labels that name jobs with the ids of these, how many submissions were
+-- issued at each broker, and the marks of the brokers
 pub record CommandsValue : Type 0 where
   pub labels : Labels
   pub rows : List Row
   pub issued : List ℕ
+  pub marks : List Mark
 
 -- the job that a label names
 abbrev pub job_at : List ℕ → Labels → Option ℕ
@@ -36,6 +38,30 @@ is_waiting (stage.Landed number) = false
 abbrev pub is_submit : Row → Bool
 is_submit row = is_waiting row.stage && is_submission (Some (told row.ask))
 
+-- ---- sequence numbers
+
+-- the mark of a broker at which no submission was issued
+abbrev pub unmarked : Mark
+unmarked = record { second = 0; count = 0 }
+
+abbrev pub mark_at : List Mark → ℕ → Mark
+mark_at marks rank = slice_index_or marks rank unmarked
+
+-- no mark is later than this second
+abbrev pub AreMarkedBy : CommandsValue → ℕ → Type 0
+AreMarkedBy v now = (rank : ℕ) → (mark_at v.marks rank).second ≤ now
+
+-- the mark of a broker, where so many submissions were issued, for one at this second
+abbrev pub mark_now : Mark → ℕ → ℕ → Mark
+mark_now mark issued now = if mark.second == now then mark else record { second = now; count = issued }
+
+-- how many submissions were issued at a broker in this second
+abbrev pub sequence_now : CommandsValue → ℕ → ℕ → ℕ
+sequence_now v rank now = slice_index v.issued rank
+    - (mark_now (mark_at v.marks rank) (slice_index v.issued rank) now).count
+
+-- ---- changes
+
 -- the row of a command that is issued now
 abbrev pub issued_row : CommandsValue → By → ℕ → ℕ → JobAsk → Row
 issued_row v by rank now asks = record {
@@ -43,7 +69,7 @@ issued_row v by rank now asks = record {
   rank = rank;
   ask = asks;
   issued = now;
-  sequence = slice_index v.issued rank;
+  sequence = sequence_now v rank now;
   stage = stage.Waits;
 }
 

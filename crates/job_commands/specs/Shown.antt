@@ -8,4 +8,9 @@ abbrev pub shown : List (Vec ℕ × ℕ) → Labels
 shown entries = map (λ e. (e.0.items, e.1)) entries
 
 abbrev pub value_of : Inside → CommandsValue
-value_of w = record { labels = w.labels; rows = w.rows.items; issued = w.issued.items }
+value_of w = record {
+  labels = w.labels;
+  rows = w.rows.items;
+  issued = map (λ t. t.issued) w.tallies.items;
+  marks = map (λ t. t.mark) w.tallies.items;
+}

@@ -1,5 +1,5 @@
 //! The open job commands of an instance.
-ghost use Rattle.std.specs.Prelude.{true, ◌≡◌, ◌≢◌, ◌↔◌, ℕ, ◌<◌, ◌++◌, List, [], ◌∷◌, None, Some, Option, All, Contains, false, IfNone, IfOk, IfSome, OnErr, OnOk, filter, filter_map, find, length, not, option_and_then, replicate, slice_index};
+ghost use Rattle.std.specs.Prelude.{true, ◌≡◌, ◌≢◌, ◌↔◌, ℕ, ◌<◌, ◌≤◌, ◌++◌, List, [], ◌∷◌, None, Some, Option, All, Contains, false, IfNone, IfOk, IfSome, OnErr, OnOk, filter, filter_map, find, length, not, option_and_then, replicate, slice_index};
 ghost use Rattle.instance_rules.specs.Desks.{Begins, Names, StandsAsked, is_submission};
 ghost use Rattle.instance_rules.specs.Log.{Instance, IsInstance, IsPending, Issued, JobAsk as Asks, JobReply, Log, Named as Needs, Replied, Submit as Submission, child_of, is_decided, is_issued, is_replied, now_of};
 ghost use Rattle.instance_rules.specs.Replies.{AsksForEvent};
@@ -11,25 +11,26 @@ ghost use Rattle.job_commands.specs.Agrees.{AgreesCommands, HasUniqueLabels, IsI
 ghost use Rattle.job_commands.specs.Asks.{submitted_label, told};
 ghost use Rattle.job_commands.specs.Desks.{asked_by, asked_in, asked_of};
 ghost use Rattle.job_commands.specs.Moments.{CarriesOut, landing};
-ghost use Rattle.job_commands.specs.Rows.{AreCarried, is_of, issued_row, job_at};
+ghost use Rattle.job_commands.specs.Rows.{AreCarried, AreMarkedBy, is_of, issued_row, job_at, mark_at, unmarked};
 ghost use Rattle.job_commands.specs.declared.row.Row.{Row as Open};
 
 use crate::ask::JobAsk;
 use crate::labels::Labels;
 use crate::row::{Row, Stage, carry, forget, row_of};
+use crate::tally::{Tally, UNISSUED, mark_now};
 use kvs_txn::By;
 use lists::{Bytes, Copied};
 use manager_rules::{Asked, OpenList};
 use std::alloc::{AllocError, Global};
 use std::marker::Model;
 
-/// The open job commands, the jobs that labels name, and how many submissions were issued at each broker.
+/// The open job commands, the jobs that labels name, and how many submissions were issued at each broker and when.
 #[derive(Drop)]
 pub struct Commands {
     alloc: Global,
     labels: Labels,
     rows: Vec<Row>,
-    issued: Vec<u64>,
+    tallies: Vec<Tally>,
 }
 
 impl Model for Commands {
@@ -42,12 +43,12 @@ impl Model for Commands {
     ghost view = { value_of };
 }
 
-/// So many zeros.
-fn zeros(alloc: Global, size: u32) -> Result<Vec<u64>, AllocError>
-    ensures { IfOk result (λ list. list.items ≡ replicate size 0) }
+/// So many brokers at which no submission was issued.
+fn unissued(alloc: Global, size: u32) -> Result<Vec<Tally>, AllocError>
+    ensures { IfOk result (λ list. list.items ≡ replicate size (record { issued = 0; mark = unmarked })) }
 {
     let mut list = Vec::new(alloc);
-    list.resize(size as usize, 0)?;
+    list.resize(size as usize, UNISSUED)?;
     Ok(list)
 }
 
@@ -115,33 +116,40 @@ impl Commands {
     pub fn new(alloc: Global, size: u32) -> Result<Commands, AllocError>
         ensures size { IfOk result (λ v. length v.issued ≡ size) }
         ensures agrees { IfOk result (λ v. (inst : Instance) → AgreesCommands v inst []) }
+        ensures marked { IfOk result (λ v. (now : ℕ) → AreMarkedBy v now) }
     {
         Ok(Commands {
             alloc,
             labels: Labels::new(alloc),
             rows: Vec::new(alloc),
-            issued: zeros(alloc, size)?,
+            tallies: unissued(alloc, size)?,
         })
     }
 
-    /// A command is issued at a broker, at this second.
+    /// A command is issued at a broker, at this second. The sequence number of a submission begins at 0 in each (Flux RFC 19).
     pub fn issue(&mut self, by: By, rank: u32, now: u64, ask: JobAsk) -> Result<(), AllocError>
         requires within { rank < length self.old.issued }
         requires few { is_submission (Some (told ask)) ≡ true
             → slice_index self.old.issued rank < 1000 }
+        requires later { is_submission (Some (told ask)) ≡ true
+            → (mark_at self.old.marks rank).second ≤ now }
         ensures agrees { OnOk result ((inst : Instance) (log : Log)
             → AgreesCommands self.old inst log → inst.asks by ≡ Some (told ask)
-            → inst.rank by ≡ rank → now_of inst log ≡ now → is_issued by log ≡ false
+            → inst.rank by ≡ rank → now_of inst log ≡ now → inst.birth ≤ now
+            → is_issued by log ≡ false
             → is_replied by log ≡ false → is_decided by log ≡ false
             → AgreesCommands self.new inst (log ++ Issued by ∷ [])) }
         ensures rows { OnOk result (self.new.rows
             ≡ self.old.rows ++ issued_row self.old by rank now ask ∷ []) }
         ensures labels { OnOk result (self.new.labels ≡ self.old.labels) }
         ensures size { OnOk result (length self.new.issued ≡ length self.old.issued) }
+        ensures marked { OnOk result (AreMarkedBy self.old now → AreMarkedBy self.new now) }
         ensures kept { OnErr result (self.new ≡ self.old) }
     {
         let place = rank as usize;
-        let sequence = self.issued[place];
+        let tally = self.tallies[place];
+        let mark = mark_now(tally, now);
+        let sequence = tally.issued.saturating_sub(mark.count);
         let submits = ask.is_submit();
         self.rows.push(Row {
             by,
@@ -152,7 +160,10 @@ impl Commands {
             stage: Stage::Waits,
         })?;
         if submits {
-            self.issued[place] = sequence + 1;
+            self.tallies[place] = Tally {
+                issued: tally.issued + 1,
+                mark,
+            };
         }
         Ok(())
     }
@@ -176,10 +187,12 @@ impl Commands {
             (needs : List Needs) (text : List ℕ) → AgreesCommands self.old inst log
             → HasUniqueLabels inst → IsPending by log
             → inst.asks by ≡ Some (Submission label urgency needs text)
-            → IsIdOf self.old by id → CarriesOut inst by group authors groups → Begins group id
+            → IsIdOf self.old inst.birth by id → CarriesOut inst by group authors groups
+            → Begins group id
             → AgreesCommands self.new inst (log ++ landing number authors groups ∷ [])) }
         ensures rows { OnOk result (AreCarried by number self.old.rows self.new.rows) }
         ensures size { OnOk result (self.new.issued ≡ self.old.issued) }
+        ensures marks { OnOk result (self.new.marks ≡ self.old.marks) }
         ensures kept { OnErr result (self.new ≡ self.old) }
     {
         let label = self.label_of(by)?;
@@ -198,6 +211,7 @@ impl Commands {
         ensures rows { AreCarried by number self.old.rows self.new.rows }
         ensures labels { self.new.labels ≡ self.old.labels }
         ensures size { self.new.issued ≡ self.old.issued }
+        ensures marks { self.new.marks ≡ self.old.marks }
     {
         carry(&mut self.rows, by, number);
     }
@@ -210,6 +224,7 @@ impl Commands {
         ensures rows { self.new.rows ≡ filter (λ row. not (is_of by row)) self.old.rows }
         ensures labels { self.new.labels ≡ self.old.labels }
         ensures size { self.new.issued ≡ self.old.issued }
+        ensures marks { self.new.marks ≡ self.old.marks }
     {
         forget(&mut self.rows, by);
     }
@@ -234,8 +249,18 @@ impl Commands {
     pub fn issued(&self, rank: u32) -> u64
         ensures { result ≡ slice_index self.now.issued rank }
     {
-        match self.issued.get(rank as usize) {
-            Some(count) => *count,
+        match self.tallies.get(rank as usize) {
+            Some(tally) => tally.issued,
+            None => 0,
+        }
+    }
+
+    /// The second of the last submission at a broker, or 0.
+    pub fn marked(&self, rank: u32) -> u64
+        ensures { result ≡ (mark_at self.now.marks rank).second }
+    {
+        match self.tallies.get(rank as usize) {
+            Some(tally) => tally.mark.second,
             None => 0,
         }
     }

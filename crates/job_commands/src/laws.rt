@@ -1,7 +1,7 @@
 //! What follows from the words of the contracts.
 ghost use Rattle.std.specs.Prelude.{◌≡◌, ◌≢◌, ◌≤◌, ◌^◌, ◌++◌, ◌∷◌, ℕ, List, [], None, Some, Contains, length};
 ghost use Rattle.instance_rules.specs.Desks.{IsDeskOf};
-ghost use Rattle.instance_rules.specs.Log.{Instance, IsOpen, Issued, Log, Moment, Shutdown, Ticked, child_of, now_of, seconds_open};
+ghost use Rattle.instance_rules.specs.Log.{Instance, IsOpen, Issued, Log, Moment, Shutdown, Ticked, before_issue, child_of, now_of, seconds_open};
 ghost use Rattle.job_commands.specs.Agrees.{AgreesCommands, IsIdOf};
 ghost use Rattle.job_commands.specs.Desks.{desk_of};
 ghost use Rattle.job_commands.specs.Moments.{IsBeside};
@@ -27,6 +27,12 @@ pub fn open_commands_are_open_now()
         → Contains (seconds_open inst log by) (now_of inst log) }
 {}
 
+/// The second of its issue is one of those at which an open command has been open.
+pub fn open_commands_are_open_at_their_issue()
+    ensures { (inst : Instance) (log : Log) (by : By) → IsOpen by log
+        → Contains (seconds_open inst log by) (now_of inst (before_issue by log)) }
+{}
+
 /// What the manager looks at, in an instance without children, is what the commands give.
 pub fn the_desk_is_this()
     ensures { (v : CommandsValue) (inst : Instance) (log : Log) (st : Store)
@@ -38,6 +44,7 @@ pub fn the_desk_is_this()
 /// The id that is made for a submission that waits is that of no job that a label names.
 pub fn new_ids_are_new()
     ensures { (v : CommandsValue) (inst : Instance) (log : Log) (by : By) (id : ℕ)
-        → AgreesCommands v inst log → length v.issued ≤ 2 ^ 14 → IsIdOf v by id
+        → AgreesCommands v inst log → length v.issued ≤ 2 ^ 14
+        → IsIdOf v inst.birth by id
         → (label : List ℕ) → job_at label v.labels ≢ Some id }
 {}

@@ -6,12 +6,15 @@ pub mod commands;
 mod labels;
 pub mod laws;
 pub mod row;
+pub mod tally;
 #[cfg(test)]
 mod tests;
 
 pub use ask::{JobAsk, Key, Named, NamedList};
 pub use commands::Commands;
 pub use laws::{
-    new_ids_are_new, open_commands_are_open_now, other_moments_leave_commands, the_desk_is_this,
+    new_ids_are_new, open_commands_are_open_at_their_issue, open_commands_are_open_now,
+    other_moments_leave_commands, the_desk_is_this,
 };
 pub use row::{Row, Stage};
+pub use tally::Mark;

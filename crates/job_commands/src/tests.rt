@@ -27,7 +27,7 @@ fn cancel(alloc: Global, label: &[u8]) -> Result<JobAsk, AllocError> {
     })
 }
 
-/// Issues a command, where its broker has had fewer than 1,000 submissions.
+/// Issues a command, where its broker has had fewer than 1,000 submissions, none of them later.
 fn issue(commands: &mut Commands, by: By, rank: u32, now: u64, ask: JobAsk) -> Result<(), Fail>
     requires { rank < length commands.old.issued }
     ensures { OnOk result (length commands.new.issued ≡ length commands.old.issued) }
@@ -35,7 +35,46 @@ fn issue(commands: &mut Commands, by: By, rank: u32, now: u64, ask: JobAsk) -> R
     if commands.issued(rank) >= 1000 {
         return Err(Fail::new("a broker has fewer submissions"));
     }
+    if commands.marked(rank) > now {
+        return Err(Fail::new("a broker's submissions are no later"));
+    }
     commands.issue(by, rank, now, ask)?;
+    Ok(())
+}
+
+/// Submits a job under a label at a broker of four at this second, and gives its sequence number.
+fn sequence_of(commands: &mut Commands, ask: JobAsk, row: (u32, u32, u64)) -> Result<u64, Fail>
+    requires { length commands.old.issued ≡ 4 }
+    ensures { OnOk result (length commands.new.issued ≡ 4) }
+{
+    let (command, rank, second) = row;
+    if rank >= 4 {
+        return Err(Fail::new("a broker has a rank below 4"));
+    }
+    issue(commands, by(command), rank, second, ask)?;
+    match commands.row(by(command)) {
+        Some(row) => Ok(row.sequence),
+        None => Err(Fail::new("an open command has a row")),
+    }
+}
+
+/// Submissions: the command, the broker and the second of each, and the sequence number that it is given.
+const SUBMITTED: [((u32, u32, u64), u64); 5] = [
+    ((0, 2, 10), 0),
+    ((1, 2, 10), 1),
+    ((2, 3, 10), 0),
+    ((3, 2, 11), 0),
+    ((4, 2, 11), 1),
+];
+
+#[test]
+fn sequence_numbers_begin_anew_in_each_second(rt: HostRuntime) -> Result<(), Fail> {
+    let mut commands = Commands::new(rt.alloc(), 4)?;
+    for (row, wanted) in SUBMITTED {
+        let ask = submit(rt.alloc(), b"one")?;
+        let given = sequence_of(&mut commands, ask, row)?;
+        assert_eq!(rt; given, wanted);
+    }
     Ok(())
 }
 

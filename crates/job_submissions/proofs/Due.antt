@@ -2,7 +2,7 @@
 use Rattle.std.proofs.Common.{◌≡◌, ◌≢◌, ◌∙◌, ◌⊎◌, inl, inr, ℕ, ◌+◌, ◌-◌, ◌*◌, ◌^◌, ◌<◌, ◌≤◌, List, [], ◌∷◌, ◌++◌, Option, Some, None, Ok, Contains, true, length, refl, sym, ap, subst, arith}
 use Rattle.std.specs.Prelude.{option_map, filter_map, slice_index}
 use Rattle.std.specs.List.{AllByRecursion as Each, cons_option}
-use Rattle.instance_rules.specs.Log.{Instance, IsInstance, IsOpen, Log, now_of, seconds_open}
+use Rattle.instance_rules.specs.Log.{Instance, IsInstance, IsOpen, Log, before_issue, now_of, seconds_open}
 use Rattle.kvs_txn.specs.declared.txn.By.{By}
 use Rattle.job_commands.specs.Agrees.{AgreesCommands, IsIdOf, RowAgrees}
 use Rattle.job_commands.specs.Asks.{told}
@@ -101,8 +101,8 @@ submit-is inst log v row urgency named text needs s names =
 module _ (v : CommandsValue) (inst : Instance) (log : Log) (jobs : List StoredJob) (x : Submission)
     (h : AgreesCommands v inst log) (kind : IsInstance inst) (short : length v.issued ≤ 2 ^ 14) (labelled : AreLabelled v.labels jobs)
     (smalls : Each (λ j. j.id < 2 ^ 64) jobs) (soon : 1000 * (now_of inst log - inst.birth) < 2 ^ 40) (made : IsMade v jobs (now_of inst log) inst.birth x)
-    (open-now : (by : By) → IsOpen by log → Contains (seconds_open inst log by) (now_of inst log))
-    (new-id : (by : By) (id : ℕ) → IsIdOf v by id → (label : List ℕ) → job_at label v.labels ≢ Some id) where
+    (open-then : (by : By) → IsOpen by log → Contains (seconds_open inst log by) (now_of inst (before_issue by log)))
+    (new-id : (by : By) (id : ℕ) → IsIdOf v inst.birth by id → (label : List ℕ) → job_at label v.labels ≢ Some id) where
   abbrev row : Row
   row = made.row
 
@@ -134,15 +134,16 @@ module _ (v : CommandsValue) (inst : Instance) (log : Log) (jobs : List StoredJo
 
   fits-id : x.id < 2 ^ 64
   fits-id =
-      let rank = rank-small v h.drawn row made.stands submits short in
-      let sequence = sequence-small v h.drawn row made.stands submits in
-      let id : x.id ≡ ((1000 * (now_of inst log - inst.birth)) * 2 ^ 14 + row.rank) * 2 ^ 10 + row.sequence = m.built.id in
-      omega (arith, id, rank, sequence, soon)
+      let rank = rank-small v inst.birth h.drawn row made.stands submits short in
+      let sequence = sequence-small v inst.birth h.drawn row made.stands submits in
+      let id : x.id ≡ ((1000 * (row.issued - inst.birth)) * 2 ^ 14 + row.rank) * 2 ^ 10 + row.sequence = m.built.id in
+      let early = m.built.early in
+      omega (arith, id, rank, sequence, soon, early)
 
   unused : Contains (ids_of jobs) x.id → ⊥
   unused stands =
       let label = labelled x.id stands in
-      new-id row.by x.id (record { row = row; known = made.stands; named = refl; waits = submits; millis = 1000 * (now_of inst log - inst.birth); made = m.built.id }) label.0 label.1
+      new-id row.by x.id (record { row = row; known = made.stands; named = refl; waits = submits; made = m.built.id }) label.0 label.1
 
   pub is-due : IsSubmission (desk_of v inst log jobs).scene inst.birth (submits_of v inst log) x
   is-due = record {
@@ -154,10 +155,10 @@ module _ (v : CommandsValue) (inst : Instance) (log : Log) (jobs : List StoredJo
     accepted = m.accepted.reads ∙ ap Ok (sym m.built.read);
     known = known-all;
     id = record {
-      second = now_of inst log;
+      second = row.issued;
       sequence = row.sequence;
-      since = open-now row.by agrees.waits;
-      drawn = h.drawn.below row made.stands submits;
+      since = subst (Contains (seconds_open inst log row.by)) (sym agrees.issued) (open-then row.by agrees.waits);
+      drawn = (h.drawn.rows row made.stands submits).below;
       is = m.built.id;
     };
     small = fits-id;

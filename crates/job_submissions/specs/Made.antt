@@ -1,11 +1,11 @@
 -- Submissions that are due, as they are made of open commands.
-use Rattle.std.specs.Prelude.{◌≡◌, ℕ, ◌-◌, ◌*◌, List, Some, Ok, Contains, codes}
+use Rattle.std.specs.Prelude.{◌≡◌, ℕ, ◌≤◌, List, Some, Ok, Contains, codes}
 use Rattle.serde_json.specs.Data.{no_members}
 use Rattle.event_log.specs.declared.event.Event.{Event}
-use Rattle.fluid_ids.specs.Ids.{id_of}
 use Rattle.job_spec.specs.declared.spec.Depend.{Depend}
 use Rattle.job_spec.specs.declared.spec.JobSpec.{JobSpec}
 use Rattle.job_spec.specs.Specs.{spec_reading}
+use Rattle.job_commands.specs.Agrees.{id_at}
 use Rattle.job_commands.specs.Desks.{needs_of}
 use Rattle.job_commands.specs.Rows.{CommandsValue, Labels, job_at}
 use Rattle.job_commands.specs.declared.ask.JobAsk.TheVariants as ask
@@ -38,10 +38,11 @@ pub record Submits (row : Row) (urgency : ℕ) (named : List Named) (text : List
   pub label : List ℕ
   pub asks : row.ask ≡ ask.Submit label urgency named text
 
--- the submission has these parts
+-- the submission has these parts, of which the id is that of the second of the command's issue
 pub record IsBuilt (now birth : ℕ) (row : Row) (urgency : ℕ) (needs : List Depend) (text : List ℕ)
     (spec : JobSpec) (x : Submission) : Type 0 where
-  pub id : x.id ≡ id_of (1000 * (now - birth)) row.rank row.sequence
+  pub early : row.issued ≤ now
+  pub id : x.id ≡ id_at birth row.rank row.issued row.sequence
   pub told : x.text ≡ text
   pub read : x.spec ≡ spec
   pub event : x.event ≡ begun_event now row.by.actor urgency needs

@@ -14,7 +14,7 @@ ghost use Rattle.job_submissions.specs.Made.{AreLabelled, IsMade, MakesNone};
 ghost use Rattle.manager_rules.specs.Posts.{IsSubmission, Submission};
 ghost use Rattle.manager_rules.specs.Jobs.{StoredJob};
 
-use job_commands::{new_ids_are_new, open_commands_are_open_now};
+use job_commands::{new_ids_are_new, open_commands_are_open_at_their_issue};
 
 /// A dependency that is on no job by the labels of the commands is on none by the log of their instance.
 pub fn what_is_lacking_is_so_by_the_log()
@@ -37,6 +37,6 @@ pub fn what_is_made_is_due()
         (x : Submission) → ((row : Row) → Contains v.rows row → MakesNone v.labels jobs row)
         → IsSubmission (desk_of v inst log jobs).scene inst.birth (submits_of v inst log) x → ⊥ }
 {
-    open_commands_are_open_now();
+    open_commands_are_open_at_their_issue();
     new_ids_are_new();
 }

@@ -2,6 +2,7 @@
 ghost use Rattle.std.specs.Prelude.{◌≡◌, ◌<◌, ◌≤◌, ◌*◌, ◌-◌, ◌^◌, ℕ, List, Contains, IfNone, IfOk, IfSome, length};
 ghost use Rattle.fluid_ids.specs.Ids.{id_of as fluid_of};
 ghost use Rattle.job_commands.specs.Agrees.{AreDrawn};
+ghost use Rattle.job_commands.specs.Rows.{AreMarkedBy};
 ghost use Rattle.job_commands.specs.declared.row.Row.{Row as Open};
 ghost use Rattle.job_manager.specs.Posts.{told};
 ghost use Rattle.job_spec.specs.declared.spec.Depend.{Depend as Need};
@@ -65,7 +66,8 @@ fn take_up(
     Ok(Some(Accepted { spec, needs }))
 }
 
-/// What is submitted by a command that waits, with the urgency and the text that it asks for.
+/// What is submitted by a command that waits, with the urgency and the text that it asks for. The id is that of the second of
+/// its issue.
 fn make(
     alloc: Global,
     now: u64,
@@ -75,8 +77,9 @@ fn make(
     text: Bytes,
     taken: Accepted,
 ) -> Result<Submission, AllocError>
-    requires order { birth ≤ now }
-    requires soon { 1000 * (now - birth) < 2 ^ 40 }
+    requires order { birth ≤ row.now.issued }
+    requires early { row.now.issued ≤ now }
+    requires soon { 1000 * (row.now.issued - birth) < 2 ^ 40 }
     requires rank { row.now.rank < 2 ^ 14 }
     requires sequence { row.now.sequence < 2 ^ 10 }
     ensures { IfOk result (λ x. IsBuilt now birth row.now urgency taken.needs text taken.spec
@@ -86,7 +89,7 @@ fn make(
     let event = submit_event(alloc, now, row.by.actor, urgency, needs.as_slice())?;
     let all = needs_of(alloc, &spec, &event)?;
     Ok(Submission {
-        id: id_of(1000 * (now - birth), row.rank, row.sequence),
+        id: id_of(1000 * (row.issued - birth), row.rank, row.sequence),
         text,
         spec,
         event,
@@ -104,9 +107,9 @@ fn of_row(
     birth: u64,
     row: &Row,
 ) -> Result<Option<Submission>, AllocError>
-    requires order { birth ≤ now }
     requires soon { 1000 * (now - birth) < 2 ^ 40 }
-    requires drawn { AreDrawn commands.now }
+    requires drawn { AreDrawn commands.now birth }
+    requires marked { AreMarkedBy commands.now now }
     requires short { length commands.now.issued ≤ 2 ^ 14 }
     requires stands { Contains commands.now.rows row.now }
     ensures some { IfOk result (λ found. IfSome found (λ x. IsMadeOf commands.now.labels
@@ -142,9 +145,9 @@ pub fn submission(
     now: u64,
     birth: u64,
 ) -> Result<Option<Submission>, AllocError>
-    requires order { birth ≤ now }
     requires soon { 1000 * (now - birth) < 2 ^ 40 }
-    requires drawn { AreDrawn commands.now }
+    requires drawn { AreDrawn commands.now birth }
+    requires marked { AreMarkedBy commands.now now }
     requires short { length commands.now.issued ≤ 2 ^ 14 }
     ensures some { IfOk result (λ found. IfSome found (λ x.
         IsMade commands.now book.now.jobs now birth (told x))) }

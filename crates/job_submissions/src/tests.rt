@@ -1,6 +1,7 @@
 //! A text that is no jobspec, a submission behind a label that names no job, and what is posted of one that is accepted.
 ghost use Rattle.std.specs.Prelude.{◌≡◌, IfOk, length};
 ghost use Rattle.job_commands.specs.Agrees.{AreDrawn};
+ghost use Rattle.job_commands.specs.Rows.{AreMarkedBy};
 
 use crate::faults::{Fault, fault_of};
 use crate::posting::submission;
@@ -73,8 +74,8 @@ fn fault_at(alloc: Global, text: &str, depends: bool) -> Result<Option<Fault>, F
     fault_by(alloc, &book, &named, &text)
 }
 
-/// Jobspecs that the fourth actor submits with urgency 7 at second 5, when its instance is born, and what is posted of them at
-/// second 7: the id and the event.
+/// Jobspecs that the fourth actor submits with urgency 7 at second 5 in an instance that is born at second 3, and what is posted
+/// of them at second 7: the id, which is that of the second of the issue, and the event.
 const ROWS: [(&str, &str); 2] = [
     (
         SPEC,
@@ -104,7 +105,8 @@ fn ask(alloc: Global, spec: &str) -> Result<JobAsk, Fail> {
 
 /// Commands of which the first submits a jobspec.
 fn submitted(alloc: Global, spec: &str) -> Result<Commands, Fail>
-    ensures drawn { IfOk result (λ commands. AreDrawn commands) }
+    ensures drawn { IfOk result (λ commands. AreDrawn commands 3) }
+    ensures marked { IfOk result (λ commands. AreMarkedBy commands 7) }
     ensures short { IfOk result (λ commands. length commands.issued ≡ 1) }
 {
     let ask = ask(alloc, spec)?;
@@ -128,10 +130,11 @@ fn words_of(alloc: Global, x: &Submission) -> Result<String, Fail> {
 
 /// What is posted of open commands.
 fn posted_of(alloc: Global, commands: &Commands, book: &Book) -> Result<String, Fail>
-    requires drawn { AreDrawn commands.now }
+    requires drawn { AreDrawn commands.now 3 }
+    requires marked { AreMarkedBy commands.now 7 }
     requires short { length commands.now.issued ≡ 1 }
 {
-    match submission(alloc, commands, book, 7, 5)? {
+    match submission(alloc, commands, book, 7, 3)? {
         Some(x) => words_of(alloc, &x),
         None => Ok(format!(in alloc; "nothing")?),
     }

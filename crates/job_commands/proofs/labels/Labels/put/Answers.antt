@@ -1,4 +1,4 @@
-use Rattle.std.proofs.Common.{◌≡◌, List, ℕ, Some, cond, ap, ◌∙◌, rules}
+use Rattle.std.proofs.Common.{◌≡◌, Some, cond, ap, ◌∙◌, rules}
 use Rattle.std.specs.Str.{bytes_eq}
 use Rattle.indexmap.specs.IndexMap.{insert_entry}
 use Rattle.job_commands.specs.Rows.{job_at}
