@@ -1,6 +1,6 @@
 -- A job service through its calls.
 use Rattle.std.proofs.Common.{◌≡◌, ℕ, ◌+◌, ◌-◌, ◌*◌, ◌^◌, ◌<◌, ◌≤◌, Bor, List, [], ◌∷◌, ◌++◌, length, map, Bool, true, false, cond, Option, Some, None, IsSome, Contains, count_by, inl, inr, refl, sym, ap, ◌∙◌, subst, arith, append-nil, true≢false}
-use Rattle.std.specs.Prelude.{IfNone, IfSome, find, option_map}
+use Rattle.std.specs.Prelude.{IfNone, IfSome, find, option_map, slice_index}
 use Rattle.std.specs.List.{AllByRecursion as Each}
 use Rattle.std.specs.Option.{option_copied}
 use Rattle.answers.specs.Jobs.{default_priority, job_reply_of}
@@ -20,7 +20,7 @@ use Rattle.job_commands.proofs.Steps.{names_kept}
 use Rattle.job_commands.proofs.Tables.{found}
 use Rattle.job_commands.specs.Agrees.{AgreesCommands}
 use Rattle.job_commands.specs.Desks.{asked_of, desk_of}
-use Rattle.job_commands.specs.Rows.{CommandsValue, is_submit}
+use Rattle.job_commands.specs.Rows.{AreMarkedBy, CommandsValue, is_submit}
 use Rattle.job_commands.specs.declared.row.Row.{Row}
 use Rattle.job_landings.proofs.Landing.{desk_along, service_all, users_beside, users_legal}
 use Rattle.job_landings.proofs.Naming.{asked_beside, event_beside}
@@ -57,13 +57,16 @@ use Rattle.resource_set.specs.Writing.{r_text}
 use Rattle.resource_set.specs.declared.node.Resources.{Resources}
 use Rattle.tap.specs.declared.Ask.{Ask}
 use Rattle.job_service.specs.Agrees.{AgreesJobs, IsAgreed, IsNewAsk, IsServedBy}
-use Rattle.job_service.specs.Due.{IsEventDue, Owes, scene_now}
+use Rattle.job_service.specs.Due.{IsEventDue, IsFoundBeside, Owes, scene_now}
+use Rattle.job_service.specs.Judged.{AreJudged}
 use Rattle.job_service.specs.Posted.{IsAlone, IsNamed}
 use Rattle.job_service.specs.Refusals.{fault_for, is_refusal_of, reply_to, row_in}
 use Rattle.job_service.specs.Value.{JobServiceValue}
 use Rattle.job_service.specs.View.{IsFit}
 use Rattle.job_service.specs.declared.refusals.Refused.{Refused}
 use Rattle.job_service.proofs.Facts.{Facts, besides_facts, served_facts, service_one}
+use Rattle.job_service.proofs.Judging.{judged_begun}
+use Rattle.job_service.proofs.Owing.{found-alone, found-named}
 
 -- the service with other parts
 abbrev pub with_parts : JobServiceValue → Bool → ManagerValue → CommandsValue → List Refused → Option Post → ℕ → JobServiceValue
@@ -262,6 +265,17 @@ module _ (spent : Bool) (birth size fanout : ℕ) (grant : Resources) (manager :
       let jobs : length manager.book.jobs ≡ 0 = ap (λ b. length b.jobs) book in
       omega (arith, rows, jobs)
 
+  pub begun_drawn : (rank : ℕ) → rank < length commands.issued → slice_index commands.issued rank ≤ 0
+  begun_drawn rank w = let none : slice_index commands.issued rank ≡ 0 = (set plain).issued rank w in omega (arith, none)
+
+  pub begun_judged : AreJudged commands manager.book.jobs []
+  begun_judged = judged_begun commands manager.book.jobs [] (no_row plain)
+
+  pub begun_sought : IsFoundBeside manager.posted commands manager.book birth birth None
+  begun_sought =
+      subst (λ p. IsFoundBeside p commands manager.book birth birth None) (sym posted)
+      (λ row c urgency named text spec needs asks is. no_row plain row c, λ due d. no_jobs d.j d.known)
+
   pub begun_agrees : (inst : Instance) → IsServedBy inst size fanout grant birth → AgreesJobs begun inst []
   begun_agrees inst of = record {
     kind = record {
@@ -314,20 +328,26 @@ labelled_still v new inst log m jobs old later h = λ id c.
 
 -- ---- what the code rests on
 
--- of the time and of children
-pub record GoesOn (v : JobServiceValue) (manager : ManagerValue) (commands : CommandsValue) (span : ℕ) : Type 0 where
+-- of the time, of children, and of submissions
+pub record GoesOn (v : JobServiceValue) (manager : ManagerValue) (commands : CommandsValue) (refused : List Refused) (submitted span : ℕ) : Type 0 where
   pub timed : AreInTime commands v.birth v.second span
   pub near : span ≤ 1000000000
   pub childless : AreChildless manager.book.jobs
   pub asking : AskNoChild commands
+  pub drawn : (rank : ℕ) → rank < length commands.issued → slice_index commands.issued rank ≤ submitted
+  pub marked : AreMarkedBy commands v.second
+  pub judged : AreJudged commands manager.book.jobs refused
 
 pub is_soon : (v : JobServiceValue) → IsFit v → 1000 * (v.second - v.birth) < 2 ^ 40
 is_soon v i = let present = i.timed.present in let near = i.near in omega (arith, present, near)
 
+pub alone_in : (v : JobServiceValue) → IsFit v → IsAlone v.manager.posted v.found
+alone_in v i = found-alone v.commands v.manager.book v.second v.birth v.manager.posted v.found i.sought
+
 pub fit : (v : JobServiceValue) → IsFit v → (spent : Bool) (manager : ManagerValue) (commands : CommandsValue) (refused : List Refused) (later : Option Post) (submitted span : ℕ) → manager.spent ≡ false → manager.core.size ≡ v.manager.core.size
-    → length commands.issued ≡ length v.commands.issued → IsAlone manager.posted later → IsNamed commands manager.posted → IsNamed commands later
-    → length manager.book.jobs + count_by is_submit commands.rows ≤ submitted → submitted ≤ 1000 → GoesOn v manager commands span → IsAgreed (spanned (with_parts v spent manager commands refused later submitted) span) → IsFit (spanned (with_parts v spent manager commands refused later submitted) span)
-fit v i spent manager commands refused later submitted span ready size same alone posted named counted bounded goes agreed = record {
+    → length commands.issued ≡ length v.commands.issued → IsFoundBeside manager.posted commands manager.book v.second v.birth later → IsNamed commands v.birth manager.posted
+    → length manager.book.jobs + count_by is_submit commands.rows ≤ submitted → submitted ≤ 1000 → GoesOn v manager commands refused submitted span → IsAgreed (spanned (with_parts v spent manager commands refused later submitted) span) → IsFit (spanned (with_parts v spent manager commands refused later submitted) span)
+fit v i spent manager commands refused later submitted span ready size same sought posted counted bounded goes agreed = record {
   ready = ready;
   size = same ∙ i.size ∙ sym size;
   few = subst (λ n. n ≤ 32) (sym size) i.few;
@@ -335,11 +355,14 @@ fit v i spent manager commands refused later submitted span ready size same alon
   early = i.early;
   timed = goes.timed;
   near = goes.near;
-  alone = alone;
+  sought = sought;
   posted = posted;
-  named = named;
+  named = found-named commands manager.book v.second v.birth manager.posted later sought;
   counted = counted;
   bounded = bounded;
+  drawn = goes.drawn;
+  marked = goes.marked;
+  judged = goes.judged;
   childless = goes.childless;
   asking = goes.asking;
   agreed = agreed;
@@ -349,9 +372,10 @@ fit v i spent manager commands refused later submitted span ready size same alon
 pub fit_still : (v : JobServiceValue) → IsFit v → (spent : Bool) (manager : ManagerValue) → manager.spent ≡ false → manager.core.size ≡ v.manager.core.size → manager.book ≡ v.manager.book → manager.posted ≡ v.manager.posted
     → IsAgreed (with_parts v spent manager v.commands v.refused v.found v.submitted) → IsFit (with_parts v spent manager v.commands v.refused v.found v.submitted)
 fit_still v i spent manager ready size book posted agreed =
-    fit v i spent manager v.commands v.refused v.found v.submitted v.span ready size refl (subst (λ p. IsAlone p v.found) (sym posted) i.alone) (subst (IsNamed v.commands) (sym posted) i.posted) i.named
+    fit v i spent manager v.commands v.refused v.found v.submitted v.span ready size refl
+    (subst (λ p. IsFoundBeside p v.commands manager.book v.second v.birth v.found) (sym posted) (subst (λ b. IsFoundBeside v.manager.posted v.commands b v.second v.birth v.found) (sym book) i.sought)) (subst (IsNamed v.commands v.birth) (sym posted) i.posted)
     (subst (λ b. length b.jobs + count_by is_submit v.commands.rows ≤ v.submitted) (sym book) i.counted) i.bounded
-    (record { timed = i.timed; near = i.near; childless = subst (λ b. AreChildless b.jobs) (sym book) i.childless; asking = i.asking }) agreed
+    (record { timed = i.timed; near = i.near; childless = subst (λ b. AreChildless b.jobs) (sym book) i.childless; asking = i.asking; drawn = i.drawn; marked = i.marked; judged = subst (λ b. AreJudged v.commands b.jobs v.refused) (sym book) i.judged }) agreed
 
 pub row_known : (v : CommandsValue) (by : By) (result : Option (Bor Row)) (r : Bor Row) → option_copied result ≡ row_in v by → result ≡ Some r → Contains v.rows r.now × (r.now.by ≡ by)
 row_known v by result r e is = found by v.rows r.now (sym e ∙ ap option_copied is)

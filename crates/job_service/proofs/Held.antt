@@ -1,16 +1,17 @@
 -- What the code rests on after its calls.
-use Rattle.std.proofs.Common.{◌≡◌, ℕ, ◌+◌, ◌≤◌, List, Bool, false, length, arith, Option, Some, None, count_by, refl, sym, ap, ◌∙◌, subst}
+use Rattle.std.proofs.Common.{◌≡◌, ℕ, ◌+◌, ◌<◌, ◌≤◌, List, Bool, false, length, arith, Option, Some, None, count_by, refl, sym, ap, ◌∙◌, subst}
 use Rattle.std.specs.Global.{Vec}
-use Rattle.std.specs.Prelude.{option_map}
+use Rattle.std.specs.Prelude.{option_map, slice_index}
 use Rattle.job_clock.specs.Children.{AreChildless, AskNoChild}
 use Rattle.job_clock.specs.Targets.{AreInTime, IsNextTick, targets_of}
-use Rattle.job_commands.specs.Rows.{CommandsValue, is_submit}
+use Rattle.job_commands.specs.Rows.{AreMarkedBy, CommandsValue, is_submit}
 use Rattle.job_manager.specs.Posts.{post_of}
 use Rattle.job_manager.specs.Value.{ManagerValue}
 use Rattle.job_manager.specs.declared.post.Post.{Post}
 use Rattle.manager_rules.specs.Posts as rules
 use Rattle.job_service.specs.Agrees.{IsAgreed}
 use Rattle.job_service.specs.Due.{IsFoundBeside, PostsFound}
+use Rattle.job_service.specs.Judged.{AreJudged}
 use Rattle.job_service.specs.Posted.{IsNamed, id_posted}
 use Rattle.job_service.specs.View.{IsHeld, value_of}
 use Rattle.job_service.specs.declared.refusals.Refused.{Refused}
@@ -18,8 +19,8 @@ use Rattle.job_service.specs.declared.service.JobService.TheInside.{Inside}
 use Rattle.job_service.proofs.Calls.{fit, fit_still, spanned, with_parts}
 use Rattle.job_clock.proofs.Times.{in_time_at}
 use Rattle.job_service.proofs.Ticking.{ticked_value}
-use Rattle.job_service.proofs.Outgoing.{alone_posted, book_posted, id_known, named_posted, size_posted}
-use Rattle.job_service.proofs.Owing.{found-alone, found-named}
+use Rattle.job_service.proofs.Outgoing.{book_posted, id_known, named_posted, size_posted, sought_posted}
+use Rattle.job_service.proofs.Owing.{found-named}
 
 -- where the posts, the book and the commands stay
 pub held_still : (s : Inside) → IsHeld s → (spent : Bool) (manager : ManagerValue) → manager.spent ≡ false → manager.core.size ≡ s.manager.core.size → manager.book ≡ s.manager.book → manager.posted ≡ s.manager.posted
@@ -30,13 +31,14 @@ held_still s h spent manager ready size book posted agreed = record {
 }
 
 -- where the manager stays, and what is due is looked for anew
-pub held_next : (s : Inside) → IsHeld s → (spent : Bool) (commands : CommandsValue) (refused : Vec Refused) (later : Option Post) (submitted span : ℕ) → length commands.issued ≡ length s.commands.issued → IsNamed commands s.manager.posted
-    → length s.manager.book.jobs + count_by is_submit commands.rows ≤ submitted → submitted ≤ 1000 → AreInTime commands s.birth s.second span → span ≤ 1000000000 → AskNoChild commands → IsFoundBeside s.manager.posted commands s.manager.book s.second s.birth (option_map post_of later)
+pub held_next : (s : Inside) → IsHeld s → (spent : Bool) (commands : CommandsValue) (refused : Vec Refused) (later : Option Post) (submitted span : ℕ) → length commands.issued ≡ length s.commands.issued → IsNamed commands s.birth s.manager.posted
+    → length s.manager.book.jobs + count_by is_submit commands.rows ≤ submitted → submitted ≤ 1000 → AreInTime commands s.birth s.second span → span ≤ 1000000000 → AskNoChild commands → ((rank : ℕ) → rank < length commands.issued → slice_index commands.issued rank ≤ submitted) → AreMarkedBy commands s.second → AreJudged commands s.manager.book.jobs refused.items
+    → IsFoundBeside s.manager.posted commands s.manager.book s.second s.birth (option_map post_of later)
     → IsAgreed (spanned (with_parts (value_of s) spent s.manager commands refused.items (option_map post_of later) submitted) span) → IsHeld (record s { spent = spent; commands = commands; refused = refused; found = later; submitted = submitted; span = span })
-held_next s h spent commands refused later submitted span size named counted bounded timed near asking found agreed =
+held_next s h spent commands refused later submitted span size named counted bounded timed near asking drawn marked judged found agreed =
     let next = option_map post_of later in
     record {
-      fit = fit (value_of s) h.fit spent s.manager commands refused.items next submitted span h.fit.ready refl size (found-alone commands s.manager.book s.second s.birth s.manager.posted next found) named (found-named commands s.manager.book s.second s.birth s.manager.posted next found) counted bounded (record { timed = timed; near = near; childless = h.fit.childless; asking = asking }) agreed;
+      fit = fit (value_of s) h.fit spent s.manager commands refused.items next submitted span h.fit.ready refl size found named counted bounded (record { timed = timed; near = near; childless = h.fit.childless; asking = asking; drawn = drawn; marked = marked; judged = judged }) agreed;
       submits = h.submits;
     }
 
@@ -47,20 +49,21 @@ held_posted s h spent manager id left post none ready is p agreed =
     let v = value_of s in
     subst (λ o. IsHeld (record s { spent = spent; manager = manager; found = o; submitting = id })) (sym none)
     (record {
-      fit = fit v h.fit spent manager s.commands s.refused.items None s.submitted s.span ready (size_posted v manager id post p) refl (alone_posted v manager id post p) (named_posted v manager id post (subst (IsNamed s.commands) is h.fit.named) p) tt
+      fit = fit v h.fit spent manager s.commands s.refused.items None s.submitted s.span ready (size_posted v manager id post p) refl (sought_posted v manager id post p) (named_posted v manager id post (subst (IsNamed s.commands s.birth) is h.fit.named) p)
           (subst (λ b. length b.jobs + count_by is_submit s.commands.rows ≤ s.submitted) (sym (book_posted v manager id post p)) h.fit.counted) h.fit.bounded
-          (record { timed = h.fit.timed; near = h.fit.near; childless = subst (λ b. AreChildless b.jobs) (sym (book_posted v manager id post p)) h.fit.childless; asking = h.fit.asking }) agreed;
+          (record { timed = h.fit.timed; near = h.fit.near; childless = subst (λ b. AreChildless b.jobs) (sym (book_posted v manager id post p)) h.fit.childless; asking = h.fit.asking; drawn = h.fit.drawn; marked = h.fit.marked; judged = subst (λ b. AreJudged s.commands b.jobs s.refused.items) (sym (book_posted v manager id post p)) h.fit.judged }) agreed;
       submits = id_known v manager id post p;
     })
 
 -- where a post has landed
 pub held_landed : (s : Inside) → IsHeld s → (spent : Bool) (manager : ManagerValue) (commands : CommandsValue) (refused : Vec Refused) (later : Option Post) → manager.spent ≡ false → manager.core.size ≡ s.manager.core.size → manager.posted ≡ None → length commands.issued ≡ length s.commands.issued
-    → length manager.book.jobs + count_by is_submit commands.rows ≤ s.submitted → AreInTime commands s.birth s.second s.span → AreChildless manager.book.jobs → AskNoChild commands → IsFoundBeside manager.posted commands manager.book s.second s.birth (option_map post_of later)
+    → length manager.book.jobs + count_by is_submit commands.rows ≤ s.submitted → AreInTime commands s.birth s.second s.span → AreChildless manager.book.jobs → AskNoChild commands → ((rank : ℕ) → rank < length commands.issued → slice_index commands.issued rank ≤ s.submitted) → AreMarkedBy commands s.second → AreJudged commands manager.book.jobs refused.items
+    → IsFoundBeside manager.posted commands manager.book s.second s.birth (option_map post_of later)
     → IsAgreed (with_parts (value_of s) spent manager commands refused.items (option_map post_of later) s.submitted) → IsHeld (record s { spent = spent; manager = manager; commands = commands; refused = refused; found = later; submitting = None })
-held_landed s h spent manager commands refused later ready size posted same counted timed childless asking found agreed =
+held_landed s h spent manager commands refused later ready size posted same counted timed childless asking drawn marked judged found agreed =
     let next = option_map post_of later in
     record {
-      fit = fit (value_of s) h.fit spent manager commands refused.items next s.submitted s.span ready size same (found-alone commands manager.book s.second s.birth manager.posted next found) (subst (IsNamed commands) (sym posted) tt) (found-named commands manager.book s.second s.birth manager.posted next found) counted h.fit.bounded (record { timed = timed; near = h.fit.near; childless = childless; asking = asking }) agreed;
+      fit = fit (value_of s) h.fit spent manager commands refused.items next s.submitted s.span ready size same found (subst (IsNamed commands s.birth) (sym posted) tt) counted h.fit.bounded (record { timed = timed; near = h.fit.near; childless = childless; asking = asking; drawn = drawn; marked = marked; judged = judged }) agreed;
       submits = sym (ap id_posted posted);
     }
 
@@ -79,11 +82,14 @@ held_ticked s h spent second ends later posted next found agreed =
         early = i.early;
         timed = in_time_at s.commands ends s.birth s.second second s.span next i.timed;
         near = i.near;
-        alone = found-alone s.commands s.manager.book second s.birth s.manager.posted f found;
+        sought = found;
         posted = i.posted;
         named = found-named s.commands s.manager.book second s.birth s.manager.posted f found;
         counted = i.counted;
         bounded = i.bounded;
+        drawn = i.drawn;
+        marked = λ rank. let a = i.marked rank in let b = next.above in omega (arith, a, b);
+        judged = i.judged;
         childless = i.childless;
         asking = i.asking;
         agreed = agreed;

@@ -1,12 +1,12 @@
 -- A job service when a command is issued, and when one is told what became of it.
 use Rattle.std.proofs.Common.{◌≡◌, ◌≢◌, ℕ, ◌+◌, ◌-◌, ◌*◌, ◌^◌, ◌<◌, ◌≤◌, inl, inr, List, [], ◌∷◌, ◌++◌, length, map, Bool, true, false, cond, ◌&&◌, Option, Some, None, IsSome, Contains, count_by, refl, sym, ap, ◌∙◌, subst, arith, true≢false}
-use Rattle.std.specs.Prelude.{filter, is_some, not}
+use Rattle.std.specs.Prelude.{◌==◌, filter, is_some, not, slice_index}
 use Rattle.std.specs.List.{AllByRecursion as Each}
 use Rattle.std.specs.Option.{option_map_or}
 use Rattle.std.proofs.lemmas.Bool.{and_parts, not-true}
 use mir.Val.{bool_byte}
 use Rattle.answers.specs.declared.chronicle.Reply.{Reply}
-use Rattle.instance_rules.specs.Desks.{is_submission}
+use Rattle.instance_rules.specs.Desks.{is_submission, submits_at}
 use Rattle.instance_rules.specs.Log as rules
 use Rattle.instance_rules.specs.Log.{Instance, IsPending, JobAsk as Asks, JobReply, Log, Moment, Issued, Replied, child_of, is_decided, is_issued, is_replied, now_of, service_of}
 use Rattle.instance_rules.specs.Replies.{AsksForEvent}
@@ -79,11 +79,12 @@ module _ (v : JobServiceValue) (inst : Instance) (log : Log) (a : AgreesJobs v i
       (newest : newest_store inst.service (service_of log) primary ≡ Some (newest_of v.manager.core))
       (lacking : (x : CommandsValue) (i : Instance) (l : Log) (jobs : List StoredJob) (depends : List Depend) (named : List Named) → AgreesCommands x i l → Lacks x.labels jobs depends named true → LacksSome i l jobs depends (map named_of named))
       (fault : Option Fault) (is : IsFaultOf v.commands v.manager.book.jobs asked fault)
-      (goes_on : (i : Instance) (l : Log) → AgreesCommands v.commands i l → i.asks by ≡ Some (told asked) → i.rank by ≡ rank → now_of i l ≡ v.second → is_issued by l ≡ false → is_replied by l ≡ false → is_decided by l ≡ false → AgreesCommands commands i (l ++ Issued by ∷ [])) where
+      (order : v.birth ≤ v.second)
+      (goes_on : (i : Instance) (l : Log) → AgreesCommands v.commands i l → i.asks by ≡ Some (told asked) → i.rank by ≡ rank → now_of i l ≡ v.second → i.birth ≤ v.second → is_issued by l ≡ false → is_replied by l ≡ false → is_decided by l ≡ false → AgreesCommands commands i (l ++ Issued by ∷ [])) where
     pub issued_commands : AgreesCommands commands inst (log ++ Issued by ∷ [])
     issued_commands =
         let untold = a.untold by (subst IsSome (sym new.asks) refl) new.new in
-        goes_on inst log a.commands new.asks new.home a.second new.new untold.unanswered untold.undecided
+        goes_on inst log a.commands new.asks new.home a.second (subst (λ b. b ≤ v.second) (sym a.kind.birth) order) new.new untold.unanswered untold.undecided
 
     pub issued_facts : Facts commands (v.refused ++ refusals_of by fault) v.second inst (log ++ Issued by ∷ [])
     issued_facts =
@@ -218,27 +219,25 @@ is_free v by can = not-true (is_kept_back v by) (and_parts (not (is_kept_back v 
 
 -- ---- ids and counts
 
-pub named_more : (v new : CommandsValue) (row : Row) (posted : Option Post) → new.rows ≡ v.rows ++ row ∷ [] → IsNamed v posted → IsNamed new posted
-named_more v new row None rows h = tt
-named_more v new row (Some (Does due)) rows h = tt
-named_more v new row (Some (Submits x)) rows h = record {
+pub named_more : (v new : CommandsValue) (birth : ℕ) (row : Row) (posted : Option Post) → new.rows ≡ v.rows ++ row ∷ [] → IsNamed v birth posted → IsNamed new birth posted
+named_more v new birth row None rows h = tt
+named_more v new birth row (Some (Does due)) rows h = tt
+named_more v new birth row (Some (Submits x)) rows h = record {
   row = h.row;
   known = subst (λ l. Contains l h.row) (sym rows) (contains_from _ h.row (among_left v.rows (row ∷ []) h.row (among_from v.rows h.row h.known)));
   named = h.named;
   waits = h.waits;
-  millis = h.millis;
   made = h.made;
 }
 
-pub named_less : (v new : CommandsValue) (by : By) (posted : Option Post) → new.rows ≡ filter (λ r. not (is_of by r)) v.rows → ((post : Post) → posted ≡ Some post → (other : By) → command_of post ≡ Some other → other ≢ by) → IsNamed v posted → IsNamed new posted
-named_less v new by None rows other h = tt
-named_less v new by (Some (Does due)) rows other h = tt
-named_less v new by (Some (Submits x)) rows other h = record {
+pub named_less : (v new : CommandsValue) (birth : ℕ) (by : By) (posted : Option Post) → new.rows ≡ filter (λ r. not (is_of by r)) v.rows → ((post : Post) → posted ≡ Some post → (other : By) → command_of post ≡ Some other → other ≢ by) → IsNamed v birth posted → IsNamed new birth posted
+named_less v new birth by None rows other h = tt
+named_less v new birth by (Some (Does due)) rows other h = tt
+named_less v new birth by (Some (Submits x)) rows other h = record {
   row = h.row;
   known = subst (λ l. Contains l h.row) (sym rows) (to_forgotten by v.rows h.row h.known (λ e. other (Submits x) refl x.command refl (sym h.named ∙ e)));
   named = h.named;
   waits = h.waits;
-  millis = h.millis;
   made = h.made;
 }
 
@@ -258,9 +257,26 @@ counted_more jobs submitted more v new by rank now asked submits rows s is h =
     as_count true = refl
     as_count false = refl
 
-pub room_left : (v : JobServiceValue) (rank : ℕ) (asked : JobAsk) (more : ℕ) (submits : Bool) → submits ≡ is_submission (Some (told asked)) → more ≡ bool_byte submits → (is_submission (Some (told asked)) ≡ true → HasRoom v rank) → v.submitted ≤ 1000 → v.submitted + more ≤ 1000
-room_left v rank asked more true s is room h = let r = room (sym s) in let below = r.all in let one : more ≡ 1 = is in omega (arith, below, one)
-room_left v rank asked more false s is room h = let none : more ≡ 0 = is in omega (arith, h, none)
+pub room_left : (v : JobServiceValue) (asked : JobAsk) (more : ℕ) (submits : Bool) → submits ≡ is_submission (Some (told asked)) → more ≡ bool_byte submits → (is_submission (Some (told asked)) ≡ true → HasRoom v) → v.submitted ≤ 1000 → v.submitted + more ≤ 1000
+room_left v asked more true s is room h = let below = room (sym s) in let one : more ≡ 1 = is in omega (arith, below, one)
+room_left v asked more false s is room h = let none : more ≡ 0 = is in omega (arith, h, none)
+
+-- at each broker no more submissions are drawn than were issued
+pub issued_drawn : (v : JobServiceValue) (inst : Instance) (log : Log) → AgreesCommands v.commands inst log → (commands : CommandsValue) (by : By) (asked : JobAsk) (more : ℕ) (submits : Bool) → inst.asks by ≡ Some (told asked) → AgreesCommands commands inst (log ++ Issued by ∷ []) → length commands.issued ≡ length v.commands.issued
+    → submits ≡ is_submission (Some (told asked)) → more ≡ bool_byte submits → ((rank : ℕ) → rank < length v.commands.issued → slice_index v.commands.issued rank ≤ v.submitted) → (rank : ℕ) → rank < length commands.issued → slice_index commands.issued rank ≤ v.submitted + more
+issued_drawn v inst log old commands by asked more submits asks later size s is h rank w =
+    let within : rank < length v.commands.issued = subst (λ n. rank < n) size w in
+    let before = h rank within in
+    let was = old.issued rank within in
+    let now = later.issued rank w in
+    let counted = count_more (submits_at inst rank) log (Issued by) in
+    let few : cond (submits_at inst rank (Issued by)) 1 0 ≤ more = subst (λ b. cond ((inst.rank by == rank) && b) 1 0 ≤ more) (s ∙ ap is_submission (sym asks)) (at_most (inst.rank by == rank) submits more is) in
+    omega (arith, before, was, now, counted, few)
+  where
+    at_most : (x t : Bool) (n : ℕ) → n ≡ bool_byte t → cond (x && t) 1 0 ≤ n
+    at_most true true n e = omega (arith, e)
+    at_most true false n e = omega arith
+    at_most false t n e = omega arith
 
 -- ---- time and children
 
@@ -297,3 +313,8 @@ pub counted_less : (jobs submitted : ℕ) (v new : CommandsValue) (by : By) → 
 counted_less jobs submitted v new by rows h =
     let fewer : count_by is_submit new.rows ≤ count_by is_submit v.rows = subst (λ l. count_by is_submit l ≤ count_by is_submit v.rows) (sym rows) (count_filter is_submit (λ r. not (is_of by r)) v.rows) in
     omega (arith, fewer, h)
+
+-- the broker at which a new command asks is one of the instance's
+pub new_within : (v : JobServiceValue) → IsFit v → (inst : Instance) (log : Log) → AgreesJobs v inst log → (by : By) (rank : ℕ) (asked : JobAsk) → IsNewCommand inst log by rank asked → rank < length v.commands.issued
+new_within v i inst log a by rank asked new =
+    subst (λ n. rank < n) (a.core.size ∙ sym i.size) (subst (λ n. n < inst.service.size) new.home (a.kind.ranks by (subst IsSome (sym new.asks) refl)))

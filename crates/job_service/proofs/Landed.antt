@@ -1,6 +1,6 @@
 -- A step of the service at which a post lands.
 use Rattle.std.proofs.Common.{◌≡◌, ℕ, zero, suc, take, get_or, ◌+◌, ◌-◌, ◌*◌, ◌^◌, ◌<◌, ◌≤◌, inl, inr, List, [], ◌∷◌, ◌++◌, length, map, Bool, true, false, cond, ◌||◌, Option, Some, None, IsSome, Contains, count_by, refl, sym, ap, ◌∙◌, subst, arith, append_assoc}
-use Rattle.std.specs.Prelude.{find, flat_map, option_and_then, slice_get}
+use Rattle.std.specs.Prelude.{find, flat_map, option_and_then, slice_get, slice_index}
 use Rattle.std.specs.List.{AllByRecursion as Each, list_any}
 use Rattle.std.specs.Option.{option_map_or}
 use Rattle.std.proofs.lemmas.List.{map-append}
@@ -14,6 +14,7 @@ use Rattle.job_commands.proofs.Landings.{now_begun}
 use Rattle.job_commands.proofs.Tables.{carried_at, carried_past, from_carried}
 use Rattle.job_commands.specs.Desks.{desk_of}
 use Rattle.job_commands.specs.Moments.{landing as lands_at}
+use Rattle.job_commands.specs.Agrees.{IsIdOf}
 use Rattle.job_commands.specs.Rows.{AreCarried, CommandsValue, carried, is_of, is_submit}
 use Rattle.job_commands.specs.declared.row.Row.{Row}
 use Rattle.job_commands.specs.declared.row.Stage.TheVariants as stage
@@ -44,6 +45,7 @@ use Rattle.manager_rules.specs.declared.due.Due.{Due}
 use Rattle.store_laws.specs.Posts.{is_manager, posts_in}
 use Rattle.job_service.specs.Agrees.{AgreesJobs}
 use Rattle.job_service.specs.Due.{IsFoundBeside}
+use Rattle.job_service.specs.Judged.{AreJudged}
 use Rattle.job_service.specs.Landed.{IsLanded, LandsAs, LandsEvent, LandsSubmission, command_of_first}
 use Rattle.job_service.specs.Posted.{IsNamed, id_posted}
 use Rattle.job_service.specs.Value.{JobServiceValue}
@@ -51,6 +53,7 @@ use Rattle.job_service.specs.declared.refusals.Refused.{Refused}
 use Rattle.job_service.proofs.Calls.{facts, joined, labelled_still, with_parts}
 use Rattle.job_service.proofs.Counting.{count_carried, count_submitted, ids_after, length_done, length_submitted}
 use Rattle.job_service.proofs.Facts.{Facts, besides_facts, landed_facts, pending_kept, served_facts}
+use Rattle.job_service.proofs.Judging.{KeepJobs, jobs_kept, judged_landed, labels_kept}
 use Rattle.job_service.proofs.Owing.{MadeAreDue, UnmadeAreNot, beside-owes, posted-due}
 
 -- ---- where nothing of the manager's lands
@@ -139,14 +142,14 @@ command_first (Does due) = first_command (txn_of (Does due)) due.command
 abbrev all : List StoredJob → CommandsValue → ℕ
 all jobs v = length jobs + count_by is_submit v.rows
 
-pub landed_count : (jobs : List StoredJob) (v new : CommandsValue) (list left : List Refused) (id : Option ℕ) (number : ℕ) (post : Post) → id ≡ id_posted (Some post) → IsNamed v (Some post) → IsLanded (command_of post) id number v new list left
+pub landed_count : (jobs : List StoredJob) (v new : CommandsValue) (list left : List Refused) (id : Option ℕ) (number birth : ℕ) (post : Post) → id ≡ id_posted (Some post) → IsNamed v birth (Some post) → IsLanded (command_of post) id number v new list left
     → all (jobs_after post jobs) new ≤ all jobs v
-landed_count jobs v new list left id number (Submits x) is named landed =
+landed_count jobs v new list left id number birth (Submits x) is named landed =
     let at : LandsSubmission x.command x.id number v new = subst (λ i. LandsAs i x.command number v new) is landed.0 in
     let fewer = count_submitted x.command number v.rows new.rows at.rows named.row named.known named.named named.waits in
     let more = length_submitted x jobs in
     omega (arith, fewer, more)
-landed_count jobs v new list left id number (Does due) is named landed = does due.command landed
+landed_count jobs v new list left id number birth (Does due) is named landed = does due.command landed
   where
     does : (o : Option By) → IsLanded o id number v new list left → all (jobs_after (Does due) jobs) new ≤ all jobs v
     does None l =
@@ -163,6 +166,15 @@ pub landed_size : (v new : CommandsValue) (list left : List Refused) (id : Optio
 landed_size v new list left id number None l = ap (λ c. c.issued) l.0
 landed_size v new list left (Some id) number (Some by) l = l.0.size
 landed_size v new list left None number (Some by) l = l.0.size
+
+pub landed_marks : (v new : CommandsValue) (list left : List Refused) (id : Option ℕ) (number : ℕ) (o : Option By) → IsLanded o id number v new list left → new.marks ≡ v.marks
+landed_marks v new list left id number None l = ap (λ c. c.marks) l.0
+landed_marks v new list left (Some id) number (Some by) l = l.0.marks
+landed_marks v new list left None number (Some by) l = l.0.marks
+
+pub landed_drawn : (v new : CommandsValue) (list left : List Refused) (id : Option ℕ) (number submitted : ℕ) (o : Option By) → IsLanded o id number v new list left → ((rank : ℕ) → rank < length v.issued → slice_index v.issued rank ≤ submitted) → (rank : ℕ) → rank < length new.issued → slice_index new.issued rank ≤ submitted
+landed_drawn v new list left id number submitted o l h =
+    subst (λ issued. (rank : ℕ) → rank < length issued → slice_index issued rank ≤ submitted) (sym (landed_size v new list left id number o l)) h
 
 pub landed_time : (v new : CommandsValue) (list left : List Refused) (id : Option ℕ) (number birth now span : ℕ) (o : Option By) → IsLanded o id number v new list left → AreInTime v birth now span → AreInTime new birth now span
 landed_time v new list left id number birth now span None l h = subst (λ c. AreInTime c birth now span) (sym l.0) h
@@ -247,13 +259,13 @@ module _ (v : JobServiceValue) (inst : Instance) (log : Log) (a : AgreesJobs v i
   same_id : (x y : ℕ) → Some x ≡ Some y → x ≡ y
   same_id x y e = cc
 
-  lands : (post : Post) → IsDuePost desk post → Carries inst post p.number p.authors p.groups → id ≡ id_posted (Some post) → IsNamed v.commands (Some post) → IsLanded (command_of post) id p.number v.commands commands v.refused refused → After post
+  lands : (post : Post) → IsDuePost desk post → Carries inst post p.number p.authors p.groups → id ≡ id_posted (Some post) → IsNamed v.commands v.birth (Some post) → IsLanded (command_of post) id p.number v.commands commands v.refused refused → After post
   lands (Does due) d carries is named landed = lands_event due due.command refl d carries is landed
   lands (Submits x) d carries is named landed =
       let o = submit_open v.commands inst log jobs a.commands x d in
       let at : LandsSubmission x.command x.id p.number v.commands commands = subst (λ i. LandsAs i x.command p.number v.commands commands) is landed.0 in
       let pending = pending_kept inst x.command (some_asks (inst.asks x.command) _ o.asks) p.before log p.earlier o.pending in
-      let agrees = at.agrees inst before (group_of (Submits x)) p.authors p.groups o.label o.urgency o.needs x.text facts_before.commands a.kind.unique pending o.asks named carries o.begins in
+      let agrees = at.agrees inst before (group_of (Submits x)) p.authors p.groups o.label o.urgency o.needs x.text facts_before.commands a.kind.unique pending o.asks (subst (λ b. IsIdOf v.commands b x.command x.id) (sym a.kind.birth) named) carries o.begins in
       record {
         facts = subst (λ r. Facts commands r v.second inst there) (sym landed.1)
             (landed_facts v.commands commands v.refused v.second inst before x.command (group_of (Submits x)) p.authors p.groups p.number carries facts_before pending.waits.issued agrees);
@@ -273,15 +285,15 @@ module _ (v : JobServiceValue) (inst : Instance) (log : Log) (a : AgreesJobs v i
         ];
       }
 
-  module _ (is : id ≡ id_posted v.manager.posted) (named : IsNamed v.commands v.manager.posted) (landed : IsLanded (command_of l.post) id p.number v.commands commands v.refused refused) where
+  module _ (is : id ≡ id_posted v.manager.posted) (named : IsNamed v.commands v.birth v.manager.posted) (landed : IsLanded (command_of l.post) id p.number v.commands commands v.refused refused) where
     after : After l.post
     after =
-        lands l.post (posted-due v.manager.posted v.found desk a.owes l.post l.waited) p.carries (is ∙ ap id_posted l.waited) (subst (IsNamed v.commands) l.waited named) landed
+        lands l.post (posted-due v.manager.posted v.found desk a.owes l.post l.waited) p.carries (is ∙ ap id_posted l.waited) (subst (IsNamed v.commands v.birth) l.waited named) landed
 
     pub landed_counted : all manager.book.jobs commands ≤ all jobs v.commands
     landed_counted =
         subst (λ b. all b.jobs commands ≤ all jobs v.commands) (sym l.book)
-        (landed_count jobs v.commands commands v.refused refused id p.number l.post (is ∙ ap id_posted l.waited) (subst (IsNamed v.commands) l.waited named) landed)
+        (landed_count jobs v.commands commands v.refused refused id p.number v.birth l.post (is ∙ ap id_posted l.waited) (subst (IsNamed v.commands v.birth) l.waited named) landed)
 
     pub landed_childless : AreChildless jobs → AskNoChild v.commands → AreChildless manager.book.jobs
     landed_childless childless asking =
@@ -295,6 +307,12 @@ module _ (v : JobServiceValue) (inst : Instance) (log : Log) (a : AgreesJobs v i
     facts_later =
         subst (Facts commands refused v.second inst) (sym (ap (λ es. log ++ map happening es) p.split ∙ log_split log p.before p.behind (event.Landed primary p.number p.authors p.groups)))
         (besides_facts commands refused v.second inst p.behind there p.later after.facts)
+
+    pub later_judged : AreJudged v.commands jobs v.refused → AreJudged commands manager.book.jobs refused
+    later_judged h =
+        judged_landed v.commands commands jobs manager.book.jobs v.refused refused id p.number (command_of l.post) landed
+        (labels_kept v.commands commands inst log (map happening events) a.commands facts_later.commands)
+        (subst (λ b. KeepJobs jobs b.jobs) (sym l.book) (jobs_kept l.post jobs)) h
 
     labelled_later : AreLabelled commands.labels manager.book.jobs
     labelled_later = subst (λ b. AreLabelled commands.labels b.jobs) (sym l.book) after.labelled

@@ -2,6 +2,7 @@ mod Facts
 mod Owing
 mod Calls
 mod Counting
+mod Judging
 mod Landed
 mod Outgoing
 mod Issuing
@@ -9,4 +10,6 @@ mod Turning
 mod Ticking
 mod Held
 mod Staying
+mod Resting
+mod Left
 mod Tested

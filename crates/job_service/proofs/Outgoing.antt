@@ -24,7 +24,7 @@ use Rattle.kvs_space.specs.Space.{is_authored}
 use Rattle.kvs_txn.specs.declared.txn.By.{By}
 use Rattle.manager_rules.specs.Posts.{Desk, Does, IsDuePost, Post, Submits}
 use Rattle.job_service.specs.Agrees.{AgreesJobs}
-use Rattle.job_service.specs.Due.{MayBePosted, Owes, PostsFound}
+use Rattle.job_service.specs.Due.{IsFoundBeside, MayBePosted, Owes, PostsFound}
 use Rattle.job_service.specs.Posted.{IsAlone, IsNamed, id_posted}
 use Rattle.job_service.specs.Value.{JobServiceValue}
 use Rattle.job_service.proofs.Calls.{facts, joined, with_parts}
@@ -118,17 +118,17 @@ pub some_posted : (v : JobServiceValue) (manager : ManagerValue) (id : Option �
 some_posted v manager id (Submits x) h = ap is_some h.0.posted
 some_posted v manager id (Does due) h = ap is_some h.0.2.posted
 
-pub named_posted : (v : JobServiceValue) (manager : ManagerValue) (id : Option ℕ) (post : Post) → IsNamed v.commands (Some post) → PostsFound v.commands v.second v.manager manager id post → IsNamed v.commands manager.posted
-named_posted v manager id (Submits x) named h = subst (IsNamed v.commands) (sym h.0.posted) named
-named_posted v manager id (Does due) named h = subst (IsNamed v.commands) (sym h.0.2.posted) tt
+pub named_posted : (v : JobServiceValue) (manager : ManagerValue) (id : Option ℕ) (post : Post) → IsNamed v.commands v.birth (Some post) → PostsFound v.commands v.second v.manager manager id post → IsNamed v.commands v.birth manager.posted
+named_posted v manager id (Submits x) named h = subst (IsNamed v.commands v.birth) (sym h.0.posted) named
+named_posted v manager id (Does due) named h = subst (IsNamed v.commands v.birth) (sym h.0.2.posted) tt
 
 pub id_known : (v : JobServiceValue) (manager : ManagerValue) (id : Option ℕ) (post : Post) → PostsFound v.commands v.second v.manager manager id post → id ≡ id_posted manager.posted
 id_known v manager id (Submits x) h = h.1 ∙ sym (ap id_posted h.0.posted)
 id_known v manager id (Does due) h = h.1 ∙ sym (ap id_posted h.0.2.posted)
 
-pub alone_posted : (v : JobServiceValue) (manager : ManagerValue) (id : Option ℕ) (post : Post) → PostsFound v.commands v.second v.manager manager id post → IsAlone manager.posted None
-alone_posted v manager id (Submits x) h = subst (λ p. IsAlone p None) (sym h.0.posted) refl
-alone_posted v manager id (Does due) h = subst (λ p. IsAlone p None) (sym h.0.2.posted) refl
+pub sought_posted : (v : JobServiceValue) (manager : ManagerValue) (id : Option ℕ) (post : Post) → PostsFound v.commands v.second v.manager manager id post → IsFoundBeside manager.posted v.commands manager.book v.second v.birth None
+sought_posted v manager id (Submits x) h = subst (λ p. IsFoundBeside p v.commands manager.book v.second v.birth None) (sym h.0.posted) refl
+sought_posted v manager id (Does due) h = subst (λ p. IsFoundBeside p v.commands manager.book v.second v.birth None) (sym h.0.2.posted) refl
 
 pub book_posted : (v : JobServiceValue) (manager : ManagerValue) (id : Option ℕ) (post : Post) → PostsFound v.commands v.second v.manager manager id post → manager.book ≡ v.manager.book
 book_posted v manager id (Submits x) h = h.0.book

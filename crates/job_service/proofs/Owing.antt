@@ -7,10 +7,10 @@ use Rattle.instance_rules.specs.Desks.{is_submission}
 use Rattle.instance_rules.specs.Log.{Instance, Log, IsInstance, now_of}
 use Rattle.job_book.specs.Value.{BookValue}
 use Rattle.job_commands.proofs.Desks.{asked_range}
-use Rattle.job_commands.specs.Agrees.{AgreesCommands}
+use Rattle.job_commands.specs.Agrees.{AgreesCommands, AreDrawn}
 use Rattle.job_commands.specs.Asks.{told}
 use Rattle.job_commands.specs.Desks.{asked_of, desk_of, submits_of}
-use Rattle.job_commands.specs.Rows.{CommandsValue, is_submit, is_waiting}
+use Rattle.job_commands.specs.Rows.{AreMarkedBy, CommandsValue, is_submit, is_waiting}
 use Rattle.job_commands.specs.declared.row.Row.{Row}
 use Rattle.job_submissions.specs.Made.{AreLabelled, IsMade, MakesNone}
 use Rattle.manager_rules.specs.Due.{IsDue}
@@ -46,8 +46,8 @@ module _ (v : CommandsValue) (book : BookValue) (now birth : ℕ) (inst : Instan
   pub due-here : (due : Due) → IsDuePost desk (Does due) → IsDue (scene_now v book now) due
   due-here due h = subst (λ s. IsDue s due) (sym scene-is) h
 
-  pub can-look : birth ≤ now → 1000 * (now - birth) < 2 ^ 40 → length v.issued ≤ 32 → CanLook v now birth
-  can-look order soon short = record { order = order; soon = soon; drawn = a.drawn; short = omega (arith, short); asked = asked_range v inst log a valid }
+  pub can-look : birth ≤ now → 1000 * (now - birth) < 2 ^ 40 → length v.issued ≤ 32 → AreMarkedBy v now → CanLook v now birth
+  can-look order soon short marked = record { order = order; soon = soon; drawn = subst (AreDrawn v) born a.drawn; marked = marked; short = omega (arith, short); asked = asked_range v inst log a valid }
 
   made-now : (x : Submission) → IsMade v book.jobs now birth x → IsMade v book.jobs (now_of inst log) inst.birth x
   made-now x h = subst (λ n. IsMade v book.jobs n inst.birth x) (sym second) (subst (λ b. IsMade v book.jobs now b x) (sym born) h)
@@ -74,7 +74,7 @@ module _ (v : CommandsValue) (book : BookValue) (now birth : ℕ) (inst : Instan
 waits-as : (row : Row) → is_waiting row.stage ≡ true → is_submission (Some (told row.ask)) ≡ true → is_submit row ≡ true
 waits-as row w s = ap (λ b. b && is_submission (Some (told row.ask))) w ∙ s
 
-named-found : (v : CommandsValue) (book : BookValue) (now birth : ℕ) (found : Option Post) → IsFound v book now birth found → IsNamed v found
+named-found : (v : CommandsValue) (book : BookValue) (now birth : ℕ) (found : Option Post) → IsFound v book now birth found → IsNamed v birth found
 named-found v book now birth (Some (Submits x)) h =
     let m = h.made in
     record {
@@ -82,14 +82,13 @@ named-found v book now birth (Some (Submits x)) h =
       known = h.stands;
       named = sym m.built.command;
       waits = waits-as h.row (ap is_waiting m.submits.waits) (ap (λ a. is_submission (Some (told a))) m.submits.asks);
-      millis = 1000 * (now - birth);
       made = m.built.id;
     }
 named-found v book now birth (Some (Does due)) h = tt
 named-found v book now birth None h = tt
 
-pub found-named : (v : CommandsValue) (book : BookValue) (now birth : ℕ) (posted found : Option Post) → IsFoundBeside posted v book now birth found → IsNamed v found
-found-named v book now birth (Some post) found none = subst (IsNamed v) (sym none) tt
+pub found-named : (v : CommandsValue) (book : BookValue) (now birth : ℕ) (posted found : Option Post) → IsFoundBeside posted v book now birth found → IsNamed v birth found
+found-named v book now birth (Some post) found none = subst (IsNamed v birth) (sym none) tt
 found-named v book now birth None found h = named-found v book now birth found h
 
 pub found-alone : (v : CommandsValue) (book : BookValue) (now birth : ℕ) (posted found : Option Post) → IsFoundBeside posted v book now birth found → IsAlone posted found

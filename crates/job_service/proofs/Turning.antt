@@ -1,13 +1,15 @@
 -- A step of the service: whether a post lands at it, and what follows.
 use Rattle.std.proofs.Common.{◌≡◌, ℕ, ◌+◌, ◌-◌, ◌*◌, ◌^◌, ◌<◌, ◌≤◌, inl, inr, List, [], ◌∷◌, ◌++◌, length, map, Bool, Option, Some, None, count_by, sym, ap, ◌∙◌, subst}
 use Rattle.std.specs.List.{AllByRecursion as Each}
+use Rattle.std.specs.Prelude.{slice_index}
 use Rattle.instance_rules.specs.Legal.{IsLegalMoment}
 use Rattle.instance_rules.specs.Log.{Instance, IsInstance, Log, child_of, service_of}
 use Rattle.job_clock.specs.Children.{AreChildless, AskNoChild}
 use Rattle.job_clock.specs.Targets.{AreInTime}
 use Rattle.job_commands.specs.Agrees.{AgreesCommands}
 use Rattle.job_commands.specs.Desks.{desk_of}
-use Rattle.job_commands.specs.Rows.{CommandsValue, is_submit}
+use Rattle.job_commands.specs.Rows.{AreMarkedBy, CommandsValue, is_submit, mark_at}
+use Rattle.job_commands.specs.declared.tally.Mark.{Mark}
 use Rattle.job_landings.specs.Landings.{LandsPost, happening, number_of_post}
 use Rattle.job_manager.specs.Follows.{Follows, Lands, Stays}
 use Rattle.job_manager.specs.Managed.{IsManaged}
@@ -28,13 +30,14 @@ use Rattle.manager_rules.specs.Jobs.{AreJobsOf, StoredJob}
 use Rattle.manager_rules.specs.Posts.{IsDuePost, Post, group_of}
 use Rattle.job_service.specs.Agrees.{AgreesJobs}
 use Rattle.job_service.specs.Due.{IsFoundBeside}
+use Rattle.job_service.specs.Judged.{AreJudged}
 use Rattle.job_service.specs.Landed.{IsLanded, command_of_first}
 use Rattle.job_service.specs.Posted.{IsNamed, id_posted}
 use Rattle.job_service.specs.Value.{JobServiceValue}
 use Rattle.job_service.specs.declared.refusals.Refused.{Refused}
 use Rattle.job_service.proofs.Calls.{with_parts}
 use Rattle.job_service.proofs.Facts.{Facts}
-use Rattle.job_service.proofs.Landed.{command_first, facts_later, landed_agrees, landed_asking, landed_childless, landed_counted, landed_size, landed_time, none_numbered}
+use Rattle.job_service.proofs.Landed.{command_first, facts_later, landed_agrees, landed_asking, landed_childless, landed_counted, landed_drawn, landed_marks, landed_size, landed_time, later_judged, none_numbered}
 use Rattle.job_service.proofs.Owing.{MadeAreDue, UnmadeAreNot, posted-due}
 
 -- what the law says of a post that lands
@@ -58,7 +61,7 @@ module _ (v : JobServiceValue) (inst : Instance) (log : Log) (a : AgreesJobs v i
       at (inr l) = let p = (lands l).0 in absurd (let wrong : Some p.number ≡ None = sym p.first ∙ none in cc)
 
   module _ (number : ℕ) (numbered : number_of_post events ≡ Some number) (commands : CommandsValue) (refused : List Refused) (by : Option By) (id : Option ℕ)
-      (is_by : by ≡ command_of_first (posts_landed events)) (is_id : id ≡ id_posted v.manager.posted) (named : IsNamed v.commands v.manager.posted) (landed : IsLanded by id number v.commands commands v.refused refused) where
+      (is_by : by ≡ command_of_first (posts_landed events)) (is_id : id ≡ id_posted v.manager.posted) (named : IsNamed v.commands v.birth v.manager.posted) (landed : IsLanded by id number v.commands commands v.refused refused) where
     numbered_lands : Lands v.manager manager events
     numbered_lands = at follows
       where
@@ -91,6 +94,15 @@ module _ (v : JobServiceValue) (inst : Instance) (log : Log) (a : AgreesJobs v i
 
     pub turned_time : (span : ℕ) → AreInTime v.commands v.birth v.second span → AreInTime commands v.birth v.second span
     turned_time span h = landed_time v.commands commands v.refused refused id number v.birth v.second span by landed h
+
+    pub turned_drawn : (submitted : ℕ) → ((rank : ℕ) → rank < length v.commands.issued → slice_index v.commands.issued rank ≤ submitted) → (rank : ℕ) → rank < length commands.issued → slice_index commands.issued rank ≤ submitted
+    turned_drawn submitted h = landed_drawn v.commands commands v.refused refused id number submitted by landed h
+
+    pub turned_marked : (now : ℕ) → AreMarkedBy v.commands now → AreMarkedBy commands now
+    turned_marked now h = subst (λ (marks : List Mark). (rank : ℕ) → (mark_at marks rank).second ≤ now) (sym (landed_marks v.commands commands v.refused refused id number by landed)) h
+
+    pub turned_judged : AreJudged v.commands v.manager.book.jobs v.refused → AreJudged commands manager.book.jobs refused
+    turned_judged = later_judged v inst log a manager step events makes numbered_lands post_lands commands refused id is_id named carried
 
     pub turned_asking : AskNoChild v.commands → AskNoChild commands
     turned_asking h = landed_asking v.commands commands v.refused refused id number by landed h

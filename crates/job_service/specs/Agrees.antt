@@ -1,5 +1,5 @@
 -- When a job service stands where the log of an instance leaves it.
-use Rattle.std.specs.Prelude.{◌≡◌, ℕ, ◌<◌, false, IsSome, Some, None, Contains, slice_index}
+use Rattle.std.specs.Prelude.{◌≡◌, ℕ, ◌<◌, false, IsSome, Some, None, Contains}
 use Rattle.answers.specs.Jobs.{default_priority}
 use Rattle.kvs_core.specs.Agrees.{Agrees}
 use Rattle.kvs_rules.specs.Answers.{IsLegalLog}
@@ -59,10 +59,9 @@ pub record AgreesJobs (v : JobServiceValue) (inst : Instance) (log : Log) : Type
   pub refused : (r : Refused) → Contains v.refused r → IsLegalReply inst log r.by (reply_to r.fault) None
   pub untold : (by : By) → IsSome (inst.asks by) → is_issued by log ≡ false → IsUntold by log
 
--- another submission can be issued at the broker
-pub record HasRoom (v : JobServiceValue) (rank : ℕ) : Type 0 where
-  pub broker : slice_index v.commands.issued rank < 1000
-  pub all : v.submitted < 1000
+-- another submission can be issued
+abbrev pub HasRoom : JobServiceValue → Type 0
+HasRoom v = v.submitted < 1000
 
 -- it stands where the log of some instance leaves it
 pub record IsAgreed (v : JobServiceValue) : Type 0 where

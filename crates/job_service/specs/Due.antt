@@ -5,7 +5,7 @@ use Rattle.instance_rules.specs.Log.{Moment, replies_now}
 use Rattle.job_book.specs.Value.{BookValue, scene_of}
 use Rattle.job_commands.specs.Agrees.{AreDrawn}
 use Rattle.job_commands.specs.Desks.{asked_of}
-use Rattle.job_commands.specs.Rows.{CommandsValue}
+use Rattle.job_commands.specs.Rows.{AreMarkedBy, CommandsValue}
 use Rattle.job_commands.specs.Moments.{decides_now}
 use Rattle.job_commands.specs.declared.row.Row.{Row}
 use Rattle.job_manager.specs.Follows.{Places}
@@ -32,7 +32,8 @@ IsEventDue v book now None = (due : Due) → IsDue (scene_now v book now) due �
 pub record CanLook (v : CommandsValue) (now birth : ℕ) : Type 0 where
   pub order : birth ≤ now
   pub soon : 1000 * (now - birth) < 2 ^ 40
-  pub drawn : AreDrawn v
+  pub drawn : AreDrawn v birth
+  pub marked : AreMarkedBy v now
   pub short : length v.issued ≤ 2 ^ 14
   pub asked : All IsAsked (asked_of v)
 

@@ -20,10 +20,11 @@ command_of_first (group ∷ groups) = slice_get group.authors 0
 pub record LandsSubmission (by : By) (id number : ℕ) (old new : CommandsValue) : Type 0 where
   pub rows : AreCarried by number old.rows new.rows
   pub size : new.issued ≡ old.issued
+  pub marks : new.marks ≡ old.marks
   pub agrees : (inst : Instance) (log : Log) (group : Group) (authors : List (Option By))
       (groups : List Group) (label : List ℕ) (urgency : ℕ) (needs : List Named) (text : List ℕ)
       → AgreesCommands old inst log → HasUniqueLabels inst → IsPending by log
-      → inst.asks by ≡ Some (Submit label urgency needs text) → IsIdOf old by id
+      → inst.asks by ≡ Some (Submit label urgency needs text) → IsIdOf old inst.birth by id
       → CarriesOut inst by group authors groups → Begins group id
       → AgreesCommands new inst (log ++ landing number authors groups ∷ [])
 
@@ -31,6 +32,7 @@ pub record LandsSubmission (by : By) (id number : ℕ) (old new : CommandsValue)
 pub record LandsEvent (by : By) (number : ℕ) (old new : CommandsValue) : Type 0 where
   pub rows : AreCarried by number old.rows new.rows
   pub size : new.issued ≡ old.issued
+  pub marks : new.marks ≡ old.marks
   pub labels : new.labels ≡ old.labels
   pub agrees : (inst : Instance) (log : Log) (group : Group) (authors : List (Option By))
       (groups : List Group) (ask : JobAsk) → AgreesCommands old inst log → inst.asks by ≡ Some ask

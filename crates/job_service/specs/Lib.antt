@@ -4,8 +4,10 @@ pub mod Agrees
 pub mod Replies
 pub mod Makes
 pub mod Due
+pub mod Judged
 pub mod Posted
 pub mod Landed
 pub mod Tested
 pub mod View
 pub mod Times
+pub mod Still

@@ -1,5 +1,7 @@
 -- What a step of the service makes.
 use Rattle.std.specs.Prelude.{◌++◌, List, map}
+use Rattle.std.specs.List.{AllByRecursion as Each}
+use Rattle.kvs_core.specs.Makes.{IsOfKeys}
 use Rattle.kvs_rules.specs.Sequence.{EachAfter}
 use Rattle.kvs_rules.specs.Steps.{AreMadeBy}
 use Rattle.kvs_rules.specs.declared.events.KvsEvent.{KvsEvent}
@@ -10,9 +12,10 @@ use Rattle.job_landings.specs.Landings.{happening}
 use Rattle.job_service.specs.Agrees.{AgreesJobs}
 use Rattle.job_service.specs.Value.{JobServiceValue}
 
--- the events are those that the step may make, each may follow those before it in the log of the instance, what the
+-- the events are about keys, those that the step may make, each may follow those before it in the log of the instance, what the
 -- job manager lands being due there, and the service stands behind them
 pub record Makes (step : KvsStep) (old new : JobServiceValue) (events : List KvsEvent) : Type 0 where
+  pub own : Each IsOfKeys events
   pub made : (inst : Instance) (log : Log) → AgreesJobs old inst log → AreMadeBy (service_of log) step events
   pub legal : (inst : Instance) (log : Log) → AgreesJobs old inst log
       → EachAfter (IsLegalMoment inst) log (map happening events)

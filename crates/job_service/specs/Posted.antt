@@ -9,11 +9,11 @@ abbrev pub IsAlone : Option Post → Option Post → Type 0
 IsAlone (Some post) found = found ≡ None
 IsAlone None found = Unit {0}
 
--- a submission has the id that was made for its command
-abbrev pub IsNamed : CommandsValue → Option Post → Type 0
-IsNamed v (Some (Submits x)) = IsIdOf v x.command x.id
-IsNamed v (Some (Does due)) = Unit {0}
-IsNamed v None = Unit {0}
+-- a submission has the id that was made for its command, in an instance that was born at this second
+abbrev pub IsNamed : CommandsValue → ℕ → Option Post → Type 0
+IsNamed v birth (Some (Submits x)) = IsIdOf v birth x.command x.id
+IsNamed v birth (Some (Does due)) = Unit {0}
+IsNamed v birth None = Unit {0}
 
 -- the id of the job that is submitted, if a submission is posted
 abbrev pub id_posted : Option Post → Option ℕ

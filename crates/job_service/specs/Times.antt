@@ -11,6 +11,22 @@ abbrev pub seconds_asked : JobAsk → ℕ
 seconds_asked (ask.Advance seconds) = seconds
 seconds_asked _ = 0
 
+-- how many jobs a command submits
+abbrev pub jobs_asked : JobAsk → ℕ
+jobs_asked (ask.Submit label urgency needs text) = 1
+jobs_asked _ = 0
+
+-- the command is counted among what was issued: the submissions, and the seconds of all advances
+pub record Counts (asked : JobAsk) (old new : JobServiceValue) : Type 0 where
+  pub submitted : new.submitted ≡ old.submitted + jobs_asked asked
+  pub span : new.span ≡ old.span + seconds_asked asked
+
+-- as many brokers, submissions and seconds of advances as before
+pub record KeepsCounts (old new : JobServiceValue) : Type 0 where
+  pub size : new.manager.core.size ≡ old.manager.core.size
+  pub submitted : new.submitted ≡ old.submitted
+  pub span : new.span ≡ old.span
+
 -- all advances together let time go on by no more than 1,000,000,000 seconds
 abbrev pub HasTime : JobServiceValue → JobAsk → Type 0
 HasTime v (ask.Advance seconds) = v.span + seconds ≤ 1000000000

@@ -1,12 +1,14 @@
 -- A job service's value, from its fields.
-use Rattle.std.specs.Prelude.{◌≡◌, ◌+◌, ◌≤◌, ◌<◌, ◌^◌, false, length, count_by, option_map}
+use Rattle.std.specs.Prelude.{◌≡◌, ℕ, ◌+◌, ◌≤◌, ◌<◌, ◌^◌, false, length, count_by, option_map, slice_index}
 use Rattle.job_clock.specs.Children.{AreChildless, AskNoChild}
 use Rattle.job_clock.specs.Targets.{AreInTime}
-use Rattle.job_commands.specs.Rows.{is_submit}
+use Rattle.job_commands.specs.Rows.{AreMarkedBy, is_submit}
 use Rattle.job_manager.specs.Posts.{post_of}
 use Rattle.job_service.specs.declared.service.JobService.TheInside.{Inside}
 use Rattle.job_service.specs.Agrees.{IsAgreed}
-use Rattle.job_service.specs.Posted.{IsAlone, IsNamed, id_posted}
+use Rattle.job_service.specs.Due.{IsFoundBeside}
+use Rattle.job_service.specs.Judged.{AreJudged}
+use Rattle.job_service.specs.Posted.{IsNamed, id_posted}
 use Rattle.job_service.specs.Value.{JobServiceValue}
 
 abbrev pub value_of : Inside → JobServiceValue
@@ -31,11 +33,14 @@ pub record IsFit (v : JobServiceValue) : Type 0 where
   pub early : v.birth + 1000000000 < 2 ^ 64
   pub timed : AreInTime v.commands v.birth v.second v.span
   pub near : v.span ≤ 1000000000
-  pub alone : IsAlone v.manager.posted v.found
-  pub posted : IsNamed v.commands v.manager.posted
-  pub named : IsNamed v.commands v.found
+  pub sought : IsFoundBeside v.manager.posted v.commands v.manager.book v.second v.birth v.found
+  pub posted : IsNamed v.commands v.birth v.manager.posted
+  pub named : IsNamed v.commands v.birth v.found
   pub counted : length v.manager.book.jobs + count_by is_submit v.commands.rows ≤ v.submitted
   pub bounded : v.submitted ≤ 1000
+  pub drawn : (rank : ℕ) → rank < length v.commands.issued → slice_index v.commands.issued rank ≤ v.submitted
+  pub marked : AreMarkedBy v.commands v.second
+  pub judged : AreJudged v.commands v.manager.book.jobs v.refused
   pub childless : AreChildless v.manager.book.jobs
   pub asking : AskNoChild v.commands
   pub agreed : IsAgreed v

@@ -17,6 +17,16 @@ use manager_rules::Due;
 use std::alloc::{AllocError, Global};
 use tap::{Ask, Tap};
 
+/// The greatest priority of a job that isn't expedited.
+const MOST_PRIORITY: u32 = u32::MAX - 1;
+
+/// The priority that a job is given: its urgency, within the range of priorities.
+pub fn default_priority(ask: &Ask) -> u32
+    ensures { result ≡ default_priority ask.now }
+{
+    ask.urgency.max(1).min(MOST_PRIORITY)
+}
+
 /// An event that is due at this second, if one is, where the tap gives everyone's job the default priority.
 pub fn event_due<F: Fn(&Ask) -> u32>(
     commands: &Commands,
@@ -61,7 +71,7 @@ pub fn find(
     if let Some(x) = found {
         return Ok(Some(Post::Submits(x)));
     }
-    let tap = Tap::new(|_: &Ask| 16);
+    let tap = Tap::new(|ask: &Ask| default_priority(ask));
     let event = event_due(commands, book, now, &tap)?;
     Ok(as_post(event))
 }

@@ -7,6 +7,7 @@ mod landing;
 pub mod laws;
 mod posting;
 mod refusals;
+mod rest;
 mod service;
 #[cfg(test)]
 mod tests;

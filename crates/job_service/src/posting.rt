@@ -11,6 +11,7 @@ ghost use Rattle.manager_rules.specs.Scene.{IsAsked};
 ghost use Rattle.manager_rules.specs.declared.due.Due.{Due};
 ghost use Rattle.job_service.specs.Due.{MayBePosted, PostsFound, scene_now};
 
+use crate::due::default_priority;
 use job_commands::Commands;
 use job_manager::{Manager, Post};
 use kvs_core::CoreFault;
@@ -29,7 +30,7 @@ fn post_event(manager: &mut Manager, commands: &Commands, now: u64) -> Result<()
         × Places (Does due) manager.old manager.new) }
 {
     let asked = commands.asked()?;
-    let tap = Tap::new(|_: &Ask| 16);
+    let tap = Tap::new(|ask: &Ask| default_priority(ask));
     if manager.post(now, &asked, &tap)? {
         Ok(())
     } else {

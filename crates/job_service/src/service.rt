@@ -1,24 +1,27 @@
 //! The jobs of an instance.
-ghost use Rattle.std.specs.Prelude.{◌≡◌, ◌<◌, ◌≤◌, ◌+◌, ◌^◌, ◌++◌, ◌∷◌, [], true, false, ◌||◌, ℕ, Some, IsTrue, is_some, None, All, IfNone, IfOk, IfSome, OnErr, OnOk};
+ghost use Rattle.std.specs.Prelude.{◌≡◌, ◌≢◌, ◌↔◌, ◌<◌, ◌≤◌, ◌+◌, ◌^◌, ◌++◌, ◌∷◌, [], true, false, ◌||◌, ℕ, Some, IsSome, IsTrue, is_some, None, IfNone, IfOk, IfSome, OnErr, OnOk};
 ghost use Rattle.instance_rules.specs.Desks.{is_submission};
-ghost use Rattle.instance_rules.specs.Family.{IsTarget, Living, MayTick};
-ghost use Rattle.instance_rules.specs.Log.{Instance, Issued, Log, Served, Ticked, now_of};
+ghost use Rattle.instance_rules.specs.Family.{IsLeftResult, IsTarget, Living, MayTick};
+ghost use Rattle.instance_rules.specs.Log.{Instance, IsOpen, Issued, Log, Served, Shutdown, Ticked, now_of, service_of};
 ghost use Rattle.instance_rules.specs.Legal.{IsLegalMoment, OfDesk};
 ghost use Rattle.job_commands.specs.Asks.{told};
 ghost use Rattle.job_replies.specs.Told.{MayTell};
+ghost use Rattle.job_rules.specs.Fits.{IsGrant};
 ghost use Rattle.kvs_core.specs.Steps.{can_step, can_take};
 ghost use Rattle.kvs_requests.specs.Rows.{IsKnownAsk};
 ghost use Rattle.kvs_rules.specs.Log.{Asked as AskedAt, Happened};
+ghost use Rattle.kvs_rules.specs.Quiet.{AreAllTold};
 ghost use Rattle.kvs_rules.specs.declared.events.KvsEvent.TheVariants as event;
 ghost use Rattle.resource_set.specs.Valid.{IsR};
 ghost use Rattle.job_service.specs.Agrees.{AgreesJobs, HasRoom, IsNewAsk, IsNewCommand, IsServedBy, MayAsk, MayIssue};
 ghost use Rattle.job_service.specs.Makes.{Makes};
 ghost use Rattle.job_clock.specs.Children.{AsksNoChild};
 ghost use Rattle.job_clock.specs.Standing.{IsTop};
-ghost use Rattle.job_clock.specs.Targets.{targets_of};
 ghost use Rattle.kvs_txn.specs.declared.txn.By.{By as Command};
 ghost use Rattle.manager_rules.specs.Times.{IsIdle};
-ghost use Rattle.job_service.specs.Times.{HasTime, IsTimeUp, MayGoTo};
+ghost use Rattle.job_service.specs.Still.{IsStill, awaited, can_tick};
+ghost use Rattle.job_service.specs.Times.{Counts, HasTime, IsTimeUp, KeepsCounts, MayGoTo};
+ghost use Rattle.job_states.specs.declared.job.State.{State as StateValue};
 ghost use Rattle.job_service.specs.Replies.{Answers, can_reply, is_kept_back, is_ready_in};
 
 use crate::due::look;
@@ -28,12 +31,14 @@ use crate::posting::post;
 use crate::refusals::{
     Refused, fault_in, forget, is_undone, refusal_of, remember, reply_of, row_of,
 };
+use crate::rest::awaited;
 use crate::time::{is_within, seconds_asked};
 use job_clock::next_tick;
 use job_commands::{Commands, JobAsk};
 use job_landings::{number_of_post, what_is_posted_lands_as_it_is_due};
 use job_manager::{Manager, Post};
 use job_replies::{Told, is_ready, tell};
+use job_states::State;
 use job_submissions::{what_is_lacking_is_so_by_the_log, what_is_made_is_due};
 use kvs_core::laws::users_land_where_nothing_is_posted;
 use kvs_core::{Core, CoreFault, Held, KvsEvents, Setting};
@@ -93,6 +98,8 @@ impl JobService {
         requires early { birth + 1000000000 < 2 ^ 64 }
         ensures ready { IfOk result (λ v. v.spent ≡ false) }
         ensures size { IfOk result (λ v. v.manager.core.size ≡ setting.size) }
+        ensures start { IfOk result (λ v. (v.submitted ≡ 0) × (v.span ≡ 0)) }
+        ensures grant { IfOk result (λ v. IsGrant grant.now.nodes) }
         ensures agrees { IfOk result (λ v. (inst : Instance)
             → IsServedBy inst setting.size setting.fanout grant.now birth → AgreesJobs v inst []) }
     {
@@ -138,7 +145,7 @@ impl JobService {
         requires known { IsKnownAsk ask }
         requires may { MayAsk self.old by broker namespace ask }
         ensures ready { OnOk result (self.new.spent ≡ false) }
-        ensures size { OnOk result (self.new.manager.core.size ≡ self.old.manager.core.size) }
+        ensures counts { OnOk result (KeepsCounts self.old self.new) }
         ensures spent { OnErr result (self.new.spent ≡ true) }
         ensures agrees { OnOk result ((inst : Instance) (log : Log) → AgreesJobs self.old inst log
             → IsNewAsk inst log by broker namespace ask
@@ -155,7 +162,7 @@ impl JobService {
         requires ready { self.old.spent ≡ false }
         requires can { can_take self.old.manager.core by ≡ true }
         ensures ready { self.new.spent ≡ false }
-        ensures size { self.new.manager.core.size ≡ self.old.manager.core.size }
+        ensures counts { KeepsCounts self.old self.new }
         ensures legal { (inst : Instance) (log : Log) → AgreesJobs self.old inst log
             → IsLegalMoment inst log (Served (Happened
             (event.Answered by result.number result.answer))) }
@@ -172,7 +179,7 @@ impl JobService {
         requires ready { self.old.spent ≡ false }
         requires can { can_step self.old.manager.core step ≡ true }
         ensures ready { OnOk result (self.new.spent ≡ false) }
-        ensures size { OnOk result (self.new.manager.core.size ≡ self.old.manager.core.size) }
+        ensures counts { OnOk result (KeepsCounts self.old self.new) }
         ensures makes { IfOk result (Makes step self.old self.new) }
         ensures spent { OnErr result (self.new.spent ≡ true) }
     {
@@ -220,7 +227,7 @@ impl JobService {
         requires ready { self.old.spent ≡ false }
         requires can { is_some self.old.found ≡ true }
         ensures ready { OnOk result (self.new.spent ≡ false) }
-        ensures size { OnOk result (self.new.manager.core.size ≡ self.old.manager.core.size) }
+        ensures counts { OnOk result (KeepsCounts self.old self.new) }
         ensures spent { OnErr result (self.new.spent ≡ true) }
         ensures posted { OnOk result (is_some self.new.manager.posted ≡ true) }
         ensures unfound { OnOk result (self.new.found ≡ None) }
@@ -243,11 +250,12 @@ impl JobService {
     pub fn issue(&mut self, by: By, rank: u32, ask: JobAsk) -> Result<(), AllocError>
         requires ready { self.old.spent ≡ false }
         requires may { MayIssue self.old by rank ask }
-        requires room { is_submission (Some (told ask)) ≡ true → HasRoom self.old rank }
+        requires room { is_submission (Some (told ask)) ≡ true → HasRoom self.old }
         requires time { HasTime self.old ask }
         requires childless { AsksNoChild ask }
         ensures ready { OnOk result (self.new.spent ≡ false) }
         ensures size { OnOk result (self.new.manager.core.size ≡ self.old.manager.core.size) }
+        ensures counts { OnOk result (Counts ask self.old self.new) }
         ensures spent { OnErr result (self.new.spent ≡ true) }
         ensures agrees { OnOk result ((inst : Instance) (log : Log) → AgreesJobs self.old inst log
             → IsNewCommand inst log by rank ask
@@ -276,16 +284,16 @@ impl JobService {
         Ok(())
     }
 
-    /// Whether another submission can be issued at a broker.
-    pub fn has_room(&self, rank: u32) -> bool
-        ensures { IsTrue result → HasRoom self.now rank }
+    /// Whether another submission can be issued.
+    pub fn has_room(&self) -> bool
+        ensures { IsTrue result ↔ HasRoom self.now }
     {
-        self.commands.issued(rank) < 1000 && self.submitted < 1000
+        self.submitted < 1000
     }
 
     /// Whether an advance by so many seconds can be issued.
     pub fn has_time(&self, seconds: u64) -> bool
-        ensures { IsTrue result → self.now.span + seconds ≤ 1000000000 }
+        ensures { IsTrue result ↔ (self.now.span + seconds ≤ 1000000000) }
     {
         is_within(self.span, seconds)
     }
@@ -312,6 +320,7 @@ impl JobService {
     /// second. This takes no memory.
     pub fn next_second(&self) -> Option<u64>
         requires { self.now.spent ≡ false }
+        ensures can { is_some result ≡ can_tick self.now }
         ensures some { IfSome result (MayGoTo self.now) }
         ensures none { IfNone result (IsTimeUp self.now) }
     {
@@ -326,7 +335,7 @@ impl JobService {
         requires ready { self.old.spent ≡ false }
         requires may { MayGoTo self.old second }
         ensures ready { OnOk result (self.new.spent ≡ false) }
-        ensures size { OnOk result (self.new.manager.core.size ≡ self.old.manager.core.size) }
+        ensures counts { OnOk result (KeepsCounts self.old self.new) }
         ensures second { OnOk result (self.new.second ≡ second) }
         ensures spent { OnErr result (self.new.spent ≡ true) }
         ensures legal { OnOk result ((inst : Instance) (log : Log) → AgreesJobs self.old inst log
@@ -354,18 +363,30 @@ impl JobService {
         Ok(())
     }
 
-    /// Where nothing is posted or due, no command can be told and time doesn't go on, nothing is due by the log of the instance
-    /// and none of its advances is left.
+    /// The state of the job whose result an open command waits for, if it waits for one.
+    pub fn awaited(&self, by: By) -> Option<State>
+        ensures { result ≡ awaited self.now by }
+    {
+        let row = row_of(&self.commands, by)?;
+        awaited(&self.commands, self.manager.book(), row)
+    }
+
+    /// Where nothing can go on, nothing is due by the log of the instance and none of its advances is left. Where all brokers
+    /// are told besides, a job command that is left waits for the result of a job that isn't over; shutdowns are another's.
     pub fn still(&self)
-        requires ready { self.now.spent ≡ false }
-        requires unposted { self.now.manager.posted ≡ None }
-        requires unfound { self.now.found ≡ None }
-        requires late { All (λ target. target ≤ self.now.second) (targets_of self.now.commands) }
-        requires untold { (by : Command) → can_reply self.now by ≡ false }
+        requires { self.now.spent ≡ false }
         ensures idle { (inst : Instance) (log : Log) → AgreesJobs self.now inst log
-            → OfDesk inst log IsIdle }
+            → IsStill self.now → OfDesk inst log IsIdle }
         ensures advanced { (inst : Instance) (log : Log) (l : Living) → AgreesJobs self.now inst log
-            → IsTop inst log l → (target : ℕ) → IsTarget (l ∷ []) [] target → ⊥ }
+            → IsStill self.now → IsTop inst log l
+            → (target : ℕ) → IsTarget (l ∷ []) [] target → ⊥ }
+        ensures left { (inst : Instance) (log : Log) → AgreesJobs self.now inst log
+            → IsStill self.now → AreAllTold inst.service (service_of log) → (by : Command)
+            → IsSome (inst.asks by) → inst.asks by ≢ Some Shutdown → IsOpen by log
+            → IsSome (awaited self.now by) }
+        ensures results { (inst : Instance) (log : Log) (l : Living) → AgreesJobs self.now inst log
+            → IsTop inst log l → (by : Command) (where_ : StateValue)
+            → awaited self.now by ≡ Some where_ → IsLeftResult l by where_ }
     {
         self.manager.keeps();
         self.manager.core().standing();
@@ -426,7 +447,7 @@ impl JobService {
         requires ready { self.old.spent ≡ false }
         requires can { can_reply self.old by ≡ true }
         ensures ready { OnOk result (self.new.spent ≡ false) }
-        ensures size { OnOk result (self.new.manager.core.size ≡ self.old.manager.core.size) }
+        ensures counts { OnOk result (KeepsCounts self.old self.new) }
         ensures spent { OnErr result (self.new.spent ≡ true) }
         ensures answers { IfOk result (λ told. (inst : Instance) (log : Log)
             → AgreesJobs self.old inst log

@@ -1,5 +1,6 @@
 //! What the first command of an instance is told at once, if it is told.
-ghost use Rattle.std.specs.Prelude.{◌≡◌, ◌++◌, ◌∷◌, [], false, true, IfOk, IfSome, IsTrue, OnOk};
+ghost use Rattle.std.specs.Prelude.{◌≡◌, ◌++◌, ◌∷◌, [], false, true, IfOk, IfSome, IsTrue, OnOk, Some};
+ghost use Rattle.instance_rules.specs.Desks.{is_submission};
 ghost use Rattle.instance_rules.specs.Log.{Instance, IsInRange, Issued, Log};
 ghost use Rattle.job_commands.specs.Asks.{told};
 ghost use Rattle.job_service.specs.Agrees.{AgreesJobs, IsNewCommand, MayIssue};
@@ -13,6 +14,7 @@ use fl_digest::Hash;
 use job_book::Book;
 use job_commands::{JobAsk, Named, NamedList};
 use job_spec::Scheme;
+use job_states::State;
 use kvs_core::Setting;
 use kvs_txn::By;
 use lists::Bytes;
@@ -26,6 +28,10 @@ const GRANT: &str =
 /// An accepted jobspec.
 const SPEC: &str =
     "{\"resources\":[{\"type\":\"slot\",\"count\":1,\"with\":[{\"type\":\"core\",\"count\":1}],\"label\":\"task\"}],\"tasks\":[{\"command\":[\"true\"],\"slot\":\"task\",\"count\":{\"per_slot\":1}}],\"version\":1}";
+
+/// The jobspec of a job that sleeps.
+const SLEEP: &str =
+    "{\"resources\":[{\"type\":\"slot\",\"count\":1,\"with\":[{\"type\":\"core\",\"count\":1}],\"label\":\"task\"}],\"tasks\":[{\"command\":[\"sleep\",\"10\"],\"slot\":\"task\",\"count\":{\"per_slot\":1}}],\"version\":1}";
 
 /// Commands, and what is told at once and what is due then.
 const ROWS: [(&str, &str); 6] = [
@@ -141,7 +147,7 @@ fn issue(alloc: Global, service: &mut JobService, by: By, ask: JobAsk) -> Result
     if !asks_no_child(alloc, &ask)? {
         return Err("a child".into());
     }
-    if !service.has_room(0) || !has_time(service, &ask) {
+    if !service.has_room() || !has_time(service, &ask) {
         return Err("no room".into());
     }
     service.issue(by, 0, ask)?;
@@ -270,13 +276,20 @@ fn all_told(alloc: Global, service: &mut JobService) -> Result<String, Fail>
     Ok(told)
 }
 
-/// What is told once a command and an advance are issued.
-fn both_told(alloc: Global, service: &mut JobService, submit: JobAsk) -> Result<String, Fail>
+/// What is told once a command and another one, which submits no job, are issued.
+fn both_told(
+    alloc: Global,
+    service: &mut JobService,
+    first: JobAsk,
+    second: JobAsk,
+) -> Result<String, Fail>
     requires begun { IsBegun service.old }
-    requires range { IsInRange (told submit) }
+    requires range { IsInRange (told first) }
+    requires other { IsInRange (told second) }
+    requires apart { is_submission (Some (told second)) ≡ false }
 {
-    issue(alloc, service, FIRST, submit)?;
-    issue(alloc, service, SECOND, JobAsk::Advance { seconds: 2 })?;
+    issue(alloc, service, FIRST, first)?;
+    issue(alloc, service, SECOND, second)?;
     all_told(alloc, service)
 }
 
@@ -284,12 +297,30 @@ fn both_told(alloc: Global, service: &mut JobService, submit: JobAsk) -> Result<
 fn run_told(alloc: Global) -> Result<String, Fail> {
     let submit = submission(alloc, SPEC, false)?;
     let mut service = begun(alloc)?;
-    both_told(alloc, &mut service, submit)
+    both_told(alloc, &mut service, submit, JobAsk::Advance { seconds: 2 })
 }
 
 #[test]
 fn an_instance_runs_a_job_and_goes_on_in_time(rt: HostRuntime) -> Result<(), Fail> {
     let told = run_told(rt.alloc())?;
     assert_eq!(rt; told.as_str(), "submitted 0; advanced 7; ");
+    Ok(())
+}
+
+/// What a job's result waits for where time doesn't go on.
+fn result_left(alloc: Global, text: &str) -> Result<Option<State>, Fail> {
+    let submit = submission(alloc, text, false)?;
+    let result = JobAsk::ResultOf {
+        label: Bytes::of(alloc, b"one")?,
+    };
+    let mut service = begun(alloc)?;
+    both_told(alloc, &mut service, submit, result)?;
+    Ok(service.awaited(SECOND))
+}
+
+#[test]
+fn a_result_waits_for_a_job_that_sleeps(rt: HostRuntime) -> Result<(), Fail> {
+    assert_eq!(rt; result_left(rt.alloc(), SLEEP)?, Some(State::Run));
+    assert_eq!(rt; result_left(rt.alloc(), SPEC)?, None);
     Ok(())
 }

@@ -1,5 +1,5 @@
 //! How far time goes on.
-ghost use Rattle.std.specs.Prelude.{◌≡◌, ◌≤◌, ◌+◌, IsTrue};
+ghost use Rattle.std.specs.Prelude.{◌≡◌, ◌↔◌, ◌≤◌, ◌+◌, IsTrue};
 ghost use Rattle.job_service.specs.Times.{seconds_asked};
 
 use job_commands::JobAsk;
@@ -19,7 +19,7 @@ pub fn seconds_asked(ask: &JobAsk) -> u64
 
 /// Whether so many seconds can be asked for besides those of all advances before.
 pub fn is_within(span: u64, seconds: u64) -> bool
-    ensures { IsTrue result → span + seconds ≤ 1000000000 }
+    ensures { IsTrue result ↔ (span + seconds ≤ 1000000000) }
 {
     span <= LIMIT && seconds <= LIMIT - span
 }

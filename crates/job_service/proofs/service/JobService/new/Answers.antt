@@ -1,9 +1,10 @@
 use Rattle.std.proofs.Common.{◌≡◌, ◌∙◌, [], false, None, ◌≤◌, refl, sym, subst, arith}
 use Rattle.job_rules.specs.Fits.{IsGrant}
 use Rattle.job_service.specs.Agrees.{AgreesJobs, IsAgreed}
-use Rattle.job_service.specs.Posted.{IsAlone, IsNamed, id_posted}
+use Rattle.job_service.specs.Judged.{AreJudged}
+use Rattle.job_service.specs.Posted.{IsNamed, id_posted}
 use Rattle.job_service.specs.Value.{JobServiceValue}
-use Rattle.job_service.proofs.Calls.{begun_agreed, begun_agrees, begun_asking, begun_childless, begun_count, begun_timed}
+use Rattle.job_service.proofs.Calls.{begun_agreed, begun_agrees, begun_asking, begun_childless, begun_count, begun_drawn, begun_judged, begun_sought, begun_timed}
 use Rattle.job_service.proofs.service.JobService.new.Goals as goal
 
 pub invariant_of-result : goal.invariant_of-result
@@ -18,11 +19,14 @@ invariant_of-result c = λ _.
         early = c.requires.early;
         timed = begun_timed false c.args.birth c.args.setting.size c.args.setting.fanout c.args.grant.now c.in_ok-manager.manager c.in_ok-commands.commands m.book m.posted c.in_ok-commands.ensures.agrees m.agrees;
         near = omega arith;
-        alone = subst (λ p. IsAlone p None) (sym m.posted) tt;
-        posted = subst (IsNamed c.in_ok-commands.commands) (sym m.posted) tt;
+        sought = begun_sought false c.args.birth c.args.setting.size c.args.setting.fanout c.args.grant.now c.in_ok-manager.manager c.in_ok-commands.commands m.book m.posted c.in_ok-commands.ensures.agrees m.agrees;
+        posted = subst (IsNamed c.in_ok-commands.commands c.args.birth) (sym m.posted) tt;
         named = tt;
         counted = begun_count false c.args.birth c.args.setting.size c.args.setting.fanout c.args.grant.now c.in_ok-manager.manager c.in_ok-commands.commands m.book m.posted c.in_ok-commands.ensures.agrees m.agrees;
         bounded = omega arith;
+        drawn = begun_drawn false c.args.birth c.args.setting.size c.args.setting.fanout c.args.grant.now c.in_ok-manager.manager c.in_ok-commands.commands m.book m.posted c.in_ok-commands.ensures.agrees m.agrees;
+        marked = c.in_ok-commands.ensures.marked c.args.birth;
+        judged = subst (AreJudged c.in_ok-commands.commands c.in_ok-manager.manager.book.jobs) (sym c.new-3.ensures.items) (begun_judged false c.args.birth c.args.setting.size c.args.setting.fanout c.args.grant.now c.in_ok-manager.manager c.in_ok-commands.commands m.book m.posted c.in_ok-commands.ensures.agrees m.agrees);
         childless = begun_childless false c.args.birth c.args.setting.size c.args.setting.fanout c.args.grant.now c.in_ok-manager.manager c.in_ok-commands.commands m.book m.posted c.in_ok-commands.ensures.agrees m.agrees;
         asking = begun_asking false c.args.birth c.args.setting.size c.args.setting.fanout c.args.grant.now c.in_ok-manager.manager c.in_ok-commands.commands m.book m.posted c.in_ok-commands.ensures.agrees m.agrees;
         agreed = subst (λ l. IsAgreed (let v : JobServiceValue = record { spent = false; birth = c.args.birth; second = c.args.birth; manager = c.in_ok-manager.manager; commands = c.in_ok-commands.commands; refused = l; found = None; submitted = 0; span = 0 } in v)) (sym c.new-3.ensures.items) (begun_agreed false c.args.birth c.args.setting.size c.args.setting.fanout c.args.grant.now c.in_ok-manager.manager c.in_ok-commands.commands m.book m.posted c.in_ok-commands.ensures.agrees m.agrees
@@ -36,3 +40,6 @@ returns-clause-agrees c = λ inst of.
     let m = c.in_ok-manager.ensures in
     subst (λ l. AgreesJobs (let v : JobServiceValue = record { spent = false; birth = c.args.birth; second = c.args.birth; manager = c.in_ok-manager.manager; commands = c.in_ok-commands.commands; refused = l; found = None; submitted = 0; span = 0 } in v) inst []) (sym c.new-3.ensures.items)
     (begun_agrees false c.args.birth c.args.setting.size c.args.setting.fanout c.args.grant.now c.in_ok-manager.manager c.in_ok-commands.commands m.book m.posted c.in_ok-commands.ensures.agrees m.agrees inst of)
+
+pub returns-clause-grant : goal.returns-clause-grant
+returns-clause-grant c = subst (λ b. IsGrant b.grant.nodes) (c.book.ensures ∙ c.in_ok-manager.ensures.book) c.keeps.ensures.sets

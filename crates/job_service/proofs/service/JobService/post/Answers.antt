@@ -4,7 +4,7 @@ use Rattle.job_commands.proofs.Desks.{asked_range}
 use Rattle.job_manager.specs.Posts.{post_of}
 use Rattle.job_service.specs.Agrees.{AgreesJobs}
 use Rattle.job_service.specs.View.{value_of}
-use Rattle.job_service.proofs.Calls.{with_parts}
+use Rattle.job_service.proofs.Calls.{alone_in, with_parts}
 use Rattle.job_service.proofs.Held.{held_posted}
 use Rattle.job_service.proofs.Outgoing.{free, may_post, posted_agrees, some_posted}
 use Rattle.job_service.proofs.service.JobService.post.Goals as goal
@@ -12,7 +12,7 @@ use Rattle.job_service.proofs.service.JobService.post.Goals as goal
 pub post-requires-clause-free : goal.post-requires-clause-free
 post-requires-clause-free c =
     let i = (c.self.invariant (ap (λ v. v.spent) c.self.view_is ∙ c.requires.ready)).fit in
-    free (value_of c.self.inside).found c.self.inside.manager.posted (post_of c.in-Some.found) i.alone (ap (option_map post_of) (sym c.take.ensures.value ∙ c.in-Some.is))
+    free (value_of c.self.inside).found c.self.inside.manager.posted (post_of c.in-Some.found) (alone_in (value_of c.self.inside) i) (ap (option_map post_of) (sym c.take.ensures.value ∙ c.in-Some.is))
 
 pub post-requires-clause-few : goal.post-requires-clause-few
 post-requires-clause-few c =
@@ -33,7 +33,7 @@ post-requires-clause-due c =
     let v = value_of c.self.inside in
     let is = ap (option_map post_of) (sym c.take.ensures.value ∙ c.in-Some.is) in
     let small : c.self.inside.second < 2 ^ 64 = omega arith in
-    may_post v g.inst g.log g.agrees c.keeps.ensures (free v.found c.self.inside.manager.posted (post_of c.in-Some.found) i.alone is) small (post_of c.in-Some.found) is
+    may_post v g.inst g.log g.agrees c.keeps.ensures (free v.found c.self.inside.manager.posted (post_of c.in-Some.found) (alone_in (value_of c.self.inside) i) is) small (post_of c.in-Some.found) is
 
 pub invariant_of-self-2 : goal.invariant_of-self-2
 invariant_of-self-2 c = λ _.
@@ -46,7 +46,7 @@ invariant_of-self-2 c = λ _.
     (record {
       inst = g.inst;
       log = g.log;
-      agrees = posted_agrees v g.inst g.log g.agrees c.keeps.ensures (free v.found c.self.inside.manager.posted (post_of c.in-Some.found) held.fit.alone is) false c.post.new.manager c.in_ok-self-inside.field-0 (post_of c.in-Some.found) is e.posts;
+      agrees = posted_agrees v g.inst g.log g.agrees c.keeps.ensures (free v.found c.self.inside.manager.posted (post_of c.in-Some.found) (alone_in (value_of c.self.inside) held.fit) is) false c.post.new.manager c.in_ok-self-inside.field-0 (post_of c.in-Some.found) is e.posts;
     })
 
 pub returns-clause-agrees : goal.returns-clause-agrees
@@ -56,7 +56,7 @@ returns-clause-agrees c = λ inst log a.
     let b = subst (λ w. AgreesJobs w inst log) (sym c.self.view_is) a in
     let is = ap (option_map post_of) (sym c.take.ensures.value ∙ c.in-Some.is) in
     subst (λ o. AgreesJobs (with_parts v false c.post.new.manager c.self.inside.commands c.self.inside.refused.items (option_map post_of o) c.self.inside.submitted) inst log) (sym c.take.ensures.after)
-    (posted_agrees v inst log b c.keeps.ensures (free v.found c.self.inside.manager.posted (post_of c.in-Some.found) held.fit.alone is) false c.post.new.manager c.in_ok-self-inside.field-0 (post_of c.in-Some.found) is c.in_ok-self-inside.ensures.posts)
+    (posted_agrees v inst log b c.keeps.ensures (free v.found c.self.inside.manager.posted (post_of c.in-Some.found) (alone_in (value_of c.self.inside) held.fit) is) false c.post.new.manager c.in_ok-self-inside.field-0 (post_of c.in-Some.found) is c.in_ok-self-inside.ensures.posts)
 
 pub returns-clause-posted : goal.returns-clause-posted
 returns-clause-posted c = some_posted (value_of c.self.inside) c.post.new.manager c.in_ok-self-inside.field-0 (post_of c.in-Some.found) c.in_ok-self-inside.ensures.posts

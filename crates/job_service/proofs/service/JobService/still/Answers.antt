@@ -1,37 +1,57 @@
-use Rattle.std.proofs.Common.{◌≡◌, ◌∙◌, ◌≤◌, Some, None, false, sym, ap, subst}
-use Rattle.std.specs.Prelude.{All}
+use Rattle.std.proofs.Common.{◌≡◌, ◌∙◌, ◌<◌, ℕ, [], Some, IsSome, sym, ap, subst}
 use Rattle.instance_rules.specs.Log.{service_of}
-use Rattle.job_clock.specs.Targets.{targets_of}
 use Rattle.kvs_core.specs.Agrees.{Agrees}
-use Rattle.kvs_core.specs.Posted.{newest_of}
+use Rattle.kvs_core.specs.Posted.{newest_of, posted}
+use Rattle.kvs_core.specs.Seen.{primary_heard}
+use Rattle.kvs_core.specs.Steps.{IsStill as CoreIsStill}
+use Rattle.kvs_rules.specs.Brokers.{heard}
 use Rattle.kvs_rules.specs.Namespaces.{newest_store, primary}
-use Rattle.kvs_txn.specs.declared.txn.By.{By}
 use Rattle.job_service.specs.Agrees.{AgreesJobs}
-use Rattle.job_service.specs.Replies.{can_reply}
+use Rattle.job_service.specs.Still.{IsStill, awaited}
 use Rattle.job_service.specs.View.{value_of}
+use Rattle.job_service.proofs.Left.{left_open}
+use Rattle.job_service.proofs.Resting.{late_still, left_result, unposted_still}
 use Rattle.job_service.proofs.Ticking.{idle_now, none_left}
 use Rattle.job_service.proofs.service.JobService.still.Goals as goal
 
 pub returns-clause-idle : goal.returns-clause-idle
-returns-clause-idle c = λ inst log a.
-    let held = c.self.invariant (ap (λ v. v.spent) c.self.view_is ∙ c.requires.ready) in
+returns-clause-idle c = λ inst log a rest.
+    let held = c.self.invariant (ap (λ v. v.spent) c.self.view_is ∙ c.requires) in
     let i = held.fit in
     let v = value_of c.self.inside in
-    let unposted = subst (λ w. w.manager.posted ≡ None) (sym c.self.view_is) c.requires.unposted in
-    let unfound = subst (λ w. w.found ≡ None) (sym c.self.view_is) c.requires.unfound in
+    let still = subst IsStill (sym c.self.view_is) rest in
+    let nothing = subst (λ k. posted k ≡ []) c.core.ensures (c.standing.ensures.landed (subst CoreIsStill (sym c.core.ensures) still.core)) in
+    let unposted = unposted_still c.self.inside.manager c.keeps.ensures nothing in
     let b = subst (λ w. AgreesJobs w inst log) (sym c.self.view_is) a in
     let newest = subst (λ k. newest_store inst.service (service_of log) primary ≡ Some (newest_of k)) c.core.ensures (c.standing.ensures.newest inst.service (service_of log) (subst (λ k. Agrees k inst.service (service_of log)) (sym c.core.ensures) b.core)) in
-    idle_now v inst log b c.keeps.ensures newest i.childless unposted unfound
+    idle_now v inst log b c.keeps.ensures newest i.childless unposted still.unfound
 
 pub returns-clause-advanced : goal.returns-clause-advanced
-returns-clause-advanced c = λ inst log l a top target t.
-    let held = c.self.invariant (ap (λ v. v.spent) c.self.view_is ∙ c.requires.ready) in
+returns-clause-advanced c = λ inst log l a rest top target t.
+    let held = c.self.invariant (ap (λ v. v.spent) c.self.view_is ∙ c.requires) in
     let i = held.fit in
     let v = value_of c.self.inside in
-    let unposted = subst (λ w. w.manager.posted ≡ None) (sym c.self.view_is) c.requires.unposted in
-    let unfound = subst (λ w. w.found ≡ None) (sym c.self.view_is) c.requires.unfound in
-    let late = subst (λ w. All (λ target. target ≤ w.second) (targets_of w.commands)) (sym c.self.view_is) c.requires.late in
-    let untold = subst (λ w. (by : By) → can_reply w by ≡ false) (sym c.self.view_is) c.requires.untold in
+    let still = subst IsStill (sym c.self.view_is) rest in
+    let nothing = subst (λ k. posted k ≡ []) c.core.ensures (c.standing.ensures.landed (subst CoreIsStill (sym c.core.ensures) still.core)) in
+    let unposted = unposted_still c.self.inside.manager c.keeps.ensures nothing in
     let b = subst (λ w. AgreesJobs w inst log) (sym c.self.view_is) a in
     let newest = subst (λ k. newest_store inst.service (service_of log) primary ≡ Some (newest_of k)) c.core.ensures (c.standing.ensures.newest inst.service (service_of log) (subst (λ k. Agrees k inst.service (service_of log)) (sym c.core.ensures) b.core)) in
-    none_left v inst log b c.keeps.ensures newest i.childless unposted unfound late untold l top target t
+    none_left v inst log b c.keeps.ensures newest i.childless unposted still.unfound (late_still v still unposted) still.untold l top target t
+
+pub returns-clause-left : goal.returns-clause-left
+returns-clause-left c = λ inst log a rest told by some other waits.
+    let held = c.self.invariant (ap (λ v. v.spent) c.self.view_is ∙ c.requires) in
+    let v = value_of c.self.inside in
+    let still = subst IsStill (sym c.self.view_is) rest in
+    let nothing = subst (λ k. posted k ≡ []) c.core.ensures (c.standing.ensures.landed (subst CoreIsStill (sym c.core.ensures) still.core)) in
+    let unposted = unposted_still c.self.inside.manager c.keeps.ensures nothing in
+    let b = subst (λ w. AgreesJobs w inst log) (sym c.self.view_is) a in
+    let hears = subst (λ k. (broker : ℕ) → broker < k.size → heard (service_of log) broker primary ≡ Some (primary_heard k broker)) c.core.ensures (c.standing.ensures.heard inst.service (service_of log) (subst (λ k. Agrees k inst.service (service_of log)) (sym c.core.ensures) b.core)) in
+    subst (λ w. IsSome (awaited w by)) c.self.view_is (left_open v held.fit inst log b still unposted told hears by some other waits)
+
+pub returns-clause-results : goal.returns-clause-results
+returns-clause-results c = λ inst log l a top by where_ e.
+    let v = value_of c.self.inside in
+    let b = subst (λ w. AgreesJobs w inst log) (sym c.self.view_is) a in
+    let newest = subst (λ k. newest_store inst.service (service_of log) primary ≡ Some (newest_of k)) c.core.ensures (c.standing.ensures.newest inst.service (service_of log) (subst (λ k. Agrees k inst.service (service_of log)) (sym c.core.ensures) b.core)) in
+    left_result v c.keeps.ensures l by where_ inst log b.commands newest top (subst (λ w. awaited w by ≡ Some where_) (sym c.self.view_is) e)

@@ -1,4 +1,4 @@
-use Rattle.std.proofs.Common.{◌≡◌, ◌∙◌, ◌++◌, ◌<◌, ◌^◌, [], ◌∷◌, Some, false, refl, sym, ap, subst}
+use Rattle.std.proofs.Common.{arith, ◌≡◌, ◌∙◌, ◌++◌, ◌<◌, ◌^◌, [], ◌∷◌, Some, false, refl, sym, ap, subst}
 use Rattle.std.specs.List.{AllByRecursion as Each}
 use Rattle.std.specs.Prelude.{option_map}
 use Rattle.instance_rules.specs.Log.{Ticked, service_of}
@@ -28,6 +28,7 @@ look-requires c =
     let f = ticked_facts c.self.inside.commands c.self.inside.refused.items c.self.inside.second c.args.second g.inst g.log (facts v g.inst g.log g.agrees) in
     let soon = then_soon v i c.args.second may in
     can-look c.self.inside.commands c.self.inside.manager.book c.args.second c.self.inside.birth g.inst (g.log ++ Ticked c.args.second ∷ []) f.commands g.agrees.kind.valid f.second g.agrees.kind.answer g.agrees.kind.birth g.agrees.kind.grant soon.0 soon.1 (short_next v i c.self.inside.commands refl)
+    (λ rank. let a = i.marked rank in let b = may.next.above in omega (arith, a, b))
 
 pub invariant_of-self-2 : goal.invariant_of-self-2
 invariant_of-self-2 c = λ _.

@@ -13,7 +13,7 @@ use Rattle.job_service.proofs.Calls.{is_soon, turn_agrees, turn_legal}
 use Rattle.job_service.proofs.Held.{held_landed, held_still}
 use Rattle.job_service.proofs.Issuing.{short_next}
 use Rattle.job_service.proofs.Owing.{can-look}
-use Rattle.job_service.proofs.Turning.{turned_agrees, turned_asking, turned_childless, turned_counted, turned_facts, turned_grant, turned_legal, turned_posted, turned_size, turned_time, unnumbered_stays}
+use Rattle.job_service.proofs.Turning.{turned_agrees, turned_asking, turned_childless, turned_counted, turned_drawn, turned_facts, turned_grant, turned_judged, turned_legal, turned_marked, turned_posted, turned_size, turned_time, unnumbered_stays}
 use Rattle.job_service.proofs.service.JobService.turn.Goals as goal
 
 pub invariant_of-self-in_default : goal.invariant_of-self-in_default
@@ -39,6 +39,7 @@ returns-in_default-clause-makes c =
     let v = value_of c.self.inside in
     let e = c.in_ok-events.ensures in
     record {
+      own = e.makes.own;
       made = λ inst log a. let b = subst (λ w. AgreesJobs w inst log) (sym c.self.view_is) a in e.makes.made inst.service (service_of log) b.core;
       legal = λ inst log a.
           let b = subst (λ w. AgreesJobs w inst log) (sym c.self.view_is) a in
@@ -66,6 +67,7 @@ look-requires c =
     let short = short_next v i c.land.new.commands (ap length (turned_size v g.inst g.log g.agrees c.keeps.ensures newest c.turn.new.self c.args.step c.in_ok-events.events e.makes e.follows c.what_is_posted_lands_as_it_is_due.ensures c.in-Some.number numbered c.land.new.commands c.land.new.refused.items c.command_posted-by.result c.take.result c.command_posted-by.ensures is_id i.posted c.in_ok-land.ensures)) in
     can-look c.land.new.commands c.turn.new.self.book c.self.inside.second c.self.inside.birth g.inst (g.log ++ map happening c.in_ok-events.events) f.commands g.agrees.kind.valid f.second g.agrees.kind.answer g.agrees.kind.birth
     (turned_grant v g.inst g.log g.agrees c.keeps.ensures newest c.turn.new.self c.args.step c.in_ok-events.events e.makes e.follows c.what_is_posted_lands_as_it_is_due.ensures c.in-Some.number numbered c.land.new.commands c.land.new.refused.items c.command_posted-by.result c.take.result c.command_posted-by.ensures is_id i.posted c.in_ok-land.ensures ∙ g.agrees.kind.grant) i.order (is_soon v i) short
+    (turned_marked v g.inst g.log g.agrees c.keeps.ensures newest c.turn.new.self c.args.step c.in_ok-events.events e.makes e.follows c.what_is_posted_lands_as_it_is_due.ensures c.in-Some.number numbered c.land.new.commands c.land.new.refused.items c.command_posted-by.result c.take.result c.command_posted-by.ensures is_id i.posted c.in_ok-land.ensures c.self.inside.second i.marked)
 
 pub invariant_of-self-2 : goal.invariant_of-self-2
 invariant_of-self-2 c = λ _.
@@ -87,7 +89,10 @@ invariant_of-self-2 c = λ _.
     (held_landed c.self.inside held false c.turn.new.self c.land.new.commands c.land.new.refused c.in_ok-self-inside.field-0 e.ready e.makes.size posted size (omega (arith, fewer, counted))
     (turned_time v g.inst g.log g.agrees c.keeps.ensures newest c.turn.new.self c.args.step c.in_ok-events.events e.makes e.follows c.what_is_posted_lands_as_it_is_due.ensures c.in-Some.number numbered c.land.new.commands c.land.new.refused.items c.command_posted-by.result c.take.result c.command_posted-by.ensures is_id i.posted c.in_ok-land.ensures c.self.inside.span i.timed)
     (turned_childless v g.inst g.log g.agrees c.keeps.ensures newest c.turn.new.self c.args.step c.in_ok-events.events e.makes e.follows c.what_is_posted_lands_as_it_is_due.ensures c.in-Some.number numbered c.land.new.commands c.land.new.refused.items c.command_posted-by.result c.take.result c.command_posted-by.ensures is_id i.posted c.in_ok-land.ensures i.childless i.asking)
-    (turned_asking v g.inst g.log g.agrees c.keeps.ensures newest c.turn.new.self c.args.step c.in_ok-events.events e.makes e.follows c.what_is_posted_lands_as_it_is_due.ensures c.in-Some.number numbered c.land.new.commands c.land.new.refused.items c.command_posted-by.result c.take.result c.command_posted-by.ensures is_id i.posted c.in_ok-land.ensures i.asking) c.in_ok-self-inside.ensures
+    (turned_asking v g.inst g.log g.agrees c.keeps.ensures newest c.turn.new.self c.args.step c.in_ok-events.events e.makes e.follows c.what_is_posted_lands_as_it_is_due.ensures c.in-Some.number numbered c.land.new.commands c.land.new.refused.items c.command_posted-by.result c.take.result c.command_posted-by.ensures is_id i.posted c.in_ok-land.ensures i.asking)
+    (turned_drawn v g.inst g.log g.agrees c.keeps.ensures newest c.turn.new.self c.args.step c.in_ok-events.events e.makes e.follows c.what_is_posted_lands_as_it_is_due.ensures c.in-Some.number numbered c.land.new.commands c.land.new.refused.items c.command_posted-by.result c.take.result c.command_posted-by.ensures is_id i.posted c.in_ok-land.ensures c.self.inside.submitted i.drawn)
+    (turned_marked v g.inst g.log g.agrees c.keeps.ensures newest c.turn.new.self c.args.step c.in_ok-events.events e.makes e.follows c.what_is_posted_lands_as_it_is_due.ensures c.in-Some.number numbered c.land.new.commands c.land.new.refused.items c.command_posted-by.result c.take.result c.command_posted-by.ensures is_id i.posted c.in_ok-land.ensures c.self.inside.second i.marked)
+    (turned_judged v g.inst g.log g.agrees c.keeps.ensures newest c.turn.new.self c.args.step c.in_ok-events.events e.makes e.follows c.what_is_posted_lands_as_it_is_due.ensures c.in-Some.number numbered c.land.new.commands c.land.new.refused.items c.command_posted-by.result c.take.result c.command_posted-by.ensures is_id i.posted c.in_ok-land.ensures i.judged) c.in_ok-self-inside.ensures
     (record {
       inst = g.inst;
       log = g.log ++ map happening c.in_ok-events.events;
@@ -105,6 +110,7 @@ returns-clause-makes c =
     let is_id = c.take.ensures.value ∙ held.submits in
     let smalls = subst (λ b. Each (λ j. j.id < 2 ^ 64) b.jobs) c.book.ensures c.keeps-2.ensures.small in
     record {
+      own = e.makes.own;
       made = λ inst log a. let b = subst (λ w. AgreesJobs w inst log) (sym c.self.view_is) a in e.makes.made inst.service (service_of log) b.core;
       legal = λ inst log a.
           let b = subst (λ w. AgreesJobs w inst log) (sym c.self.view_is) a in

@@ -1,0 +1,41 @@
+-- When nothing of an instance's jobs can go on, and what open commands then wait for.
+use Rattle.std.specs.Prelude.{◌≡◌, ◌&&◌, not, nat_lt, Bool, false, List, Option, Some, None, is_some, option_and_then, if◌then◌else◌}
+use Rattle.std.specs.List.{list_any}
+use Rattle.job_clock.specs.Targets.{targets_of}
+use Rattle.job_commands.specs.declared.ask.JobAsk.{JobAsk}
+use Rattle.job_commands.specs.declared.ask.JobAsk.TheVariants as ask
+use Rattle.job_commands.specs.Rows.{Labels}
+use Rattle.job_replies.specs.Ready.{is_inactive, state_in}
+use Rattle.job_states.specs.declared.job.State.{State}
+use Rattle.kvs_core.specs.Steps.{IsStill as CoreIsStill}
+use Rattle.kvs_txn.specs.declared.txn.By.{By}
+use Rattle.manager_rules.specs.Jobs.{StoredJob}
+use Rattle.job_service.specs.Refusals.{row_in}
+use Rattle.job_service.specs.Replies.{can_reply}
+use Rattle.job_service.specs.Value.{JobServiceValue}
+
+-- whether time can go on: nothing is posted or due, and an open advance waits for a later second
+abbrev pub can_tick : JobServiceValue → Bool
+can_tick v = not (is_some v.manager.posted) && not (is_some v.found)
+    && list_any (λ target. nat_lt v.second target) (targets_of v.commands)
+
+-- no step of the key-value service can be made and none of its answers waits, nothing is to be posted, time doesn't go on,
+-- and no job command can be told
+pub record IsStill (v : JobServiceValue) : Type 0 where
+  pub core : CoreIsStill v.manager.core
+  pub unfound : v.found ≡ None
+  pub late : can_tick v ≡ false
+  pub untold : (by : By) → can_reply v by ≡ false
+
+-- the state of a job that isn't over
+abbrev pub unless_over : State → Option State
+unless_over where_ = if is_inactive where_ then None else Some where_
+
+-- the state of the job whose result the command asks for, where that isn't over
+abbrev pub awaited_by : Labels → List StoredJob → JobAsk → Option State
+awaited_by labels jobs (ask.ResultOf label) = option_and_then unless_over (state_in labels jobs label)
+awaited_by labels jobs _ = None
+
+-- the state of the job whose result the open command waits for, if it waits for one
+abbrev pub awaited : JobServiceValue → By → Option State
+awaited v by = option_and_then (λ row. awaited_by v.commands.labels v.manager.book.jobs row.ask) (row_in v.commands by)
