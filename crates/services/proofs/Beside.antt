@@ -1,5 +1,5 @@
 -- What one of the services makes leaves the other.
-use Rattle.std.proofs.Common.{◌≡◌, List, [], ◌∷◌, ◌++◌, map, Bool, true, false, ◌&&◌, Option, Some, None, refl, sym, ap, ◌∙◌, subst, append-nil, append_assoc, true≢false}
+use Rattle.std.proofs.Common.{◌≡◌, List, [], ◌∷◌, ◌++◌, map, Bool, true, false, ◌&&◌, Option, Some, None, refl, sym, ap, ◌∙◌, true≢false}
 use Rattle.std.specs.List.{AllByRecursion as Each}
 use Rattle.std.specs.Option.{option_map_or}
 use Rattle.kvs_txn.specs.declared.txn.By.{By}
@@ -7,7 +7,7 @@ use Rattle.kvs_rules.specs.declared.events.KvsAsk.{KvsAsk}
 use Rattle.kvs_rules.specs.declared.events.KvsAsk.TheVariants as ask
 use Rattle.kvs_rules.specs.declared.events.KvsEvent.{KvsEvent}
 use Rattle.kvs_rules.specs.declared.events.KvsEvent.TheVariants as event
-use Rattle.kvs_rules.specs.Answers.{IsLegalAfter, IsLegalMoment}
+use Rattle.kvs_rules.specs.Answers.{IsLegalMoment}
 use Rattle.kvs_rules.specs.Log.{Happened, Log, Moment, same_command}
 use Rattle.kvs_rules.specs.Namespaces.{Request, Setting}
 use Rattle.kvs_rules.proofs.Asking.{command_is}
@@ -68,19 +68,13 @@ keys_are_others set (event.Answered by number given ∷ es) h = absurd h.0
 abbrev pub CoreStays : Type 0
 CoreStays = (v : CoreValue) (set : Setting) (log : Log) (m : Moment) → Agrees v set log → IsLegalMoment set log m → IsOfContents set m → Agrees v set (log ++ m ∷ [])
 
-of_contents : (set : Setting) (e : KvsEvent) → IsContentEvent e → IsOfContents set (Happened e)
+pub of_contents : (set : Setting) (e : KvsEvent) → IsContentEvent e → IsOfContents set (Happened e)
 of_contents set (event.Got broker reference) h = tt
 of_contents set (event.Dropped broker reference) h = tt
 of_contents set (event.Landed space number authors groups) h = absurd h
 of_contents set (event.Denied space authors group refusal) h = absurd h
 of_contents set (event.Heard broker space number) h = absurd h
 of_contents set (event.Answered by number given) h = absurd h
-
-pub contents_leave : CoreStays → (v : CoreValue) (set : Setting) (log : Log) (events : List KvsEvent) → Each IsContentEvent events → Agrees v set log → IsLegalAfter set log (map Happened events) → Agrees v set (log ++ map Happened events)
-contents_leave stays v set log [] h a legal = subst (Agrees v set) (sym (append-nil log)) a
-contents_leave stays v set log (e ∷ es) h a legal =
-    subst (Agrees v set) (append_assoc log (Happened e ∷ []) (map Happened es))
-    (contents_leave stays v set (log ++ Happened e ∷ []) es h.1 (stays v set log (Happened e) a legal.0 (of_contents set e h.0)) legal.1)
 
 -- whose answer waits in the core doesn't ask of contents
 pub core_answers : (v : CoreValue) (set : Setting) (log : Log) → Agrees v set log → (by : By) → core_can_take v by ≡ true → asks_content set by ≡ false

@@ -1,5 +1,5 @@
 -- A broker sends to the broker above it and to those below it alone.
-use Rattle.std.proofs.Common.{◌≡◌, ◌∙◌, ℕ, ◌+◌, ◌-◌, ◌*◌, ◌<◌, ◌≤◌, ◌⊎◌, inl, inr, min, ◌++◌, map, true, sym, arith}
+use Rattle.std.proofs.Common.{◌≡◌, ◌∙◌, ℕ, ◌+◌, ◌*◌, ◌<◌, ◌≤◌, ◌⊎◌, inl, inr, min, ◌++◌, map, true, sym, arith}
 use Rattle.std.specs.List.{filter}
 use Rattle.kvs_rules.specs.Brokers.{parent}
 use Rattle.kvs_rules.specs.declared.events.KvsStep.TheVariants as kvs

@@ -1,5 +1,5 @@
 -- What each call makes of the services, and that they can go on.
-use Rattle.std.proofs.Common.{◌≡◌, ◌<◌, ℕ, inl, inr, List, [], ◌∷◌, ◌++◌, map, true, false, Option, Some, None, refl, sym, ap, ◌∙◌, subst}
+use Rattle.std.proofs.Common.{◌≡◌, ℕ, List, [], ◌∷◌, ◌++◌, map, true, false, Option, Some, None, refl, sym, ◌∙◌, subst}
 use Rattle.std.specs.List.{AllByRecursion as Each}
 use Rattle.kvs_txn.specs.declared.txn.By.{By}
 use Rattle.kvs_model.specs.Store.{Name}
@@ -8,162 +8,175 @@ use Rattle.kvs_rules.specs.declared.events.KvsAsk.{KvsAsk}
 use Rattle.kvs_rules.specs.declared.events.KvsEvent.{KvsEvent}
 use Rattle.kvs_rules.specs.declared.events.KvsEvent.TheVariants as event
 use Rattle.kvs_rules.specs.declared.events.KvsStep.{KvsStep}
-use Rattle.kvs_rules.specs.Answers.{IsLegalAfter, IsLegalAnswer, IsLegalMoment}
-use Rattle.kvs_rules.specs.Log.{Asked, Happened, Log, Moment, is_asked}
+use Rattle.kvs_rules.specs.Answers.{IsLegalAfter, IsLegalAnswer, IsLegalMoment as IsLegalService}
+use Rattle.kvs_rules.specs.Log as service
+use Rattle.kvs_rules.specs.Log.{Asked, Happened, is_asked}
 use Rattle.kvs_rules.specs.Namespaces.{Request, Setting}
-use Rattle.kvs_core.specs.Agrees.{Agrees}
-use Rattle.kvs_core.specs.Makes.{Makes as CoreMakes}
-use Rattle.kvs_core.specs.Posted.{posts_landed}
-use Rattle.kvs_core.specs.Steps.{can_step as core_can_step, can_take as core_can_take}
-use Rattle.kvs_core.specs.Value.{CoreValue}
+use Rattle.kvs_core.specs.Steps.{can_take as core_can_take}
 use Rattle.content_service.specs.Agrees.{AgreesService}
 use Rattle.content_service.specs.Asks.{IsOthers, is_content}
-use Rattle.content_service.specs.Makes.{IsOfContents, Makes as ContentsMake}
+use Rattle.content_service.specs.Makes.{Makes as ContentsMake}
 use Rattle.content_service.specs.Steps.{can_take as contents_can_take}
 use Rattle.content_service.specs.Value.{ContentServiceValue}
-use Rattle.job_manager.specs.Follows.{Follows, Keeps as KeepsPosts}
-use Rattle.job_manager.specs.Value.{ManagerValue}
-use Rattle.services.specs.Agrees.{AgreesServices}
-use Rattle.services.specs.Asks.{AgreesOnce, MayAsk, Tells}
+use Rattle.instance_rules.specs.Legal.{IsLegalMoment}
+use Rattle.instance_rules.specs.Log.{Instance, Log, Moment, Served, service_of}
+use Rattle.job_commands.specs.declared.ask.JobAsk.{JobAsk}
+use Rattle.job_landings.proofs.Landing.{service_all}
+use Rattle.job_landings.proofs.Naming.{asked_beside, event_beside}
+use Rattle.job_landings.specs.Landings.{happening}
+use Rattle.job_service.specs.Agrees.{AgreesJobs, IsNewAsk, MayIssue}
+use Rattle.job_service.specs.Makes.{Makes as JobsMake}
+use Rattle.job_service.specs.Times.{KeepsCounts}
+use Rattle.job_service.specs.Value.{JobServiceValue}
+use Rattle.services.specs.Agrees.{AgreesServices, HaveContentsLog, HaveJobsLog}
+use Rattle.services.specs.Asks.{AgreesOnce, Tells}
 use Rattle.services.specs.Makes.{Makes}
 use Rattle.services.specs.Value.{ServicesValue}
 use Rattle.services.specs.View.{IsFit}
-use Rattle.services.proofs.Beside.{CoreStays, asks_so, contents_answer, contents_leave, core_answers, keys_are_others, same_asks}
+use Rattle.services.proofs.Beside.{CoreStays, asks_so, contents_answer, core_answers, keys_are_others, same_asks}
+use Rattle.services.proofs.Staying.{contents_legal, events_leave, legal_there, moment_leaves, served_is}
 
--- the services with another manager, or with other contents
-abbrev pub with_manager : ServicesValue → ManagerValue → ServicesValue
-with_manager v manager = record { spent = false; size = v.size; fanout = v.fanout; manager = manager; contents = v.contents }
+-- the services with other jobs, or with other contents
+abbrev pub with_jobs : ServicesValue → JobServiceValue → ServicesValue
+with_jobs v jobs = record { spent = false; size = v.size; fanout = v.fanout; jobs = jobs; contents = v.contents }
 
 abbrev pub with_contents : ServicesValue → ContentServiceValue → ServicesValue
-with_contents v contents = record { spent = false; size = v.size; fanout = v.fanout; manager = v.manager; contents = contents }
+with_contents v contents = record { spent = false; size = v.size; fanout = v.fanout; jobs = v.jobs; contents = contents }
 
 -- what others make leaves the contents, a moment or many
 abbrev pub ContentsStay : Type 0
-ContentsStay = (v : ContentServiceValue) (set : Setting) (log : Log) (m : Moment) → AgreesService v set log → IsLegalMoment set log m → IsOthers set m → AgreesService v set (log ++ m ∷ [])
+ContentsStay = (v : ContentServiceValue) (set : Setting) (log : service.Log) (m : service.Moment) → AgreesService v set log → IsLegalService set log m → IsOthers set m → AgreesService v set (log ++ m ∷ [])
 
 abbrev pub ContentsStayAll : Type 0
-ContentsStayAll = (v : ContentServiceValue) (set : Setting) (log more : Log) → AgreesService v set log → IsLegalAfter set log more → Each (IsOthers set) more → AgreesService v set (log ++ more)
+ContentsStayAll = (v : ContentServiceValue) (set : Setting) (log more : service.Log) → AgreesService v set log → IsLegalAfter set log more → Each (IsOthers set) more → AgreesService v set (log ++ more)
+
+-- an answer, as a moment of the instance
+abbrev answered : By → Option ℕ → KvsAnswer → Moment
+answered by number given = Served (Happened (event.Answered by number given))
 
 module _ (v : ServicesValue) where
-  -- a step of the core
-  pub core-makes : ContentsStayAll → (m : ManagerValue) (s : KvsStep) (events : List KvsEvent) → core_can_step v.manager.core s ≡ true → CoreMakes s v.manager.core m.core events → Follows v.manager m events
-      → Makes s v (with_manager v m) events
-  core-makes stay m s events can makes follows = record {
-    ready = refl;
-    size = refl;
-    whose = inl (record { can = can; makes = makes; rest = refl });
-    posts = follows;
-    made = λ set log a. makes.made set log a.core;
-    legal = λ set log a. makes.legal set log a.core;
-    agrees = λ set log a. record {
-      size = a.size;
-      fanout = a.fanout;
-      core = makes.agrees set log a.core;
-      contents = stay v.contents set log (map Happened events) a.contents (makes.legal set log a.core) (keys_are_others set events makes.own);
-    };
+  -- the jobs go on to where the log of the service leads, and so do the contents
+  joined : (new : JobServiceValue) (contents : ContentServiceValue) (inst : Instance) (log later : Log) (there : service.Log) → service_of later ≡ there → AgreesServices v inst log → AgreesJobs new inst later → AgreesService contents inst.service there
+      → AgreesServices (record { spent = false; size = v.size; fanout = v.fanout; jobs = new; contents = contents }) inst later
+  joined new contents inst log later there is a jobs agrees = record {
+    size = a.size;
+    fanout = a.fanout;
+    jobs = jobs;
+    contents = subst (AgreesService contents inst.service) (sym is) agrees;
   }
 
-  -- nothing of the job manager's lands where contents come and go
-  no-posts : (events : List KvsEvent) → Each IsOfContents events → posts_landed events ≡ []
-  no-posts [] h = refl
-  no-posts (event.Got broker reference ∷ es) h = no-posts es h.1
-  no-posts (event.Dropped broker reference ∷ es) h = no-posts es h.1
-  no-posts (event.Landed space number authors groups ∷ es) h = absurd h.0
-  no-posts (event.Denied space authors group refusal ∷ es) h = absurd h.0
-  no-posts (event.Heard broker space number ∷ es) h = absurd h.0
-  no-posts (event.Answered by number given ∷ es) h = absurd h.0
+  -- the jobs alone go on, at a moment that is none of the service's
+  pub beside : (new : JobServiceValue) (inst : Instance) (log later : Log) → service_of later ≡ service_of log → AgreesServices v inst log → AgreesJobs new inst later → AgreesServices (with_jobs v new) inst later
+  beside new inst log later same a jobs = joined new v.contents inst log later (service_of log) same a jobs a.contents
+
+  -- a step of the core
+  pub core-makes : ContentsStayAll → (new : JobServiceValue) (s : KvsStep) (events : List KvsEvent) → KeepsCounts v.jobs new → JobsMake s v.jobs new events → Makes s v (with_jobs v new) events
+  core-makes stay new s events counts makes = record {
+    ready = refl;
+    keeps = record { size = refl; counts = counts };
+    made = λ inst log a. makes.made inst log a.jobs;
+    legal = λ inst log a. makes.legal inst log a.jobs;
+    agrees = λ inst log a.
+        joined new v.contents inst log (log ++ map happening events) (service_of log ++ map Happened events) (service_all events log) a (makes.agrees inst log a.jobs)
+        (stay v.contents inst.service (service_of log) (map Happened events) a.contents (legal_there inst events log (makes.legal inst log a.jobs)) (keys_are_others inst.service events makes.own));
+  }
 
   -- a step of the contents
-  pub contents-make : CoreStays → (new : ContentServiceValue) (s : KvsStep) (events : List KvsEvent) → core_can_step v.manager.core s ≡ false → ContentsMake s v.contents new events
-      → Makes s v (with_contents v new) events
-  contents-make stays new s events cannot makes = record {
+  pub contents-make : CoreStays → (new : ContentServiceValue) (s : KvsStep) (events : List KvsEvent) → ContentsMake s v.contents new events → Makes s v (with_contents v new) events
+  contents-make stays new s events makes = record {
     ready = refl;
-    size = refl;
-    whose = inr (record { cannot = cannot; makes = makes; rest = refl });
-    posts = inl (record { landed = no-posts events makes.own; posted = refl; book = refl });
-    made = λ set log a. makes.made log;
-    legal = λ set log a. makes.legal set log a.contents;
-    agrees = λ set log a. record {
-      size = a.size;
-      fanout = a.fanout;
-      core = contents_leave stays v.manager.core set log events makes.own a.core (makes.legal set log a.contents);
-      contents = makes.agrees set log a.contents;
-    };
+    keeps = record { size = refl; counts = record { size = refl; submitted = refl; span = refl } };
+    made = λ inst log a. makes.made (service_of log);
+    legal = λ inst log a. contents_legal inst events log makes.own (makes.legal inst.service (service_of log) a.contents);
+    agrees = λ inst log a.
+        joined v.jobs new inst log (log ++ map happening events) (service_of log ++ map Happened events) (service_all events log) a
+        (events_leave stays v.jobs inst events log makes.own (makes.legal inst.service (service_of log) a.contents) a.jobs)
+        (makes.agrees inst.service (service_of log) a.contents);
   }
 
   -- a command asks the core
-  pub core-asked : ContentsStay → (m : ManagerValue) (by : By) (broker : ℕ) (space : Name) (floor : ℕ) (asked : KvsAsk) → is_content asked ≡ false
-      → ((set : Setting) (log : Log) → Agrees v.manager.core set log → set.asks by ≡ Some (record { broker = broker; namespace = space; ask = asked }) → is_asked by log ≡ false → Agrees m.core set (log ++ Asked by floor ∷ []))
-      → AgreesOnce v (with_manager v m) by floor broker space asked
-  core-asked stay m by broker space floor asked plain agrees set log a made fresh = record {
-    size = a.size;
-    fanout = a.fanout;
-    core = agrees set log a.core made fresh;
-    contents = stay v.contents set log (Asked by floor) a.contents ((request, made), fresh) (asks_so set by request false made plain);
-  } where
-    request : Request
-    request = record { broker = broker; namespace = space; ask = asked }
+  pub core-asked : ContentsStay → (new : JobServiceValue) (by : By) (broker : ℕ) (space : Name) (floor : ℕ) (asked : KvsAsk) → is_content asked ≡ false
+      → ((inst : Instance) (log : Log) → AgreesJobs v.jobs inst log → IsNewAsk inst log by broker space asked → AgreesJobs new inst (log ++ Served (Asked by floor) ∷ []))
+      → AgreesOnce v (with_jobs v new) by floor broker space asked
+  core-asked stay new by broker space floor asked plain agrees inst log a fresh =
+      joined new v.contents inst log (log ++ Served (Asked by floor) ∷ []) (service_of log ++ Asked by floor ∷ []) (served_is log (Asked by floor)) a (agrees inst log a.jobs fresh)
+      (stay v.contents inst.service (service_of log) (Asked by floor) a.contents ((request, fresh.asks), fresh.new) (asks_so inst.service by request false fresh.asks plain))
+    where
+      request : Request
+      request = record { broker = broker; namespace = space; ask = asked }
 
   -- a command asks the contents
   pub contents-asked : CoreStays → (new : ContentServiceValue) (by : By) (broker : ℕ) (asked : KvsAsk) → is_content asked ≡ true
-      → ((set : Setting) (log : Log) (space : Name) (floor : ℕ) → AgreesService v.contents set log → set.asks by ≡ Some (record { broker = broker; namespace = space; ask = asked }) → is_asked by log ≡ false → AgreesService new set (log ++ Asked by floor ∷ []))
+      → ((set : Setting) (log : service.Log) (space : Name) (floor : ℕ) → AgreesService v.contents set log → set.asks by ≡ Some (record { broker = broker; namespace = space; ask = asked }) → is_asked by log ≡ false → AgreesService new set (log ++ Asked by floor ∷ []))
       → (space : Name) (floor : ℕ) → AgreesOnce v (with_contents v new) by floor broker space asked
-  contents-asked stays new by broker asked about agrees space floor set log a made fresh = record {
-    size = a.size;
-    fanout = a.fanout;
-    core = stays v.manager.core set log (Asked by floor) a.core ((request, made), fresh) (same_asks set by ∙ asks_so set by request true made about);
-    contents = agrees set log space floor a.contents made fresh;
-  } where
-    request : Request
-    request = record { broker = broker; namespace = space; ask = asked }
+  contents-asked stays new by broker asked about agrees space floor inst log a fresh =
+      joined v.jobs new inst log (log ++ Served (Asked by floor) ∷ []) (service_of log ++ Asked by floor ∷ []) (served_is log (Asked by floor)) a
+      (moment_leaves stays v.jobs inst log (Asked by floor) (asked_beside inst a.jobs.kind.valid (service_of log) by floor) (same_asks inst.service by ∙ asks_so inst.service by request true fresh.asks about) ((request, fresh.asks), fresh.new) a.jobs)
+      (agrees inst.service (service_of log) space floor a.contents fresh.asks fresh.new)
+    where
+      request : Request
+      request = record { broker = broker; namespace = space; ask = asked }
 
   -- an answer of the core
-  pub core-tells : ContentsStay → (m : ManagerValue) (by : By) (number : Option ℕ) (given : KvsAnswer) → core_can_take v.manager.core by ≡ true
-      → ((set : Setting) (log : Log) → Agrees v.manager.core set log → IsLegalAnswer set log by number given)
-      → ((set : Setting) (log : Log) → Agrees v.manager.core set log → Agrees m.core set (log ++ Happened (event.Answered by number given) ∷ []))
-      → Tells v (with_manager v m) by number given
-  core-tells stay m by number given can legal agrees = record {
-    legal = λ set log a. legal set log a.core;
-    agrees = λ set log a. record {
-      size = a.size;
-      fanout = a.fanout;
-      core = agrees set log a.core;
-      contents = stay v.contents set log (Happened (event.Answered by number given)) a.contents (legal set log a.core) (core_answers v.manager.core set log a.core by can);
-    };
+  pub core-tells : ContentsStay → (new : JobServiceValue) (by : By) (number : Option ℕ) (given : KvsAnswer) → core_can_take v.jobs.manager.core by ≡ true
+      → ((inst : Instance) (log : Log) → AgreesJobs v.jobs inst log → IsLegalMoment inst log (answered by number given))
+      → ((inst : Instance) (log : Log) → AgreesJobs v.jobs inst log → AgreesJobs new inst (log ++ answered by number given ∷ []))
+      → Tells v (with_jobs v new) by number given
+  core-tells stay new by number given can legal agrees = record {
+    legal = λ inst log a. legal inst log a.jobs;
+    agrees = λ inst log a.
+        let m : service.Moment = Happened (event.Answered by number given) in
+        joined new v.contents inst log (log ++ Served m ∷ []) (service_of log ++ m ∷ []) (served_is log m) a (agrees inst log a.jobs)
+        (stay v.contents inst.service (service_of log) m a.contents (legal inst log a.jobs).0 (core_answers v.jobs.manager.core inst.service (service_of log) a.jobs.core by can));
   }
 
   -- an answer of the contents
   pub contents-tell : CoreStays → (new : ContentServiceValue) (by : By) (given : KvsAnswer) → contents_can_take v.contents by ≡ true
-      → ((set : Setting) (log : Log) → AgreesService v.contents set log → IsLegalAnswer set log by None given)
-      → ((set : Setting) (log : Log) → AgreesService v.contents set log → AgreesService new set (log ++ Happened (event.Answered by None given) ∷ []))
+      → ((set : Setting) (log : service.Log) → AgreesService v.contents set log → IsLegalAnswer set log by None given)
+      → ((set : Setting) (log : service.Log) → AgreesService v.contents set log → AgreesService new set (log ++ Happened (event.Answered by None given) ∷ []))
       → Tells v (with_contents v new) by None given
   contents-tell stays new by given can legal agrees = record {
-    legal = λ set log a. legal set log a.contents;
-    agrees = λ set log a. record {
-      size = a.size;
-      fanout = a.fanout;
-      core = stays v.manager.core set log (Happened (event.Answered by None given)) a.core (legal set log a.contents) (same_asks set by ∙ contents_answer v.contents set log a.contents by can);
-      contents = agrees set log a.contents;
-    };
+    legal = λ inst log a. (legal inst.service (service_of log) a.contents, tt);
+    agrees = λ inst log a.
+        let m : service.Moment = Happened (event.Answered by None given) in
+        let l = legal inst.service (service_of log) a.contents in
+        joined v.jobs new inst log (log ++ Served m ∷ []) (service_of log ++ m ∷ []) (served_is log m) a
+        (moment_leaves stays v.jobs inst log m (event_beside inst a.jobs.kind.valid (service_of log) (event.Answered by None given) tt l)
+        (same_asks inst.service by ∙ contents_answer v.contents inst.service (service_of log) a.contents by can) l a.jobs)
+        (agrees inst.service (service_of log) a.contents);
   }
 
   -- they can go on behind each of these
-  pub managed-fit : IsFit v → (m : ManagerValue) → m.spent ≡ false → m.core.size ≡ v.manager.core.size → (set : Setting) (log : Log) → AgreesServices (with_manager v m) set log → IsFit (with_manager v m)
-  managed-fit fit m ready size set log a = record {
-    manager = ready;
+  pub jobs-fit : IsFit v → (new : JobServiceValue) → new.spent ≡ false → new.manager.core.size ≡ v.jobs.manager.core.size → HaveJobsLog (with_jobs v new) → IsFit (with_jobs v new)
+  jobs-fit fit new ready size log = record {
+    jobs = ready;
     contents = fit.contents;
-    core_size = size ∙ fit.core_size;
+    jobs_size = size ∙ fit.jobs_size;
     contents_size = fit.contents_size;
     some = fit.some;
-    log = (set, log, a);
+    jobs_log = log;
+    contents_log = record { set = fit.contents_log.set; log = fit.contents_log.log; fanout = fit.contents_log.fanout; agrees = fit.contents_log.agrees };
   }
 
-  pub contented-fit : IsFit v → (new : ContentServiceValue) → new.spent ≡ false → new.size ≡ v.contents.size → (set : Setting) (log : Log) → AgreesServices (with_contents v new) set log → IsFit (with_contents v new)
-  contented-fit fit new ready size set log a = record {
-    manager = fit.manager;
+  pub contents-fit : IsFit v → (new : ContentServiceValue) → new.spent ≡ false → new.size ≡ v.contents.size → HaveContentsLog (with_contents v new) → IsFit (with_contents v new)
+  contents-fit fit new ready size log = record {
+    jobs = fit.jobs;
     contents = ready;
-    core_size = fit.core_size;
+    jobs_size = fit.jobs_size;
     contents_size = size ∙ fit.contents_size;
     some = fit.some;
-    log = (set, log, a);
+    jobs_log = record { inst = fit.jobs_log.inst; log = fit.jobs_log.log; fanout = fit.jobs_log.fanout; agrees = fit.jobs_log.agrees };
+    contents_log = log;
   }
+
+  -- the log with which the jobs go on
+  pub jobs-later : IsFit v → (new : JobServiceValue) (later : Instance → Log → Log) → ((inst : Instance) (log : Log) → AgreesJobs v.jobs inst log → AgreesJobs new inst (later inst log)) → HaveJobsLog (with_jobs v new)
+  jobs-later fit new later agrees =
+      let l = fit.jobs_log in
+      record { inst = l.inst; log = later l.inst l.log; fanout = l.fanout; agrees = agrees l.inst l.log l.agrees }
+
+  -- and at a command that is issued, which another log may tell
+  pub jobs-issued : IsFit v → (new : JobServiceValue) (by : By) (rank : ℕ) (asked : JobAsk) (may : MayIssue v.jobs by rank asked) (later : Log) → AgreesJobs new may.inst later → HaveJobsLog (with_jobs v new)
+  jobs-issued fit new by rank asked may later agrees =
+      let l = fit.jobs_log in
+      record { inst = may.inst; log = later; fanout = may.agrees.core.fanout ∙ sym l.agrees.core.fanout ∙ l.fanout; agrees = agrees }

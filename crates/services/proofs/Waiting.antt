@@ -1,9 +1,10 @@
 -- Whose answer waits to be taken has asked, and waits.
-use Rattle.std.proofs.Common.{◌≡◌, ℕ, zero, suc, ◌<◌, List, [], ◌∷◌, length, Bool, true, false, ◌||◌, ◌&&◌, Option, Some, None, refl, sym, ap, ◌∙◌, subst, arith, get_or}
+use Rattle.std.proofs.Common.{◌≡◌, ℕ, zero, suc, ◌<◌, List, [], ◌∷◌, length, Bool, true, false, ◌||◌, ◌&&◌, Option, Some, None, refl, sym, ap, subst, arith, get_or}
 use Rattle.std.specs.Option.{option_map_or}
 use Rattle.kvs_txn.specs.declared.txn.By.{By}
-use Rattle.kvs_rules.specs.Log.{IsOpen, Log, same_command}
-use Rattle.kvs_rules.specs.Namespaces.{Request, Setting}
+use Rattle.kvs_rules.specs.Log.{IsOpen, same_command}
+use Rattle.kvs_rules.specs.Namespaces.{Request}
+use Rattle.instance_rules.specs.Log.{Instance, Log, service_of}
 use Rattle.kvs_rules.proofs.Asking.{command_is}
 use Rattle.kvs_requests.specs.Agreement.{RowAgrees as CoreRowAgrees}
 use Rattle.kvs_requests.specs.Rows.{asks_contents, is_about_contents}
@@ -18,35 +19,35 @@ use Rattle.services.specs.Agrees.{AgreesServices}
 use Rattle.services.specs.Steps.{can_take}
 use Rattle.services.specs.Value.{ServicesValue}
 
-module _ (v : ServicesValue) (set : Setting) (log : Log) (a : AgreesServices v set log) where
+module _ (v : ServicesValue) (inst : Instance) (log : Log) (a : AgreesServices v inst log) where
   -- whose answer waits to be taken is open
-  pub taken_waits : (by : By) → can_take v by ≡ true → IsOpen by log
-  taken_waits by can = on (core_can_take v.manager.core by) refl can
+  pub taken_waits : (by : By) → can_take v by ≡ true → IsOpen by (service_of log)
+  taken_waits by can = on (core_can_take v.jobs.manager.core by) refl can
     where
-      on : (b : Bool) → core_can_take v.manager.core by ≡ b → (b || contents_can_take v.contents by) ≡ true → IsOpen by log
+      on : (b : Bool) → core_can_take v.jobs.manager.core by ≡ b → (b || contents_can_take v.contents by) ≡ true → IsOpen by (service_of log)
       on true e g =
-          let (row, r, passes) = some-one (λ row. same_command by row.by && core_is_held row) (CoreRowAgrees a.core.entered set log v.manager.core.spaces) v.manager.core.rows a.core.rows e in
+          let (row, r, passes) = some-one (λ row. same_command by row.by && core_is_held row) (CoreRowAgrees a.jobs.core.entered inst.service (service_of log) v.jobs.manager.core.spaces) v.jobs.manager.core.rows a.jobs.core.rows e in
           let is = command_is by row.by (and-left (same_command by row.by) _ passes) in
-          subst (λ b. IsOpen b log) (sym is) (record { asked = r.asked; unanswered = r.unanswered })
+          subst (λ b. IsOpen b (service_of log)) (sym is) (record { asked = r.asked; unanswered = r.unanswered })
       on false e g =
-          let (row, r, passes) = some-one (is_held by) (RowAgrees v.contents.content set log) v.contents.rows a.contents.rows g in
+          let (row, r, passes) = some-one (is_held by) (RowAgrees v.contents.content inst.service (service_of log)) v.contents.rows a.contents.rows g in
           let is = command_is by row.by (and-left (same_command by row.by) _ passes) in
-          subst (λ b. IsOpen b log) (sym is) (record { asked = r.asked; unanswered = r.unanswered })
+          subst (λ b. IsOpen b (service_of log)) (sym is) (record { asked = r.asked; unanswered = r.unanswered })
 
   -- an open command asks something
-  pub open_asks : (by : By) → IsOpen by log → (request : Request) × (set.asks by ≡ Some request)
-  open_asks by waits = on (set.asks by) refl
+  pub open_asks : (by : By) → IsOpen by (service_of log) → (request : Request) × (inst.service.asks by ≡ Some request)
+  open_asks by waits = on (inst.service.asks by) refl
     where
       got : {A : Type 0} (xs : List A) (k : ℕ) → k < length xs → (x : A) × ((d : A) → get_or xs k d ≡ x)
       got [] k low = absurd (omega arith)
       got (x ∷ xs) zero low = (x, λ d. refl)
       got (x ∷ xs) (suc k) low = got xs k (omega arith)
 
-      on : (o : Option Request) → set.asks by ≡ o → (request : Request) × (set.asks by ≡ Some request)
+      on : (o : Option Request) → inst.service.asks by ≡ o → (request : Request) × (inst.service.asks by ≡ Some request)
       on (Some request) e = (request, e)
       on None e =
-          let plain : asks_contents set by ≡ false = ap (λ o. option_map_or (λ r. is_about_contents r.ask) o false) e in
-          let (k, within, same) = a.core.open_rows by plain waits in
-          let (row, is) = got v.manager.core.rows k within in
-          let r = a.core.rows k row within in
-          (r.request, subst (λ b. set.asks b ≡ Some r.request) (same row) r.made)
+          let plain : asks_contents inst.service by ≡ false = ap (λ o. option_map_or (λ r. is_about_contents r.ask) o false) e in
+          let (k, within, same) = a.jobs.core.open_rows by plain waits in
+          let (row, is) = got v.jobs.manager.core.rows k within in
+          let r = a.jobs.core.rows k row within in
+          (r.request, subst (λ b. inst.service.asks b ≡ Some r.request) (same row) r.made)

@@ -1,7 +1,7 @@
 -- The first step of the list, and where there is none.
-use Rattle.std.proofs.Common.{◌≡◌, ◌≢◌, ◌∙◌, ℕ, zero, suc, ◌+◌, ◌<◌, ◌≤◌, ◌⊎◌, inl, inr, ◌||◌, ◌&&◌, List, [], ◌∷◌, ◌++◌, length, map, Bool, true, false, cond, Option, Some, None, refl, sym, ap, subst, arith, true≢false}
-use Rattle.std.specs.Prelude.{Err, IfSome, Ok, flat_map, nat_lt, slice_get}
-use Rattle.std.specs.List.{filter, list_any, range_with_len}
+use Rattle.std.proofs.Common.{◌≡◌, ◌≢◌, ◌∙◌, ℕ, zero, suc, ◌+◌, ◌<◌, ◌≤◌, ◌⊎◌, inl, inr, ◌||◌, List, [], ◌∷◌, ◌++◌, length, map, Bool, true, false, cond, Option, Some, None, refl, sym, ap, subst, arith, true≢false}
+use Rattle.std.specs.Prelude.{Err, IfSome, Ok, flat_map, slice_get}
+use Rattle.std.specs.List.{filter, range_with_len}
 use Rattle.std.specs.Option.{option_map_or}
 use Rattle.std.proofs.lemmas.Bool.{cases_eq}
 use Rattle.std.proofs.lemmas.Option.{slice_get_within}
@@ -9,7 +9,6 @@ use Rattle.std.proofs.lemmas.List.Elements.{filter-append}
 use Rattle.kvs_rules.specs.Brokers.{parent}
 use Rattle.kvs_rules.specs.declared.events.KvsStep.{KvsStep}
 use Rattle.kvs_rules.specs.declared.events.KvsStep.TheVariants as kvs
-use Rattle.kvs_requests.specs.Stages.{may_serve}
 use Rattle.kvs_requests.proofs.Ways.{parent-le}
 use Rattle.kvs_space.proofs.Finding.{and-left, lt-is}
 use Rattle.kvs_space.specs.Space.{SpaceValue, is_ready}
@@ -97,17 +96,17 @@ module _ (v : ServicesValue) (fit : IsFit v) (linked : AreLinked v) (none : poss
   pub none-can : (s : KvsStep) → can_step v s ≡ false
   none-can (kvs.Deliver from to) = ends (kvs.Deliver from to) (λ h.
       let l = linked from to h in
-      no-delivery (can_step v) v.size (length v.manager.core.spaces) none from to l.0 (low l.0 l.1))
+      no-delivery (can_step v) v.size (length v.jobs.manager.core.spaces) none from to l.0 (low l.0 l.1))
     where
       low : from < v.size → (to ≡ parent v.fanout from) ⊎ ((0 < to) × (to < v.size) × (parent v.fanout to ≡ from)) → to < v.size
       low f (inl e) = let le = parent-le v.fanout from in omega (arith, f, e, le)
       low f (inr e) = e.1
-  none-can (kvs.Serve broker) = ends (kvs.Serve broker) (λ h. no-service (can_step v) v.size (length v.manager.core.spaces) none broker (low (core_can_step v.manager.core (kvs.Serve broker)) refl h))
+  none-can (kvs.Serve broker) = ends (kvs.Serve broker) (λ h. no-service (can_step v) v.size (length v.jobs.manager.core.spaces) none broker (low (core_can_step v.jobs.manager.core (kvs.Serve broker)) refl h))
     where
-      low : (b : Bool) → core_can_step v.manager.core (kvs.Serve broker) ≡ b → (b || contents_can_step v.contents (kvs.Serve broker)) ≡ true → broker < v.size
-      low true e g = subst (λ n. broker < n) fit.core_size (lt-is broker v.manager.core.size (and-left _ _ e))
+      low : (b : Bool) → core_can_step v.jobs.manager.core (kvs.Serve broker) ≡ b → (b || contents_can_step v.contents (kvs.Serve broker)) ≡ true → broker < v.size
+      low true e g = subst (λ n. broker < n) fit.jobs_size (lt-is broker v.jobs.manager.core.size (and-left _ _ e))
       low false e g = subst (λ n. broker < n) fit.contents_size (lt-is broker v.contents.size (and-left _ _ g))
-  none-can (kvs.Land number) = ends (kvs.Land number) (λ h. no-landing (can_step v) v.size (length v.manager.core.spaces) none number (low (core_can_step v.manager.core (kvs.Land number)) refl h))
+  none-can (kvs.Land number) = ends (kvs.Land number) (λ h. no-landing (can_step v) v.size (length v.jobs.manager.core.spaces) none number (low (core_can_step v.jobs.manager.core (kvs.Land number)) refl h))
     where
       there : (spaces : List SpaceValue) → option_map_or is_ready (slice_get spaces number) false ≡ true → number < length spaces
       there spaces h = by (slice_get spaces number) refl
@@ -116,23 +115,23 @@ module _ (v : ServicesValue) (fit : IsFit v) (linked : AreLinked v) (none : poss
           by None e = absurd (true≢false (sym h ∙ ap (λ o. option_map_or is_ready o false) e))
           by (Some s) e = slice_get_within spaces number s e
 
-      low : (b : Bool) → core_can_step v.manager.core (kvs.Land number) ≡ b → (b || false) ≡ true → number < length v.manager.core.spaces
-      low true e g = there v.manager.core.spaces e
+      low : (b : Bool) → core_can_step v.jobs.manager.core (kvs.Land number) ≡ b → (b || false) ≡ true → number < length v.jobs.manager.core.spaces
+      low true e g = there v.jobs.manager.core.spaces e
       low false e g = absurd (true≢false (sym g))
 
 -- where the contents can make no step, the core's steps are all
 module _ (v : ServicesValue) (idle : (s : KvsStep) → contents_can_step v.contents s ≡ false) where
-  pub idle-can : (s : KvsStep) → can_step v s ≡ core_can_step v.manager.core s
-  idle-can s = ap (λ b. core_can_step v.manager.core s || b) (idle s) ∙ or-false (core_can_step v.manager.core s)
+  pub idle-can : (s : KvsStep) → can_step v s ≡ core_can_step v.jobs.manager.core s
+  idle-can s = ap (λ b. core_can_step v.jobs.manager.core s || b) (idle s) ∙ or-false (core_can_step v.jobs.manager.core s)
     where
       or-false : (b : Bool) → (b || false) ≡ b
       or-false true = refl
       or-false false = refl
 
-  pub idle-possible : IsFit v → possible v ≡ core_possible v.manager.core
+  pub idle-possible : IsFit v → possible v ≡ core_possible v.jobs.manager.core
   idle-possible fit =
-      filter-same (can_step v) (core_can_step v.manager.core) idle-can (all_steps v.size (length v.manager.core.spaces))
-      ∙ ap (λ n. filter (core_can_step v.manager.core) (all_steps n (length v.manager.core.spaces))) (sym fit.core_size)
+      filter-same (can_step v) (core_can_step v.jobs.manager.core) idle-can (all_steps v.size (length v.jobs.manager.core.spaces))
+      ∙ ap (λ n. filter (core_can_step v.jobs.manager.core) (all_steps n (length v.jobs.manager.core.spaces))) (sym fit.jobs_size)
 
 pub some-weaker : {A : Type 0} {P Q : A → Type 0} (o : Option A) → ((x : A) → P x → Q x) → IfSome o P → IfSome o Q
 some-weaker None f h = tt

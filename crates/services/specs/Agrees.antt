@@ -1,18 +1,37 @@
--- When the services stand where a log leaves them.
-use Rattle.std.specs.Prelude.{◌≡◌}
-use Rattle.kvs_core.specs.Agrees.{Agrees}
-use Rattle.kvs_rules.specs.Log.{Log}
+-- When the services stand where the log of an instance leaves them.
+use Rattle.std.specs.Prelude.{◌≡◌, ℕ}
+use Rattle.fl_digest.specs.declared.Hash.{Hash}
+use Rattle.instance_rules.specs.Log.{Instance, Log, service_of}
+use Rattle.kvs_rules.specs.Log as service
 use Rattle.kvs_rules.specs.Namespaces.{Setting}
 use Rattle.content_service.specs.Agrees.{AgreesService}
+use Rattle.job_service.specs.Agrees.{AgreesJobs, IsServedBy}
+use Rattle.resource_set.specs.declared.node.Resources.{Resources}
 use Rattle.services.specs.Value.{ServicesValue}
 
--- the services stand where one log leaves them, having this setting
-pub record AgreesServices (v : ServicesValue) (set : Setting) (log : Log) : Type 0 where
-  pub size : set.size ≡ v.size
-  pub fanout : set.fanout ≡ v.fanout
-  pub core : Agrees v.manager.core set log
-  pub contents : AgreesService v.contents set log
+-- the jobs with the key-value service, and the contents, stand where one log of the instance leaves them, which has so many
+-- brokers in such a tree
+pub record AgreesServices (v : ServicesValue) (inst : Instance) (log : Log) : Type 0 where
+  pub size : inst.service.size ≡ v.size
+  pub fanout : inst.service.fanout ≡ v.fanout
+  pub jobs : AgreesJobs v.jobs inst log
+  pub contents : AgreesService v.contents inst.service (service_of log)
 
--- some log leaves them there
-abbrev pub HaveLog : ServicesValue → Type 0
-HaveLog v = (set : Setting) × (log : Log) × AgreesServices v set log
+-- the jobs stand where the log of some instance leaves them, which has this tree
+pub record HaveJobsLog (v : ServicesValue) : Type 0 where
+  pub inst : Instance
+  pub log : Log
+  pub fanout : inst.service.fanout ≡ v.fanout
+  pub agrees : AgreesJobs v.jobs inst log
+
+-- and the contents where the log of some service leaves them
+pub record HaveContentsLog (v : ServicesValue) : Type 0 where
+  pub set : Setting
+  pub log : service.Log
+  pub fanout : set.fanout ≡ v.fanout
+  pub agrees : AgreesService v.contents set log
+
+-- an instance with so many brokers in such a tree, with this hash and this grant, that is born at this second
+pub record IsGiven (inst : Instance) (brokers children : ℕ) (digest : Hash) (grant : Resources) (now : ℕ) : Type 0 where
+  pub served : IsServedBy inst brokers children grant now
+  pub hash : inst.service.hash ≡ digest

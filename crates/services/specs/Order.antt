@@ -9,4 +9,4 @@ use Rattle.services.specs.Value.{ServicesValue}
 -- the steps that can be made, in order: of each link and each broker the step stands once, whether the core or the
 -- contents make it
 abbrev pub possible : ServicesValue → List KvsStep
-possible v = filter (can_step v) (all_steps v.size (length v.manager.core.spaces))
+possible v = filter (can_step v) (all_steps v.size (length v.jobs.manager.core.spaces))

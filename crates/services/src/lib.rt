@@ -1,4 +1,4 @@
-//! The services of one instance (Flux RFC 10, 11 and 21): the key-value service with the job manager over it, and the contents.
+//! The services of one instance (Flux RFC 10, 11, 14, 16 and 21): the key-value service with the jobs over it, and the contents.
 //! They stand beside each other over one log.
 #![tactic(auto)]
 

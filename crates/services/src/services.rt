@@ -1,15 +1,28 @@
 //! The services.
-ghost use Rattle.std.specs.Prelude.{◌≡◌, ◌<◌, ◌≤◌, ◌⊎◌, ◌++◌, ◌∷◌, [], ℕ, true, false, None, Some, slice_get, IsSome, IfOk, IfSome, OnErr, OnOk};
-ghost use Rattle.kvs_rules.specs.Log.{Log};
+ghost use Rattle.std.specs.Prelude.{◌≡◌, ◌≢◌, ◌<◌, ◌≤◌, ◌+◌, ◌^◌, ◌++◌, ◌∷◌, [], ℕ, true, false, None, Some, is_some, slice_get, IsSome, IfOk, IfSome, OnErr, OnOk};
 ghost use Rattle.kvs_model.specs.Store.{Name};
-ghost use Rattle.kvs_rules.specs.Namespaces.{Setting as Service, is_live};
+ghost use Rattle.kvs_rules.specs.Namespaces.{is_live};
 ghost use Rattle.kvs_rules.specs.Quiet.{IsQuiet};
 ghost use Rattle.kvs_rules.specs.Brokers.{heard};
 ghost use Rattle.content_service.specs.Asks.{is_content};
+ghost use Rattle.instance_rules.specs.Desks.{is_submission};
+ghost use Rattle.instance_rules.specs.Family.{IsLeftResult, IsTarget, Living, MayTick};
+ghost use Rattle.instance_rules.specs.Legal.{IsLegalMoment, OfDesk};
+ghost use Rattle.instance_rules.specs.Log.{Instance, IsOpen, Issued, Log, Shutdown, Ticked, now_of, service_of};
+ghost use Rattle.job_clock.specs.Children.{AsksNoChild};
+ghost use Rattle.job_clock.specs.Standing.{IsTop};
+ghost use Rattle.job_commands.specs.Asks.{told};
+ghost use Rattle.job_service.specs.Agrees.{HasRoom, IsNewCommand, MayIssue};
+ghost use Rattle.job_service.specs.Replies.{can_reply};
+ghost use Rattle.job_service.specs.Still.{awaited};
+ghost use Rattle.job_service.specs.Times.{Counts, HasTime, MayGoTo};
+ghost use Rattle.job_rules.specs.Fits.{IsGrant};
+ghost use Rattle.job_states.specs.declared.job.State.{State};
+ghost use Rattle.kvs_txn.specs.declared.txn.By.{By as Command};
+ghost use Rattle.manager_rules.specs.Times.{IsIdle};
 ghost use Rattle.resource_set.specs.Valid.{IsR};
-ghost use Rattle.resource_set.specs.Writing.{r_text};
-ghost use Rattle.services.specs.Agrees.{AgreesServices};
-ghost use Rattle.services.specs.Asks.{AgreesOnce, IsServedAsk, Keeps, MayAsk, Tells};
+ghost use Rattle.services.specs.Agrees.{AgreesServices, IsGiven};
+ghost use Rattle.services.specs.Asks.{AgreesOnce, Answers, IsServedAsk, Keeps, MayAsk, Tells};
 ghost use Rattle.services.specs.Makes.{Makes};
 ghost use Rattle.services.specs.Order.{possible};
 ghost use Rattle.kvs_requests.specs.Rows.{IsKnownAsk};
@@ -21,7 +34,9 @@ mod walk;
 
 use content_service::ContentService;
 use content_service::laws::others_leave_the_contents;
-use job_manager::Manager;
+use job_commands::JobAsk;
+use job_replies::Told;
+use job_service::JobService;
 use kvs_core::laws::content_moments_leave_the_core;
 use kvs_core::{Core, CoreFault, Held, KvsEvents, Setting};
 use kvs_rules::{KvsAnswer, KvsAsk, KvsStep};
@@ -31,13 +46,14 @@ use resource_set::Resources;
 use std::alloc::{AllocError, Global};
 use std::marker::Model;
 
-/// The services of an instance, which agree with one log: the job manager with the core below it, and the contents.
+/// The services of an instance: its jobs with the core below them, and the contents. Each call goes on from whatever log both
+/// agree with.
 #[derive(Drop)]
 pub struct Services {
     spent: bool,
     size: u32,
     fanout: u32,
-    manager: Manager,
+    jobs: JobService,
     contents: ContentService,
 }
 
@@ -64,40 +80,54 @@ fn is_content(ask: &KvsAsk) -> bool
 }
 
 impl Services {
-    /// The services of an instance of some brokers, before anything has happened. Its first store has the text of the grant.
-    pub fn new(alloc: Global, setting: Setting, grant: &Resources) -> Result<Services, CoreFault>
+    /// The services of an instance of some brokers that is born at this second, before anything has happened. Its first store
+    /// has the text of the grant.
+    pub fn new(
+        alloc: Global,
+        setting: Setting,
+        grant: &Resources,
+        birth: u64,
+    ) -> Result<Services, CoreFault>
         requires size { (1 ≤ setting.size) × (setting.size ≤ 32) }
         requires fanout { (1 ≤ setting.fanout) × (setting.fanout ≤ 32) }
         requires grant { IsR grant.now }
+        requires early { birth + 1000000000 < 2 ^ 64 }
         ensures ready { IfOk result (λ v. v.spent ≡ false) }
-        ensures posted { IfOk result (λ v. v.manager.posted ≡ None) }
-        ensures book { IfOk result (λ v. v.manager.book
-            ≡ record { grant = grant.now; jobs = [] }) }
-        ensures agrees { IfOk result (λ v. (set : Service) → set.size ≡ setting.size
-            → set.fanout ≡ setting.fanout → set.hash ≡ setting.hash → set.grant ≡ r_text grant.now
-            → AgreesServices v set []) }
+        ensures size { IfOk result (λ v. v.size ≡ setting.size) }
+        ensures start { IfOk result (λ v. (v.jobs.submitted ≡ 0) × (v.jobs.span ≡ 0)) }
+        ensures grant { IfOk result (λ v. IsGrant grant.now.nodes) }
+        ensures agrees { IfOk result (λ v. (inst : Instance)
+            → IsGiven inst setting.size setting.fanout setting.hash grant.now birth
+            → AgreesServices v inst []) }
     {
-        let manager = Manager::new(alloc, setting, grant)?;
+        let jobs = JobService::new(alloc, setting, grant, birth)?;
         let contents = ContentService::new(alloc, setting.size, setting.fanout, setting.hash)?;
-        manager.keeps();
         Ok(Services {
             spent: false,
             size: setting.size,
             fanout: setting.fanout,
-            manager,
+            jobs,
             contents,
         })
+    }
+
+    /// The jobs of the instance, which can go on where the services can.
+    pub fn jobs(&self) -> &JobService
+        requires { self.now.spent ≡ false }
+        ensures value { result.now ≡ self.now.jobs }
+        ensures ready { result.now.spent ≡ false }
+    {
+        &self.jobs
     }
 
     /// The key-value service, which can go on where the services can.
     pub fn core(&self) -> &Core
         requires { self.now.spent ≡ false }
-        ensures value { result.now ≡ self.now.manager.core }
+        ensures value { result.now ≡ self.now.jobs.manager.core }
         ensures ready { result.now.spent ≡ false }
         ensures size { result.now.size ≡ self.now.size }
     {
-        self.manager.keeps();
-        self.manager.core()
+        self.jobs.core()
     }
 
     /// A command asks the core.
@@ -122,7 +152,7 @@ impl Services {
     {
         others_leave_the_contents();
         self.spent = true;
-        self.manager.ask(by, broker, namespace, floor, ask)?;
+        self.jobs.ask(by, broker, namespace, floor, ask)?;
         self.spent = false;
         Ok(())
     }
@@ -198,13 +228,13 @@ impl Services {
     /// Makes a step of the core.
     fn turn_core(&mut self, step: KvsStep) -> Result<KvsEvents, CoreFault>
         requires ready { self.old.spent ≡ false }
-        requires can { core_can_step self.old.manager.core step ≡ true }
+        requires can { core_can_step self.old.jobs.manager.core step ≡ true }
         ensures makes { IfOk result (Makes step self.old self.new) }
         ensures spent { OnErr result (self.new.spent ≡ true) }
     {
         others_leave_the_contents();
         self.spent = true;
-        let events = self.manager.turn(step)?;
+        let events = self.jobs.turn(step)?;
         self.spent = false;
         Ok(events)
     }
@@ -212,7 +242,7 @@ impl Services {
     /// Makes a step of the contents, which the core can't make.
     fn turn_contents(&mut self, step: KvsStep) -> Result<KvsEvents, AllocError>
         requires ready { self.old.spent ≡ false }
-        requires cannot { core_can_step self.old.manager.core step ≡ false }
+        requires cannot { core_can_step self.old.jobs.manager.core step ≡ false }
         requires can { contents_can_step self.old.contents step ≡ true }
         ensures makes { IfOk result (Makes step self.old self.new) }
         ensures spent { OnErr result (self.new.spent ≡ true) }
@@ -250,13 +280,13 @@ impl Services {
     /// Takes the core's answer to a command.
     fn take_of_core(&mut self, by: By) -> Held
         requires ready { self.old.spent ≡ false }
-        requires can { core_can_take self.old.manager.core by ≡ true }
+        requires can { core_can_take self.old.jobs.manager.core by ≡ true }
         ensures ready { self.new.spent ≡ false }
         ensures keeps { Keeps self.old self.new }
         ensures tells { Tells self.old self.new by result.number result.answer }
     {
         others_leave_the_contents();
-        self.manager.take(by)
+        self.jobs.take(by)
     }
 
     /// Takes the contents' answer to a command.
@@ -288,17 +318,109 @@ impl Services {
         }
     }
 
-    /// Where no step can be made and no answer waits, each broker has heard the last landing and of each live namespace, and
-    /// a command waits for a number that hasn't landed, or for members of a fence that haven't come.
+    /// Issues a job command at its broker. Its text tells no job whose command begins an instance (Flux RFC 14). After an
+    /// error the services are spent.
+    pub fn issue(&mut self, by: By, rank: u32, ask: JobAsk) -> Result<(), AllocError>
+        requires ready { self.old.spent ≡ false }
+        requires may { MayIssue self.old.jobs by rank ask }
+        requires room { is_submission (Some (told ask)) ≡ true → HasRoom self.old.jobs }
+        requires time { HasTime self.old.jobs ask }
+        requires childless { AsksNoChild ask }
+        ensures ready { OnOk result (self.new.spent ≡ false) }
+        ensures size { OnOk result (self.new.size ≡ self.old.size) }
+        ensures counts { OnOk result (Counts ask self.old.jobs self.new.jobs) }
+        ensures spent { OnErr result (self.new.spent ≡ true) }
+        ensures agrees { OnOk result ((inst : Instance) (log : Log)
+            → AgreesServices self.old inst log → IsNewCommand inst log by rank ask
+            → AgreesServices self.new inst (log ++ Issued by ∷ [])) }
+    {
+        self.spent = true;
+        self.jobs.issue(by, rank, ask)?;
+        self.spent = false;
+        Ok(())
+    }
+
+    /// Tells an open job command what became of it, and gives what it is told. After an error the services are spent.
+    pub fn reply(&mut self, by: By) -> Result<Told, AllocError>
+        requires ready { self.old.spent ≡ false }
+        requires can { can_reply self.old.jobs by ≡ true }
+        ensures ready { OnOk result (self.new.spent ≡ false) }
+        ensures keeps { OnOk result (Keeps self.old self.new) }
+        ensures spent { OnErr result (self.new.spent ≡ true) }
+        ensures answers { IfOk result (λ told. (inst : Instance) (log : Log)
+            → AgreesServices self.old inst log
+            → Answers self.new inst log by told.reply told.number) }
+    {
+        self.spent = true;
+        let told = self.jobs.reply(by)?;
+        self.spent = false;
+        Ok(told)
+    }
+
+    /// Posts what was found to be due, which then waits in the key-value service to land. After an error the services are spent.
+    pub fn post(&mut self) -> Result<(), CoreFault>
+        requires ready { self.old.spent ≡ false }
+        requires can { is_some self.old.jobs.found ≡ true }
+        ensures ready { OnOk result (self.new.spent ≡ false) }
+        ensures keeps { OnOk result (Keeps self.old self.new) }
+        ensures spent { OnErr result (self.new.spent ≡ true) }
+        ensures posted { OnOk result (is_some self.new.jobs.manager.posted ≡ true) }
+        ensures unfound { OnOk result (self.new.jobs.found ≡ None) }
+        ensures agrees { OnOk result ((inst : Instance) (log : Log)
+            → AgreesServices self.old inst log → AgreesServices self.new inst log) }
+    {
+        self.spent = true;
+        self.jobs.post()?;
+        self.spent = false;
+        Ok(())
+    }
+
+    /// Lets time go on to this second. After an error the services are spent.
+    pub fn tick(&mut self, second: u64) -> Result<(), AllocError>
+        requires ready { self.old.spent ≡ false }
+        requires may { MayGoTo self.old.jobs second }
+        ensures ready { OnOk result (self.new.spent ≡ false) }
+        ensures keeps { OnOk result (Keeps self.old self.new) }
+        ensures spent { OnErr result (self.new.spent ≡ true) }
+        ensures legal { OnOk result ((inst : Instance) (log : Log)
+            → AgreesServices self.old inst log → IsLegalMoment inst log (Ticked second)) }
+        ensures may { OnOk result ((inst : Instance) (log : Log) (l : Living)
+            → AgreesServices self.old inst log → IsTop inst log l
+            → MayTick (l ∷ []) (now_of inst log) [] second) }
+        ensures agrees { OnOk result ((inst : Instance) (log : Log)
+            → AgreesServices self.old inst log
+            → AgreesServices self.new inst (log ++ Ticked second ∷ [])) }
+    {
+        self.spent = true;
+        self.jobs.tick(second)?;
+        self.spent = false;
+        Ok(())
+    }
+
+    /// Where nothing can go on, each broker has heard the last landing and of each live namespace; a command waits for a
+    /// number that hasn't landed, for members of a fence that haven't come, or for the result of a job that isn't over; nothing
+    /// is due, and no advance is left.
     pub fn still(&self)
         requires { self.now.spent ≡ false }
-        ensures quiet { (set : Service) (log : Log) → AgreesServices self.now set log
-            → IsStill self.now → IsQuiet set log }
-        ensures heard { (set : Service) (log : Log) → AgreesServices self.now set log
-            → IsStill self.now → (broker : ℕ) (space : Name) → broker < set.size
-            → is_live log space ≡ true → IsSome (heard log broker space) }
+        ensures quiet { (inst : Instance) (log : Log) → AgreesServices self.now inst log
+            → IsStill self.now → IsQuiet inst.service (service_of log) }
+        ensures heard { (inst : Instance) (log : Log) → AgreesServices self.now inst log
+            → IsStill self.now → (broker : ℕ) (space : Name) → broker < inst.service.size
+            → is_live (service_of log) space ≡ true → IsSome (heard (service_of log) broker space) }
+        ensures idle { (inst : Instance) (log : Log) → AgreesServices self.now inst log
+            → IsStill self.now → OfDesk inst log IsIdle }
+        ensures advanced { (inst : Instance) (log : Log) (l : Living)
+            → AgreesServices self.now inst log → IsStill self.now → IsTop inst log l
+            → (target : ℕ) → IsTarget (l ∷ []) [] target → ⊥ }
+        ensures left { (inst : Instance) (log : Log) → AgreesServices self.now inst log
+            → IsStill self.now → (by : Command) → IsSome (inst.asks by)
+            → inst.asks by ≢ Some Shutdown → IsOpen by log → IsSome (awaited self.now.jobs by) }
+        ensures results { (inst : Instance) (log : Log) (l : Living)
+            → AgreesServices self.now inst log → IsTop inst log l → (by : Command)
+            (where_ : State) → awaited self.now.jobs by ≡ Some where_ → IsLeftResult l by where_ }
     {
         self.core().still();
         self.contents.still();
+        self.jobs.still();
     }
 }

@@ -67,7 +67,7 @@ fn begun(alloc: Global) -> Result<Services, Fail>
         fanout: 2,
         hash: Hash::Sha1,
     };
-    let services = Services::new(alloc, setting, &grant)?;
+    let services = Services::new(alloc, setting, &grant, 0)?;
     Ok(services)
 }
 

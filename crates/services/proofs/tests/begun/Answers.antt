@@ -1,18 +1,17 @@
-use Rattle.std.proofs.Common.{◌≡◌, None, [], refl, sym}
+use Rattle.std.proofs.Common.{[], refl}
 use Rattle.fl_digest.specs.declared.Hash.TheVariants as hash
-use Rattle.kvs_rules.specs.Namespaces.{Setting}
-use Rattle.resource_set.specs.Writing.{r_text}
 use Rattle.services.specs.Tested.{asking}
+use Rattle.services.proofs.Beginning.{asked_given, plain}
 use Rattle.services.proofs.tests.begun.Goals as goal
 
 pub returns : goal.returns
 returns c =
-    let set : Setting = record { size = 4; fanout = 2; hash = hash.Sha1; grant = r_text c.in_ok-grant.grant; asks = λ _. None } in
+    let grant = c.in_ok-grant.grant in
     record {
       ready = c.in_ok-services.ensures.ready;
-      size = sym (c.in_ok-services.ensures.agrees set refl refl refl refl).size;
-      set = set;
+      size = c.in_ok-services.ensures.size;
+      inst = plain 4 2 hash.Sha1 grant 0;
       log = [];
       fresh = λ b past. refl;
-      agrees = λ asks same. c.in_ok-services.ensures.agrees (asking set asks) refl refl refl refl;
+      agrees = λ asks same. c.in_ok-services.ensures.agrees (asking (plain 4 2 hash.Sha1 grant 0) asks) (asked_given 4 2 hash.Sha1 grant 0 c.in_ok-services.ensures.grant asks);
     }

@@ -1,8 +1,9 @@
-use Rattle.std.proofs.Common.{◌≡◌, ◌∙◌, ◌++◌, ◌∷◌, [], false, map, ap, sym, subst}
-use Rattle.kvs_rules.specs.Log.{Asked, Happened}
-use Rattle.services.specs.View.{IsFit, value_of}
+use Rattle.std.proofs.Common.{◌∙◌, ◌++◌, ◌∷◌, [], ap, sym, subst}
+use Rattle.kvs_rules.specs.Log.{Asked}
+use Rattle.instance_rules.specs.Log.{service_of}
 use Rattle.services.specs.Asks.{AgreesOnce, MayAsk}
-use Rattle.services.proofs.Turning.{contented-fit, contents-asked, with_contents}
+use Rattle.services.specs.View.{IsFit, value_of}
+use Rattle.services.proofs.Turning.{contents-asked, contents-fit, with_contents}
 use Rattle.services.proofs.services.Services.ask_contents.Goals as goal
 
 pub invariant_of-self-2 : goal.invariant_of-self-2
@@ -11,8 +12,13 @@ invariant_of-self-2 c = λ _.
     let fit : IsFit v = c.self.invariant (ap (λ v. v.spent) c.self.view_is ∙ c.requires.ready) in
     let (space, may₀) = c.requires.may in
     let may = subst (λ v. MayAsk v c.args.by c.args.broker space c.args.ask) (sym c.self.view_is) may₀ in
-    contented-fit v fit c.request.new.self c.in_ok-request.ensures.ready c.in_ok-request.ensures.size may.set (may.log ++ Asked c.args.by 0 ∷ [])
-    (contents-asked v c.content_moments_leave_the_core.ensures c.request.new.self c.args.by c.args.broker c.args.ask c.requires.about c.in_ok-request.ensures.agrees space 0 may.set may.log may.agrees may.made may.fresh)
+    contents-fit v fit c.request.new.self c.in_ok-request.ensures.ready c.in_ok-request.ensures.size
+    (record {
+      set = may.inst.service;
+      log = service_of may.log ++ Asked c.args.by 0 ∷ [];
+      fanout = may.agrees.fanout;
+      agrees = c.in_ok-request.ensures.agrees may.inst.service (service_of may.log) space 0 may.agrees.contents may.new.asks may.new.new;
+    })
 
 pub returns-clause-agrees : goal.returns-clause-agrees
 returns-clause-agrees c = λ space floor.

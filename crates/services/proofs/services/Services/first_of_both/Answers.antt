@@ -1,4 +1,4 @@
-use Rattle.std.proofs.Common.{◌≡◌, ◌∙◌, false, true, ap, sym, subst}
+use Rattle.std.proofs.Common.{◌≡◌, ◌∙◌, false, ap, sym, subst}
 use Rattle.services.specs.View.{IsFit, value_of}
 use Rattle.std.specs.Prelude.{slice_get}
 use Rattle.kvs_rules.specs.declared.events.KvsStep.{KvsStep}
@@ -18,6 +18,6 @@ pub returns-in-Err-clause-none : goal.returns-in-Err-clause-none
 returns-in-Err-clause-none c = λ _.
     let w = value_of c.self.inside in
     let fit : IsFit w = c.self.invariant (ap (λ v. v.spent) c.self.view_is ∙ c.requires) in
-    let linked = all_linked w fit (subst CoreLinked (c.core.ensures.value ∙ ap (λ v. v.manager.core) (sym c.self.view_is)) c.links.ensures) c.links-2.ensures in
+    let linked = all_linked w fit (subst CoreLinked (c.core.ensures.value ∙ ap (λ v. v.jobs.manager.core) (sym c.self.view_is)) c.links.ensures) c.links-2.ensures in
     subst (λ v. (s : KvsStep) → can_step v s ≡ false) c.self.view_is
     (none-can w fit linked (ap possible c.self.view_is ∙ none-left (possible c.args.self.now) c.in-Err.field-0 (sym c.nth_of_both.ensures.value ∙ c.in-Err.is)))

@@ -1,33 +1,36 @@
-use Rattle.std.proofs.Common.{◌≡◌, ◌∙◌, ◌++◌, ◌∷◌, [], false, map, ap, sym, subst}
-use Rattle.kvs_rules.specs.Log.{Asked, Happened}
-use Rattle.services.specs.View.{IsFit, value_of}
-use Rattle.std.proofs.Common.{None, refl}
-use Rattle.resource_set.specs.Writing.{r_text}
+use Rattle.std.proofs.Common.{[], refl}
+use Rattle.instance_rules.specs.Log.{Instance}
+use Rattle.services.proofs.Beginning.{plain, plain_given}
 use Rattle.services.proofs.services.Services.new.Goals as goal
 
 pub invariant_of-result : goal.invariant_of-result
-invariant_of-result c = λ _. record {
-  manager = c.in_ok-manager.ensures.ready;
-  contents = c.in_ok-contents.ensures.ready;
-  core_size = c.in_ok-manager.ensures.size;
-  contents_size = c.in_ok-contents.ensures.size;
-  some = c.requires.fanout.0;
-  log = (
-    record { size = c.args.setting.size; fanout = c.args.setting.fanout; hash = c.args.setting.hash; grant = r_text c.args.grant.now; asks = λ _. None },
-    [],
+invariant_of-result c = λ _.
+    let s = c.args.setting in
+    let inst : Instance = plain s.size s.fanout s.hash c.args.grant.now c.args.birth in
     record {
-      size = refl;
-      fanout = refl;
-      core = c.in_ok-manager.ensures.agrees _ refl refl refl;
-      contents = c.in_ok-contents.ensures.agrees _ refl refl refl;
-    },
-  );
-}
+      jobs = c.in_ok-jobs.ensures.ready;
+      contents = c.in_ok-contents.ensures.ready;
+      jobs_size = c.in_ok-jobs.ensures.size;
+      contents_size = c.in_ok-contents.ensures.size;
+      some = c.requires.fanout.0;
+      jobs_log = record {
+        inst = inst;
+        log = [];
+        fanout = refl;
+        agrees = c.in_ok-jobs.ensures.agrees inst (plain_given s.size s.fanout s.hash c.args.grant.now c.args.birth c.in_ok-jobs.ensures.grant).served;
+      };
+      contents_log = record {
+        set = inst.service;
+        log = [];
+        fanout = refl;
+        agrees = c.in_ok-contents.ensures.agrees inst.service refl refl refl;
+      };
+    }
 
 pub returns-clause-agrees : goal.returns-clause-agrees
-returns-clause-agrees c = λ set size fanout hash grant. record {
-  size = size;
-  fanout = fanout;
-  core = c.in_ok-manager.ensures.agrees set size fanout grant;
-  contents = c.in_ok-contents.ensures.agrees set size fanout hash;
+returns-clause-agrees c = λ inst given. record {
+  size = given.served.size;
+  fanout = given.served.fanout;
+  jobs = c.in_ok-jobs.ensures.agrees inst given.served;
+  contents = c.in_ok-contents.ensures.agrees inst.service given.served.size given.served.fanout given.hash;
 }

@@ -1,5 +1,5 @@
 use Rattle.std.proofs.Common.{◌≡◌, ◌∙◌, false, true, ap, sym, subst}
-use Rattle.services.specs.View.{IsFit, value_of}
+use Rattle.services.specs.View.{IsFit}
 use Rattle.std.specs.Prelude.{slice_get}
 use Rattle.kvs_rules.specs.declared.events.KvsStep.{KvsStep}
 use Rattle.kvs_core.specs.Order.{possible as core_possible}

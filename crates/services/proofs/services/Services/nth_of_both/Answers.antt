@@ -1,4 +1,4 @@
-use Rattle.std.proofs.Common.{◌≡◌, ◌∙◌, ℕ, ◌-◌, ◌++◌, List, ap, sym, subst, map, length, rules, arith}
+use Rattle.std.proofs.Common.{◌≡◌, ◌∙◌, ℕ, ◌-◌, ◌++◌, List, ap, sym, subst, map, length, arith}
 use Rattle.std.specs.Prelude.{Ok, Err}
 use Rattle.std.specs.List.{filter, range_with_len}
 use Rattle.kvs_rules.specs.declared.events.KvsStep.{KvsStep}
@@ -18,7 +18,7 @@ pub returns-in-Ok-clause-value : goal.returns-in-Ok-clause-value
 unfolding services landings
 returns-in-Ok-clause-value c =
     let v = c.args.self.now in
-    sym (within-all (can_step v) (deliveries v.size) (services v.size ++ landings (length v.manager.core.spaces)) c.args.number c.in-Ok.step (sym c.nth_delivery.ensures.value ∙ c.in-Ok.is))
+    sym (within-all (can_step v) (deliveries v.size) (services v.size ++ landings (length v.jobs.manager.core.spaces)) c.args.number c.in-Ok.step (sym c.nth_delivery.ensures.value ∙ c.in-Ok.is))
 
 pub returns-in-Ok-nth_along-clause-value : goal.returns-in-Ok-nth_along-clause-value
 unfolding services landings
@@ -29,8 +29,8 @@ returns-in-Ok-nth_along-clause-value c =
     let view : c.self.inside.size - 0 ≡ v.size = omega (arith, size) in
     let e : nth (filter can (services v.size)) c.in-Err.left ≡ Ok c.in-Ok-nth_along.step =
     subst (λ n. nth (filter can (services n)) c.in-Err.left ≡ Ok c.in-Ok-nth_along.step) view (sym c.nth_along.ensures.value ∙ c.in-Ok-nth_along.is) in
-    sym (behind-all can (deliveries v.size) (services v.size ++ landings (length v.manager.core.spaces)) c.args.number c.in-Err.left (sym c.nth_delivery.ensures.value ∙ c.in-Err.is)
-    ∙ within-all can (services v.size) (landings (length v.manager.core.spaces)) c.in-Err.left c.in-Ok-nth_along.step e)
+    sym (behind-all can (deliveries v.size) (services v.size ++ landings (length v.jobs.manager.core.spaces)) c.args.number c.in-Err.left (sym c.nth_delivery.ensures.value ∙ c.in-Err.is)
+    ∙ within-all can (services v.size) (landings (length v.jobs.manager.core.spaces)) c.in-Err.left c.in-Ok-nth_along.step e)
 
 pub returns-in-Err-nth_along-clause-value : goal.returns-in-Err-nth_along-clause-value
 unfolding services landings
@@ -41,9 +41,9 @@ returns-in-Err-nth_along-clause-value c =
     let view : c.self.inside.size - 0 ≡ v.size = omega (arith, size) in
     let e : nth (filter can (services v.size)) c.in-Err.left ≡ Err c.in-Err-nth_along.left =
     subst (λ n. nth (filter can (services n)) c.in-Err.left ≡ Err c.in-Err-nth_along.left) view (sym c.nth_along.ensures.value ∙ c.in-Err-nth_along.is) in
-    let len : c.namespaces-spaces.result ≡ length v.manager.core.spaces = c.namespaces-spaces.ensures ∙ ap (λ k. length k.spaces) c.core.ensures.value in
-    let spaces : c.namespaces-spaces.result - 0 ≡ length v.manager.core.spaces = omega (arith, len) in
-    sym (behind-all can (deliveries v.size) (services v.size ++ landings (length v.manager.core.spaces)) c.args.number c.in-Err.left (sym c.nth_delivery.ensures.value ∙ c.in-Err.is)
-    ∙ behind-all can (services v.size) (landings (length v.manager.core.spaces)) c.in-Err.left c.in-Err-nth_along.left e
+    let len : c.namespaces-spaces.result ≡ length v.jobs.manager.core.spaces = c.namespaces-spaces.ensures ∙ ap (λ k. length k.spaces) c.core.ensures.value in
+    let spaces : c.namespaces-spaces.result - 0 ≡ length v.jobs.manager.core.spaces = omega (arith, len) in
+    sym (behind-all can (deliveries v.size) (services v.size ++ landings (length v.jobs.manager.core.spaces)) c.args.number c.in-Err.left (sym c.nth_delivery.ensures.value ∙ c.in-Err.is)
+    ∙ behind-all can (services v.size) (landings (length v.jobs.manager.core.spaces)) c.in-Err.left c.in-Err-nth_along.left e
     ∙ ap (λ n. nth (filter can (landings n)) c.in-Err-nth_along.left) (sym spaces)
     ∙ sym c.nth_along-in-Err-nth_along.ensures.value)

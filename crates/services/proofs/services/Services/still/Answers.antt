@@ -1,25 +1,48 @@
-use Rattle.std.proofs.Common.{◌≡◌, ◌∙◌, ◌++◌, ◌∷◌, [], false, map, ap, sym, subst}
-use Rattle.kvs_rules.specs.Log.{Asked, Happened}
-use Rattle.services.specs.View.{IsFit, value_of}
+use Rattle.std.proofs.Common.{◌∙◌, IsSome, ap, sym, subst}
+use Rattle.instance_rules.specs.Log.{service_of}
 use Rattle.kvs_core.specs.Agrees.{Agrees}
 use Rattle.kvs_core.specs.Steps.{IsStill as CoreIsStill}
+use Rattle.job_service.specs.Still.{awaited}
 use Rattle.services.specs.Agrees.{AgreesServices}
 use Rattle.services.specs.Steps.{IsStill}
-use Rattle.services.proofs.Resting.{contents_still, core_still, open_are_cores}
+use Rattle.services.specs.View.{value_of}
+use Rattle.services.proofs.Resting.{contents_still, core_still, jobs_still, open_are_cores}
 use Rattle.services.proofs.services.Services.still.Goals as goal
 
 pub returns-clause-quiet : goal.returns-clause-quiet
-returns-clause-quiet c = λ set log a₀ still₀.
+returns-clause-quiet c = λ inst log a₀ still₀.
     let v = value_of c.self.inside in
-    let a = subst (λ v. AgreesServices v set log) (sym c.self.view_is) a₀ in
+    let a = subst (λ v. AgreesServices v inst log) (sym c.self.view_is) a₀ in
     let still = subst IsStill (sym c.self.view_is) still₀ in
-    let core = subst (λ k. Agrees k set log) (sym (c.core.ensures.value ∙ sym (ap (λ v. v.manager.core) c.self.view_is))) a.core in
-    c.still.ensures.quiet set log core (subst CoreIsStill (sym (c.core.ensures.value ∙ sym (ap (λ v. v.manager.core) c.self.view_is))) (core_still v still))
-    (open_are_cores set log (c.still-2.ensures set log a.contents (contents_still v still)))
+    let here = sym (c.core.ensures.value ∙ sym (ap (λ v. v.jobs.manager.core) c.self.view_is)) in
+    c.still.ensures.quiet inst.service (service_of log) (subst (λ k. Agrees k inst.service (service_of log)) here a.jobs.core) (subst CoreIsStill here (core_still v still))
+    (open_are_cores inst.service (service_of log) (c.still-2.ensures inst.service (service_of log) a.contents (contents_still v still)))
 
 pub returns-clause-heard : goal.returns-clause-heard
-returns-clause-heard c = λ set log a₀ still₀.
+returns-clause-heard c = λ inst log a₀ still₀.
     let v = value_of c.self.inside in
-    let a = subst (λ v. AgreesServices v set log) (sym c.self.view_is) a₀ in
+    let a = subst (λ v. AgreesServices v inst log) (sym c.self.view_is) a₀ in
     let still = subst IsStill (sym c.self.view_is) still₀ in
-    c.still.ensures.heard set log (subst (λ k. Agrees k set log) (sym (c.core.ensures.value ∙ sym (ap (λ v. v.manager.core) c.self.view_is))) a.core) (subst CoreIsStill (sym (c.core.ensures.value ∙ sym (ap (λ v. v.manager.core) c.self.view_is))) (core_still v still))
+    let here = sym (c.core.ensures.value ∙ sym (ap (λ v. v.jobs.manager.core) c.self.view_is)) in
+    c.still.ensures.heard inst.service (service_of log) (subst (λ k. Agrees k inst.service (service_of log)) here a.jobs.core) (subst CoreIsStill here (core_still v still))
+
+pub returns-clause-idle : goal.returns-clause-idle
+returns-clause-idle c = λ inst log a₀ still₀.
+    let a = subst (λ v. AgreesServices v inst log) (sym c.self.view_is) a₀ in
+    c.still-3.ensures.idle inst log a.jobs (jobs_still (value_of c.self.inside) (subst IsStill (sym c.self.view_is) still₀))
+
+pub returns-clause-advanced : goal.returns-clause-advanced
+returns-clause-advanced c = λ inst log l a₀ still₀.
+    let a = subst (λ v. AgreesServices v inst log) (sym c.self.view_is) a₀ in
+    c.still-3.ensures.advanced inst log l a.jobs (jobs_still (value_of c.self.inside) (subst IsStill (sym c.self.view_is) still₀))
+
+pub returns-clause-left : goal.returns-clause-left
+returns-clause-left c = λ inst log a₀ still₀ by some other waits.
+    let a = subst (λ v. AgreesServices v inst log) (sym c.self.view_is) a₀ in
+    subst (λ v. IsSome (awaited v.jobs by)) c.self.view_is
+    (c.still-3.ensures.left inst log a.jobs (jobs_still (value_of c.self.inside) (subst IsStill (sym c.self.view_is) still₀)) (returns-clause-quiet c inst log a₀ still₀).told by some other waits)
+
+pub returns-clause-results : goal.returns-clause-results
+returns-clause-results c = λ inst log l a₀ top by where_ is.
+    let a = subst (λ v. AgreesServices v inst log) (sym c.self.view_is) a₀ in
+    c.still-3.ensures.results inst log l a.jobs top by where_ (ap (λ v. awaited v.jobs by) c.self.view_is ∙ is)

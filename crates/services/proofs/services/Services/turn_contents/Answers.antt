@@ -1,23 +1,21 @@
-use Rattle.std.proofs.Common.{◌≡◌, ◌∙◌, ◌++◌, ◌∷◌, [], false, map, ap, sym, subst}
-use Rattle.kvs_rules.specs.Log.{Asked, Happened}
-use Rattle.services.specs.View.{IsFit, value_of}
-use Rattle.kvs_core.specs.Steps.{can_step as core_can_step}
+use Rattle.std.proofs.Common.{◌∙◌, ◌++◌, map, ap, subst}
+use Rattle.kvs_rules.specs.Log.{Happened}
 use Rattle.services.specs.Makes.{Makes}
-use Rattle.services.proofs.Turning.{contented-fit, contents-make, with_contents}
+use Rattle.services.specs.View.{IsFit, value_of}
+use Rattle.services.proofs.Turning.{contents-fit, contents-make, with_contents}
 use Rattle.services.proofs.services.Services.turn_contents.Goals as goal
 
 pub invariant_of-self-2 : goal.invariant_of-self-2
 invariant_of-self-2 c = λ _.
     let v = value_of c.self.inside in
     let fit : IsFit v = c.self.invariant (ap (λ v. v.spent) c.self.view_is ∙ c.requires.ready) in
-    let cannot = subst (λ v. core_can_step v.manager.core c.args.step ≡ false) (sym c.self.view_is) c.requires.cannot in
-    let makes = contents-make v c.content_moments_leave_the_core.ensures c.turn.new.self c.args.step c.in_ok-events.events cannot c.in_ok-events.ensures.makes in
-    let (set, log, a) = fit.log in
-    contented-fit v fit c.turn.new.self c.in_ok-events.ensures.makes.ready c.in_ok-events.ensures.makes.size set (log ++ map Happened c.in_ok-events.events) (makes.agrees set log a)
+    let makes = c.in_ok-events.ensures.makes in
+    let l = fit.contents_log in
+    contents-fit v fit c.turn.new.self makes.ready makes.size
+    (record { set = l.set; log = l.log ++ map Happened c.in_ok-events.events; fanout = l.fanout; agrees = makes.agrees l.set l.log l.agrees })
 
 pub returns-clause-makes : goal.returns-clause-makes
 returns-clause-makes c =
     let v = value_of c.self.inside in
-    let cannot = subst (λ v. core_can_step v.manager.core c.args.step ≡ false) (sym c.self.view_is) c.requires.cannot in
     subst (λ w. Makes c.args.step w (with_contents v c.turn.new.self) c.in_ok-events.events) c.self.view_is
-    (contents-make v c.content_moments_leave_the_core.ensures c.turn.new.self c.args.step c.in_ok-events.events cannot c.in_ok-events.ensures.makes)
+    (contents-make v c.content_moments_leave_the_core.ensures c.turn.new.self c.args.step c.in_ok-events.events c.in_ok-events.ensures.makes)
