@@ -11,17 +11,18 @@ use Rattle.services.specs.Value.{ServicesValue}
 use Rattle.workload.specs.declared.work.Actor.{Actor}
 use Rattle.workload.specs.declared.work.Line.{Line}
 use Rattle.workload.specs.declared.work.Workload.{Workload}
-use Rattle.workload.specs.declared.work.Command.{Command}
-use Rattle.workload.specs.declared.work.Command.TheVariants as command
-use Rattle.workload.specs.Laws.{IsWithin, IsBuilt}
+use Rattle.workload.specs.Laws.{IsBuilt, IsWithin, KeepsTallies}
+use Rattle.workload.specs.Tallies.{seconds_in, submits_in}
 use Rattle.answers.specs.Chronicle.{Setup}
 use Rattle.answers.specs.Commands.{broker_of, namespace_at, staged_at}
-use Rattle.answers.specs.Services.{setting_of}
+use Rattle.answers.specs.Jobs.{instance_of}
 use Rattle.instance.specs.declared.seats.Seat.{Seat}
 use Rattle.instance.specs.First.{IsFirstSeat, AreFirstSeats}
-use Rattle.instance.specs.Seats.{IsKnownCommand, is_free, replied_of}
-use Rattle.instance.specs.Agrees.{AgreesOwn, command_of, Waits, Stands, ActorStands}
+use Rattle.instance.specs.Seats.{is_free, replied_of}
+use Rattle.instance.specs.Agrees.{ActorStands, AgreesOwn, IsTallied, Stands, Waits, command_of}
+use Rattle.instance.specs.Value.{InstanceValue}
 use Rattle.std.proofs.Common.{All}
+use Rattle.instance.proofs.Ahead.{first_ahead}
 use Rattle.instance.proofs.Commanding.{passed_on}
 
 -- the first seat of an actor
@@ -62,14 +63,31 @@ seats_push work seats actors n len old seat first new is a d e low =
     last_of [] x d = refl
     last_of (y ∷ xs) x d = last_of xs x d
 
-pub begin_agrees : (set : Setup) (services : ServicesValue) (seats : List Seat) → IsWithin set.size set.work → All (λ l. IsKnownCommand l.command) set.work.lines → services.manager.posted ≡ None → AgreesServices services (setting_of set) [] → AreFirstSeats set.work seats →
-    AgreesOwn (record { spent = false; seats = seats; services = services }) set []
-begin_agrees set services seats within known unposted agrees first = record {
+-- the instance before anything has happened
+abbrev pub begun : List Seat → ServicesValue → InstanceValue
+begun seats services = record { spent = false; seats = seats; services = services }
+
+-- nothing is issued, and all lines are ahead
+first_tallied : (size : ℕ) (work : Workload) (seats : List Seat) (services : ServicesValue) → IsWithin size work → AreFirstSeats work seats → (services.jobs.submitted ≡ 0) × (services.jobs.span ≡ 0) → IsTallied (begun seats services) work.lines
+first_tallied size work seats services within first start =
+    let ahead = first_ahead size work seats within first in
+    record {
+      submits = ap₂ (λ n ls. n + submits_in ls) start.0 ahead ∙ plain (submits_in work.lines);
+      seconds = ap₂ (λ n ls. n + seconds_in ls) start.1 ahead ∙ plain (seconds_in work.lines);
+    }
+  where
+    plain : (n : ℕ) → 0 + n ≡ n
+    plain n = omega arith
+
+pub begin_agrees : (set : Setup) (services : ServicesValue) (seats : List Seat) → IsWithin set.size set.work → All (λ l. IsBuilt l.command) set.work.lines → KeepsTallies set.work.lines →
+    (services.jobs.submitted ≡ 0) × (services.jobs.span ≡ 0) → AgreesServices services (instance_of set) [] → AreFirstSeats set.work seats → AgreesOwn (begun seats services) set []
+begin_agrees set services seats within known few start agrees first = record {
   within = within;
   known = known;
+  few = few;
+  tallied = first_tallied set.size set.work seats services within first start;
   legal = tt;
   early = tt;
-  unposted = unposted;
   seated = first.seated;
   agrees = agrees;
   actors = λ a. actor_first set a (slice_get seats a) (λ seat at. sits a seat at);
@@ -109,24 +127,3 @@ pub actor_got : {A : Type 0} (xs : List A) (k : ℕ) (d e : A) → k < length xs
 actor_got [] k d e low = absurd (omega arith)
 actor_got (x ∷ xs) zero d e low = refl
 actor_got (x ∷ xs) (suc k) d e low = actor_got xs k d e (omega arith)
-
--- the verbs that a workload may have are those that a run carries out
-known_of : (c : Command) → IsBuilt c → IsKnownCommand c
-known_of (command.Put path bytes) h = tt
-known_of command.Commit h = tt
-known_of (command.Fence name count) h = h
-known_of (command.Get path) h = tt
-known_of (command.Append path bytes) h = tt
-known_of (command.Unlink path) h = tt
-known_of (command.Mkdir path) h = tt
-known_of (command.Symlink path target) h = tt
-known_of (command.Ls path) h = tt
-known_of (command.Readlink path) h = tt
-known_of (command.ContentStore bytes) h = tt
-known_of (command.ContentLoad reference) h = tt
-known_of command.ContentFlush h = tt
-known_of command.ContentDrop h = tt
-known_of _ h = h
-
-pub all_known : (work : Workload) → All (λ l. IsBuilt l.command) work.lines → All (λ l. IsKnownCommand l.command) work.lines
-all_known work h k d low = known_of _ (h k d low)

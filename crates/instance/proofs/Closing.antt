@@ -1,33 +1,47 @@
 -- When a run can end, it is whole.
-use Rattle.std.proofs.Common.{◌≡◌, ℕ, zero, suc, ◌-◌, ◌<◌, ◌≤◌, ◌==◌, ◌⊎◌, inl, inr, List, [], ◌∷◌, ◌++◌, length, Bool, true, false, ◌&&◌, ◌||◌, cond, refl, sym, ap, ◌∙◌, subst, arith, count_by, Option, Some, None, get_or, true≢false}
+use Rattle.std.proofs.Common.{◌≡◌, ◌≢◌, ℕ, zero, suc, ◌-◌, ◌<◌, ◌≤◌, ◌==◌, ◌⊎◌, inl, inr, List, [], ◌∷◌, ◌++◌, length, Bool, true, false, ◌&&◌, ◌||◌, cond, refl, sym, ap, ◌∙◌, subst, arith, count_by, Option, Some, None, get_or, true≢false}
 use Rattle.std.specs.Prelude.{slice_get, nat_lt, option_and_then, if◌then◌else◌, IsTrue, IsSome}
 use Rattle.std.specs.Str.{bytes_eq}
 use Rattle.std.specs.Option.{option_map, option_map_or, is_some}
 use Rattle.std.specs.List.{list_any, cons_option}
-use Rattle.std.proofs.lemmas.Bool.{cases_lt, le-ltb, ltb-false}
+use Rattle.std.proofs.lemmas.Bool.{cases_lt, le-ltb, lt-ltb, ltb-false}
 use Rattle.kvs_txn.specs.declared.txn.By.{By}
 use Rattle.kvs_rules.specs.declared.events.KvsAnswer.{KvsAnswer}
 use Rattle.kvs_rules.specs.declared.events.KvsEvent.{KvsEvent}
 use Rattle.kvs_rules.specs.declared.events.KvsEvent.TheVariants as event
 use Rattle.kvs_rules.specs.Log.{IsOpen, Log, Moment, Happened, Asked, IsPending, is_asked, is_answered, answers_now, same_command}
-use Rattle.kvs_rules.specs.Namespaces.{Request, Setting, is_live, landed}
+use Rattle.kvs_rules.specs.Namespaces.{Request, is_live, landed}
 use Rattle.kvs_rules.specs.Brokers.{heard}
 use Rattle.kvs_model.specs.Store.{Name}
 use Rattle.kvs_rules.specs.declared.events.KvsStep.{KvsStep}
 use Rattle.kvs_rules.specs.Quiet.{IsQuiet, IsShortFence}
-use Rattle.kvs_rules.proofs.Asking.{command_is}
+use Rattle.manager_rules.specs.Times.{IsIdle}
+use Rattle.instance_rules.specs.Family.{IsLeftResult, IsTarget, Living, MayClose}
+use Rattle.instance_rules.specs.Legal.{OfDesk}
+use Rattle.instance_rules.specs.Log as rules
+use Rattle.instance_rules.specs.Log.{Instance, Log as InstanceLog, service_of}
+use Rattle.job_clock.specs.Standing.{IsTop}
+use Rattle.job_service.specs.Replies.{can_reply}
+use Rattle.job_service.specs.Still.{awaited}
+use Rattle.job_states.specs.declared.job.State.{State}
+use Rattle.kvs_core.specs.Agrees.{Agrees}
 use Rattle.services.specs.Agrees.{AgreesServices}
 use Rattle.services.specs.Steps.{IsStill, can_step, can_take}
 use Rattle.services.proofs.Waiting.{open_asks, taken_waits}
 use Rattle.workload.specs.declared.work.Command.{Command}
+use Rattle.workload.specs.declared.work.Command.TheVariants as command
 use Rattle.workload.specs.declared.work.Line.{Line}
 use Rattle.workload.specs.declared.work.Workload.{Workload}
 use Rattle.answers.specs.declared.chronicle.Entry.{Entry}
 use Rattle.answers.specs.declared.chronicle.Entry.TheVariants as entry
-use Rattle.answers.specs.Chronicle.{top, issues_of, replies_to, answer_of}
+use Rattle.answers.specs.declared.chronicle.Reply.{Reply}
+use Rattle.answers.specs.declared.chronicle.Reply.TheVariants as reply
+use Rattle.answers.specs.Chronicle.{top, is_issued, issues_of, replies_to, answer_of}
 use Rattle.answers.specs.Commands.{ask_at, broker_of, command_at, subject_at}
+use Rattle.answers.specs.Jobs.{family_of, instance_of, job_ask_at, job_ask_of, living_of, log_in}
 use Rattle.answers.specs.Services.{setting_of, log_of, moment_of, moments_after}
-use Rattle.answers.specs.Whole.{HasToldAll}
+use Rattle.answers.specs.Whole.{HasComeToRest}
+use Rattle.answers.proofs.JobLogs.{asks_no_service}
 use Rattle.answers.proofs.Services.{asked_issued, issued_below, or_cases}
 use Rattle.answers.proofs.Floors.{asked_so}
 use Rattle.answers.proofs.Reaching.{asked_within}
@@ -35,12 +49,17 @@ use Rattle.instance.specs.declared.seats.Seat.{Seat}
 use Rattle.instance.specs.declared.seats.Waiting.{Waiting}
 use Rattle.instance.specs.declared.seats.Waiting.TheVariants as waiting
 use Rattle.instance.specs.Seats.{is_free, replied_of, last_command, has_come}
-use Rattle.instance.specs.Closings.{closings_at, fence_at, fence_of, is_served, left_reply, open_command, unfinished_at, waits_in}
+use Rattle.instance.specs.Closings.{closings_at, closings_of, fence_at, fence_of, is_served, left_reply, open_command, unfinished_as, waits_in}
 use Rattle.instance.specs.Agrees.{command_of, Waits, ActorStands, IsSeat}
-use Rattle.instance.specs.Steps.{IsOver, has_answer}
+use Rattle.instance.specs.Steps.{IsOver, can_post, can_tick, has_answer}
+use Rattle.instance.specs.Value.{InstanceValue}
 use Rattle.instance.proofs.Owning.{Own, DoesAgree}
-use Rattle.instance.proofs.Listing.{none_counted}
-use Rattle.instance.proofs.Leaving.{IsStuck, IsCause, IsDone, IsLeft, IsShortAsk, IsAboveAsk, asks_so, fence_command, wait_command, free_unserved, in_fence, left_asks, numbers_of, seat_told, seated}
+use Rattle.instance.proofs.Families.{has_rest, is_top, may_close, no_advance_left}
+use Rattle.instance.proofs.Listing.{any_counted, none_counted}
+use Rattle.instance.proofs.Logs.{log_issued, log_open, served_log}
+use Rattle.instance.proofs.Leaving.{IsStuck, IsDone, IsLeft, IsServedCause, IsStuckResult, IsShortAsk, IsAboveAsk, asks_so, fence_command, wait_command, free_finished, free_unserved, in_fence, left_asks, numbers_of, seat_told, seated, states_of, unseated}
+use Rattle.instance.proofs.Results.{result_uncarried}
+use Rattle.instance.proofs.Waiting.{replied_alike, reply_waits}
 
 -- a command that was answered in the log was replied to in the chronicle
 abbrev answers_of : By → Option Moment → Bool
@@ -116,6 +135,16 @@ module _ (v : Own) (h : DoesAgree v) where
   abbrev log : Log
   log = log_of v.set.work top v.chronicle
 
+  abbrev inst : Instance
+  inst = instance_of v.set
+
+  -- the log of the instance
+  abbrev now : InstanceLog
+  now = log_in v.set.work v.chronicle
+
+  served : service_of now ≡ log
+  served = served_log v.set.work v.chronicle
+
   -- a command that the log has asked was issued, so its actor has a seat
   abbrev issued_of : Option Seat → ℕ
   issued_of None = 0
@@ -162,6 +191,9 @@ module _ (v : Own) (h : DoesAgree v) where
       on (waiting.Tell to) is = absurd (true≢false (ap (has_come v.instance.services (last_command a seat)) (sym is) ∙ idle_so))
       on waiting.Using is = absurd (true≢false (ap (has_come v.instance.services (last_command a seat)) (sym is) ∙ idle_so))
       on waiting.Service is = ap (λ n. can_take v.instance.services (command_of a n)) (last waiting.Service is refl) ∙ ap (has_come v.instance.services (last_command a seat)) (sym is) ∙ idle_so
+      on waiting.Jobs is =
+          let waits = subst (Waits v.set log a seat.issued) is mine.1.waits in
+          absurd (true≢false (sym asked ∙ ap (λ n. is_asked (command_of a n) log) (last waiting.Jobs is refl) ∙ waits.1))
 
   -- where nobody can be replied to, no answer waits to be taken
   none_taken : ((a : ℕ) → has_answer v.instance.services v.instance.seats a ≡ false) → (by : By) → can_take v.instance.services by ≡ false
@@ -170,18 +202,112 @@ module _ (v : Own) (h : DoesAgree v) where
       on : (b : Bool) → can_take v.instance.services by ≡ b → b ≡ false
       on false t = refl
       on true t =
-          let waits = taken_waits v.instance.services (setting_of v.set) log h.agrees by t in
+          let waits = subst (IsOpen by) served (taken_waits v.instance.services inst now h.agrees by t) in
           sit waits.asked waits.unanswered t (slice_get v.instance.seats by.actor) refl
         where
           sit : is_asked by log ≡ true → is_answered by log ≡ false → can_take v.instance.services by ≡ true → (o : Option Seat) → slice_get v.instance.seats by.actor ≡ o → true ≡ false
           sit asked unanswered t None at = let low : by.command < 0 = asked_low by asked None at in absurd (omega arith)
           sit asked unanswered t (Some seat) at = sym t ∙ waits_for by.actor by.command seat at (asked_low by asked (Some seat) at) asked unanswered (idle by.actor)
 
+  -- a command that waits in the log of the instance is the open one of its actor
+  module _ (by : By) (asks : IsSome (job_ask_at v.set.work by)) (waits : rules.IsOpen by now) where
+    issued_so : is_issued by v.chronicle ≡ true
+    issued_so = sym (log_issued v.set.work by v.chronicle asks) ∙ waits.issued
+
+    unreplied : 0 < count_by (replies_to by) v.chronicle → ⊥
+    unreplied some = true≢false (sym (replied_alike v.set by asks v.chronicle h.legal h.early (any_counted (replies_to by) v.chronicle some)) ∙ waits.unanswered)
+
+    unserved : is_asked by log ≡ true → ⊥
+    unserved asked = on (is_answered by log) refl
+      where
+        on : (b : Bool) → is_answered by log ≡ b → ⊥
+        on false t =
+            let (request, made) = open_asks v.instance.services inst now h.agrees by (subst (IsOpen by) (sym served) (record { asked = asked; unanswered = t })) in
+            let never : ◌≡◌ {A = Option Request} None (Some request) = sym (asks_no_service v.set.work by asks) ∙ made in cc
+        on true t = true≢false (sym (answered_replied v.set.work by [] v.chronicle t) ∙ none_counted (replies_to by) v.chronicle zero_replies)
+          where
+            zero_replies : count_by (replies_to by) v.chronicle ≡ 0
+            zero_replies = elim (cases_lt 0 (count_by (replies_to by) v.chronicle)) [ inl some ↦ absurd (unreplied some) | inr none ↦ omega arith ]
+
+    -- where its actor can't be replied to, it can't be told
+    module _ (idle : has_answer v.instance.services v.instance.seats by.actor ≡ false) where
+      at_seat_of : (seat : Seat) → slice_get v.instance.seats by.actor ≡ Some seat → can_reply v.instance.services.jobs by ≡ false
+      at_seat_of seat at = on seat.waiting refl
+        where
+          mine : ActorStands v.set log v.chronicle by.actor (Some seat)
+          mine = subst (ActorStands v.set log v.chronicle by.actor) at (h.actors by.actor)
+
+          low : by.command < seat.issued
+          low =
+              let below : by.command < count_by (issues_of by.actor) v.chronicle = issued_below v.set v.chronicle h.legal by issued_so in
+              let counted : count_by (issues_of by.actor) v.chronicle ≡ seat.issued = mine.0.counted in
+              omega arith
+
+          past : replied_of seat ≤ by.command
+          past = elim (cases_lt by.command (replied_of seat)) [
+            | inl below ↦
+                let one : count_by (replies_to by) v.chronicle ≡ 1 = mine.0.ended by.command ∙ ap (λ b. cond b 1 0) (lt-ltb by.command (replied_of seat) below) in
+                absurd (unreplied (omega arith))
+            | inr above ↦ above
+          ]
+
+          last : (w : Waiting) → seat.waiting ≡ w → is_free w ≡ false → by.command ≡ seat.issued - 1
+          last w is busy =
+              let replied : replied_of seat ≡ seat.issued - 1 = ap (λ x. cond (is_free x) seat.issued (seat.issued - 1)) is ∙ ap (λ b. cond b seat.issued (seat.issued - 1)) busy in
+              let below = low in
+              let above = past in
+              omega arith
+
+          idle_so : has_come v.instance.services (last_command by.actor seat) seat.waiting ≡ false
+          idle_so = ap (λ o. option_map_or (λ s. has_come v.instance.services (last_command by.actor s) s.waiting) o false) (sym at) ∙ idle
+
+          come : (w : Waiting) → seat.waiting ≡ w → has_come v.instance.services (last_command by.actor seat) w ≡ false
+          come w is = ap (has_come v.instance.services (last_command by.actor seat)) (sym is) ∙ idle_so
+
+          on : (w : Waiting) → seat.waiting ≡ w → can_reply v.instance.services.jobs by ≡ false
+          on waiting.Nothing is =
+              let replied : replied_of seat ≡ seat.issued = ap (λ x. cond (is_free x) seat.issued (seat.issued - 1)) is in
+              let below = low in
+              let above = past in
+              absurd (omega arith)
+          on waiting.Staged is = absurd (true≢false (come waiting.Staged is))
+          on waiting.TxnFull is = absurd (true≢false (come waiting.TxnFull is))
+          on (waiting.Tell to) is = absurd (true≢false (come (waiting.Tell to) is))
+          on waiting.Using is = absurd (true≢false (come waiting.Using is))
+          on waiting.Service is =
+              let w = subst (Waits v.set log by.actor seat.issued) is mine.1.waits in
+              absurd (unserved (ap (λ n. is_asked (command_of by.actor n) log) (last waiting.Service is refl) ∙ w.1))
+          on waiting.Jobs is = ap (λ n. can_reply v.instance.services.jobs (command_of by.actor n)) (last waiting.Jobs is refl) ∙ come waiting.Jobs is
+
+      untold_so : can_reply v.instance.services.jobs by ≡ false
+      untold_so = sit (slice_get v.instance.seats by.actor) refl
+        where
+          sit : (o : Option Seat) → slice_get v.instance.seats by.actor ≡ o → can_reply v.instance.services.jobs by ≡ false
+          sit None at =
+              let below : by.command < count_by (issues_of by.actor) v.chronicle = issued_below v.set v.chronicle h.legal by issued_so in
+              let counted : count_by (issues_of by.actor) v.chronicle ≡ 0 = counted_at by.actor None (subst (ActorStands v.set log v.chronicle by.actor) at (h.actors by.actor)) in
+              absurd (omega arith)
+          sit (Some seat) at = at_seat_of seat at
+
+  -- where nobody can be replied to, no job command can be told
+  none_told : ((a : ℕ) → has_answer v.instance.services v.instance.seats a ≡ false) → (by : By) → can_reply v.instance.services.jobs by ≡ false
+  none_told idle by = on (can_reply v.instance.services.jobs by) refl
+    where
+      on : (b : Bool) → can_reply v.instance.services.jobs by ≡ b → b ≡ false
+      on false t = refl
+      on true t =
+          let w = reply_waits v.instance.services.jobs inst now h.agrees.jobs by t in
+          absurd (true≢false (sym t ∙ untold_so by w.asks w.waits (idle by.actor)))
+
+  -- each open job command waits for the result of a job that isn't over
+  abbrev pub AreResults : Type 0
+  AreResults = (by : By) → IsSome (job_ask_at v.set.work by) → rules.IsOpen by now → IsStuckResult v by
+
   -- what is over: nobody waits but for what does not come, and no line of another actor is left
-  module _ (over : IsOver v.set.work.lines v.instance) (quiet : IsQuiet (setting_of v.set) log) where
+  module _ (over : IsOver v.set.work.lines v.instance) (quiet : IsQuiet (setting_of v.set) log) (results : AreResults) where
     waits_short : (by : By) → is_asked by log ≡ true → is_answered by log ≡ false → (request : Request) × ((setting_of v.set).asks by ≡ Some request) × IsPending by log × (IsShortAsk (setting_of v.set) log request.namespace request.ask ⊎ IsAboveAsk log request.namespace request.ask)
     waits_short by asked unanswered =
-        let (request, made) = open_asks v.instance.services (setting_of v.set) log h.agrees by (record { asked = asked; unanswered = unanswered }) in
+        let (request, made) = open_asks v.instance.services inst now h.agrees by (subst (IsOpen by) (sym served) (record { asked = asked; unanswered = unanswered })) in
         elim (quiet.answered by request (record { asked = asked; unanswered = unanswered }) made) [
           | inl above ↦
               let within = asked_within v.set v.chronicle h.legal by request made asked in
@@ -190,16 +316,25 @@ module _ (v : Own) (h : DoesAgree v) where
         ]
 
     -- an open command waits for what does not come
-    stuck_so : (a : ℕ) (seat : Seat) → subject_at v.set.work (command_of a (seat.issued - 1)) ≡ seat.subject → 0 < seat.issued → is_asked (command_of a (seat.issued - 1)) log ≡ true → is_answered (command_of a (seat.issued - 1)) log ≡ false → IsStuck v a seat
-    stuck_so a seat about some asked unanswered =
+    pub record IsServedStuck (a : ℕ) (seat : Seat) : Type 0 where
+      pub busy : seat.waiting ≡ waiting.Service
+      pub stuck : IsStuck v a seat
+      pub cause : IsServedCause v seat.subject (command_of a (seat.issued - 1))
+
+    pub record IsResultStuck (a : ℕ) (seat : Seat) : Type 0 where
+      pub busy : seat.waiting ≡ waiting.Jobs
+      pub stuck : IsStuck v a seat
+      pub cause : IsStuckResult v (command_of a (seat.issued - 1))
+
+    stuck_so : (a : ℕ) (seat : Seat) → seat.waiting ≡ waiting.Service → subject_at v.set.work (command_of a (seat.issued - 1)) ≡ seat.subject → 0 < seat.issued → is_asked (command_of a (seat.issued - 1)) log ≡ true → is_answered (command_of a (seat.issued - 1)) log ≡ false → IsServedStuck a seat
+    stuck_so a seat busy about some asked unanswered =
         let by = command_of a (seat.issued - 1) in
         let w = waits_short by asked unanswered in
         let named = (asked_so (broker_of v.set.work a) (subject_at v.set.work by) (ask_at v.set.work by) w.0 w.1).1 ∙ about in
         let asks = asks_so (broker_of v.set.work a) (subject_at v.set.work by) (ask_at v.set.work by) w.0 w.1 in
         record {
-          some = some;
-          subject = about;
-          pending = w.2;
+          busy = busy;
+          stuck = record { some = some; subject = about; uncarried = (w.2.unlanded, w.2.undenied) };
           cause = elim w.3 [
             | inl s ↦ inl (record {
               name = s.name;
@@ -218,35 +353,57 @@ module _ (v : Own) (h : DoesAgree v) where
         }
 
     -- each seat's actor waits for nothing, or for what does not come
-    at_seat : (a : ℕ) (seat : Seat) → slice_get v.instance.seats a ≡ Some seat → (is_free seat.waiting ≡ true) ⊎ (seat.waiting ≡ waiting.Service) × IsStuck v a seat
+    at_seat : (a : ℕ) (seat : Seat) → slice_get v.instance.seats a ≡ Some seat → (is_free seat.waiting ≡ true) ⊎ (IsServedStuck a seat ⊎ IsResultStuck a seat)
     at_seat a seat at = on seat.waiting refl
       where
+        by : By
+        by = command_of a (seat.issued - 1)
+
         mine : ActorStands v.set log v.chronicle a (Some seat)
         mine = subst (ActorStands v.set log v.chronicle a) at (h.actors a)
 
         idle_so : has_come v.instance.services (last_command a seat) seat.waiting ≡ false
         idle_so = ap (λ o. option_map_or (λ s. has_come v.instance.services (last_command a s) s.waiting) o false) (sym at) ∙ over.answers a
 
-        served : (0 < seat.issued) × (is_asked (command_of a (seat.issued - 1)) log ≡ true) → seat.waiting ≡ waiting.Service → IsStuck v a seat
-        served waits is = stuck_so a seat (mine.1.about waits.0) waits.0 waits.1 (open_so (is_answered (command_of a (seat.issued - 1)) log) refl)
-          where
-            open_so : (b : Bool) → is_answered (command_of a (seat.issued - 1)) log ≡ b → b ≡ false
-            open_so false t = refl
-            open_so true t =
-                let replied = answered_replied v.set.work (command_of a (seat.issued - 1)) [] v.chronicle t in
-                let none : count_by (replies_to (command_of a (seat.issued - 1))) v.chronicle ≡ 0 =
-                mine.0.ended (seat.issued - 1)
-                ∙ ap (λ n. cond (nat_lt (seat.issued - 1) n) 1 0) (ap (λ x. cond (is_free x) seat.issued (seat.issued - 1)) is)
-                ∙ ap (λ b. cond b 1 0) (le-ltb (seat.issued - 1) (seat.issued - 1) (omega arith)) in
-                absurd (true≢false (sym replied ∙ none_counted (replies_to (command_of a (seat.issued - 1))) v.chronicle none))
+        come : (w : Waiting) → seat.waiting ≡ w → has_come v.instance.services (last_command a seat) w ≡ false
+        come w is = ap (has_come v.instance.services (last_command a seat)) (sym is) ∙ idle_so
 
-        on : (w : Waiting) → seat.waiting ≡ w → (is_free seat.waiting ≡ true) ⊎ (seat.waiting ≡ waiting.Service) × IsStuck v a seat
+        none : is_free seat.waiting ≡ false → count_by (replies_to by) v.chronicle ≡ 0
+        none busy =
+            mine.0.ended (seat.issued - 1)
+            ∙ ap (λ n. cond (nat_lt (seat.issued - 1) n) 1 0) (ap (λ b. cond b seat.issued (seat.issued - 1)) busy)
+            ∙ ap (λ b. cond b 1 0) (le-ltb (seat.issued - 1) (seat.issued - 1) (omega arith))
+
+        by_service : (0 < seat.issued) × (is_asked by log ≡ true) → seat.waiting ≡ waiting.Service → IsServedStuck a seat
+        by_service waits is = stuck_so a seat is (mine.1.about waits.0) waits.0 waits.1 (open_so (is_answered by log) refl)
+          where
+            open_so : (b : Bool) → is_answered by log ≡ b → b ≡ false
+            open_so false t = refl
+            open_so true t = absurd (true≢false (sym (answered_replied v.set.work by [] v.chronicle t) ∙ none_counted (replies_to by) v.chronicle (none (ap is_free is))))
+
+        by_jobs : (0 < seat.issued) × (is_asked by log ≡ false) × IsSome (job_ask_at v.set.work by) → seat.waiting ≡ waiting.Jobs → IsResultStuck a seat
+        by_jobs waits is =
+            let some = waits.0 in
+            let begun : is_issued by v.chronicle ≡ true = mine.0.begun (seat.issued - 1) (omega arith) in
+            let cause = results by waits.2 (log_open v.set.work by v.chronicle waits.2 begun (none (ap is_free is))) in
+            record {
+              busy = is;
+              stuck = record {
+                some = waits.0;
+                subject = mine.1.about waits.0;
+                uncarried = result_uncarried v.set v.chronicle v.chronicle refl v.instance.services.jobs h.agrees.jobs by cause.where_ cause.left;
+              };
+              cause = cause;
+            }
+
+        on : (w : Waiting) → seat.waiting ≡ w → (is_free seat.waiting ≡ true) ⊎ (IsServedStuck a seat ⊎ IsResultStuck a seat)
         on waiting.Nothing is = inl (ap is_free is)
-        on waiting.Staged is = absurd (true≢false (ap (has_come v.instance.services (last_command a seat)) (sym is) ∙ idle_so))
-        on waiting.TxnFull is = absurd (true≢false (ap (has_come v.instance.services (last_command a seat)) (sym is) ∙ idle_so))
-        on (waiting.Tell to) is = absurd (true≢false (ap (has_come v.instance.services (last_command a seat)) (sym is) ∙ idle_so))
-        on waiting.Using is = absurd (true≢false (ap (has_come v.instance.services (last_command a seat)) (sym is) ∙ idle_so))
-        on waiting.Service is = inr (is, served (subst (Waits v.set log a seat.issued) is mine.1.waits) is)
+        on waiting.Staged is = absurd (true≢false (come waiting.Staged is))
+        on waiting.TxnFull is = absurd (true≢false (come waiting.TxnFull is))
+        on (waiting.Tell to) is = absurd (true≢false (come (waiting.Tell to) is))
+        on waiting.Using is = absurd (true≢false (come waiting.Using is))
+        on waiting.Service is = inr (inl (by_service (subst (Waits v.set log a seat.issued) is mine.1.waits) is))
+        on waiting.Jobs is = inr (inr (by_jobs (subst (Waits v.set log a seat.issued) is mine.1.waits) is))
 
     -- an actor that waits for nothing has no line left
     pub past_all : (a : ℕ) (seat : Seat) → slice_get v.instance.seats a ≡ Some seat → is_free seat.waiting ≡ true → length v.set.work.lines ≤ seat.next
@@ -272,31 +429,43 @@ module _ (v : Own) (h : DoesAgree v) where
         on : (o : Option Seat) → slice_get v.instance.seats a ≡ o → IsDone v a ⊎ IsLeft v a
         on None e = inl (record {
           free = λ seat at. absurd (no_seat seat (sym e ∙ at));
-          replies = ap (λ o. option_map_or (λ s. option_map_or (closings_at lines a s) (unfinished_at (numbers s.broker s.subject) lines v.instance.seats s) []) o []) e;
+          replies = unseated numbers (states_of v) lines v.instance.seats a e;
           waits = λ space name. ap (λ o. option_map_or (λ s. option_map_or (λ fence. bytes_eq space s.subject && bytes_eq name fence.0) (fence_at lines s) false) o false) e;
         })
           where
             no_seat : (seat : Seat) → ◌≡◌ {A = Option Seat} None (Some seat) → ⊥
             no_seat seat e = cc
         on (Some seat) e = elim (at_seat a seat e) [
-          | inl free ↦
-              let fence : fence_at lines seat ≡ None = ap (λ b. if b then option_and_then fence_of (open_command lines seat) else None) (free_unserved seat.waiting free) in
-              let ends : unfinished_at (numbers seat.broker seat.subject) lines v.instance.seats seat ≡ None = ap (λ b. if b then option_and_then (left_reply (numbers seat.broker seat.subject) lines v.instance.seats seat.subject) (open_command lines seat) else None) (free_unserved seat.waiting free) in
-              inl (record {
-                free = λ other at. subst (λ s. is_free s.waiting ≡ true) (same_seat seat other (sym e ∙ at)) free;
-                replies = seated numbers lines v.instance.seats a seat e ∙ ap (λ o. option_map_or (closings_at lines a seat) o []) ends;
-                waits = λ space name. in_seat space name ∙ ap (λ o. option_map_or (λ f. bytes_eq space seat.subject && bytes_eq name f.0) o false) fence;
-              })
-          | inr stuck ↦
-              inr (record {
-                seat = seat;
-                sits = e;
-                stuck = stuck.1;
-                busy = stuck.0;
-                replies = seated numbers lines v.instance.seats a seat e
-                    ∙ ap (λ o. option_map_or (closings_at lines a seat) o []) (served_as (option_and_then (left_reply (numbers seat.broker seat.subject) lines v.instance.seats seat.subject)) stuck.0 stuck.1 ∙ ends stuck.1.cause);
-                waits = λ space name. in_seat space name ∙ ap (λ o. option_map_or (λ f. bytes_eq space seat.subject && bytes_eq name f.0) o false) (served_as (option_and_then fence_of) stuck.0 stuck.1) ∙ fences stuck.1.cause space name;
-              })
+          | inl free ↦ inl (record {
+            free = λ other at. subst (λ s. is_free s.waiting ≡ true) (same_seat seat other (sym e ∙ at)) free;
+            replies = closes None (free_finished seat.waiting free had (states_of v by) lines v.instance.seats seat);
+            waits = λ space name. in_seat space name ∙ fenceless (free_unserved seat.waiting free) space name;
+          })
+          | inr stuck ↦ elim stuck [
+            | inl s ↦ inr (record {
+              seat = seat;
+              sits = e;
+              stuck = s.stuck;
+              busy = ap is_free s.busy;
+              cause = inl s.cause;
+              replies = closes (Some (seat_told v a seat (inl s.cause)))
+                  (ap (λ w. unfinished_as w had (states_of v by) lines v.instance.seats seat) s.busy ∙ ap (option_and_then (left_reply had lines v.instance.seats seat.subject)) (opened s.stuck) ∙ ends s.cause);
+              waits = λ space name. in_seat space name
+                  ∙ ap (λ w. option_map_or (λ f. bytes_eq space seat.subject && bytes_eq name f.0) (if is_served w then option_and_then fence_of (open_command lines seat) else None) false) s.busy
+                  ∙ ap (λ c. option_map_or (λ f. bytes_eq space seat.subject && bytes_eq name f.0) (option_and_then fence_of c) false) (opened s.stuck)
+                  ∙ fences s.cause space name;
+            })
+            | inr s ↦ inr (record {
+              seat = seat;
+              sits = e;
+              stuck = s.stuck;
+              busy = ap is_free s.busy;
+              cause = inr s.cause;
+              replies = closes (Some (seat_told v a seat (inr s.cause)))
+                  (ap (λ w. unfinished_as w had (states_of v by) lines v.instance.seats seat) s.busy ∙ ap (option_map reply.UnfinishedJob) s.cause.awaits);
+              waits = λ space name. in_seat space name ∙ fenceless (ap is_served s.busy) space name;
+            })
+          ]
         ]
           where
             same_seat : (seat other : Seat) → ◌≡◌ {A = Option Seat} (Some seat) (Some other) → seat ≡ other
@@ -305,35 +474,115 @@ module _ (v : Own) (h : DoesAgree v) where
             by : By
             by = command_of a (seat.issued - 1)
 
+            had : ℕ
+            had = numbers seat.broker seat.subject
+
+            closes : (given : Option Reply) → unfinished_as seat.waiting had (states_of v by) lines v.instance.seats seat ≡ given → closings_of numbers (states_of v) lines v.instance.seats a ≡ option_map_or (closings_at lines a seat) given []
+            closes given is = seated numbers (states_of v) lines v.instance.seats a seat e ∙ ap (λ o. option_map_or (closings_at lines a seat) o []) is
+
             in_seat : (space name : Name) → waits_in lines v.instance.seats space name a ≡ option_map_or (λ fence. bytes_eq space seat.subject && bytes_eq name fence.0) (fence_at lines seat) false
             in_seat space name = ap (λ o. option_map_or (λ s. option_map_or (λ fence. bytes_eq space s.subject && bytes_eq name fence.0) (fence_at lines s) false) o false) e
 
-            -- what is asked of the open command, where the actor waits for the service
-            served_as : {B : Type 0} (f : Option Command → Option B) → seat.waiting ≡ waiting.Service → IsStuck v a seat → (if is_served seat.waiting then f (open_command lines seat) else None) ≡ f (command_at v.set.work by)
-            served_as f busy s =
-                ap (λ w. if is_served w then f (open_command lines seat) else None) busy
-                ∙ ap f (sym ((seat_of a seat e).opened s.some))
+            fenceless : is_served seat.waiting ≡ false → (space name : Name) → option_map_or (λ fence. bytes_eq space seat.subject && bytes_eq name fence.0) (fence_at lines seat) false ≡ false
+            fenceless none space name = ap (λ b. option_map_or (λ f. bytes_eq space seat.subject && bytes_eq name f.0) (if b then option_and_then fence_of (open_command lines seat) else None) false) none
 
-            ends : (cause : IsCause v seat.subject by) → option_and_then (left_reply (numbers seat.broker seat.subject) lines v.instance.seats seat.subject) (command_at v.set.work by) ≡ Some (seat_told v a seat cause)
-            ends (inl f) = ap (option_and_then (left_reply (numbers seat.broker seat.subject) lines v.instance.seats seat.subject)) f.command
-            ends (inr w) = ap (option_and_then (left_reply (numbers seat.broker seat.subject) lines v.instance.seats seat.subject)) w.command
+            -- the open command is that of the actor
+            opened : IsStuck v a seat → open_command lines seat ≡ command_at v.set.work by
+            opened s = sym ((seat_of a seat e).opened s.some)
 
-            fences : (cause : IsCause v seat.subject by) (space name : Name) → option_map_or (λ f. bytes_eq space seat.subject && bytes_eq name f.0) (option_and_then fence_of (command_at v.set.work by)) false ≡ in_fence v seat.subject by cause space name
+            ends : (cause : IsServedCause v seat.subject by) → option_and_then (left_reply had lines v.instance.seats seat.subject) (command_at v.set.work by) ≡ Some (seat_told v a seat (inl cause))
+            ends (inl f) = ap (option_and_then (left_reply had lines v.instance.seats seat.subject)) f.command
+            ends (inr w) = ap (option_and_then (left_reply had lines v.instance.seats seat.subject)) w.command
+
+            fences : (cause : IsServedCause v seat.subject by) (space name : Name) → option_map_or (λ f. bytes_eq space seat.subject && bytes_eq name f.0) (option_and_then fence_of (command_at v.set.work by)) false ≡ in_fence v seat.subject by (inl cause) space name
             fences (inl f) space name = ap (λ c. option_map_or (λ f. bytes_eq space seat.subject && bytes_eq name f.0) (option_and_then fence_of c) false) f.command
             fences (inr w) space name = ap (λ c. option_map_or (λ f. bytes_eq space seat.subject && bytes_eq name f.0) (option_and_then fence_of c) false) w.command
 
--- where nothing but the end can happen, the services are still
-pub still_so : (v : Own) → DoesAgree v → ((s : KvsStep) → can_step v.instance.services s ≡ false) → ((a : ℕ) → has_answer v.instance.services v.instance.seats a ≡ false) → IsStill v.instance.services
-still_so v h steps answers = record { steps = steps; answers = none_taken v h answers }
+nothing_found : {A : Type 0} (o : Option A) → is_some o ≡ false → o ≡ None
+nothing_found None e = refl
+nothing_found (Some x) e = absurd (true≢false e)
+
+-- nothing can be made but an issue or the end
+pub record CanDoNothing (v : InstanceValue) : Type 0 where
+  pub steps : (s : KvsStep) → can_step v.services s ≡ false
+  pub answers : (a : ℕ) → has_answer v.services v.seats a ≡ false
+  pub posts : can_post v ≡ false
+  pub ticks : can_tick v ≡ false
+
+-- there the services are still
+pub still_so : (v : Own) → DoesAgree v → CanDoNothing v.instance → IsStill v.instance.services
+still_so v h rest = record {
+  steps = rest.steps;
+  answers = none_taken v h rest.answers;
+  unfound = nothing_found v.instance.services.jobs.found rest.posts;
+  late = rest.ticks;
+  untold = none_told v h rest.answers;
+}
+
+-- the core stands where the log of the service leaves it
+pub core_agrees : (v : Own) → DoesAgree v → Agrees v.instance.services.jobs.manager.core (setting_of v.set) (log_of v.set.work top v.chronicle)
+core_agrees v h = subst (Agrees v.instance.services.jobs.manager.core (setting_of v.set)) (served_log v.set.work v.chronicle) h.agrees.jobs.core
+
+-- no command of a workload shuts an instance down
+never_shuts : (c : Command) → job_ask_of c ≡ Some rules.Shutdown → ⊥
+never_shuts (command.Submit label urgency depends spec) e = cc
+never_shuts (command.Cancel label) e = cc
+never_shuts (command.Raise label kind severity note) e = cc
+never_shuts (command.Urgency label urgency) e = cc
+never_shuts (command.StateOf label) e = cc
+never_shuts (command.Info label shown) e = cc
+never_shuts command.Jobs e = cc
+never_shuts (command.Why label) e = cc
+never_shuts (command.ResultOf label) e = cc
+never_shuts (command.Advance seconds) e = cc
+never_shuts _ e = cc
+
+never_shuts_so : (o : Option Command) → option_and_then job_ask_of o ≡ Some rules.Shutdown → ⊥
+never_shuts_so None e = cc
+never_shuts_so (Some c) e = never_shuts c e
+
+no_shutdown : (work : Workload) (by : By) → job_ask_at work by ≢ Some rules.Shutdown
+no_shutdown work by = never_shuts_so (command_at work by)
 
 -- what the services promise where they are still
-abbrev pub IsStillQuiet : Own → Type 0
-IsStillQuiet v = (set : Setting) (log : Log) → AgreesServices v.instance.services set log → IsStill v.instance.services → IsQuiet set log
+pub record IsStillSo (v : Own) : Type 0 where
+  pub quiet : (i : Instance) (l : InstanceLog) → AgreesServices v.instance.services i l → IsStill v.instance.services → IsQuiet i.service (service_of l)
+  pub heard : (i : Instance) (l : InstanceLog) → AgreesServices v.instance.services i l → IsStill v.instance.services → (broker : ℕ) (space : Name) → broker < i.service.size → is_live (service_of l) space ≡ true → IsSome (heard (service_of l) broker space)
+  pub idle : (i : Instance) (l : InstanceLog) → AgreesServices v.instance.services i l → IsStill v.instance.services → OfDesk i l IsIdle
+  pub advanced : (i : Instance) (l : InstanceLog) (living : Living) → AgreesServices v.instance.services i l → IsStill v.instance.services → IsTop i l living → (target : ℕ) → IsTarget (living ∷ []) [] target → ⊥
+  pub left : (i : Instance) (l : InstanceLog) → AgreesServices v.instance.services i l → IsStill v.instance.services → (by : By) → IsSome (i.asks by) → i.asks by ≢ Some rules.Shutdown → rules.IsOpen by l → IsSome (awaited v.instance.services.jobs by)
+  pub results : (i : Instance) (l : InstanceLog) (living : Living) → AgreesServices v.instance.services i l → IsTop i l living → (by : By) (where_ : State) → awaited v.instance.services.jobs by ≡ Some where_ → IsLeftResult living by where_
 
--- and of the namespaces that live there
-abbrev pub IsStillHeard : Own → Type 0
-IsStillHeard v = (set : Setting) (log : Log) → AgreesServices v.instance.services set log → IsStill v.instance.services → (broker : ℕ) (space : Name) → broker < set.size → is_live log space ≡ true → IsSome (heard log broker space)
+module _ (v : Own) (h : DoesAgree v) (rest : CanDoNothing v.instance) (promise : IsStillSo v) where
+  still_here : IsStill v.instance.services
+  still_here = still_so v h rest
 
--- where no step of the services and no reply can be made, all brokers are told
-pub told_so : (v : Own) → DoesAgree v → ((s : KvsStep) → can_step v.instance.services s ≡ false) → ((a : ℕ) → has_answer v.instance.services v.instance.seats a ≡ false) → IsStillQuiet v → HasToldAll v.set v.chronicle
-told_so v h steps answers promise = (promise (setting_of v.set) (log_of v.set.work top v.chronicle) h.agrees (still_so v h steps answers)).told
+  pub quiet_so : IsQuiet (setting_of v.set) (log_of v.set.work top v.chronicle)
+  quiet_so = subst (IsQuiet (setting_of v.set)) (served_log v.set.work v.chronicle) (promise.quiet (instance_of v.set) (log_in v.set.work v.chronicle) h.agrees still_here)
+
+  pub heard_so : (broker : ℕ) (space : Name) → broker < v.set.size → is_live (log_of v.set.work top v.chronicle) space ≡ true → IsSome (heard (log_of v.set.work top v.chronicle) broker space)
+  heard_so =
+      subst (λ l. (broker : ℕ) (space : Name) → broker < v.set.size → is_live l space ≡ true → IsSome (heard l broker space)) (served_log v.set.work v.chronicle)
+      (promise.heard (instance_of v.set) (log_in v.set.work v.chronicle) h.agrees still_here)
+
+  -- the run has come to rest
+  pub rest_so : HasComeToRest v.set v.chronicle
+  rest_so = has_rest v.set v.chronicle (promise.quiet (instance_of v.set) (log_in v.set.work v.chronicle) h.agrees still_here).told
+      (promise.idle (instance_of v.set) (log_in v.set.work v.chronicle) h.agrees still_here)
+
+  -- and may end
+  pub closes_so : MayClose (family_of v.set v.chronicle) []
+  closes_so = may_close v.set v.chronicle rest_so
+      (no_advance_left v.set v.chronicle (λ living is. promise.advanced (instance_of v.set) (log_in v.set.work v.chronicle) living h.agrees still_here is))
+
+  -- the job commands that are open wait for results
+  pub results_so : AreResults v h
+  results_so by asks waits = on (awaited v.instance.services.jobs by) refl (promise.left (instance_of v.set) (log_in v.set.work v.chronicle) h.agrees still_here by asks (no_shutdown v.set.work by) waits)
+    where
+      on : (o : Option State) → awaited v.instance.services.jobs by ≡ o → IsSome o → IsStuckResult v by
+      on None e some = absurd (true≢false (sym some))
+      on (Some where_) e some = record {
+        where_ = where_;
+        awaits = e;
+        left = promise.results (instance_of v.set) (log_in v.set.work v.chronicle) (living_of v.set v.chronicle) h.agrees (is_top v.set v.chronicle) by where_ e;
+      }

@@ -1,4 +1,4 @@
--- On the commands of a workload that a run carries out so far.
+-- On the commands of a workload.
 use Rattle.std.proofs.Common.{◌≡◌, ◌≢◌, ℕ, zero, suc, ◌+◌, ◌-◌, ◌<◌, ◌≤◌, ◌==◌, inl, inr, ne_eqb, add-one, List, [], ◌∷◌, ◌++◌, length, Bool, true, false, cond, refl, sym, ap, ◌∙◌, arith, take, drop, filter_map, count_by, Option, Some, None, get_or, All, eq-eqb, append-nil, ◌||◌}
 use Rattle.std.specs.Prelude.{slice_get, nat_lt}
 use Rattle.std.specs.Option.{option_map_or}
@@ -11,6 +11,7 @@ use Rattle.std.proofs.lemmas.Bool.{cases_lt, lt-ltb, le-ltb}
 use Rattle.std.proofs.lemmas.List.Folds.{list_any-append}
 use Rattle.std.proofs.Math.Seq.{take-suc, drop-cons}
 use Rattle.kvs_txn.specs.declared.txn.By.{By}
+use Rattle.kvs_txn.specs.declared.txn.Op.{Op}
 use Rattle.kvs_txn.specs.declared.txn.Op.TheVariants as op
 use Rattle.kvs_model.specs.Store.{Name}
 use Rattle.kvs_rules.specs.Namespaces.{primary}
@@ -20,9 +21,10 @@ use Rattle.workload.specs.declared.work.Command.{Command}
 use Rattle.workload.specs.declared.work.Command.TheVariants as command
 use Rattle.workload.specs.declared.work.Line.{Line}
 use Rattle.workload.specs.declared.work.Workload.{Workload}
+use Rattle.workload.specs.Laws.{IsBuilt}
 use Rattle.answers.specs.Commands.{commands_of, command_at, used_name, namespace_at, subject_of, subject_at, op_of, takes_staged, since_last, staged_at, most_staged}
 use Rattle.instance.specs.declared.seats.Seat.{Seat}
-use Rattle.instance.specs.Seats.{IsKnownCommand, ops_after, space_after}
+use Rattle.instance.specs.Seats.{ops_after, space_after, with_op}
 use Rattle.instance.specs.Agrees.{command_of, is_of, IsPlaced}
 use Rattle.instance.proofs.Listing.{count-append}
 
@@ -140,70 +142,39 @@ take_push n xs y = elim (cases_lt (length xs) n) [
       take-append-le n xs (y ∷ []) above ∙ sym (ap (λ b. cond b (take n xs ++ y ∷ []) (take n xs)) full)
 ]
 
-staged_with : (c : Command) → IsKnownCommand c → (xs : List Command) → take most_staged (filter_map op_of (cond (takes_staged c) [] (since_last takes_staged xs ++ c ∷ []))) ≡ ops_after c (take most_staged (filter_map op_of (since_last takes_staged xs)))
-staged_with (command.Put path bytes) h xs =
-    ap (take most_staged) (filter_map-append op_of (since_last takes_staged xs) (command.Put path bytes ∷ []))
-    ∙ take_push most_staged (filter_map op_of (since_last takes_staged xs)) (op.Put path bytes)
-staged_with command.Commit h xs = refl
-staged_with (command.Get path) h xs =
-    ap (take most_staged) (filter_map-append op_of (since_last takes_staged xs) (command.Get path ∷ []) ∙ append-nil (filter_map op_of (since_last takes_staged xs)))
-staged_with (command.Append path bytes) h xs =
-    ap (take most_staged) (filter_map-append op_of (since_last takes_staged xs) (command.Append path bytes ∷ []))
-    ∙ take_push most_staged (filter_map op_of (since_last takes_staged xs)) (op.Append path bytes)
-staged_with (command.Unlink path) h xs =
-    ap (take most_staged) (filter_map-append op_of (since_last takes_staged xs) (command.Unlink path ∷ []))
-    ∙ take_push most_staged (filter_map op_of (since_last takes_staged xs)) (op.Unlink path)
-staged_with (command.Mkdir path) h xs =
-    ap (take most_staged) (filter_map-append op_of (since_last takes_staged xs) (command.Mkdir path ∷ []))
-    ∙ take_push most_staged (filter_map op_of (since_last takes_staged xs)) (op.Mkdir path)
-staged_with (command.Symlink path target) h xs =
-    ap (take most_staged) (filter_map-append op_of (since_last takes_staged xs) (command.Symlink path target ∷ []))
-    ∙ take_push most_staged (filter_map op_of (since_last takes_staged xs)) (op.Link path target)
-staged_with (command.Fence name count) h xs = refl
-staged_with (command.Ls path) h xs =
-    ap (take most_staged) (filter_map-append op_of (since_last takes_staged xs) (command.Ls path ∷ []) ∙ append-nil (filter_map op_of (since_last takes_staged xs)))
-staged_with (command.Readlink path) h xs =
-    ap (take most_staged) (filter_map-append op_of (since_last takes_staged xs) (command.Readlink path ∷ []) ∙ append-nil (filter_map op_of (since_last takes_staged xs)))
-staged_with command.Getroot h xs = absurd h
-staged_with (command.Wait number) h xs =
-    ap (take most_staged) (filter_map-append op_of (since_last takes_staged xs) (command.Wait number ∷ []) ∙ append-nil (filter_map op_of (since_last takes_staged xs)))
-staged_with (command.Tell actor) h xs =
-    ap (take most_staged) (filter_map-append op_of (since_last takes_staged xs) (command.Tell actor ∷ []) ∙ append-nil (filter_map op_of (since_last takes_staged xs)))
-staged_with (command.NsCreate name) h xs =
-    ap (take most_staged) (filter_map-append op_of (since_last takes_staged xs) (command.NsCreate name ∷ []) ∙ append-nil (filter_map op_of (since_last takes_staged xs)))
-staged_with (command.NsRemove name) h xs =
-    ap (take most_staged) (filter_map-append op_of (since_last takes_staged xs) (command.NsRemove name ∷ []) ∙ append-nil (filter_map op_of (since_last takes_staged xs)))
-staged_with (command.NsUse name) h xs =
-    ap (take most_staged) (filter_map-append op_of (since_last takes_staged xs) (command.NsUse name ∷ []) ∙ append-nil (filter_map op_of (since_last takes_staged xs)))
-staged_with (command.ContentStore bytes) h xs =
-    ap (take most_staged) (filter_map-append op_of (since_last takes_staged xs) (command.ContentStore bytes ∷ []) ∙ append-nil (filter_map op_of (since_last takes_staged xs)))
-staged_with (command.ContentLoad reference) h xs =
-    ap (take most_staged) (filter_map-append op_of (since_last takes_staged xs) (command.ContentLoad reference ∷ []) ∙ append-nil (filter_map op_of (since_last takes_staged xs)))
-staged_with command.ContentFlush h xs =
-    ap (take most_staged) (filter_map-append op_of (since_last takes_staged xs) (command.ContentFlush ∷ []) ∙ append-nil (filter_map op_of (since_last takes_staged xs)))
-staged_with command.ContentDrop h xs =
-    ap (take most_staged) (filter_map-append op_of (since_last takes_staged xs) (command.ContentDrop ∷ []) ∙ append-nil (filter_map op_of (since_last takes_staged xs)))
-staged_with (command.Submit label urgency depends spec) h xs = absurd h
-staged_with (command.Cancel label) h xs = absurd h
-staged_with (command.Raise label kind severity note) h xs = absurd h
-staged_with (command.Urgency label urgency) h xs = absurd h
-staged_with (command.StateOf label) h xs = absurd h
-staged_with (command.Info label key) h xs = absurd h
-staged_with command.Jobs h xs = absurd h
-staged_with (command.Why label) h xs = absurd h
-staged_with (command.ResultOf label) h xs = absurd h
-staged_with (command.Advance seconds) h xs = absurd h
+-- a command that stages nothing leaves what is staged
+staged_still : (c : Command) → op_of c ≡ None → (xs : List Command) → take most_staged (filter_map op_of (since_last takes_staged xs ++ c ∷ [])) ≡ take most_staged (filter_map op_of (since_last takes_staged xs))
+staged_still c none xs =
+    ap (take most_staged) (filter_map-append op_of (since_last takes_staged xs) (c ∷ [])
+    ∙ ap (λ o. filter_map op_of (since_last takes_staged xs) ++ cons_option o []) none
+    ∙ append-nil (filter_map op_of (since_last takes_staged xs)))
 
-pub staged_on : (work : Workload) (a i : ℕ) (c : Command) → IsKnownCommand c → command_at work (command_of a i) ≡ Some c → staged_at work (command_of a (i + 1)) ≡ ops_after c (staged_at work (command_of a i))
-staged_on work a i c known at =
+staged_more : (c : Command) (o : Op) → op_of c ≡ Some o → (xs : List Command) → take most_staged (filter_map op_of (since_last takes_staged xs ++ c ∷ [])) ≡ with_op (take most_staged (filter_map op_of (since_last takes_staged xs))) o
+staged_more c o some xs =
+    ap (take most_staged) (filter_map-append op_of (since_last takes_staged xs) (c ∷ [])
+    ∙ ap (λ p. filter_map op_of (since_last takes_staged xs) ++ cons_option p []) some)
+    ∙ take_push most_staged (filter_map op_of (since_last takes_staged xs)) o
+
+staged_with : (c : Command) → (xs : List Command) → take most_staged (filter_map op_of (cond (takes_staged c) [] (since_last takes_staged xs ++ c ∷ []))) ≡ ops_after c (take most_staged (filter_map op_of (since_last takes_staged xs)))
+staged_with (command.Put path bytes) xs = staged_more (command.Put path bytes) (op.Put path bytes) refl xs
+staged_with (command.Append path bytes) xs = staged_more (command.Append path bytes) (op.Append path bytes) refl xs
+staged_with (command.Unlink path) xs = staged_more (command.Unlink path) (op.Unlink path) refl xs
+staged_with (command.Mkdir path) xs = staged_more (command.Mkdir path) (op.Mkdir path) refl xs
+staged_with (command.Symlink path target) xs = staged_more (command.Symlink path target) (op.Link path target) refl xs
+staged_with command.Commit xs = refl
+staged_with (command.Fence name count) xs = refl
+staged_with c xs = staged_still c refl xs
+
+pub staged_on : (work : Workload) (a i : ℕ) (c : Command) → command_at work (command_of a i) ≡ Some c → staged_at work (command_of a (i + 1)) ≡ ops_after c (staged_at work (command_of a i))
+staged_on work a i c at =
     let cs = commands_of work a in
     let below : i < length cs = slice_get_within cs i c at in
     let grown : take (i + 1) cs ≡ take i cs ++ c ∷ [] =
     ap (λ n. take n cs) (add-one i) ∙ take-suc cs i c below ∙ ap (λ x. take i cs ++ x ∷ []) (get_or_from_slice_get cs i c c at) in
     ap (λ xs. take most_staged (filter_map op_of (since_last takes_staged xs))) grown
     ∙ ap (λ xs. take most_staged (filter_map op_of xs)) (since_push takes_staged (take i cs) c)
-    ∙ staged_with c known (take i cs)
+    ∙ staged_with c (take i cs)
 
--- a line's command is one that is known
-pub known_at : (work : Workload) → All (λ l. IsKnownCommand l.command) work.lines → (k : ℕ) (d : Line) → k < length work.lines → IsKnownCommand (get_or work.lines k d).command
+-- a line's command is one of a verb that is built
+pub known_at : (work : Workload) → All (λ l. IsBuilt l.command) work.lines → (k : ℕ) (d : Line) → k < length work.lines → IsBuilt (get_or work.lines k d).command
 known_at work known k d below = known k d below

@@ -1,8 +1,8 @@
 -- A run that can end is whole with the closing replies behind it.
-use Rattle.std.proofs.Common.{◌≡◌, ◌≢◌, ℕ, suc, ◌+◌, ◌-◌, ◌<◌, ◌≤◌, ◌==◌, ◌⊎◌, inl, inr, List, [], ◌∷◌, ◌++◌, length, map, Bool, true, false, ◌&&◌, ◌||◌, cond, refl, sym, ap, ap₂, ◌∙◌, subst, arith, append-nil, append_assoc, count_by, take, drop, get_or, Option, Some, None, ne_eqb, eq-eqb, true≢false, Contains}
+use Rattle.std.proofs.Common.{◌≡◌, ◌≢◌, ℕ, suc, ◌+◌, ◌-◌, ◌<◌, ◌≤◌, ◌==◌, ◌⊎◌, inl, inr, List, [], ◌∷◌, ◌++◌, length, map, Bool, true, false, ◌&&◌, ◌||◌, cond, refl, sym, ap, ap₂, ◌∙◌, subst, arith, count_by, take, drop, get_or, Option, Some, None, ne_eqb, eq-eqb, true≢false, Contains}
 use Rattle.std.specs.Prelude.{slice_get, nat_lt, IfSome, IsSome, IsNone, IsTrue, option_and_then, unwrap_or}
 use Rattle.std.specs.Option.{option_map_or, is_some}
-use Rattle.std.specs.List.{AllByRecursion as Each, cons_option, list_any, range_with_len}
+use Rattle.std.specs.List.{AllByRecursion as Each, list_any, range_with_len}
 use Rattle.std.specs.Str.{bytes_eq}
 use Rattle.std.proofs.lemmas.Bool.{cases_lt, cases_eq, lt-ltb, le-ltb}
 use Rattle.std.proofs.lemmas.List.{take_all, take-append-drop, length-map}
@@ -27,12 +27,18 @@ use Rattle.answers.specs.declared.chronicle.Reply.TheVariants as reply
 use Rattle.answers.specs.Chronicle.{top, issues, is_issued, replies_to}
 use Rattle.answers.specs.Commands.{broker_of, command_at, commands_of, subject_at}
 use Rattle.answers.specs.Legal.{HasEntryGrounds, IsLegalEntry}
-use Rattle.answers.specs.Services.{setting_of, log_of, moment_of}
-use Rattle.answers.specs.Whole.{HasToldAll, IsWhole, IsGrounded, IsClosingEntry, has_ended, is_closing, is_end, is_unfinished, joins, leaves_member, leaves_of}
-use Rattle.answers.proofs.Services.{asked_issued, issued_below, log_push}
+use Rattle.answers.specs.Jobs.{happening_of, job_ask_at, log_in}
+use Rattle.answers.specs.Services.{setting_of, log_of}
+use Rattle.instance_rules.specs.Family.{IsLeftResult}
+use Rattle.instance_rules.specs.Log.{JobAsk, Log as InstanceLog, service_of}
+use Rattle.job_states.specs.declared.job.State.{State}
+use Rattle.answers.specs.Whole.{IsWhole, IsGrounded, IsClosingEntry, has_ended, is_closing, is_end, is_unfinished, joins, leaves_member, leaves_of}
+use Rattle.answers.proofs.Services.{asked_issued, issued_below}
 use Rattle.instance.specs.declared.seats.Seat.{Seat}
-use Rattle.instance.specs.Seats.{is_free, replied_of}
-use Rattle.instance.specs.Closings.{closings, closings_at, closings_of, is_served, left_reply, not_reached, open_command, unfinished_at, waiting_in, waits_in}
+use Rattle.instance.specs.declared.seats.Waiting.{Waiting}
+use Rattle.instance.specs.declared.seats.Waiting.TheVariants as waiting
+use Rattle.instance.specs.Seats.{last_command, replied_of}
+use Rattle.instance.specs.Closings.{closings, closings_at, closings_of, left_reply, not_reached, open_command, unfinished_as, waiting_in, waits_in}
 use Rattle.instance.specs.Makes.{Ends}
 use Rattle.instance.specs.Agrees.{is_of, command_of, Stands, ActorStands}
 use Rattle.instance.specs.Steps.{IsOver}
@@ -40,12 +46,12 @@ use Rattle.instance.proofs.Owning.{Own, DoesAgree}
 use Rattle.instance.proofs.Listing.{any_left, count-append}
 use Rattle.instance.proofs.Ranges.{counted_flat, counted_none, counted_one, counted_range, contained_flat, distinct_passed, each_flat, each_mapped, each_passed, no_more_than}
 use Rattle.instance.proofs.Commanding.{own_length}
-use Rattle.instance.proofs.Leaving.{IsCause, IsDone, IsLeft, IsStuckFence, in_fence, numbers_of, seat_told, told_of}
+use Rattle.instance.proofs.Leaving.{IsCause, IsDone, IsLeft, IsStuckFence, ends_at, in_fence, numbers_of, seat_told, states_of, told_of}
 use Rattle.answers.proofs.Carried.{unasked_uncarried}
-use Rattle.answers.proofs.JobLogs.{asks_nothing}
-use Rattle.answers.proofs.Resting.{may_close}
-use Rattle.instance.proofs.Jobless.{without_jobs}
-use Rattle.instance.proofs.Closing.{IsStillHeard, IsStillQuiet, left_of, past_all, still_so}
+use Rattle.instance.proofs.Closing.{AreResults, CanDoNothing, IsStillSo, closes_so, heard_so, left_of, past_all, quiet_so, results_so}
+use Rattle.instance.proofs.Families.{closes_at_end, same_living, told_at_end}
+use Rattle.instance.proofs.Logs.{log_closed, log_without, served_log}
+use Rattle.instance.proofs.Results.{unissued_uncarried}
 use Rattle.instance.proofs.Going.{unended}
 use Rattle.instance.proofs.Seeing.{name_is}
 
@@ -56,24 +62,29 @@ left_closes had lines seats space (command.Fence name count) = refl
 left_closes had lines seats space (command.Wait number) = refl
 left_closes had lines seats space _ = tt
 
-told_closing : (numbers : ℕ → Name → ℕ) (lines : List Line) (seats : List Seat) (a : ℕ) → Each IsClosingEntry (closings_of numbers lines seats a)
-told_closing numbers lines seats a = on (slice_get seats a)
+unfinished_closes : (w : Waiting) (had : ℕ) (left : Option State) (lines : List Line) (seats : List Seat) (seat : Seat) → IfSome (unfinished_as w had left lines seats seat) (λ given. IsTrue (is_closing given))
+unfinished_closes waiting.Service had left lines seats seat = on (open_command lines seat)
   where
-    on : (o : Option Seat) → Each IsClosingEntry (option_map_or (λ seat. option_map_or (closings_at lines a seat) (unfinished_at (numbers seat.broker seat.subject) lines seats seat) []) o [])
+    on : (c : Option Command) → IfSome (option_and_then (left_reply had lines seats seat.subject) c) (λ given. IsTrue (is_closing given))
     on None = tt
-    on (Some seat) = by (unfinished_at (numbers seat.broker seat.subject) lines seats seat) (closes (is_served seat.waiting) (open_command lines seat))
-      where
-        closes : (b : Bool) (c : Option Command) → IfSome (cond b (option_and_then (left_reply (numbers seat.broker seat.subject) lines seats seat.subject) c) None) (λ given. IsTrue (is_closing given))
-        closes false c = tt
-        closes true None = tt
-        closes true (Some c) = left_closes (numbers seat.broker seat.subject) lines seats seat.subject c
+    on (Some c) = left_closes had lines seats seat.subject c
+unfinished_closes waiting.Jobs had None lines seats seat = tt
+unfinished_closes waiting.Jobs had (Some where_) lines seats seat = refl
+unfinished_closes _ had left lines seats seat = tt
 
+told_closing : (numbers : ℕ → Name → ℕ) (states : By → Option State) (lines : List Line) (seats : List Seat) (a : ℕ) → Each IsClosingEntry (closings_of numbers states lines seats a)
+told_closing numbers states lines seats a = on (slice_get seats a)
+  where
+    on : (o : Option Seat) → Each IsClosingEntry (option_map_or (λ seat. option_map_or (closings_at lines a seat) (ends_at numbers states lines seats a seat) []) o [])
+    on None = tt
+    on (Some seat) = by (ends_at numbers states lines seats a seat) (unfinished_closes seat.waiting (numbers seat.broker seat.subject) (states (last_command a seat)) lines seats seat)
+      where
         by : (f : Option Reply) → IfSome f (λ given. IsTrue (is_closing given)) → Each IsClosingEntry (option_map_or (closings_at lines a seat) f [])
         by None h = tt
         by (Some given) h = ((h, refl), each_mapped IsClosingEntry (λ number. entry.Replied a number reply.NotReached None) seat.issued (count_by (is_of a) lines - seat.issued) (λ k low. (refl, refl)))
 
-pub all_closing : (numbers : ℕ → Name → ℕ) (lines : List Line) (seats : List Seat) → Each IsClosingEntry (closings numbers lines seats)
-all_closing numbers lines seats = each_flat IsClosingEntry (closings_of numbers lines seats) (told_closing numbers lines seats) (range_with_len 0 (length seats))
+pub all_closing : (numbers : ℕ → Name → ℕ) (states : By → Option State) (lines : List Line) (seats : List Seat) → Each IsClosingEntry (closings numbers states lines seats)
+all_closing numbers states lines seats = each_flat IsClosingEntry (closings_of numbers states lines seats) (told_closing numbers states lines seats) (range_with_len 0 (length seats))
 
 -- ---- small facts
 
@@ -116,7 +127,7 @@ none_ended (entry.Closed ∷ es) h = absurd h.0
 
 -- ---- what is left at the end
 
-module _ (v : Own) (h : DoesAgree v) (over : IsOver v.set.work.lines v.instance) (promise : IsStillQuiet v) (hears : IsStillHeard v) where
+module _ (v : Own) (h : DoesAgree v) (over : IsOver v.set.work.lines v.instance) (promise : IsStillSo v) where
   abbrev log : Log
   log = log_of v.set.work top v.chronicle
 
@@ -124,7 +135,7 @@ module _ (v : Own) (h : DoesAgree v) (over : IsOver v.set.work.lines v.instance)
   lines = v.set.work.lines
 
   abbrev left : List Entry
-  left = closings (numbers_of v) lines v.instance.seats
+  left = closings (numbers_of v) (states_of v) lines v.instance.seats
 
   abbrev told : List Entry
   told = v.chronicle ++ left
@@ -132,11 +143,17 @@ module _ (v : Own) (h : DoesAgree v) (over : IsOver v.set.work.lines v.instance)
   abbrev whole : List Entry
   whole = told ++ entry.Closed ∷ []
 
+  rest : CanDoNothing v.instance
+  rest = record { steps = over.steps; answers = over.answers; posts = over.posts; ticks = over.ticks }
+
   quiet : IsQuiet (setting_of v.set) log
-  quiet = promise (setting_of v.set) log h.agrees (still_so v h over.steps over.answers)
+  quiet = quiet_so v h rest promise
+
+  results : AreResults v h
+  results = results_so v h rest promise
 
   ends : (a : ℕ) → IsDone v a ⊎ IsLeft v a
-  ends a = left_of v h over quiet a
+  ends a = left_of v h over quiet results a
 
   stands : (a : ℕ) (seat : Seat) → slice_get v.instance.seats a ≡ Some seat → ActorStands v.set log v.chronicle a (Some seat)
   stands a seat at = subst (ActorStands v.set log v.chronicle a) at (h.actors a)
@@ -146,7 +163,7 @@ module _ (v : Own) (h : DoesAgree v) (over : IsOver v.set.work.lines v.instance)
   open_by a l = command_of a (l.seat.issued - 1)
 
   abbrev left_told : (a : ℕ) → IsLeft v a → Reply
-  left_told a l = seat_told v a l.seat l.stuck.cause
+  left_told a l = seat_told v a l.seat l.cause
 
   -- a closing reply to the actor's command of this number
   abbrev member_told : (a : ℕ) → IsLeft v a → Entry
@@ -157,9 +174,9 @@ module _ (v : Own) (h : DoesAgree v) (over : IsOver v.set.work.lines v.instance)
 
   -- what holds of each closing reply, if it holds of those of members and of commands behind
   each_told : (P : Entry → Type 0) → ((a : ℕ) (l : IsLeft v a) → P (member_told a l)) → ((a : ℕ) (l : IsLeft v a) (k : ℕ) → l.seat.issued ≤ k → P (entry.Replied a k reply.NotReached None)) → Each P left
-  each_told P members rest = each_flat P (closings_of (numbers_of v) lines v.instance.seats) each_of (range_with_len 0 (length v.instance.seats))
+  each_told P members rest = each_flat P (closings_of (numbers_of v) (states_of v) lines v.instance.seats) each_of (range_with_len 0 (length v.instance.seats))
     where
-      each_of : (a : ℕ) → Each P (closings_of (numbers_of v) lines v.instance.seats a)
+      each_of : (a : ℕ) → Each P (closings_of (numbers_of v) (states_of v) lines v.instance.seats a)
       each_of a = elim (ends a) [
         | inl d ↦ subst (Each P) (sym d.replies) tt
         | inr l ↦ subst (Each P) (sym l.replies) (members a l, each_mapped P (λ number. entry.Replied a number reply.NotReached None) l.seat.issued (count_by (is_of a) lines - l.seat.issued) (rest a l))
@@ -169,21 +186,22 @@ module _ (v : Own) (h : DoesAgree v) (over : IsOver v.set.work.lines v.instance)
 
   -- as many closing replies are of members of this fence as actors wait in it
   counted : (space name : Name) → count_by (leaves_member v.set.work space name) left ≡ length (waiting_in lines v.instance.seats space name)
-  counted space name = counted_flat p (waits_in lines v.instance.seats space name) (closings_of (numbers_of v) lines v.instance.seats) each (range_with_len 0 (length v.instance.seats))
+  counted space name = counted_flat p (waits_in lines v.instance.seats space name) (closings_of (numbers_of v) (states_of v) lines v.instance.seats) each (range_with_len 0 (length v.instance.seats))
     where
       p : Entry → Bool
       p = leaves_member v.set.work space name
 
       joined : (a k had : ℕ) (own : Name) → subject_at v.set.work (command_of a k) ≡ own → (cause : IsCause v own (command_of a k)) → p (entry.Replied a k (told_of v own (command_of a k) had cause) None) ≡ in_fence v own (command_of a k) cause space name
-      joined a k had own subject (inl f) = ap₂ (λ s c. bytes_eq space s && joins name c) subject f.command
-      joined a k had own subject (inr w) = refl
+      joined a k had own subject (inl (inl f)) = ap₂ (λ s c. bytes_eq space s && joins name c) subject f.command
+      joined a k had own subject (inl (inr w)) = refl
+      joined a k had own subject (inr j) = refl
 
-      each : (a : ℕ) → count_by p (closings_of (numbers_of v) lines v.instance.seats a) ≡ cond (waits_in lines v.instance.seats space name a) 1 0
+      each : (a : ℕ) → count_by p (closings_of (numbers_of v) (states_of v) lines v.instance.seats a) ≡ cond (waits_in lines v.instance.seats space name a) 1 0
       each a = elim (ends a) [
         | inl d ↦ ap (count_by p) d.replies ∙ sym (ap (λ b. cond {A = ℕ} b 1 0) (d.waits space name))
         | inr l ↦
             let none : count_by p (rest_told a l) ≡ 0 = none_counted_in p (λ number. entry.Replied a number reply.NotReached None) (λ k. refl) (range_with_len l.seat.issued (count_by (is_of a) lines - l.seat.issued)) in
-            let own : p (member_told a l) ≡ in_fence v l.seat.subject (open_by a l) l.stuck.cause space name = joined a (l.seat.issued - 1) (numbers_of v l.seat.broker l.seat.subject) l.seat.subject l.stuck.subject l.stuck.cause in
+            let own : p (member_told a l) ≡ in_fence v l.seat.subject (open_by a l) l.cause space name = joined a (l.seat.issued - 1) (numbers_of v l.seat.broker l.seat.subject) l.seat.subject l.stuck.subject l.cause in
             let one : ◌≡◌ {A = ℕ} (cond (p (member_told a l)) 1 0) (cond (waits_in lines v.instance.seats space name a) 1 0) = ap (λ b. cond {A = ℕ} b 1 0) (own ∙ sym (l.waits space name)) in
             ap (count_by p) l.replies ∙ count-append p (member_told a l ∷ []) (rest_told a l) ∙ omega (arith, none, one)
       ]
@@ -200,7 +218,7 @@ module _ (v : Own) (h : DoesAgree v) (over : IsOver v.set.work.lines v.instance)
 
   -- all of them have the count of one that is short of members
   agreed : {by : By} (space : Name) (f : IsStuckFence v space by) → count_by (λ e. leaves_member v.set.work space f.name e && leaves_of f.count e) left ≡ length (waiting_in lines v.instance.seats space f.name)
-  agreed space f = counted_flat p (waits_in lines v.instance.seats space f.name) (closings_of (numbers_of v) lines v.instance.seats) each (range_with_len 0 (length v.instance.seats))
+  agreed space f = counted_flat p (waits_in lines v.instance.seats space f.name) (closings_of (numbers_of v) (states_of v) lines v.instance.seats) each (range_with_len 0 (length v.instance.seats))
     where
       p : Entry → Bool
       p = λ e. leaves_member v.set.work space f.name e && leaves_of f.count e
@@ -212,17 +230,18 @@ module _ (v : Own) (h : DoesAgree v) (over : IsOver v.set.work.lines v.instance)
           eq-eqb f.count g.count (sym (f.short.agreed by g.count (member_as f own by g both.0 both.1)))
 
       joined : (b k had : ℕ) (own : Name) → subject_at v.set.work (command_of b k) ≡ own → (cause : IsCause v own (command_of b k)) → p (entry.Replied b k (told_of v own (command_of b k) had cause) None) ≡ in_fence v own (command_of b k) cause space f.name
-      joined b k had own subject (inl g) =
+      joined b k had own subject (inl (inl g)) =
           ap₂ (λ s c. (bytes_eq space s && joins f.name c) && (f.count == g.count)) subject g.command
           ∙ agrees own (command_of b k) g (bytes_eq space own && bytes_eq f.name g.name) refl
-      joined b k had own subject (inr w) = refl
+      joined b k had own subject (inl (inr w)) = refl
+      joined b k had own subject (inr j) = refl
 
-      each : (b : ℕ) → count_by p (closings_of (numbers_of v) lines v.instance.seats b) ≡ cond (waits_in lines v.instance.seats space f.name b) 1 0
+      each : (b : ℕ) → count_by p (closings_of (numbers_of v) (states_of v) lines v.instance.seats b) ≡ cond (waits_in lines v.instance.seats space f.name b) 1 0
       each b = elim (ends b) [
         | inl d ↦ ap (count_by p) d.replies ∙ sym (ap (λ b. cond {A = ℕ} b 1 0) (d.waits space f.name))
         | inr m ↦
             let none : count_by p (rest_told b m) ≡ 0 = none_counted_in p (λ number. entry.Replied b number reply.NotReached None) (λ k. refl) (range_with_len m.seat.issued (count_by (is_of b) lines - m.seat.issued)) in
-            let own : p (member_told b m) ≡ in_fence v m.seat.subject (open_by b m) m.stuck.cause space f.name = joined b (m.seat.issued - 1) (numbers_of v m.seat.broker m.seat.subject) m.seat.subject m.stuck.subject m.stuck.cause in
+            let own : p (member_told b m) ≡ in_fence v m.seat.subject (open_by b m) m.cause space f.name = joined b (m.seat.issued - 1) (numbers_of v m.seat.broker m.seat.subject) m.seat.subject m.stuck.subject m.cause in
             let one : ◌≡◌ {A = ℕ} (cond (p (member_told b m)) 1 0) (cond (waits_in lines v.instance.seats space f.name b) 1 0) = ap (λ b. cond {A = ℕ} b 1 0) (own ∙ sym (m.waits space f.name)) in
             ap (count_by p) m.replies ∙ count-append p (member_told b m ∷ []) (rest_told b m) ∙ omega (arith, none, one)
       ]
@@ -256,8 +275,9 @@ module _ (v : Own) (h : DoesAgree v) (over : IsOver v.set.work.lines v.instance)
       omega (arith, few, long, f.short.short)
     where
       member_of : (own : Name) (by : By) (cause : IsCause v own by) → in_fence v own by cause space f.name ≡ true → IsMember (setting_of v.set) log space f.name f.count by
-      member_of own by (inr w) t = absurd (true≢false (sym t))
-      member_of own by (inl g) t =
+      member_of own by (inr j) t = absurd (true≢false (sym t))
+      member_of own by (inl (inr w)) t = absurd (true≢false (sym t))
+      member_of own by (inl (inl g)) t =
           let both = both_so (bytes_eq space own) (bytes_eq f.name g.name) t in
           let named = member_as f own by g both.0 both.1 in
           subst (λ (n : ℕ). IsMember (setting_of v.set) log space f.name n by) (f.short.agreed by g.count named) named
@@ -265,26 +285,30 @@ module _ (v : Own) (h : DoesAgree v) (over : IsOver v.set.work.lines v.instance)
       members : (b : ℕ) → waits_in lines v.instance.seats space f.name b ≡ true → IsMember (setting_of v.set) log space f.name f.count (opens b)
       members b t = elim (ends b) [
         | inl d ↦ absurd (true≢false (sym t ∙ d.waits space f.name))
-        | inr m ↦ subst (IsMember (setting_of v.set) log space f.name f.count) (ap (open_of b) (sym m.sits)) (member_of m.seat.subject (open_by b m) m.stuck.cause (sym (m.waits space f.name) ∙ t))
+        | inr m ↦ subst (IsMember (setting_of v.set) log space f.name f.count) (ap (open_of b) (sym m.sits)) (member_of m.seat.subject (open_by b m) m.cause (sym (m.waits space f.name) ∙ t))
       ]
 
   -- ---- closing replies make no moment and follow the chronicle
 
+  abbrev now : InstanceLog
+  now = log_in v.set.work v.chronicle
+
   abbrev IsEnding : Entry → Type 0
-  IsEnding e = ((c : List Entry) → moment_of v.set.work top c e ≡ None) × (is_end e ≡ false) × ((c : List Entry) → log_of v.set.work top c ≡ log → HasEntryGrounds v.set c e)
+  IsEnding e = ((c : List Entry) → happening_of v.set.work c e ≡ None) × (is_end e ≡ false) × ((c : List Entry) → log_of v.set.work top c ≡ log → HasEntryGrounds v.set c e)
 
   abbrev IsUndone : By → Log → Type 0
   IsUndone by l = (is_landed by l ≡ false) × (is_denied by l ≡ false)
 
   member_ending : (a : ℕ) (l : IsLeft v a) → IsEnding (member_told a l)
-  member_ending a l = by_cause l.stuck.cause
+  member_ending a l = by_cause l.cause
     where
       undone : (c : Log) → c ≡ log → IsUndone (open_by a l) c
-      undone c same = subst (IsUndone (open_by a l)) (sym same) (l.stuck.pending.unlanded, l.stuck.pending.undenied)
+      undone c same = subst (IsUndone (open_by a l)) (sym same) l.stuck.uncarried
 
       by_cause : (cause : IsCause v l.seat.subject (open_by a l)) → IsEnding (entry.Replied a (l.seat.issued - 1) (seat_told v a l.seat cause) None)
-      by_cause (inl f) = (λ c. refl, refl, λ c same. (refl, undone (log_of v.set.work top c) same))
-      by_cause (inr w) = (λ c. refl, refl, λ c same. (refl, undone (log_of v.set.work top c) same))
+      by_cause (inl (inl f)) = (λ c. refl, refl, λ c same. (refl, undone (log_of v.set.work top c) same))
+      by_cause (inl (inr w)) = (λ c. refl, refl, λ c same. (refl, undone (log_of v.set.work top c) same))
+      by_cause (inr j) = (λ c. refl, refl, λ c same. (refl, undone (log_of v.set.work top c) same))
 
   unissued : (a : ℕ) (l : IsLeft v a) (k : ℕ) → l.seat.issued ≤ k → is_issued (command_of a k) v.chronicle ≡ false
   unissued a l k low = on (is_issued (command_of a k) v.chronicle) refl
@@ -303,18 +327,22 @@ module _ (v : Own) (h : DoesAgree v) (over : IsOver v.set.work.lines v.instance)
       on false t = refl
       on true t = absurd (true≢false (sym (asked_issued v.set.work top (command_of a k) [] v.chronicle t) ∙ unissued a l k low))
 
+  -- no landing names a command that isn't issued
+  undone_so : (a : ℕ) (l : IsLeft v a) (k : ℕ) → l.seat.issued ≤ k → IsUndone (command_of a k) log
+  undone_so a l k low = on (job_ask_at v.set.work (command_of a k)) refl
+    where
+      on : (o : Option JobAsk) → job_ask_at v.set.work (command_of a k) ≡ o → IsUndone (command_of a k) log
+      on None none = unasked_uncarried v.set (command_of a k) none v.chronicle h.legal (unasked a l k low)
+      on (Some asked) some = unissued_uncarried v.set v.chronicle v.chronicle refl v.instance.services.jobs h.agrees.jobs (command_of a k) (ap is_some some) (unissued a l k low)
+
   rest_ending : (a : ℕ) (l : IsLeft v a) (k : ℕ) → l.seat.issued ≤ k → IsEnding (entry.Replied a k reply.NotReached None)
-  rest_ending a l k low = (
-    λ c. refl,
-    refl,
-    λ c same. (refl, subst (IsUndone (command_of a k)) (sym same) (unasked_uncarried v.set (command_of a k) (asks_nothing v.set.work (without_jobs v.set.work h.known) (command_of a k)) v.chronicle h.legal (unasked a l k low))),
-  )
+  rest_ending a l k low = (λ c. refl, refl, λ c same. (refl, subst (IsUndone (command_of a k)) (sym same) (undone_so a l k low)))
 
   all_ending : Each IsEnding left
   all_ending = each_told IsEnding member_ending rest_ending
 
   log_on : (c : List Entry) (e : Entry) → IsEnding e → log_of v.set.work top c ≡ log → log_of v.set.work top (c ++ e ∷ []) ≡ log
-  log_on c e g same = log_push v.set.work top c e ∙ ap (λ o. log_of v.set.work top c ++ cons_option o []) (g.0 c) ∙ append-nil (log_of v.set.work top c) ∙ same
+  log_on c e g same = sym (served_log v.set.work (c ++ e ∷ [])) ∙ ap service_of (log_without v.set.work c e (g.0 c)) ∙ served_log v.set.work c ∙ same
 
   legal_along : (es : List Entry) → Each IsEnding es → (c : List Entry) → has_ended c ≡ false → log_of v.set.work top c ≡ log → EachAfter (IsLegalEntry v.set) c es
   legal_along [] g c goes same = tt
@@ -323,18 +351,20 @@ module _ (v : Own) (h : DoesAgree v) (over : IsOver v.set.work.lines v.instance)
     legal_along es g.1 (c ++ e ∷ []) (list_any-append is_end c (e ∷ []) ∙ or_no (has_ended c) (is_end e || false) goes (or_no (is_end e) false g.0.1 refl)) (log_on c e g.0 same),
   )
 
-  log_along : (es : List Entry) → Each IsEnding es → (c : List Entry) → log_of v.set.work top c ≡ log → log_of v.set.work top (c ++ es) ≡ log
-  log_along [] g c same = ap (log_of v.set.work top) (append-nil c) ∙ same
-  log_along (e ∷ es) g c same = ap (log_of v.set.work top) (sym (append_assoc c (e ∷ []) es)) ∙ log_along es g.1 (c ++ e ∷ []) (log_on c e g.0 same)
+  closing_all : Each IsClosingEntry left
+  closing_all = all_closing (numbers_of v) (states_of v) lines v.instance.seats
+
+  now_whole : log_in v.set.work whole ≡ now
+  now_whole = log_closed v.set.work v.chronicle left closing_all
 
   log_whole : log_of v.set.work top whole ≡ log
-  log_whole = log_push v.set.work top told entry.Closed ∙ append-nil (log_of v.set.work top told) ∙ log_along left all_ending v.chronicle refl
+  log_whole = sym (served_log v.set.work whole) ∙ ap service_of now_whole ∙ served_log v.set.work v.chronicle
 
   earlier : has_ended v.chronicle ≡ false
   earlier = unended v.chronicle h.early
 
   goes_told : has_ended told ≡ false
-  goes_told = list_any-append is_end v.chronicle left ∙ or_no (has_ended v.chronicle) (has_ended left) earlier (none_ended left (all_closing (numbers_of v) lines v.instance.seats))
+  goes_told = list_any-append is_end v.chronicle left ∙ or_no (has_ended v.chronicle) (has_ended left) earlier (none_ended left (all_closing (numbers_of v) (states_of v) lines v.instance.seats))
 
   issued_still : (by : By) → is_issued by v.chronicle ≡ true → is_issued by whole ≡ true
   issued_still by t = any_left (issues by) told (entry.Closed ∷ []) (any_left (issues by) v.chronicle left t)
@@ -342,15 +372,15 @@ module _ (v : Own) (h : DoesAgree v) (over : IsOver v.set.work.lines v.instance)
   unissued_still : (by : By) → is_issued by v.chronicle ≡ false → is_issued by whole ≡ false
   unissued_still by f =
       list_any-append (issues by) told (entry.Closed ∷ [])
-      ∙ or_no (is_issued by told) false (list_any-append (issues by) v.chronicle left ∙ or_no (is_issued by v.chronicle) (is_issued by left) f (none_issued by left (all_closing (numbers_of v) lines v.instance.seats))) refl
+      ∙ or_no (is_issued by told) false (list_any-append (issues by) v.chronicle left ∙ or_no (is_issued by v.chronicle) (is_issued by left) f (none_issued by left (all_closing (numbers_of v) (states_of v) lines v.instance.seats))) refl
 
   -- of a namespace that lives each broker has heard the last landing
   told_number : (b : ℕ) (space : Name) → b < v.set.size → IsTrue (is_live log space) → heard log b space ≡ Some (landed log space)
   told_number b space low living =
-      quiet.told b space low (hears (setting_of v.set) log h.agrees (still_so v h over.steps over.answers) b space low living)
+      quiet.told b space low (heard_so v h rest promise b space low living)
 
   member_grounds : (a : ℕ) (l : IsLeft v a) → IsGrounded v.set whole left (member_told a l)
-  member_grounds a l = by_cause l.stuck.cause
+  member_grounds a l = by_cause l.cause
     where
       by : By
       by = open_by a l
@@ -379,7 +409,7 @@ module _ (v : Own) (h : DoesAgree v) (over : IsOver v.set.work.lines v.instance)
           ∙ ap Some (sym (had_is living))
 
       by_cause : (cause : IsCause v space by) → IsGrounded v.set whole left (entry.Replied a (l.seat.issued - 1) (seat_told v a l.seat cause) None)
-      by_cause (inl f) = (
+      by_cause (inl (inl f)) = (
         refl,
         (
           issued_still by begun,
@@ -393,7 +423,7 @@ module _ (v : Own) (h : DoesAgree v) (over : IsOver v.set.work.lines v.instance)
           },
         ),
       )
-      by_cause (inr w) = (
+      by_cause (inl (inr w)) = (
         refl,
         (
           issued_still by begun,
@@ -405,10 +435,18 @@ module _ (v : Own) (h : DoesAgree v) (over : IsOver v.set.work.lines v.instance)
           },
         ),
       )
+      by_cause (inr j) = (
+        refl,
+        (
+          issued_still by begun,
+          subst (λ living. IsLeftResult living by j.where_) (sym (same_living v.set whole v.chronicle now_whole)) j.left,
+        ),
+      )
 
   unfinished_so : (space : Name) (by : By) (had : ℕ) (cause : IsCause v space by) → IsTrue (is_unfinished (told_of v space by had cause))
-  unfinished_so space by had (inl f) = refl
-  unfinished_so space by had (inr w) = refl
+  unfinished_so space by had (inl (inl f)) = refl
+  unfinished_so space by had (inl (inr w)) = refl
+  unfinished_so space by had (inr j) = refl
 
   rest_grounds : (a : ℕ) (l : IsLeft v a) (k : ℕ) → l.seat.issued ≤ k → IsGrounded v.set whole left (entry.Replied a k reply.NotReached None)
   rest_grounds a l k low =
@@ -421,9 +459,9 @@ module _ (v : Own) (h : DoesAgree v) (over : IsOver v.set.work.lines v.instance)
             earlier = l.seat.issued - 1;
             before = omega (arith, some, low);
             given = left_told a l;
-            left = contained_flat (closings_of (numbers_of v) lines v.instance.seats) (member_told a l) a 0 (length v.instance.seats) (omega arith) (omega (arith, within))
+            left = contained_flat (closings_of (numbers_of v) (states_of v) lines v.instance.seats) (member_told a l) a 0 (length v.instance.seats) (omega arith) (omega (arith, within))
                 (subst (λ es. Contains es (member_told a l)) (sym l.replies) (Contains-get_or (member_told a l ∷ rest_told a l) 0 (member_told a l) (omega arith)));
-            unfinished = unfinished_so l.seat.subject (open_by a l) (numbers_of v l.seat.broker l.seat.subject) l.stuck.cause;
+            unfinished = unfinished_so l.seat.subject (open_by a l) (numbers_of v l.seat.broker l.seat.subject) l.cause;
           },
         ),
       )
@@ -437,7 +475,7 @@ module _ (v : Own) (h : DoesAgree v) (over : IsOver v.set.work.lines v.instance)
     abbrev mine : Entry → Bool
     mine = replies_to by
 
-    other_replies : (a : ℕ) → a ≢ by.actor → count_by mine (closings_of (numbers_of v) lines v.instance.seats a) ≡ 0
+    other_replies : (a : ℕ) → a ≢ by.actor → count_by mine (closings_of (numbers_of v) (states_of v) lines v.instance.seats a) ≡ 0
     other_replies a apart = elim (ends a) [
       | inl d ↦ ap (count_by mine) d.replies
       | inr l ↦
@@ -447,24 +485,24 @@ module _ (v : Own) (h : DoesAgree v) (over : IsOver v.set.work.lines v.instance)
           ap (count_by mine) l.replies ∙ count-append mine (member_told a l ∷ []) (rest_told a l) ∙ omega (arith, head, tail)
     ]
 
-    own_replies : count_by mine left ≡ count_by mine (closings_of (numbers_of v) lines v.instance.seats by.actor)
+    own_replies : count_by mine left ≡ count_by mine (closings_of (numbers_of v) (states_of v) lines v.instance.seats by.actor)
     own_replies = elim (cases_lt by.actor (length v.instance.seats)) [
-      | inl low ↦ counted_one mine (closings_of (numbers_of v) lines v.instance.seats) by.actor other_replies 0 (length v.instance.seats) (omega arith) (omega (arith, low))
-      | inr high ↦ counted_none mine (closings_of (numbers_of v) lines v.instance.seats) by.actor other_replies 0 (length v.instance.seats) (omega (arith, high)) ∙ sym (nobody high (ends by.actor))
+      | inl low ↦ counted_one mine (closings_of (numbers_of v) (states_of v) lines v.instance.seats) by.actor other_replies 0 (length v.instance.seats) (omega arith) (omega (arith, low))
+      | inr high ↦ counted_none mine (closings_of (numbers_of v) (states_of v) lines v.instance.seats) by.actor other_replies 0 (length v.instance.seats) (omega (arith, high)) ∙ sym (nobody high (ends by.actor))
     ]
       where
-        nobody : length v.instance.seats ≤ by.actor → IsDone v by.actor ⊎ IsLeft v by.actor → count_by mine (closings_of (numbers_of v) lines v.instance.seats by.actor) ≡ 0
+        nobody : length v.instance.seats ≤ by.actor → IsDone v by.actor ⊎ IsLeft v by.actor → count_by mine (closings_of (numbers_of v) (states_of v) lines v.instance.seats by.actor) ≡ 0
         nobody high (inl d) = ap (count_by mine) d.replies
         nobody high (inr l) = let low = slice_get_within v.instance.seats by.actor l.seat l.sits in absurd (omega (arith, low, high))
 
     abbrev total : ℕ
-    total = count_by mine v.chronicle + count_by mine (closings_of (numbers_of v) lines v.instance.seats by.actor)
+    total = count_by mine v.chronicle + count_by mine (closings_of (numbers_of v) (states_of v) lines v.instance.seats by.actor)
 
     replies_whole : count_by mine whole ≡ total
     replies_whole =
         let closed : count_by mine whole ≡ count_by mine told + 0 = count-append mine told (entry.Closed ∷ []) in
         let parts : count_by mine told ≡ count_by mine v.chronicle + count_by mine left = count-append mine v.chronicle left in
-        let own : count_by mine left ≡ count_by mine (closings_of (numbers_of v) lines v.instance.seats by.actor) = own_replies in
+        let own : count_by mine left ≡ count_by mine (closings_of (numbers_of v) (states_of v) lines v.instance.seats by.actor) = own_replies in
         omega (arith, closed, parts, own)
 
     abbrev HasOne : Type 0
@@ -490,7 +528,7 @@ module _ (v : Own) (h : DoesAgree v) (over : IsOver v.set.work.lines v.instance)
     unseated at d =
         let nobody : Stands log v.chronicle by.actor 0 0 = subst (ActorStands v.set log v.chronicle by.actor) at (h.actors by.actor) in
         let never : count_by mine v.chronicle ≡ 0 = nobody.ended by.command ∙ ap (λ b. cond {A = ℕ} b 1 0) (le-ltb by.command 0 (omega arith)) in
-        let own : count_by mine (closings_of (numbers_of v) lines v.instance.seats by.actor) ≡ 0 = ap (count_by mine) d.replies in
+        let own : count_by mine (closings_of (numbers_of v) (states_of v) lines v.instance.seats by.actor) ≡ 0 = ap (count_by mine) d.replies in
         inl (gone (subst (λ (n : ℕ). n ≤ by.command) (sym none) (omega arith)), omega (arith, never, own))
       where
         high : length v.set.work.actors ≤ by.actor
@@ -518,12 +556,12 @@ module _ (v : Own) (h : DoesAgree v) (over : IsOver v.set.work.lines v.instance)
     done : (seat : Seat) → slice_get v.instance.seats by.actor ≡ Some seat → IsDone v by.actor → HasOne
     done seat at d =
         let free = d.free seat at in
-        let past = past_all v h over quiet by.actor seat at free in
+        let past = past_all v h over quiet results by.actor seat at free in
         let s = stands by.actor seat at in
         let all : count_by (is_of by.actor) lines ≡ seat.issued = ap (count_by (is_of by.actor)) (sym (take_all seat.next lines past)) ∙ s.1.placed.passed in
         let replied : replied_of seat ≡ seat.issued = ap (λ b. cond b seat.issued (seat.issued - 1)) free in
         let had : count_by mine v.chronicle ≡ cond (nat_lt by.command seat.issued) 1 0 = s.0.ended by.command ∙ ap (λ n. cond {A = ℕ} (nat_lt by.command n) 1 0) replied in
-        let own : count_by mine (closings_of (numbers_of v) lines v.instance.seats by.actor) ≡ 0 = ap (count_by mine) d.replies in
+        let own : count_by mine (closings_of (numbers_of v) (states_of v) lines v.instance.seats by.actor) ≡ 0 = ap (count_by mine) d.replies in
         elim (cases_lt by.command seat.issued) [
           | inl low ↦
               let one : ◌≡◌ {A = ℕ} (cond (nat_lt by.command seat.issued) 1 0) 1 = ap (λ b. cond {A = ℕ} b 1 0) (lt-ltb by.command seat.issued low) in
@@ -539,13 +577,13 @@ module _ (v : Own) (h : DoesAgree v) (over : IsOver v.set.work.lines v.instance)
         let some = l.stuck.some in
         let s = stands by.actor l.seat l.sits in
         let few : l.seat.issued ≤ count_by (is_of by.actor) lines = few_of in
-        let replied : replied_of l.seat ≡ l.seat.issued - 1 = ap (λ w. cond (is_free w) l.seat.issued (l.seat.issued - 1)) l.busy in
+        let replied : replied_of l.seat ≡ l.seat.issued - 1 = ap (λ b. cond b l.seat.issued (l.seat.issued - 1)) l.busy in
         let had : count_by mine v.chronicle ≡ cond (nat_lt by.command (l.seat.issued - 1)) 1 0 = s.0.ended by.command ∙ ap (λ n. cond {A = ℕ} (nat_lt by.command n) 1 0) replied in
         let self : (by.actor == by.actor) ≡ true = eq-eqb by.actor by.actor refl in
         let rest = counted_range mine (λ number. entry.Replied by.actor number reply.NotReached None) by.command
         (λ k apart. ap₂ (λ x y. x && y) self (ne_eqb by.command k (λ same. apart (sym same))))
         (ap₂ (λ x y. x && y) self (eq-eqb by.command by.command refl)) l.seat.issued (count_by (is_of by.actor) lines - l.seat.issued) in
-        let own : count_by mine (closings_of (numbers_of v) lines v.instance.seats by.actor) ≡ (0 + cond (mine (member_told by.actor l)) 1 0) + count_by mine (rest_told by.actor l) =
+        let own : count_by mine (closings_of (numbers_of v) (states_of v) lines v.instance.seats by.actor) ≡ (0 + cond (mine (member_told by.actor l)) 1 0) + count_by mine (rest_told by.actor l) =
         ap (count_by mine) l.replies ∙ count-append mine (member_told by.actor l ∷ []) (rest_told by.actor l) in
         let member : ◌≡◌ {A = ℕ} (cond (mine (member_told by.actor l)) 1 0) (cond (by.command == l.seat.issued - 1) 1 0) = ap (λ b. cond {A = ℕ} (b && (by.command == l.seat.issued - 1)) 1 0) self in
         elim (cases_lt by.command l.seat.issued) [
@@ -609,9 +647,6 @@ module _ (v : Own) (h : DoesAgree v) (over : IsOver v.set.work.lines v.instance)
 
   -- ---- the whole
 
-  told_whole : HasToldAll v.set whole
-  told_whole = subst (λ (l : Log). (broker : ℕ) (space : Name) → broker < v.set.size → IsSome (heard l broker space) → heard l broker space ≡ Some (landed l space)) (sym log_whole) quiet.told
-
   whole_so : IsWhole v.set whole
   whole_so = record {
     earlier = v.chronicle;
@@ -621,13 +656,13 @@ module _ (v : Own) (h : DoesAgree v) (over : IsOver v.set.work.lines v.instance)
     closing = grounded;
     answered = λ by some. replied_once by some;
     no_other = λ by none. not_replied by none;
-    told = told_whole;
-    closes = may_close v.set (without_jobs v.set.work h.known) whole v.chronicle h.legal log_whole told_whole;
+    told = told_at_end v.set v.chronicle left closing_all quiet.told;
+    closes = closes_at_end v.set v.chronicle left closing_all (closes_so v h rest promise);
   }
 
   pub close_ends : Ends v.set v.chronicle left
   close_ends = record {
-    closing = all_closing (numbers_of v) lines v.instance.seats;
+    closing = all_closing (numbers_of v) (states_of v) lines v.instance.seats;
     legal = each_joined (IsLegalEntry v.set) v.chronicle left (entry.Closed ∷ []) (legal_along left all_ending v.chronicle earlier refl) (record { goes_on = goes_told; grounds = whole_so }, tt);
     whole = whole_so;
   }

@@ -1,5 +1,5 @@
 -- Before the end the run goes on, and no command has a closing reply.
-use Rattle.std.proofs.Common.{◌≡◌, List, [], ◌∷◌, Bool, true, false, ◌&&◌, ◌||◌, ◌++◌, ◌∙◌, refl, true≢false, Option}
+use Rattle.std.proofs.Common.{◌≡◌, List, [], ◌∷◌, Bool, true, false, ◌&&◌, ◌||◌, refl, true≢false, Option}
 use Rattle.std.specs.List.{AllByRecursion as Each}
 use Rattle.kvs_txn.specs.declared.txn.By.{By}
 use Rattle.kvs_rules.specs.Log.{same_command}

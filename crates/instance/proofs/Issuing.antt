@@ -1,8 +1,8 @@
 -- What an issue leaves of a world.
-use Rattle.std.proofs.Common.{◌≡◌, ◌≢◌, ℕ, ◌+◌, ◌-◌, ◌<◌, ◌≤◌, ◌==◌, inl, inr, List, [], ◌∷◌, ◌++◌, length, Bool, true, false, ◌&&◌, ◌||◌, cond, refl, sym, ap, ap₂, ◌∙◌, subst, arith, count_by, Option, Some, None, get_or, eq-eqb, ne_eqb, true≢false, set, take, filter_map}
-use Rattle.std.specs.Prelude.{IfSome, slice_get, nat_lt}
+use Rattle.std.proofs.Common.{◌≡◌, ◌≢◌, ℕ, ◌+◌, ◌-◌, ◌<◌, ◌≤◌, ◌==◌, inl, inr, List, [], ◌∷◌, ◌++◌, append-nil, length, map, Bool, true, false, ◌&&◌, ◌||◌, cond, refl, sym, ap, ap₂, ◌∙◌, subst, arith, count_by, Option, Some, None, get_or, eq-eqb, ne_eqb, true≢false, set, take, filter_map}
+use Rattle.std.specs.Prelude.{IfSome, IsSome, slice_get, nat_lt}
 use Rattle.std.specs.Option.{option_map, option_map_or, option_and_then, is_some}
-use Rattle.std.specs.List.{cons_option}
+use Rattle.std.specs.List.{cons_option, list_any}
 use Rattle.std.proofs.lemmas.Bool.{cases_eq, lt-ltb, ltb-true, ltb-false}
 use Rattle.std.proofs.lemmas.List.Folds.{list_any-append}
 use Rattle.std.proofs.lemmas.List.{length-take}
@@ -19,11 +19,19 @@ use Rattle.kvs_rules.specs.declared.events.KvsAsk.{KvsAsk}
 use Rattle.kvs_rules.specs.declared.events.KvsAsk.TheVariants as ask
 use Rattle.kvs_rules.specs.Log.{Log, Moment, Asked, is_asked, asks_now, same_command}
 use Rattle.kvs_model.specs.Store.{Name}
-use Rattle.kvs_rules.specs.Namespaces.{Setting}
 use Rattle.kvs_rules.proofs.Sequences.{each_push}
+use Rattle.instance_rules.specs.Log.{Instance, Issued, Log as InstanceLog, Served, issues_now, service_of}
+use Rattle.job_commands.specs.Asks.{told}
+use Rattle.job_commands.specs.declared.ask.JobAsk.{JobAsk}
+use Rattle.job_commands.specs.declared.ask.JobAsk.TheVariants as ask_of_jobs
+use Rattle.instance_rules.specs.Desks.{is_submission}
+use Rattle.job_clock.specs.Children.{AsksNoChild}
+use Rattle.job_service.specs.Agrees.{HasRoom, IsNewCommand, MayIssue}
+use Rattle.job_service.specs.Times.{HasTime, KeepsCounts, jobs_asked, seconds_asked}
+use Rattle.job_service.specs.Value.{JobServiceValue}
 use Rattle.services.specs.Value.{ServicesValue}
 use Rattle.services.specs.Agrees.{AgreesServices}
-use Rattle.services.specs.Asks.{MayAsk}
+use Rattle.services.specs.Asks.{Keeps, MayAsk}
 use Rattle.workload.specs.declared.work.Command.{Command}
 use Rattle.workload.specs.declared.work.Command.TheVariants as command
 use Rattle.workload.specs.declared.work.Line.{Line}
@@ -33,6 +41,7 @@ use Rattle.answers.specs.declared.steps.Step.TheVariants as step
 use Rattle.answers.specs.Chronicle.{Setup, top, issues, issues_of, is_issued, replies_to}
 use Rattle.answers.specs.Commands.{command_at, ask_of, ask_at, subject_at, subject_of, staged_at, op_of, most_staged, broker_of, since_last, takes_staged, commands_before}
 use Rattle.answers.specs.Floors.{floor}
+use Rattle.answers.specs.Jobs.{happening_of, instance_of, job_ask_at, job_ask_of, log_in}
 use Rattle.answers.specs.Legal.{IsLegalEntry, IsStaging}
 use Rattle.answers.specs.Services.{setting_of, log_of, moment_of, asked_at}
 use Rattle.answers.specs.Whole.{IsEarlierEntry}
@@ -40,8 +49,10 @@ use Rattle.answers.proofs.Services.{log_push, asks_of, asked_issued, issued_belo
 use Rattle.answers.proofs.Floors.{floor_push}
 use Rattle.instance.specs.declared.seats.Seat.{Seat}
 use Rattle.instance.specs.declared.seats.Waiting.TheVariants as waiting
-use Rattle.instance.specs.Seats.{IsKnownCommand, replied_of, is_free, waiting_after, ops_after, room_behind, moment_asked, seat_floor, space_after, IsTheAsk, waits_for}
-use Rattle.instance.specs.Agrees.{command_of, Stands, Waits, IsSeat, ActorStands}
+use Rattle.workload.specs.Laws.{IsBuilt}
+use Rattle.instance.specs.Jobs.{CountsIn, issues_of as orders_of}
+use Rattle.instance.specs.Seats.{replied_of, is_free, waiting_after, ops_after, room_behind, moment_asked, seat_floor, space_after, IsTheAsk, waits_for}
+use Rattle.instance.specs.Agrees.{command_of, Stands, Waits, IsSeat, IsTallied, ActorStands}
 use Rattle.instance.specs.Steps.{can_issue}
 use Rattle.instance.specs.Makes.{Follows}
 use Rattle.instance.specs.Value.{InstanceValue}
@@ -51,6 +62,10 @@ use Rattle.instance.proofs.Commanding.{subject_so, space_on, placed_command, pla
 use Rattle.instance.proofs.Pushing.{actor_other, asked_push, answered_push}
 use Rattle.instance.proofs.Replying.{same_self, seat_stands}
 use Rattle.instance.proofs.Going.{unended}
+use Rattle.instance.proofs.Ahead.{MovesOn}
+use Rattle.instance.proofs.Childless.{asks_no_child}
+use Rattle.instance.proofs.Tallies.{room_for, tallied_job, tallied_other, time_for}
+use Rattle.instance.proofs.Logs.{job_asks_nothing, job_issued, log_grown, log_unissued, other_issued, served_log}
 
 -- the actor's next command can be issued
 pub record IsIssuing (v : Own) (a : ℕ) (seat : Seat) : Type 0 where
@@ -102,6 +117,10 @@ own_moment : (by other : By) (floored : ℕ) (asked : Option KvsAsk) → same_co
 own_moment by other floored None e = refl
 own_moment by other floored (Some x) e = e
 
+time_kept : (old new : JobServiceValue) → new.span ≡ old.span → (asked : JobAsk) → HasTime old asked → HasTime new asked
+time_kept old new same (ask_of_jobs.Advance seconds) time = subst (λ n. n + seconds ≤ 1000000000) (sym same) time
+time_kept old new same _ time = tt
+
 module _ (v : Own) (h : DoesAgree v) (a : ℕ) (seat : Seat) (is : IsIssuing v a seat) where
   abbrev by : By
   by = command_of a seat.issued
@@ -134,7 +153,7 @@ module _ (v : Own) (h : DoesAgree v) (a : ℕ) (seat : Seat) (is : IsIssuing v a
   pub issuer_broker : seat.broker < v.instance.services.size
   issuer_broker = subst (λ n. seat.broker < n) h.agrees.size mine.1.inside
 
-  pub known_next : (d : Line) → IsKnownCommand (get_or v.set.work.lines seat.next d).command
+  pub known_next : (d : Line) → IsBuilt (get_or v.set.work.lines seat.next d).command
   known_next d = known_at v.set.work h.known seat.next d is.below
 
   module _ (d : Line) where
@@ -174,27 +193,114 @@ module _ (v : Own) (h : DoesAgree v) (a : ℕ) (seat : Seat) (is : IsIssuing v a
         ∙ ap (λ ops. ask_of (record { author = author.User a; ops = ops }) cmd) (sym mine.1.staged)
         ∙ sym eq
 
-    unasked : is_asked by log ≡ false
-    unasked = on (is_asked by log) refl
+    unissued : is_issued by v.chronicle ≡ false
+    unissued = on (is_issued by v.chronicle) refl
       where
-        on : (b : Bool) → is_asked by log ≡ b → b ≡ false
+        on : (b : Bool) → is_issued by v.chronicle ≡ b → b ≡ false
         on true t =
-            let low : seat.issued < count_by (issues_of a) v.chronicle = issued_below v.set v.chronicle h.legal by (asked_issued v.set.work top by [] v.chronicle t) in
+            let low : seat.issued < count_by (issues_of a) v.chronicle = issued_below v.set v.chronicle h.legal by t in
             let counted : count_by (issues_of a) v.chronicle ≡ seat.issued = before.counted in
             absurd (omega arith)
         on false t = refl
 
+    unasked : is_asked by log ≡ false
+    unasked = on (is_asked by log) refl
+      where
+        on : (b : Bool) → is_asked by log ≡ b → b ≡ false
+        on true t = absurd (true≢false (sym (asked_issued v.set.work top by [] v.chronicle t) ∙ unissued))
+        on false t = refl
+
+    abbrev inst : Instance
+    inst = instance_of v.set
+
+    abbrev now : InstanceLog
+    now = log_in v.set.work v.chronicle
+
     -- what the service is asked
-    pub issue_asks : (asked : Option KvsAsk) → asked ≡ ask_of (record { author = author.User a; ops = seat.staged.ops }) cmd → IsTheAsk (setting_of v.set) by begun_seat asked × (is_asked by log ≡ false)
-    issue_asks asked eq = (asks_so v.set by asked begun_seat (asking asked eq) mine.1.home subject, unasked)
+    pub issue_asks : (asked : Option KvsAsk) → asked ≡ ask_of (record { author = author.User a; ops = seat.staged.ops }) cmd → IsTheAsk inst.service by begun_seat asked × (is_asked by (service_of now) ≡ false)
+    issue_asks asked eq = (
+      asks_so v.set by asked begun_seat (asking asked eq) mine.1.home subject,
+      ap (is_asked by) (served_log v.set.work v.chronicle) ∙ unasked,
+    )
 
     -- the chronicle, its log and what they say of the actor
-    module _ (asked : Option KvsAsk) (eq : asked ≡ ask_of (record { author = author.User a; ops = seat.staged.ops }) cmd) where
+    module _ (asked : Option KvsAsk) (eq : asked ≡ ask_of (record { author = author.User a; ops = seat.staged.ops }) cmd) (job : Option JobAsk) (jeq : option_map told job ≡ job_ask_of cmd) where
       abbrev o : Option Moment
       o = option_map (λ x. Asked by seen) asked
 
       log_issued : log_of v.set.work top (v.chronicle ++ e ∷ []) ≡ log ++ cons_option o []
       log_issued = log_push v.set.work top v.chronicle e ∙ ap (λ m. log ++ cons_option m []) (moment_so v.set v.chronicle by asked (subject_of cmd seat.space) seen (asking asked eq) subject (mine.1.floored (subject_of cmd seat.space)))
+
+      job_at : job_ask_at v.set.work by ≡ option_map told job
+      job_at = ap (option_and_then job_ask_of) at ∙ sym jeq
+
+      -- the log of the instance once the service is asked, if it is
+      abbrev pub asked_now : InstanceLog
+      asked_now = now ++ map Served (moment_asked by seen asked)
+
+      served_one : (p : Option Moment) → cons_option (option_map Served p) [] ≡ map Served (cons_option p [])
+      served_one None = refl
+      served_one (Some m) = refl
+
+      -- and once the command is issued
+      log_ordered : log_in v.set.work (v.chronicle ++ e ∷ []) ≡ asked_now ++ orders_of by job
+      log_ordered = log_grown v.set.work v.chronicle e ∙ on job refl
+        where
+          on : (j : Option JobAsk) → job ≡ j → now ++ cons_option (happening_of v.set.work v.chronicle e) [] ≡ asked_now ++ orders_of by job
+          on None is =
+              ap (λ p. now ++ cons_option p [])
+              (other_issued v.set.work v.chronicle by (job_at ∙ ap (option_map told) is)
+              ∙ ap (option_map Served) (moment_so v.set v.chronicle by asked (subject_of cmd seat.space) seen (asking asked eq) subject (mine.1.floored (subject_of cmd seat.space))))
+              ∙ ap (λ l. now ++ l) (served_one o)
+              ∙ sym (append-nil asked_now)
+              ∙ ap (λ j. asked_now ++ orders_of by j) (sym is)
+          on (Some x) is =
+              let some : IsSome (job_ask_at v.set.work by) = ap is_some (job_at ∙ ap (option_map told) is) in
+              let none : asked ≡ None = sym (asking asked eq) ∙ job_asks_nothing v.set.work by some in
+              ap (λ p. now ++ cons_option p []) (job_issued v.set.work v.chronicle by some)
+              ∙ ap (λ l. l ++ Issued by ∷ []) (sym (append-nil now) ∙ ap (λ p. now ++ map Served (moment_asked by seen p)) (sym none))
+              ∙ ap (λ j. asked_now ++ orders_of by j) (sym is)
+
+      none_issues : (ms : Log) → list_any (issues_now by) (map Served ms) ≡ false
+      none_issues [] = refl
+      none_issues (m ∷ ms) = none_issues ms
+
+      or_no : (x y : Bool) → x ≡ false → y ≡ false → (x || y) ≡ false
+      or_no true y f g = absurd (true≢false f)
+      or_no false y f g = g
+
+      -- so the job manager or time may be asked
+      pub new_command : IfSome job (IsNewCommand inst asked_now by seat.broker)
+      new_command = on job refl
+        where
+          on : (j : Option JobAsk) → job ≡ j → IfSome j (IsNewCommand inst asked_now by seat.broker)
+          on None is = tt
+          on (Some x) is = record {
+            asks = job_at ∙ ap (option_map told) is;
+            home = sym mine.1.home;
+            new = list_any-append (issues_now by) now (map Served (moment_asked by seen asked))
+                ∙ or_no _ _ (log_unissued v.set.work by v.chronicle unissued) (none_issues (moment_asked by seen asked));
+          }
+
+      -- there is room for a submission, and time for an advance
+      pub room_so : (middle : ServicesValue) → Keeps v.instance.services middle → IfSome job (λ x. is_submission (Some (told x)) ≡ true → HasRoom middle.jobs)
+      room_so middle keeps = on job refl
+        where
+          on : (j : Option JobAsk) → job ≡ j → IfSome j (λ x. is_submission (Some (told x)) ≡ true → HasRoom middle.jobs)
+          on None same = tt
+          on (Some x) same = λ one. subst (λ n. n < 1000) (sym keeps.counts.submitted)
+              (room_for v.instance v.set.work.lines h.tallied h.few a seat is.sits is.below (λ l. mine.1.placed.here l is.below) d x (sym jeq ∙ ap (option_map told) same) one)
+
+      pub time_so : (middle : ServicesValue) → Keeps v.instance.services middle → IfSome job (HasTime middle.jobs)
+      time_so middle keeps = on job refl
+        where
+          on : (j : Option JobAsk) → job ≡ j → IfSome j (HasTime middle.jobs)
+          on None same = tt
+          on (Some x) same = time_kept v.instance.services.jobs middle.jobs keeps.counts.span x
+              (time_for v.instance v.set.work.lines h.tallied h.few a seat is.sits is.below (λ l. mine.1.placed.here l is.below) d x (sym jeq ∙ ap (option_map told) same))
+
+      pub childless_so : IfSome job AsksNoChild
+      childless_so = asks_no_child cmd (known_next d) job jeq
 
       legal_issue : IsLegalEntry v.set v.chronicle e
       legal_issue = record {
@@ -293,7 +399,17 @@ module _ (v : Own) (h : DoesAgree v) (a : ℕ) (seat : Seat) (is : IsIssuing v a
               let short : length (staged_at v.set.work by) ≤ most_staged = at_most by in
               omega arith
 
-      waits_issued : (c : Command) → IsKnownCommand c → c ≡ cmd → Waits v.set (log ++ cons_option o []) a (seat.issued + 1) (waiting_after c seat.staged.ops)
+      -- a command on jobs or on time asks the service nothing
+      waits_jobs : (c : Command) → IsSome (job_ask_of c) → c ≡ cmd → asked ≡ None → Waits v.set (log ++ cons_option o []) a (seat.issued + 1) waiting.Jobs
+      waits_jobs c some same none = (
+        omega arith,
+        subst (λ n. is_asked (command_of a n) (log ++ cons_option o []) ≡ false) back
+            (asked_push by log o (ap (λ r. asks_of by (option_map (λ y. Asked by seen) r)) none) ∙ unasked),
+        subst (λ n. IsSome (job_ask_at v.set.work (command_of a n))) back
+            (ap (λ x. is_some (option_and_then job_ask_of x)) at ∙ ap (λ x. is_some (job_ask_of x)) (sym same) ∙ some),
+      )
+
+      waits_issued : (c : Command) → IsBuilt c → c ≡ cmd → Waits v.set (log ++ cons_option o []) a (seat.issued + 1) (waiting_after c seat.staged.ops)
       waits_issued (command.Put path bytes) known same = waits_staged (command.Put path bytes) (op.Put path bytes) refl same (eq ∙ ap (ask_of txn) (sym same)) (nat_lt (length seat.staged.ops) most_staged) refl
       waits_issued command.Commit known same = waits_asked (ask.Commit txn) (eq ∙ ap (ask_of txn) (sym same))
       waits_issued (command.Fence name count) known same = waits_asked (ask.Fence name count txn) (eq ∙ ap (ask_of txn) (sym same))
@@ -323,7 +439,8 @@ module _ (v : Own) (h : DoesAgree v) (a : ℕ) (seat : Seat) (is : IsIssuing v a
       waits_issued (command.ContentLoad reference) known same = waits_asked (ask.Load reference) (eq ∙ ap (ask_of txn) (sym same))
       waits_issued command.ContentFlush known same = waits_asked ask.Flush (eq ∙ ap (ask_of txn) (sym same))
       waits_issued command.ContentDrop known same = waits_asked ask.DropClean (eq ∙ ap (ask_of txn) (sym same))
-      waits_issued _ known same = absurd known
+      waits_issued command.Getroot known same = absurd known
+      waits_issued c known same = waits_jobs c refl same (eq ∙ ap (ask_of txn) (sym same))
 
       -- the actor's seat behind the issue
       module _ (next : ℕ) (after : seat.next + 1 ≤ next) (within : next ≤ length v.set.work.lines)
@@ -338,7 +455,7 @@ module _ (v : Own) (h : DoesAgree v) (a : ℕ) (seat : Seat) (is : IsIssuing v a
           author = refl;
           placed = record { within = within; passed = placed_on v.set.work.lines a seat mine.1.placed d is.below next after within passed; here = here };
           opened = λ _. ap (λ n. command_at v.set.work (command_of a n)) (sym back) ∙ at ∙ ap (option_map (λ (line : Line). line.command)) (sym (slice_get-get_or v.set.work.lines seat.next d is.below));
-          staged = ap (ops_after cmd) mine.1.staged ∙ sym (staged_on v.set.work a seat.issued cmd (known_next d) at);
+          staged = ap (ops_after cmd) mine.1.staged ∙ sym (staged_on v.set.work a seat.issued cmd at);
           works = space_on v.set.work a seat.issued cmd at ∙ ap (space_after cmd) mine.1.works;
           about = λ _. ap (λ n. subject_at v.set.work (command_of a n)) (sym back) ∙ subject;
           floored = λ space. floor_push v.set.work v.chronicle e a space ∙ mine.1.floored space;
@@ -386,29 +503,50 @@ module _ (v : Own) (h : DoesAgree v) (a : ℕ) (seat : Seat) (is : IsIssuing v a
         abbrev pub issued_instance : ServicesValue → InstanceValue
         issued_instance services = record { spent = false; seats = set v.instance.seats a issued_seat; services = services }
 
-        pub issue_follows_so : (services : ServicesValue) → services.manager.posted ≡ v.instance.services.manager.posted →
-            ((set : Setting) (log : Log) → AgreesServices v.instance.services set log → IsTheAsk set by begun_seat asked → is_asked by log ≡ false → AgreesServices services set (log ++ moment_asked by seen asked)) →
+        moves : MovesOn v.instance.seats v.set.work.lines a seat next
+        moves = record { sits = is.sits; below = is.below; own = λ l. mine.1.placed.here l is.below; after = after; passed = passed }
+
+        -- what was issued is counted, and no line ahead any more
+        tallied_after : (middle services : ServicesValue) → Keeps v.instance.services middle → CountsIn job middle services → IsTallied (issued_instance services) v.set.work.lines
+        tallied_after middle services keeps counts = on job refl counts
+          where
+            on : (j : Option JobAsk) → job ≡ j → CountsIn j middle services → IsTallied (issued_instance services) v.set.work.lines
+            on None same kept =
+                tallied_other v.instance v.set.work.lines h.tallied a seat issued_seat moves (issued_instance services) refl d (sym jeq ∙ ap (option_map told) same)
+                (subst (λ (s : ServicesValue). KeepsCounts v.instance.services.jobs s.jobs) (sym kept) keeps.counts)
+            on (Some x) same counted =
+                tallied_job v.instance v.set.work.lines h.tallied a seat issued_seat moves (issued_instance services) refl d x (sym jeq ∙ ap (option_map told) same) (record {
+                  submitted = counted.counts.submitted ∙ ap (λ n. n + jobs_asked x) keeps.counts.submitted;
+                  span = counted.counts.span ∙ ap (λ n. n + seconds_asked x) keeps.counts.span;
+                })
+
+        pub issue_follows_so : (middle services : ServicesValue) → Keeps v.instance.services middle → CountsIn job middle services →
+            ((i : Instance) (l : InstanceLog) → AgreesServices v.instance.services i l → IsTheAsk i.service by begun_seat asked → is_asked by (service_of l) ≡ false → AgreesServices middle i (l ++ map Served (moment_asked by seen asked))) →
+            ((i : Instance) (l : InstanceLog) → AgreesServices middle i l → IfSome job (IsNewCommand i l by seat.broker) → AgreesServices services i (l ++ orders_of by job)) →
             Follows v.set v.chronicle (step.Issue a) (issued_instance services) (e ∷ [])
-        issue_follows_so services unposted agrees = record {
+        issue_follows_so middle services keeps counts asks orders = record {
           made = record { before = []; command = seat.issued; behind = []; split = refl; others = tt };
           legal = (legal_issue, tt);
           settled = λ told. (told tt, tt);
           agrees = record {
             within = h.within;
             known = h.known;
-            unposted = unposted ∙ h.unposted;
+            few = h.few;
+            tallied = tallied_after middle services keeps counts;
             seated = length-set v.instance.seats a issued_seat ∙ h.seated;
             legal = each_push (IsLegalEntry v.set) v.chronicle e h.legal legal_issue;
             early = each_append IsEarlierEntry v.chronicle (e ∷ []) h.early (tt, tt);
-            agrees = subst (AgreesServices services (setting_of v.set)) (sym log_issued) (agrees (setting_of v.set) log h.agrees (issue_asks asked eq).0 unasked);
+            agrees = subst (AgreesServices services inst) (sym log_ordered)
+                (orders inst asked_now (asks inst now h.agrees (issue_asks asked eq).0 (issue_asks asked eq).1) new_command);
             actors = λ b. subst (λ l. ActorStands v.set l (v.chronicle ++ e ∷ []) b (slice_get (set v.instance.seats a issued_seat) b)) (sym log_issued) (actors_so b);
           };
         }
 
--- what the code does at an issue: the seat that it begins, its next line, and what it asks of the service
-pub record IsIssued (v : Own) (a : ℕ) (seat begun : Seat) (d : Line) (asked : Option KvsAsk) (next : ℕ) (services : ServicesValue) : Type 0 where
+-- what the code does at an issue: the seat that it begins, its next line, and what it asks of the service and of the job manager
+pub record IsIssued (v : Own) (a : ℕ) (seat begun : Seat) (d : Line) (asked : Option KvsAsk) (job : Option JobAsk) (next : ℕ) (middle services : ServicesValue) : Type 0 where
   pub is : IsIssuing v a seat
   pub eq : asked ≡ ask_of (record { author = author.User a; ops = seat.staged.ops }) (get_or v.set.work.lines seat.next d).command
+  pub jeq : option_map told job ≡ job_ask_of (get_or v.set.work.lines seat.next d).command
   pub began : begun ≡ record seat {
     staged = record { author = author.User a; ops = ops_after (get_or v.set.work.lines seat.next d).command seat.staged.ops };
     waiting = waiting_after (get_or v.set.work.lines seat.next d).command seat.staged.ops;
@@ -419,24 +557,30 @@ pub record IsIssued (v : Own) (a : ℕ) (seat begun : Seat) (d : Line) (asked : 
   pub within : next ≤ length v.set.work.lines
   pub passed : (k : ℕ) (l : Line) → begun.next + 1 ≤ k → k < next → (get_or v.set.work.lines k l).actor ≢ a
   pub here : (l : Line) → next < length v.set.work.lines → (get_or v.set.work.lines next l).actor ≡ a
-  pub kept : services.manager.posted ≡ v.instance.services.manager.posted
-  pub agrees : (set : Setting) (log : Log) → AgreesServices v.instance.services set log → IsTheAsk set (command_of a seat.issued) begun asked → is_asked (command_of a seat.issued) log ≡ false → AgreesServices services set (log ++ moment_asked (command_of a seat.issued) (seat_floor begun) asked)
+  pub keeps : Keeps v.instance.services middle
+  pub counts : CountsIn job middle services
+  pub asks : (i : Instance) (l : InstanceLog) → AgreesServices v.instance.services i l → IsTheAsk i.service (command_of a seat.issued) begun asked → is_asked (command_of a seat.issued) (service_of l) ≡ false
+      → AgreesServices middle i (l ++ map Served (moment_asked (command_of a seat.issued) (seat_floor begun) asked))
+  pub orders : (i : Instance) (l : InstanceLog) → AgreesServices middle i l → IfSome job (IsNewCommand i l (command_of a seat.issued) begun.broker) → AgreesServices services i (l ++ orders_of (command_of a seat.issued) job)
 
 -- the same, with the seat as the code has it
-pub issue_follows : (v : Own) → DoesAgree v → (a : ℕ) (seat begun : Seat) (d : Line) (asked : Option KvsAsk) (next : ℕ) (services : ServicesValue) → IsIssued v a seat begun d asked next services →
+pub issue_follows : (v : Own) → DoesAgree v → (a : ℕ) (seat begun : Seat) (d : Line) (asked : Option KvsAsk) (job : Option JobAsk) (next : ℕ) (middle services : ServicesValue) → IsIssued v a seat begun d asked job next middle services →
     (es : List Entry) → es ≡ entry.Issued a seat.issued ∷ [] →
     Follows v.set v.chronicle (step.Issue a) (record {
       spent = false;
       services = services;
       seats = set v.instance.seats a (record { broker = begun.broker; next = next; last = begun.next; issued = seat.issued + 1; waiting = begun.waiting; staged = begun.staged; space = begun.space; subject = begun.subject; floors = begun.floors });
     }) es
-issue_follows v h a seat begun d asked next services s es same =
+issue_follows v h a seat begun d asked job next middle services s es same =
     let begun_next : begun.next ≡ seat.next = ap (λ x. x.next) s.began in
     let by = command_of a seat.issued in
-    let agrees_so = subst (λ (b : Seat). (set : Setting) (log : Log) → AgreesServices v.instance.services set log → IsTheAsk set by b asked → is_asked by log ≡ false → AgreesServices services set (log ++ moment_asked by (seat_floor b) asked)) s.began s.agrees in
-    let so = issue_follows_so v h a seat s.is d asked s.eq next (subst (λ n. n + 1 ≤ next) begun_next s.after) s.within
-    (λ k l low. s.passed k l (subst (λ n. n + 1 ≤ k) (sym begun_next) low)) s.here services s.kept agrees_so in
-    subst (λ b. Follows v.set v.chronicle (step.Issue a) (record { spent = false; services = services; seats = set v.instance.seats a (record { broker = b.broker; next = next; last = b.next; issued = seat.issued + 1; waiting = b.waiting; staged = b.staged; space = b.space; subject = b.subject; floors = b.floors }) }) es) (sym s.began) (subst (Follows v.set v.chronicle (step.Issue a) (issued_instance v h a seat s.is d asked s.eq next (subst (λ n. n + 1 ≤ next) begun_next s.after) s.within (λ k l low. s.passed k l (subst (λ n. n + 1 ≤ k) (sym begun_next) low)) s.here services)) (sym same) so)
+    let asks_so = subst (λ (b : Seat). (i : Instance) (l : InstanceLog) → AgreesServices v.instance.services i l → IsTheAsk i.service by b asked → is_asked by (service_of l) ≡ false → AgreesServices middle i (l ++ map Served (moment_asked by (seat_floor b) asked))) s.began s.asks in
+    let orders_so = subst (λ (b : Seat). (i : Instance) (l : InstanceLog) → AgreesServices middle i l → IfSome job (IsNewCommand i l by b.broker) → AgreesServices services i (l ++ orders_of by job)) s.began s.orders in
+    let after = subst (λ n. n + 1 ≤ next) begun_next s.after in
+    let passed : (k : ℕ) (l : Line) → seat.next + 1 ≤ k → k < next → (get_or v.set.work.lines k l).actor ≢ a = λ k l low. s.passed k l (subst (λ n. n + 1 ≤ k) (sym begun_next) low) in
+    let so = issue_follows_so v h a seat s.is d asked s.eq job s.jeq next after s.within passed s.here middle services s.keeps s.counts asks_so orders_so in
+    subst (λ b. Follows v.set v.chronicle (step.Issue a) (record { spent = false; services = services; seats = set v.instance.seats a (record { broker = b.broker; next = next; last = b.next; issued = seat.issued + 1; waiting = b.waiting; staged = b.staged; space = b.space; subject = b.subject; floors = b.floors }) }) es) (sym s.began)
+    (subst (Follows v.set v.chronicle (step.Issue a) (issued_instance v h a seat s.is d asked s.eq job s.jeq next after s.within passed s.here services)) (sym same) so)
 
 -- what the code knows where it begins an issue
 pub issuing_at : (v : Own) (lines : List Line) (a : ℕ) (seat : Seat) → v.set.work.lines ≡ lines → can_issue lines v.instance a ≡ true → seat ≡ get_or v.instance.seats a seat → IsIssuing v a seat
@@ -445,7 +589,12 @@ issuing_at v lines a seat same can at =
     issuing_so v a seat can_so (slice_get-get_or v.instance.seats a seat (issuer_within v.set.work.lines v.instance a can_so) ∙ ap Some (sym at))
 
 -- so the services may be asked
-pub may_ask : (services : ServicesValue) (set : Setting) (log : Log) → AgreesServices services set log → (by : By) (seat : Seat) (asked : Option KvsAsk) → IsTheAsk set by seat asked → is_asked by log ≡ false →
-    IfSome asked (MayAsk services by seat.broker seat.subject)
-may_ask services set log agrees by seat None made fresh = tt
-may_ask services set log agrees by seat (Some x) made fresh = record { set = set; log = log; agrees = agrees; made = made; fresh = fresh }
+pub may_ask : (services : ServicesValue) (i : Instance) (l : InstanceLog) → AgreesServices services i l → (b : By) (seat : Seat) (asked : Option KvsAsk) → IsTheAsk i.service b seat asked → is_asked b (service_of l) ≡ false →
+    IfSome asked (MayAsk services b seat.broker seat.subject)
+may_ask services i l agrees b seat None made fresh = tt
+may_ask services i l agrees b seat (Some x) made fresh = record { inst = i; log = l; agrees = agrees; new = record { asks = made; new = fresh } }
+
+-- and so the command may be issued, if it is one on jobs or on time
+pub may_issue : (services : ServicesValue) (i : Instance) (l : InstanceLog) → AgreesServices services i l → (b : By) (broker : ℕ) (job : Option JobAsk) → IfSome job (IsNewCommand i l b broker) → IfSome job (MayIssue services.jobs b broker)
+may_issue services i l agrees b broker None new = tt
+may_issue services i l agrees b broker (Some x) new = record { inst = i; log = l; agrees = agrees.jobs; new = new }

@@ -1,5 +1,6 @@
--- What an actor leaves that waits for what does not come: in a fence which is short of members, or for a number.
-use Rattle.std.proofs.Common.{◌≡◌, ℕ, ◌-◌, ◌<◌, ◌⊎◌, inl, inr, List, [], ◌++◌, ◌&&◌, length, append-nil, Bool, true, false, refl, sym, ap, ◌∙◌, Option, Some, None}
+-- What an actor leaves that waits for what does not come: in a fence which is short of members, for a number, or for the
+-- result of a job that isn't over.
+use Rattle.std.proofs.Common.{◌≡◌, ℕ, ◌-◌, ◌<◌, ◌⊎◌, inl, inr, List, [], ◌++◌, ◌&&◌, length, append-nil, Bool, true, false, refl, sym, ap, ◌∙◌, Option, Some, None, true≢false}
 use Rattle.std.specs.Prelude.{slice_get, option_and_then, IsTrue}
 use Rattle.std.specs.Option.{option_map, option_map_or}
 use Rattle.std.specs.Str.{bytes_eq}
@@ -10,7 +11,7 @@ use Rattle.kvs_model.specs.Store.{Name}
 use Rattle.kvs_rules.specs.declared.events.KvsAsk.{KvsAsk}
 use Rattle.kvs_rules.specs.declared.events.KvsAsk.TheVariants as ask
 use Rattle.kvs_rules.specs.Namespaces.{Request, Setting, is_live, landed}
-use Rattle.kvs_rules.specs.Log.{Log, IsPending}
+use Rattle.kvs_rules.specs.Log.{Log}
 use Rattle.kvs_rules.specs.Quiet.{IsLeft as IsLeftAsk, IsMember, IsShortFence}
 use Rattle.workload.specs.declared.work.Command.{Command}
 use Rattle.workload.specs.declared.work.Command.TheVariants as command
@@ -21,12 +22,17 @@ use Rattle.answers.specs.declared.chronicle.Reply.{Reply}
 use Rattle.answers.specs.declared.chronicle.Reply.TheVariants as reply
 use Rattle.answers.specs.Chronicle.{top}
 use Rattle.answers.specs.Commands.{ask_at, ask_of, command_at, staged_at, subject_at}
+use Rattle.answers.specs.Jobs.{living_of}
+use Rattle.answers.specs.Legal.{IsUncarried}
 use Rattle.answers.specs.Services.{setting_of, log_of}
+use Rattle.instance_rules.specs.Family.{IsLeftResult}
+use Rattle.job_service.specs.Still.{awaited}
+use Rattle.job_states.specs.declared.job.State.{State}
 use Rattle.instance.specs.declared.seats.Seat.{Seat}
 use Rattle.instance.specs.declared.seats.Waiting.{Waiting}
 use Rattle.instance.specs.declared.seats.Waiting.TheVariants as waiting
-use Rattle.instance.specs.Seats.{is_free}
-use Rattle.instance.specs.Closings.{closings_at, closings_of, is_served, numbers_in, unfinished_at, waiting_in, waits_in}
+use Rattle.instance.specs.Seats.{is_free, last_command}
+use Rattle.instance.specs.Closings.{closings_at, closings_of, is_served, numbers_in, unfinished_as, unfinished_at, waiting_in, waits_in}
 use Rattle.instance.specs.Agrees.{command_of}
 use Rattle.instance.proofs.Owning.{Own}
 
@@ -45,29 +51,43 @@ pub record IsStuckWait (v : Own) (space : Name) (by : By) : Type 0 where
   pub living : IsTrue (is_live (log_of v.set.work top v.chronicle) space)
   pub above : landed (log_of v.set.work top v.chronicle) space < number
 
--- why a command about the namespace waits for what does not come
+-- the actor's open command waits for the result of a job that isn't over
+pub record IsStuckResult (v : Own) (by : By) : Type 0 where
+  pub where_ : State
+  pub awaits : awaited v.instance.services.jobs by ≡ Some where_
+  pub left : IsLeftResult (living_of v.set v.chronicle) by where_
+
+-- why a command about the namespace waits for what does not come: of the service, or of the jobs
+abbrev pub IsServedCause : Own → Name → By → Type 0
+IsServedCause v space by = IsStuckFence v space by ⊎ IsStuckWait v space by
+
 abbrev pub IsCause : Own → Name → By → Type 0
-IsCause v space by = IsStuckFence v space by ⊎ IsStuckWait v space by
+IsCause v space by = IsServedCause v space by ⊎ IsStuckResult v by
 
 -- the actor at this seat waits for what does not come
 pub record IsStuck (v : Own) (a : ℕ) (seat : Seat) : Type 0 where
   pub some : 0 < seat.issued
   pub subject : subject_at v.set.work (command_of a (seat.issued - 1)) ≡ seat.subject
-  pub pending : IsPending (command_of a (seat.issued - 1)) (log_of v.set.work top v.chronicle)
-  pub cause : IsCause v seat.subject (command_of a (seat.issued - 1))
+  pub uncarried : IsUncarried v.set v.chronicle (command_of a (seat.issued - 1))
 
 -- the numbers that the brokers have heard
 abbrev pub numbers_of : Own → ℕ → Name → ℕ
 numbers_of v = numbers_in (log_of v.set.work top v.chronicle)
 
+-- the states of the jobs for which open commands wait
+abbrev pub states_of : Own → By → Option State
+states_of v = awaited v.instance.services.jobs
+
 -- what it is told at the end, and whether it waits in this fence
 abbrev pub told_of : (v : Own) (space : Name) (by : By) (had : ℕ) → IsCause v space by → Reply
-told_of v space by had (inl f) = reply.UnfinishedFence (length (waiting_in v.set.work.lines v.instance.seats space f.name)) f.count
-told_of v space by had (inr w) = reply.UnfinishedWait had w.number
+told_of v space by had (inl (inl f)) = reply.UnfinishedFence (length (waiting_in v.set.work.lines v.instance.seats space f.name)) f.count
+told_of v space by had (inl (inr w)) = reply.UnfinishedWait had w.number
+told_of v space by had (inr j) = reply.UnfinishedJob j.where_
 
 abbrev pub in_fence : (v : Own) (own : Name) (by : By) → IsCause v own by → Name → Name → Bool
-in_fence v own by (inl f) space name = bytes_eq space own && bytes_eq name f.name
-in_fence v own by (inr w) space name = false
+in_fence v own by (inl (inl f)) space name = bytes_eq space own && bytes_eq name f.name
+in_fence v own by (inl (inr w)) space name = false
+in_fence v own by (inr j) space name = false
 
 -- what the actor at this seat is told
 abbrev pub seat_told : (v : Own) (a : ℕ) (seat : Seat) → IsCause v seat.subject (command_of a (seat.issued - 1)) → Reply
@@ -76,26 +96,30 @@ seat_told v a seat cause = told_of v seat.subject (command_of a (seat.issued - 1
 -- an actor that has a seat waits for nothing, so nothing is left of it
 pub record IsDone (v : Own) (a : ℕ) : Type 0 where
   pub free : (seat : Seat) → slice_get v.instance.seats a ≡ Some seat → is_free seat.waiting ≡ true
-  pub replies : closings_of (numbers_of v) v.set.work.lines v.instance.seats a ≡ []
+  pub replies : closings_of (numbers_of v) (states_of v) v.set.work.lines v.instance.seats a ≡ []
   pub waits : (space name : Name) → waits_in v.set.work.lines v.instance.seats space name a ≡ false
 
 -- an actor waits for what does not come, and the commands behind are left
 pub record IsLeft (v : Own) (a : ℕ) : Type 0 where
   pub seat : Seat
   pub sits : slice_get v.instance.seats a ≡ Some seat
-  pub busy : seat.waiting ≡ waiting.Service
+  pub busy : is_free seat.waiting ≡ false
   pub stuck : IsStuck v a seat
-  pub replies : closings_of (numbers_of v) v.set.work.lines v.instance.seats a ≡ closings_at v.set.work.lines a seat (seat_told v a seat stuck.cause)
-  pub waits : (space name : Name) → waits_in v.set.work.lines v.instance.seats space name a ≡ in_fence v seat.subject (command_of a (seat.issued - 1)) stuck.cause space name
+  pub cause : IsCause v seat.subject (command_of a (seat.issued - 1))
+  pub replies : closings_of (numbers_of v) (states_of v) v.set.work.lines v.instance.seats a ≡ closings_at v.set.work.lines a seat (seat_told v a seat cause)
+  pub waits : (space name : Name) → waits_in v.set.work.lines v.instance.seats space name a ≡ in_fence v seat.subject (command_of a (seat.issued - 1)) cause space name
 
--- a seat that waits for nothing waits for no service
+-- a seat that waits for nothing waits for no service, and its command is not unfinished
 pub free_unserved : (w : Waiting) → is_free w ≡ true → is_served w ≡ false
 free_unserved waiting.Nothing h = refl
-free_unserved waiting.Staged h = refl
-free_unserved waiting.TxnFull h = refl
-free_unserved (waiting.Tell to) h = refl
-free_unserved waiting.Using h = refl
 free_unserved waiting.Service h = sym h
+free_unserved _ h = refl
+
+pub free_finished : (w : Waiting) → is_free w ≡ true → (had : ℕ) (left : Option State) (lines : List Line) (seats : List Seat) (seat : Seat) → unfinished_as w had left lines seats seat ≡ None
+free_finished waiting.Nothing h had left lines seats seat = refl
+free_finished waiting.Service h had left lines seats seat = absurd (true≢false (sym h))
+free_finished waiting.Jobs h had left lines seats seat = absurd (true≢false (sym h))
+free_finished _ h had left lines seats seat = refl
 
 -- what a command asks is its request's
 pub asks_so : (broker : ℕ) (space : Name) (o : Option KvsAsk) (r : Request) → option_map (λ a. record { broker = broker; namespace = space; ask = a }) o ≡ Some r → o ≡ Some r.ask
@@ -215,18 +239,21 @@ pub wait_command : (work : Workload) (by : By) (number : ℕ) → ask_at work by
 wait_command work by number e = command_so work by (ask.Wait number) (command.Wait number) (λ t d f. is_wait t d number f) e
 
 -- the closing replies to an actor, by what its seat says
-module _ (numbers : ℕ → Name → ℕ) (lines : List Line) (seats : List Seat) (a : ℕ) where
-  unseated : slice_get seats a ≡ None → closings_of numbers lines seats a ≡ []
-  unseated e = ap (λ o. option_map_or (λ s. option_map_or (closings_at lines a s) (unfinished_at (numbers s.broker s.subject) lines seats s) []) o []) e
+module _ (numbers : ℕ → Name → ℕ) (left : By → Option State) (lines : List Line) (seats : List Seat) (a : ℕ) where
+  abbrev pub ends_at : Seat → Option Reply
+  ends_at seat = unfinished_at (numbers seat.broker seat.subject) (left (last_command a seat)) lines seats seat
 
-  pub seated : (seat : Seat) → slice_get seats a ≡ Some seat → closings_of numbers lines seats a ≡ option_map_or (closings_at lines a seat) (unfinished_at (numbers seat.broker seat.subject) lines seats seat) []
-  seated seat e = ap (λ o. option_map_or (λ s. option_map_or (closings_at lines a s) (unfinished_at (numbers s.broker s.subject) lines seats s) []) o []) e
+  pub unseated : slice_get seats a ≡ None → closings_of numbers left lines seats a ≡ []
+  unseated e = ap (λ o. option_map_or (λ s. option_map_or (closings_at lines a s) (ends_at s) []) o []) e
 
-  pub told_none : (c : List Entry) → slice_get seats a ≡ None → c ≡ c ++ closings_of numbers lines seats a
+  pub seated : (seat : Seat) → slice_get seats a ≡ Some seat → closings_of numbers left lines seats a ≡ option_map_or (closings_at lines a seat) (ends_at seat) []
+  seated seat e = ap (λ o. option_map_or (λ s. option_map_or (closings_at lines a s) (ends_at s) []) o []) e
+
+  pub told_none : (c : List Entry) → slice_get seats a ≡ None → c ≡ c ++ closings_of numbers left lines seats a
   told_none c e = sym (ap (λ es. c ++ es) (unseated e) ∙ append-nil c)
 
-  pub told_finished : (c : List Entry) (seat : Seat) → slice_get seats a ≡ Some seat → unfinished_at (numbers seat.broker seat.subject) lines seats seat ≡ None → c ≡ c ++ closings_of numbers lines seats a
+  pub told_finished : (c : List Entry) (seat : Seat) → slice_get seats a ≡ Some seat → ends_at seat ≡ None → c ≡ c ++ closings_of numbers left lines seats a
   told_finished c seat e f = sym (ap (λ es. c ++ es) (seated seat e ∙ ap (λ o. option_map_or (closings_at lines a seat) o []) f) ∙ append-nil c)
 
-  pub told_left : (c : List Entry) (seat : Seat) (given : Reply) → slice_get seats a ≡ Some seat → unfinished_at (numbers seat.broker seat.subject) lines seats seat ≡ Some given → c ++ closings_at lines a seat given ≡ c ++ closings_of numbers lines seats a
+  pub told_left : (c : List Entry) (seat : Seat) (given : Reply) → slice_get seats a ≡ Some seat → ends_at seat ≡ Some given → c ++ closings_at lines a seat given ≡ c ++ closings_of numbers left lines seats a
   told_left c seat given e f = sym (ap (λ es. c ++ es) (seated seat e ∙ ap (λ o. option_map_or (closings_at lines a seat) o []) f))

@@ -1,15 +1,25 @@
 mod Owning
 mod Listing
 pub mod Going
+mod Logs
+mod Families
+mod Ahead
+mod Tallies
+mod Lining
+mod Childless
+mod Waiting
+mod Given
+mod Results
 mod News
 mod Serving
+mod Posting
 mod Pushing
 mod Commanding
 mod Replying
 mod Issuing
+mod Starting
 mod Seating
 mod Ranges
-mod Jobless
 mod Leaving
 mod Ending
 mod Closing

@@ -1,5 +1,5 @@
 -- On lists that grow at their end.
-use Rattle.std.proofs.Common.{◌≡◌, ◌≢◌, zero, suc, set, Some, ℕ, ◌+◌, ◌-◌, ◌<◌, ◌≤◌, List, [], ◌∷◌, ◌++◌, length, Bool, true, false, ◌||◌, cond, refl, sym, ap, ◌∙◌, subst, arith, count_by, true≢false}
+use Rattle.std.proofs.Common.{◌≡◌, ◌≢◌, zero, suc, set, Some, ℕ, ◌+◌, ◌<◌, List, [], ◌∷◌, ◌++◌, length, Bool, true, false, ◌||◌, cond, refl, sym, ap, ◌∙◌, subst, arith, count_by, true≢false}
 use Rattle.std.specs.Prelude.{slice_get}
 use Rattle.std.specs.List.{list_any}
 use Rattle.std.proofs.lemmas.Option.{slice_get_within, slice_get-get_or}

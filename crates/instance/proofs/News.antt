@@ -13,30 +13,26 @@ use Rattle.kvs_rules.specs.declared.events.KvsStep.TheVariants as kvs
 use Rattle.kvs_rules.specs.Sequence.{EachAfter}
 use Rattle.kvs_rules.specs.Log.{Log, Happened, is_asked, asks_now}
 use Rattle.kvs_rules.specs.Steps.{AreMadeBy, ComesTo, IsRuling, IsBrokersWork}
-use Rattle.kvs_rules.specs.Answers.{IsLegalAfter, IsLegalEvent}
-use Rattle.kvs_core.specs.Posted.{LandsUsers}
+use Rattle.kvs_rules.specs.Answers.{IsLegalEvent}
 use Rattle.answers.specs.declared.chronicle.Entry.{Entry}
 use Rattle.workload.specs.declared.work.Workload.{Workload}
 use Rattle.answers.specs.Chronicle.{Setup, top, issues_of, replies_to, issues}
 use Rattle.answers.specs.Entering.{entered}
 use Rattle.answers.specs.Floors.{floor, raised}
-use Rattle.answers.specs.Legal.{IsLegalEntry, HasEntryGrounds, IsToldAtIssue}
+use Rattle.answers.specs.Legal.{IsLegalEntry, HasEntryGrounds, RestsAtIssue}
 use Rattle.answers.specs.Services.{setting_of, log_of}
 use Rattle.answers.specs.Whole.{IsEarlierEntry}
 use Rattle.answers.specs.Jobs.{instance_of, log_in}
 use Rattle.answers.proofs.Services.{log_push}
-use Rattle.answers.proofs.Users.{users_due}
+use Rattle.instance_rules.specs.Legal.{IsDueEvent, IsLegalMoment}
+use Rattle.job_landings.specs.Landings.{happening}
 use Rattle.instance.specs.declared.seats.Seat.{Seat}
 use Rattle.instance.specs.declared.seats.Waiting.{Waiting}
 use Rattle.instance.specs.declared.seats.Waiting.TheVariants as waiting
 use Rattle.instance.specs.Agrees.{command_of, Stands, Waits, IsSeat, ActorStands}
 use Rattle.instance.proofs.Listing.{count-append, any_left, each_append, each_weaker}
+use Rattle.instance.proofs.Logs.{IsNews, log_with, news_is, served_log}
 use Rattle.instance.proofs.Going.{unended, all_unclosed}
-
--- an event that answers no command
-abbrev pub IsNews : KvsEvent → Type 0
-IsNews (event.Answered by number given) = ⊥
-IsNews _ = Unit {0}
 
 work_news : (broker : ℕ) (e : KvsEvent) → IsBrokersWork broker e → IsNews e
 work_news broker (event.Landed space number authors groups) h = tt
@@ -77,17 +73,15 @@ log_news work c (e ∷ es) n =
     ∙ ap (λ l. l ++ map Happened es) (log_one work c e n.0)
     ∙ append_assoc (log_of work top c) (Happened e ∷ []) (map Happened es)
 
--- each event that is legal in the log is a legal entry
-grounds_one : (set : Setup) (c : List Entry) (e : KvsEvent) → IsNews e → Each IsEarlierEntry c → LandsUsers e →
-    IsLegalEvent (setting_of set) (log_of set.work top c) e → HasEntryGrounds set c (entered 0 e)
-grounds_one set c (event.Landed space number authors groups) n early users h =
-    ((refl, h), all_unclosed c early authors, users_due (instance_of set) (log_in set.work c) space number authors groups users)
-grounds_one set c (event.Denied space authors group refusal) n early users h =
-    ((refl, h), all_unclosed c early authors)
-grounds_one set c (event.Heard b space number) n early users h = (refl, h)
-grounds_one set c (event.Got b reference) n early users h = (refl, h)
-grounds_one set c (event.Dropped b reference) n early users h = (refl, h)
-grounds_one set c (event.Answered by number given) n early users h = absurd n
+-- each event that is legal in the log, and due, is a legal entry
+grounds_one : (set : Setup) (c : List Entry) (e : KvsEvent) → IsNews e → Each IsEarlierEntry c →
+    IsLegalEvent (setting_of set) (log_of set.work top c) e → IsDueEvent (instance_of set) (log_in set.work c) e → HasEntryGrounds set c (entered 0 e)
+grounds_one set c (event.Landed space number authors groups) n early h due = ((refl, h), all_unclosed c early authors, due)
+grounds_one set c (event.Denied space authors group refusal) n early h due = ((refl, h), all_unclosed c early authors)
+grounds_one set c (event.Heard b space number) n early h due = (refl, h)
+grounds_one set c (event.Got b reference) n early h due = (refl, h)
+grounds_one set c (event.Dropped b reference) n early h due = (refl, h)
+grounds_one set c (event.Answered by number given) n early h due = absurd n
 
 early_one : (e : KvsEvent) → IsNews e → IsEarlierEntry (entered 0 e)
 early_one (event.Answered by number given) n = absurd n
@@ -97,13 +91,16 @@ early_one (event.Heard b space number) n = tt
 early_one (event.Got b reference) n = tt
 early_one (event.Dropped b reference) n = tt
 
-pub legal_news : (set : Setup) (c : List Entry) (es : List KvsEvent) → Each IsNews es → Each IsEarlierEntry c → Each LandsUsers es →
-    IsLegalAfter (setting_of set) (log_of set.work top c) (map Happened es) → EachAfter (IsLegalEntry set) c (map (entered 0) es)
-legal_news set c [] n early users h = tt
-legal_news set c (e ∷ es) n early users h = (
-  record { goes_on = unended c early; grounds = grounds_one set c e n.0 early users.0 h.0 },
-  legal_news set (c ++ entered 0 e ∷ []) es n.1 (each_append IsEarlierEntry c (entered 0 e ∷ []) early (early_one e n.0, tt)) users.1
-      (subst (λ l. IsLegalAfter (setting_of set) l (map Happened es)) (sym (log_one set.work c e n.0)) h.1),
+pub legal_news : (set : Setup) (c : List Entry) (es : List KvsEvent) → Each IsNews es → Each IsEarlierEntry c →
+    EachAfter (IsLegalMoment (instance_of set)) (log_in set.work c) (map happening es) → EachAfter (IsLegalEntry set) c (map (entered 0) es)
+legal_news set c [] n early h = tt
+legal_news set c (e ∷ es) n early h = (
+  record {
+    goes_on = unended c early;
+    grounds = grounds_one set c e n.0 early (subst (λ l. IsLegalEvent (setting_of set) l e) (served_log set.work c) h.0.0) h.0.1;
+  },
+  legal_news set (c ++ entered 0 e ∷ []) es n.1 (each_append IsEarlierEntry c (entered 0 e ∷ []) early (early_one e n.0, tt))
+      (subst (λ l. EachAfter (IsLegalMoment (instance_of set)) l (map happening es)) (sym (log_with set.work c (entered 0 e) (happening e) (news_is set.work c e n.0))) h.1),
 )
 
 -- news issue and reply to nothing, end nothing, and ask nothing
@@ -170,6 +167,7 @@ waits_news set log es a issued waiting.TxnFull h = (h.0, asked_news (command_of 
 waits_news set log es a issued (waiting.Tell to) h = (h.0, asked_news (command_of a (issued - 1)) log es ∙ h.1, h.2)
 waits_news set log es a issued waiting.Using h = (h.0, asked_news (command_of a (issued - 1)) log es ∙ h.1, h.2)
 waits_news set log es a issued waiting.Service h = (h.0, asked_news (command_of a (issued - 1)) log es ∙ h.1)
+waits_news set log es a issued waiting.Jobs h = (h.0, asked_news (command_of a (issued - 1)) log es ∙ h.1, h.2)
 
 seat_news : (set : Setup) (log : Log) (c : List Entry) (es : List KvsEvent) → Each IsNews es → (a : ℕ) (seat : Seat) → IsSeat set log c a seat → IsSeat set (log ++ map Happened es) (c ++ map (entered 0) es) a seat
 seat_news set log c es n a seat h = record {
@@ -190,7 +188,7 @@ actor_news set log c es n a None h = stands_news log c es n a 0 0 h
 actor_news set log c es n a (Some seat) h = (stands_news log c es n a _ _ h.0, seat_news set log c es n a seat h.1)
 
 -- news issue nothing, so they leave a chronicle settled
-pub settled_news : (set : Setup) (c : List Entry) (es : List KvsEvent) → Each IsNews es → EachAfter (IsToldAtIssue set) c (map (entered 0) es)
+pub settled_news : (set : Setup) (c : List Entry) (es : List KvsEvent) → Each IsNews es → EachAfter (RestsAtIssue set) c (map (entered 0) es)
 settled_news set c [] n = tt
 settled_news set c (event.Landed space number authors groups ∷ es) n = (tt, settled_news set _ es n.1)
 settled_news set c (event.Denied space authors group refusal ∷ es) n = (tt, settled_news set _ es n.1)

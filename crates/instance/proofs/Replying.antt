@@ -1,5 +1,5 @@
 -- What a reply leaves of a world.
-use Rattle.std.proofs.Common.{◌≡◌, ◌≢◌, ℕ, ◌+◌, ◌-◌, ◌<◌, ◌==◌, inl, inr, max, List, [], ◌∷◌, ◌++◌, length, Bool, true, false, ◌&&◌, ◌||◌, cond, refl, sym, ap, ap₂, ◌∙◌, subst, arith, append-nil, append_assoc, Option, Some, None, eq-eqb, ne_eqb, true≢false, set, get_or, bytes_eq}
+use Rattle.std.proofs.Common.{◌≡◌, ◌≢◌, ℕ, ◌+◌, ◌-◌, ◌<◌, ◌==◌, inl, inr, max, List, [], ◌∷◌, ◌++◌, length, Bool, true, false, ◌&&◌, ◌||◌, cond, refl, sym, ap, ap₂, ◌∙◌, subst, arith, map, append-nil, append_assoc, Option, Some, None, eq-eqb, ne_eqb, true≢false, set, get_or, bytes_eq}
 use Rattle.std.specs.Prelude.{slice_get, nat_lt}
 use Rattle.std.specs.Option.{option_map, option_map_or}
 use Rattle.std.specs.List.{cons_option}
@@ -17,7 +17,12 @@ use Rattle.kvs_rules.specs.Log.{Log, Moment, Happened, is_asked, is_answered, an
 use Rattle.kvs_model.specs.Store.{Name}
 use Rattle.kvs_rules.specs.Sequence.{EachAfter}
 use Rattle.kvs_rules.proofs.Sequences.{each_joined, each_push}
+use Rattle.instance_rules.specs.Log as rules
+use Rattle.instance_rules.specs.Log.{JobReply}
+use Rattle.instance_rules.specs.Replies.{IsLegalReply}
+use Rattle.job_service.specs.Times.{KeepsCounts}
 use Rattle.services.specs.Agrees.{AgreesServices}
+use Rattle.services.specs.Asks.{Answers}
 use Rattle.services.specs.Value.{ServicesValue}
 use Rattle.answers.specs.declared.chronicle.Entry.{Entry}
 use Rattle.answers.specs.declared.chronicle.Entry.TheVariants as entry
@@ -29,9 +34,11 @@ use Rattle.workload.specs.declared.work.Command.TheVariants as command
 use Rattle.answers.specs.Commands.{command_at, subject_at}
 use Rattle.answers.specs.Entering.{reply_of}
 use Rattle.answers.specs.Floors.{floor}
-use Rattle.answers.specs.Legal.{HasReplyGrounds, IsLegal, IsLegalEntry, IsLegalIn, IsToldAtIssue}
+use Rattle.answers.specs.Jobs.{happening_of, instance_of, job_reply_of, log_in, state_by}
+use Rattle.answers.specs.Legal.{HasReplyGrounds, IsLegal, IsLegalEntry, IsLegalIn, RestsAtIssue}
 use Rattle.answers.specs.Stretches.{ComesBeforeReply}
 use Rattle.answers.specs.Services.{setting_of, log_of, moment_of}
+use Rattle.kvs_rules.specs.Answers.{IsLegalEvent}
 use Rattle.answers.specs.Whole.{is_closing, IsEarlierEntry}
 use Rattle.answers.proofs.Services.{log_push, asks_of, moment_asks}
 use Rattle.answers.proofs.Floors.{floor_push}
@@ -49,6 +56,8 @@ use Rattle.instance.proofs.Owning.{Own, DoesAgree}
 use Rattle.instance.proofs.Listing.{count-push, any_left, each_append, none_counted, get-set_same, get-set_other}
 use Rattle.instance.proofs.Pushing.{IsOthers, actor_other, actor_raised, asked_push, answered_push, stands_other}
 use Rattle.instance.proofs.Going.{unended}
+use Rattle.instance.proofs.Lining.{HaveSameLines, next_at, same_lines, tallied_on}
+use Rattle.instance.proofs.Logs.{job_replied, log_grown, log_without, served_log, service_replied}
 
 -- a reply that hands on the service's answer is that answer again, is not of the end, and rests on it
 answered_back : (a : KvsAnswer) → answer_of (reply_of a) ≡ Some a
@@ -114,77 +123,141 @@ rests set c by number answer.Flushed h = h
 rests set c by number (answer.Clashed reference) h = h
 rests set c by number answer.Dropped h = h
 
+-- a reply of the job manager or of time is no answer of the service, is not of the end, and rests on it
+pub record IsOfJobs (given : Reply) (told : JobReply) : Type 0 where
+  pub unanswered : answer_of given ≡ None
+  pub early : is_closing given ≡ false
+  pub rests : (set : Setup) (c : List Entry) (by : By) (number : Option ℕ) → IsLegalReply (instance_of set) (log_in set.work c) by told number → HasReplyGrounds set c by number given
+
+none_told : {A : Type 0} (told : JobReply) → ◌≡◌ {A = Option JobReply} None (Some told) → A
+none_told told e = cc
+
+same_told : (x y : JobReply) → Some x ≡ Some y → x ≡ y
+same_told x y e = cc
+
+-- where what it rests on computes
+hands_on : (given : Reply) (x told : JobReply) → answer_of given ≡ None → is_closing given ≡ false
+    → ((set : Setup) (c : List Entry) (by : By) (number : Option ℕ) → IsLegalReply (instance_of set) (log_in set.work c) by x number → HasReplyGrounds set c by number given)
+    → Some x ≡ Some told → IsOfJobs given told
+hands_on given x told unanswered early rests e = record {
+  unanswered = unanswered;
+  early = early;
+  rests = λ set c by number h. rests set c by number (subst (λ r. IsLegalReply (instance_of set) (log_in set.work c) by r number) (sym (same_told x told e)) h);
+}
+
+pub of_jobs : (given : Reply) (told : JobReply) → job_reply_of given ≡ Some told → IsOfJobs given told
+of_jobs (reply.Submitted id) told e = hands_on (reply.Submitted id) (rules.Submitted id) told refl refl (λ set c by number h. h) e
+of_jobs (reply.BadSpec fault) told e = hands_on (reply.BadSpec fault) (rules.BadSpec fault) told refl refl (λ set c by number h. h) e
+of_jobs reply.NoJob told e = hands_on reply.NoJob rules.NoJob told refl refl (λ set c by number h. h) e
+of_jobs reply.Raised told e = hands_on reply.Raised rules.Raised told refl refl (λ set c by number h. h) e
+of_jobs reply.Ended told e = hands_on reply.Ended rules.Ended told refl refl (λ set c by number h. h) e
+of_jobs (reply.NotWaiting where_) told e = hands_on (reply.NotWaiting where_) (rules.NotWaiting where_) told refl refl (λ set c by number h. h) e
+of_jobs (reply.StateIs where_) told e = hands_on (reply.StateIs where_) (rules.StateIs where_) told refl refl (λ set c by number h. h) e
+of_jobs (reply.Info shown) told e = hands_on (reply.Info shown) (rules.Shown shown) told refl refl (λ set c by number h. h) e
+of_jobs (reply.Jobs jobs) told e = hands_on (reply.Jobs jobs) (rules.Listed (map state_by jobs)) told refl refl (λ set c by number h. h) e
+of_jobs (reply.Busy ids) told e = hands_on (reply.Busy ids) (rules.Busy ids) told refl refl (λ set c by number h. h) e
+of_jobs (reply.Behind id) told e = hands_on (reply.Behind id) (rules.Behind id) told refl refl (λ set c by number h. h) e
+of_jobs reply.Held told e = hands_on reply.Held rules.Held told refl refl (λ set c by number h. h) e
+of_jobs reply.Ready told e = hands_on reply.Ready rules.Ready told refl refl (λ set c by number h. h) e
+of_jobs (reply.EndedWith status) told e = hands_on (reply.EndedWith status) (rules.EndedWith status) told refl refl (λ set c by number h. h) e
+of_jobs (reply.Advanced second) told e = hands_on (reply.Advanced second) (rules.Advanced second) told refl refl (λ set c by number h. h) e
+of_jobs _ told e = none_told told e
+
 pub same_self : (by : By) → same_command by by ≡ true
 same_self by = ap₂ (λ a b. a && b) (eq-eqb by.actor by.actor refl) (eq-eqb by.command by.command refl)
 
--- what is needed of a reply and of the moment that it makes
-pub record IsReply (set : Setup) (log : Log) (c : List Entry) (core : ServicesValue) (by : By) (given : Reply) (number : Option ℕ) (o : Option Moment) : Type 0 where
+-- what is needed of a reply, of the moment of the service that it makes and of that of the instance
+pub record IsReply (set : Setup) (log : Log) (c : List Entry) (services : ServicesValue) (by : By) (given : Reply) (number : Option ℕ) (o : Option Moment) (p : Option rules.Moment) : Type 0 where
   pub moment : moment_of set.work top c (entry.Replied by.actor by.command given number) ≡ o
+  pub happens : happening_of set.work c (entry.Replied by.actor by.command given number) ≡ p
   pub legal : HasReplyGrounds set c by number given
   pub early : is_closing given ≡ false
-  pub agrees : AgreesServices core (setting_of set) (log ++ cons_option o [])
+  pub agrees : AgreesServices services (instance_of set) (log_in set.work c ++ cons_option p [])
   pub told : is_asked by log ≡ true → is_answered by (log ++ cons_option o []) ≡ true
 
-abbrev IsThere : Setup → Log → List Entry → ServicesValue → By → Reply → Option ℕ → Type 0
-IsThere set log c core by given number = (o : Option Moment) × IsReply set log c core by given number o
+pub record IsThere (set : Setup) (log : Log) (c : List Entry) (services : ServicesValue) (by : By) (given : Reply) (number : Option ℕ) : Type 0 where
+  pub moment : Option Moment
+  pub happening : Option rules.Moment
+  pub is : IsReply set log c services by given number moment happening
 
-module _ (set : Setup) (c : List Entry) (old : ServicesValue) (agree : AgreesServices old (setting_of set) (log_of set.work top c)) (a issued : ℕ)
+-- a reply that no service gives
+nothing_told : (set : Setup) (c : List Entry) (services : ServicesValue) (by : By) (given : Reply) → answer_of given ≡ None → job_reply_of given ≡ None → is_closing given ≡ false →
+    AgreesServices services (instance_of set) (log_in set.work c) → HasReplyGrounds set c by None given → is_asked by (log_of set.work top c) ≡ false → IsThere set (log_of set.work top c) c services by given None
+nothing_told set c services by given none alone early agree legal unasked = record {
+  moment = None;
+  happening = None;
+  is = record {
+    moment = no_moment;
+    happens = ap₂ (λ r o. option_map_or (λ x. Some (rules.Replied by x None)) r (option_map rules.Served o)) alone no_moment;
+    legal = legal;
+    early = early;
+    agrees = subst (AgreesServices services (instance_of set)) (sym (append-nil (log_in set.work c))) agree;
+    told = λ asked. absurd (true≢false (sym asked ∙ unasked));
+  };
+}
+  where
+    no_moment : moment_of set.work top c (entry.Replied by.actor by.command given None) ≡ None
+    no_moment = ap (option_map (λ a. Happened (event.Answered by None a))) none
+
+module _ (set : Setup) (c : List Entry) (old : ServicesValue) (agree : AgreesServices old (instance_of set) (log_in set.work c)) (a issued : ℕ)
     (begun : is_issued (command_of a (issued - 1)) c ≡ true) (unreplied : is_replied (command_of a (issued - 1)) c ≡ false) where
-  there : (core : ServicesValue) (w : Waiting) (given : Reply) (number : Option ℕ) → Waits set (log_of set.work top c) a issued w → IsGiven old core (command_of a (issued - 1)) w given number →
-      IsThere set (log_of set.work top c) c core (command_of a (issued - 1)) given number
-  there core waiting.Nothing given number waits h = absurd h
-  there core waiting.Staged given number waits h =
-      subst (λ g. IsThere set (log_of set.work top c) c core (command_of a (issued - 1)) g number) (sym h.0) (
-        None,
-        record {
-          moment = refl;
-          legal = ((begun, unreplied), h.1, waits.2);
-          early = refl;
-          agrees = subst (AgreesServices core (setting_of set)) (sym (append-nil (log_of set.work top c))) (subst (λ v. AgreesServices v (setting_of set) (log_of set.work top c)) (sym h.2) agree);
-          told = λ asked. absurd (true≢false (sym asked ∙ waits.1));
-        },
-      )
-  there core waiting.TxnFull given number waits h =
-      subst (λ g. IsThere set (log_of set.work top c) c core (command_of a (issued - 1)) g number) (sym h.0) (
-        None,
-        record {
-          moment = refl;
-          legal = ((begun, unreplied), h.1, waits.2);
-          early = refl;
-          agrees = subst (AgreesServices core (setting_of set)) (sym (append-nil (log_of set.work top c))) (subst (λ v. AgreesServices v (setting_of set) (log_of set.work top c)) (sym h.2) agree);
-          told = λ asked. absurd (true≢false (sym asked ∙ waits.1));
-        },
-      )
-  there core (waiting.Tell to) given number waits h = absurd h
-  there core waiting.Using given number waits h =
-      subst (λ g. IsThere set (log_of set.work top c) c core (command_of a (issued - 1)) g number) (sym h.0) (
-        None,
-        record {
-          moment = refl;
-          legal = ((begun, unreplied), h.1, waits.2);
-          early = refl;
-          agrees = subst (AgreesServices core (setting_of set)) (sym (append-nil (log_of set.work top c))) (subst (λ v. AgreesServices v (setting_of set) (log_of set.work top c)) (sym h.2) agree);
-          told = λ asked. absurd (true≢false (sym asked ∙ waits.1));
-        },
-      )
-  there core waiting.Service given number waits h =
-      let by = command_of a (issued - 1) in
-      let m = Happened (event.Answered by number h.answer) in
-      subst (λ g. IsThere set (log_of set.work top c) c core by g number) (sym h.handed) (
-        Some m,
-        record {
-          moment = ap (option_map (λ x. Happened (event.Answered by number x))) (answered_back h.answer);
-          legal = rests set c by number h.answer (refl, h.legal (setting_of set) (log_of set.work top c) agree);
+  abbrev spoken : By
+  spoken = command_of a (issued - 1)
+
+  abbrev Stays : ServicesValue → Reply → Option ℕ → Type 0
+  Stays services given number = IsThere set (log_of set.work top c) c services spoken given number
+
+  -- one that its actor is told at once
+  at_once : (services : ServicesValue) (given plain : Reply) (number : Option ℕ) → (given ≡ plain) × (number ≡ None) × (services ≡ old) → answer_of plain ≡ None → job_reply_of plain ≡ None → is_closing plain ≡ false →
+      HasReplyGrounds set c spoken None plain → is_asked spoken (log_of set.work top c) ≡ false → Stays services given number
+  at_once services given plain number h none alone early legal unasked =
+      subst (λ g. Stays services g number) (sym h.0) (subst (Stays services plain) (sym h.1)
+      (nothing_told set c services spoken plain none alone early (subst (λ v. AgreesServices v (instance_of set) (log_in set.work c)) (sym h.2) agree) legal unasked))
+
+  last : (x y : Bool) → y ≡ true → (x || (y || false)) ≡ true
+  last true y e = refl
+  last false true e = refl
+  last false false e = absurd (true≢false (sym e))
+
+  there : (services : ServicesValue) (w : Waiting) (given : Reply) (number : Option ℕ) → Waits set (log_of set.work top c) a issued w → IsGiven old services spoken w given number → Stays services given number
+  there services waiting.Nothing given number waits h = absurd h
+  there services waiting.Staged given number waits h =
+      at_once services given reply.Staged number h refl refl refl ((begun, unreplied), refl, waits.2) waits.1
+  there services waiting.TxnFull given number waits h =
+      at_once services given reply.TxnFull number h refl refl refl ((begun, unreplied), refl, waits.2) waits.1
+  there services (waiting.Tell to) given number waits h = absurd h
+  there services waiting.Using given number waits h =
+      at_once services given reply.Using number h refl refl refl ((begun, unreplied), refl, waits.2) waits.1
+  there services waiting.Service given number waits h =
+      let m : Moment = Happened (event.Answered spoken number h.answer) in
+      let legal = (h.tells.legal (instance_of set) (log_in set.work c) agree).0 in
+      subst (λ g. Stays services g number) (sym h.handed) (record {
+        moment = Some m;
+        happening = Some (rules.Served m);
+        is = record {
+          moment = ap (option_map (λ x. Happened (event.Answered spoken number x))) (answered_back h.answer);
+          happens = service_replied set.work c spoken (reply_of h.answer) number h.answer refl;
+          legal = rests set c spoken number h.answer (refl, subst (λ l. IsLegalEvent (setting_of set) l (event.Answered spoken number h.answer)) (served_log set.work c) legal);
           early = goes_on h.answer;
-          agrees = h.agrees (setting_of set) (log_of set.work top c) agree;
-          told = λ _. list_any-append (answers_now by) (log_of set.work top c) (m ∷ []) ∙ last (is_answered by (log_of set.work top c)) (answers_now by m) (same_self by);
-        },
-      )
-    where
-      last : (x y : Bool) → y ≡ true → (x || (y || false)) ≡ true
-      last true y e = refl
-      last false true e = refl
-      last false false e = absurd (true≢false (sym e))
+          agrees = h.tells.agrees (instance_of set) (log_in set.work c) agree;
+          told = λ _. list_any-append (answers_now spoken) (log_of set.work top c) (m ∷ []) ∙ last (is_answered spoken (log_of set.work top c)) (answers_now spoken m) (same_self spoken);
+        };
+      })
+  there services waiting.Jobs given number waits h =
+      let t : Answers services (instance_of set) (log_in set.work c) spoken given number = h (instance_of set) (log_in set.work c) agree in
+      let of = of_jobs given t.reply t.hands in
+      record {
+        moment = None;
+        happening = Some (rules.Replied spoken t.reply number);
+        is = record {
+          moment = ap (option_map (λ x. Happened (event.Answered spoken number x))) of.unanswered;
+          happens = job_replied set.work c spoken given number t.reply t.hands;
+          legal = of.rests set c spoken number t.legal;
+          early = of.early;
+          agrees = t.agrees;
+          told = λ asked. absurd (true≢false (sym asked ∙ waits.1));
+        };
+      }
 
 -- a reply is no moment at which a command asks
 replied_asks : (set : Setup) (c : List Entry) (a k : ℕ) (given : Reply) (number : Option ℕ) (by : By) → asks_of by (moment_of set.work top c (entry.Replied a k given number)) ≡ false
@@ -214,10 +287,10 @@ counted_more a issued k n some e = elim (cases_eq k (issued - 1)) [
       | inr above ↦ ap (λ b. cond b 1 0) (le-ltb k (issued - 1) above ∙ sym (le-ltb k issued (omega arith)))
     ]
 
-stands_replied : (set : Setup) (log : Log) (c : List Entry) (core : ServicesValue) (a issued : ℕ) (given : Reply) (number : Option ℕ) (o : Option Moment) → 0 < issued →
-    IsReply set log c core (command_of a (issued - 1)) given number o → ((by : By) → asks_of by o ≡ false) →
+stands_replied : (set : Setup) (log : Log) (c : List Entry) (services : ServicesValue) (a issued : ℕ) (given : Reply) (number : Option ℕ) (o : Option Moment) (p : Option rules.Moment) → 0 < issued →
+    IsReply set log c services (command_of a (issued - 1)) given number o p → ((by : By) → asks_of by o ≡ false) →
     Stands log c a issued (issued - 1) → Stands (log ++ cons_option o []) (c ++ entry.Replied a (issued - 1) given number ∷ []) a issued issued
-stands_replied set log c core a issued given number o some r unasked h = record {
+stands_replied set log c services a issued given number o p some r unasked h = record {
   counted = count-push (issues_of a) c (entry.Replied a (issued - 1) given number) ∙ plus_none _ ∙ h.counted;
   begun = λ k below. any_left (issues (command_of a k)) c (entry.Replied a (issued - 1) given number ∷ []) (h.begun k below);
   ended = λ k. count-push (replies_to (command_of a k)) c (entry.Replied a (issued - 1) given number) ∙ counted_more a issued k _ some (h.ended k);
@@ -285,6 +358,7 @@ given_waits old core by waiting.TxnFull given number h = refl
 given_waits old core by (waiting.Tell to) given number h = absurd h
 given_waits old core by waiting.Using given number h = refl
 given_waits old core by waiting.Service given number h = refl
+given_waits old core by waiting.Jobs given number h = refl
 
 some_issued : (set : Setup) (log : Log) (a issued : ℕ) (w : Waiting) → is_free w ≡ false → Waits set log a issued w → 0 < issued
 some_issued set log a issued waiting.Nothing e h = absurd (true≢false e)
@@ -293,6 +367,7 @@ some_issued set log a issued waiting.TxnFull e h = h.0
 some_issued set log a issued (waiting.Tell to) e h = h.0
 some_issued set log a issued waiting.Using e h = h.0
 some_issued set log a issued waiting.Service e h = h.0
+some_issued set log a issued waiting.Jobs e h = h.0
 
 -- the instance behind a reply to the actor, where the actors stood so
 abbrev pub replied : ℕ → List Seat → Seat → ServicesValue → Floors → InstanceValue
@@ -304,11 +379,12 @@ pub record IsReady (v : Own) (a : ℕ) (c : List Entry) (seats : List Seat) : Ty
   pub split : c ≡ v.chronicle ++ before
   pub others : Each (ComesBeforeReply v.set.work a) before
   pub legal_before : EachAfter (IsLegalEntry v.set) v.chronicle before
-  pub quiet : EachAfter (IsToldAtIssue v.set) v.chronicle before
+  pub quiet : EachAfter (RestsAtIssue v.set) v.chronicle before
   pub legal : IsLegal v.set c
   pub early : Each IsEarlierEntry c
   pub seated : length seats ≡ length v.instance.seats
-  pub agrees : AgreesServices v.instance.services (setting_of v.set) (log_of v.set.work top c)
+  pub lines : HaveSameLines v.instance.seats seats
+  pub agrees : AgreesServices v.instance.services (instance_of v.set) (log_in v.set.work c)
   pub actors : (b : ℕ) → ActorStands v.set (log_of v.set.work top c) c b (slice_get seats b)
 
 -- a reply that tells nobody else comes at once
@@ -322,6 +398,7 @@ ready_now v h a = record {
   legal = h.legal;
   early = h.early;
   seated = refl;
+  lines = same_lines v.instance.seats;
   agrees = h.agrees;
   actors = h.actors;
 }
@@ -347,28 +424,43 @@ module _ (v : Own) (a : ℕ) (c : List Entry) (seats : List Seat) (r : IsReady v
   unreplied = none_counted (replies_to (command_of a (seat.issued - 1))) c (before.ended (seat.issued - 1) ∙ ap (λ b. cond b 1 0) (le-ltb (seat.issued - 1) (seat.issued - 1) (omega arith)))
 
   -- the reply, with its grounds
-  module _ (h : DoesAgree v) (services : ServicesValue) (given : Reply) (number : Option ℕ) (kept : services.manager.posted ≡ v.instance.services.manager.posted) (found : IsThere v.set log c services (command_of a (seat.issued - 1)) given number)
+  module _ (h : DoesAgree v) (services : ServicesValue) (given : Reply) (number : Option ℕ) (kept : KeepsCounts v.instance.services.jobs services.jobs) (found : IsThere v.set log c services (command_of a (seat.issued - 1)) given number)
       (floors : Floors) (seen : HasSeen seat number floors) where
     abbrev e : Entry
     e = entry.Replied a (seat.issued - 1) given number
 
-    log_grown : log_of v.set.work top (c ++ e ∷ []) ≡ log ++ cons_option found.0 []
-    log_grown = log_push v.set.work top c e ∙ ap (λ o. log ++ cons_option o []) found.1.moment
+    log_served : log_of v.set.work top (c ++ e ∷ []) ≡ log ++ cons_option found.moment []
+    log_served = log_push v.set.work top c e ∙ ap (λ o. log ++ cons_option o []) found.is.moment
 
-    unasked : (by : By) → asks_of by found.0 ≡ false
-    unasked by = subst (λ o. asks_of by o ≡ false) found.1.moment (replied_asks v.set c a (seat.issued - 1) given number by)
+    log_happened : log_in v.set.work (c ++ e ∷ []) ≡ log_in v.set.work c ++ cons_option found.happening []
+    log_happened = log_grown v.set.work c e ∙ ap (λ o. log_in v.set.work c ++ cons_option o []) found.is.happens
 
-    actors_so : (b : ℕ) → ActorStands v.set (log ++ cons_option found.0 []) (c ++ e ∷ []) b (slice_get (set seats a (replied_seat seat floors)) b)
+    -- the actor's next line stays where it is
+    lines_so : HaveSameLines v.instance.seats (set seats a (replied_seat seat floors))
+    lines_so b = elim (cases_eq b a) [
+      | inl same ↦
+          ap (next_at (set seats a (replied_seat seat floors))) same
+          ∙ ap (option_map (λ s. s.next)) (get-set_same seats a seat (replied_seat seat floors) sits)
+          ∙ ap (option_map (λ s. s.next)) (sym sits)
+          ∙ r.lines a
+          ∙ ap (next_at v.instance.seats) (sym same)
+      | inr other ↦ ap (option_map (λ s. s.next)) (get-set_other seats a b (replied_seat seat floors) other) ∙ r.lines b
+    ]
+
+    unasked : (by : By) → asks_of by found.moment ≡ false
+    unasked by = subst (λ o. asks_of by o ≡ false) found.is.moment (replied_asks v.set c a (seat.issued - 1) given number by)
+
+    actors_so : (b : ℕ) → ActorStands v.set (log ++ cons_option found.moment []) (c ++ e ∷ []) b (slice_get (set seats a (replied_seat seat floors)) b)
     actors_so b = elim (cases_eq b a) [
       | inl same ↦
-          subst (λ n. ActorStands v.set (log ++ cons_option found.0 []) (c ++ e ∷ []) n (slice_get (set seats a (replied_seat seat floors)) n)) (sym same)
-          (subst (ActorStands v.set (log ++ cons_option found.0 []) (c ++ e ∷ []) a) (sym (get-set_same seats a seat (replied_seat seat floors) sits)) (
-            stands_replied v.set log c services a seat.issued given number found.0 some found.1 unasked before,
-            seat_replied v.set log (log ++ cons_option found.0 []) c a seat given number floors seen some mine.1,
+          subst (λ n. ActorStands v.set (log ++ cons_option found.moment []) (c ++ e ∷ []) n (slice_get (set seats a (replied_seat seat floors)) n)) (sym same)
+          (subst (ActorStands v.set (log ++ cons_option found.moment []) (c ++ e ∷ []) a) (sym (get-set_same seats a seat (replied_seat seat floors) sits)) (
+            stands_replied v.set log c services a seat.issued given number found.moment found.happening some found.is unasked before,
+            seat_replied v.set log (log ++ cons_option found.moment []) c a seat given number floors seen some mine.1,
           ))
       | inr other ↦
-          subst (ActorStands v.set (log ++ cons_option found.0 []) (c ++ e ∷ []) b) (sym (get-set_other seats a b (replied_seat seat floors) other))
-          (actor_other v.set log c e found.0 b (slice_get seats b)
+          subst (ActorStands v.set (log ++ cons_option found.moment []) (c ++ e ∷ []) b) (sym (get-set_other seats a b (replied_seat seat floors) other))
+          (actor_other v.set log c e found.moment b (slice_get seats b)
           (record {
             unissued = refl;
             unreplied = λ k. ap (λ t. t && (k == seat.issued - 1)) (ne_eqb b a other);
@@ -382,18 +474,19 @@ module _ (v : Own) (a : ℕ) (c : List Entry) (seats : List Seat) (r : IsReady v
     whole = ap (λ x. x ++ e ∷ []) r.split ∙ append_assoc v.chronicle r.before (e ∷ [])
 
     legal_here : IsLegalEntry v.set c e
-    legal_here = record { goes_on = unended c r.early; grounds = found.1.legal }
+    legal_here = record { goes_on = unended c r.early; grounds = found.is.legal }
 
     reply_agrees : AgreesOwn (replied a seats seat services floors) v.set (c ++ e ∷ [])
     reply_agrees = record {
       within = h.within;
       known = h.known;
-      unposted = kept ∙ h.unposted;
+      few = h.few;
+      tallied = tallied_on v.instance (replied a seats seat services floors) v.set.work.lines kept lines_so h.tallied;
       seated = length-set seats a (replied_seat seat floors) ∙ r.seated ∙ h.seated;
       legal = each_push (IsLegalEntry v.set) c e r.legal legal_here;
-      early = each_append IsEarlierEntry c (e ∷ []) r.early (found.1.early, tt);
-      agrees = subst (AgreesServices services (setting_of v.set)) (sym log_grown) found.1.agrees;
-      actors = λ b. subst (λ l. ActorStands v.set l (c ++ e ∷ []) b (slice_get (set seats a (replied_seat seat floors)) b)) (sym log_grown) (actors_so b);
+      early = each_append IsEarlierEntry c (e ∷ []) r.early (found.is.early, tt);
+      agrees = subst (AgreesServices services (instance_of v.set)) (sym log_happened) found.is.agrees;
+      actors = λ b. subst (λ l. ActorStands v.set l (c ++ e ∷ []) b (slice_get (set seats a (replied_seat seat floors)) b)) (sym log_served) (actors_so b);
     }
 
     reply_follows : (es : List Entry) → es ≡ r.before ++ e ∷ [] → Follows v.set v.chronicle (step.Answer a) (replied a seats seat services floors) es
@@ -401,13 +494,13 @@ module _ (v : Own) (a : ℕ) (c : List Entry) (seats : List Seat) (r : IsReady v
       made = record { before = r.before; reply = e; split = refl; replies = refl; others = r.others };
       legal = each_joined (IsLegalEntry v.set) v.chronicle r.before (e ∷ []) r.legal_before (subst (λ x. IsLegalEntry v.set x e) r.split legal_here, tt);
       agrees = subst (AgreesOwn (replied a seats seat services floors) v.set) whole reply_agrees;
-      settled = λ told. each_joined (IsToldAtIssue v.set) v.chronicle r.before (e ∷ []) r.quiet (tt, tt);
+      settled = λ told. each_joined (RestsAtIssue v.set) v.chronicle r.before (e ∷ []) r.quiet (tt, tt);
     })
 
 -- what is known of a reply that is handed over
 pub record IsAnswering (v : Own) (a : ℕ) (seat : Seat) (services : ServicesValue) (given : Reply) (number : Option ℕ) : Type 0 where
   pub sits : slice_get v.instance.seats a ≡ Some seat
-  pub kept : services.manager.posted ≡ v.instance.services.manager.posted
+  pub kept : KeepsCounts v.instance.services.jobs services.jobs
   pub said : IsGiven v.instance.services services (last_command a seat) seat.waiting given number
 
 pub answer_follows : (v : Own) → DoesAgree v → (a : ℕ) (seat : Seat) (services : ServicesValue) (given : Reply) (number : Option ℕ) → IsAnswering v a seat services given number →
@@ -502,6 +595,19 @@ module _ (v : Own) (h : DoesAgree v) (a : ℕ) (seat : Seat) (to : ℕ) (sits : 
   same_log : log_of v.set.work top (v.chronicle ++ told ∷ []) ≡ told_log
   same_log = log_push v.set.work top v.chronicle told ∙ append-nil told_log
 
+  same_moments : log_in v.set.work (v.chronicle ++ told ∷ []) ≡ log_in v.set.work v.chronicle
+  same_moments = log_without v.set.work v.chronicle told refl
+
+  same_next : HaveSameLines v.instance.seats (raised v.instance.seats to floors)
+  same_next b = elim (cases_eq b to) [
+    | inl same ↦ ap (next_at (raised v.instance.seats to floors)) same ∙ at_told (slice_get v.instance.seats to) refl ∙ ap (next_at v.instance.seats) (sym same)
+    | inr other ↦ ap (option_map (λ s. s.next)) (raised_other v.instance.seats to floors b other)
+  ]
+    where
+      at_told : (o : Option Seat) → slice_get v.instance.seats to ≡ o → next_at (raised v.instance.seats to floors) to ≡ next_at v.instance.seats to
+      at_told None at = ap (option_map (λ s. s.next)) (raised_none v.instance.seats to floors at ∙ sym at)
+      at_told (Some s) at = ap (option_map (λ s. s.next)) (raised_here v.instance.seats to floors s at) ∙ ap (option_map (λ s. s.next)) (sym at)
+
   others_so : (b : ℕ) → IsOthers b told None
   others_so b = record { unissued = refl; unreplied = λ k. refl; unasked = λ k. refl }
 
@@ -542,7 +648,8 @@ module _ (v : Own) (h : DoesAgree v) (a : ℕ) (seat : Seat) (to : ℕ) (sits : 
     legal = each_push (IsLegalEntry v.set) v.chronicle told h.legal legal_told;
     early = each_append IsEarlierEntry v.chronicle (told ∷ []) h.early (tt, tt);
     seated = raised_length v.instance.seats to floors;
-    agrees = subst (AgreesServices v.instance.services (setting_of v.set)) (sym same_log) h.agrees;
+    lines = same_next;
+    agrees = subst (AgreesServices v.instance.services (instance_of v.set)) (sym same_moments) h.agrees;
     actors = λ b. subst (λ l. ActorStands v.set l (v.chronicle ++ told ∷ []) b (slice_get (raised v.instance.seats to floors) b)) (append-nil told_log ∙ sym same_log) (told_actors b);
   }
 
@@ -555,11 +662,8 @@ module _ (v : Own) (h : DoesAgree v) (a : ℕ) (seat : Seat) (to : ℕ) (sits : 
     engaged_on = ap is_free same.0 ∙ engaged
 
     told_there : IsThere v.set (log_of v.set.work top (v.chronicle ++ told ∷ [])) (v.chronicle ++ told ∷ []) v.instance.services (command_of a (later.issued - 1)) reply.Told None
-    told_there = (
-      None,
-      record {
-        moment = refl;
-        legal = (
+    told_there = nothing_told v.set (v.chronicle ++ told ∷ []) v.instance.services (command_of a (later.issued - 1)) reply.Told refl refl refl
+        ready_told.agrees (
           (begun v a (v.chronicle ++ told ∷ []) (raised v.instance.seats to floors) ready_told later sits_on engaged_on, unreplied v a (v.chronicle ++ told ∷ []) (raised v.instance.seats to floors) ready_told later sits_on engaged_on),
           refl,
           record {
@@ -571,17 +675,13 @@ module _ (v : Own) (h : DoesAgree v) (a : ℕ) (seat : Seat) (to : ℕ) (sits : 
             issued = subst (λ n. is_issued (command_of a (n - 1)) v.chronicle ≡ true) (sym same.1) (begun v a v.chronicle v.instance.seats now seat sits engaged);
             told = Contains-get_or (told ∷ []) 0 told (omega arith);
           },
-        );
-        early = refl;
-        agrees = subst (AgreesServices v.instance.services (setting_of v.set)) (sym (append-nil (log_of v.set.work top (v.chronicle ++ told ∷ [])))) ready_told.agrees;
-        told = λ asked. absurd (true≢false (sym asked ∙ ap (is_asked (command_of a (later.issued - 1))) same_log ∙ ap (λ n. is_asked (command_of a (n - 1)) told_log) same.1 ∙ quiet_so));
-      },
-    )
+        )
+        (ap (is_asked (command_of a (later.issued - 1))) same_log ∙ ap (λ n. is_asked (command_of a (n - 1)) told_log) same.1 ∙ quiet_so)
 
     pub tell_follows : (es : List Entry) → es ≡ told ∷ entry.Replied a (later.issued - 1) reply.Told None ∷ [] → Follows v.set v.chronicle (step.Answer a) (replied a (raised v.instance.seats to floors) later v.instance.services later.floors) es
     unfolding ready_told
     tell_follows es eq =
-        reply_follows v a (v.chronicle ++ told ∷ []) (raised v.instance.seats to floors) ready_told later sits_on engaged_on h v.instance.services reply.Told None refl told_there later.floors (λ space. refl) es eq
+        reply_follows v a (v.chronicle ++ told ∷ []) (raised v.instance.seats to floors) ready_told later sits_on engaged_on h v.instance.services reply.Told None (record { size = refl; submitted = refl; span = refl }) told_there later.floors (λ space. refl) es eq
 
 -- an actor that can be replied to has a seat
 pub actor_within : (v : Own) (a : ℕ) → can_answer v.instance a ≡ true → a < length v.instance.seats

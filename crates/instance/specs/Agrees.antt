@@ -1,7 +1,7 @@
 -- When an instance stands where a chronicle of its own leaves it.
-use Rattle.std.specs.Prelude.{◌≡◌, ℕ, ◌-◌, ◌<◌, ◌≤◌, ◌==◌, nat_lt, cond, List, [], Bool, true, false, All, Option, Some, None, length, take, count_by, slice_get, slice_index_or}
-use Rattle.std.specs.List.{AllByRecursion as Each}
-use Rattle.std.specs.Option.{option_map}
+use Rattle.std.specs.Prelude.{◌≡◌, ℕ, ◌+◌, ◌-◌, ◌<◌, ◌≤◌, ◌==◌, nat_le, nat_lt, cond, List, Bool, true, false, All, IsSome, Option, Some, None, length, map, take, count_by, slice_get, slice_index_or}
+use Rattle.std.specs.List.{AllByRecursion as Each, enumerate_from, filter}
+use Rattle.std.specs.Option.{option_map, option_map_or}
 use Rattle.kvs_txn.specs.declared.txn.Author.TheVariants as author
 use Rattle.kvs_txn.specs.declared.txn.By.{By}
 use Rattle.kvs_model.specs.Store.{Name}
@@ -9,19 +9,21 @@ use Rattle.kvs_rules.specs.Log.{Log, is_asked, is_answered}
 use Rattle.services.specs.Agrees.{AgreesServices}
 use Rattle.workload.specs.declared.work.Command.TheVariants as command
 use Rattle.workload.specs.declared.work.Line.{Line}
-use Rattle.workload.specs.Laws.{IsWithin}
+use Rattle.workload.specs.Laws.{IsBuilt, IsWithin, KeepsTallies}
+use Rattle.workload.specs.Tallies.{seconds_in, submits_in}
 use Rattle.answers.specs.declared.chronicle.Entry.{Entry}
 use Rattle.answers.specs.Chronicle.{Setup, top, issues_of, is_issued, replies_to}
 use Rattle.answers.specs.Commands.{broker_of, command_at, namespace_at, staged_at, most_staged, subject_at}
 use Rattle.answers.specs.Floors.{floor}
 use Rattle.answers.specs.Legal.{IsLegal, IsStaging}
-use Rattle.answers.specs.Services.{setting_of, log_of}
+use Rattle.answers.specs.Jobs.{instance_of, job_ask_at, log_in}
+use Rattle.answers.specs.Services.{log_of}
 use Rattle.answers.specs.Whole.{IsEarlierEntry}
 use Rattle.instance.specs.declared.seats.Seat.{Seat}
 use Rattle.instance.specs.declared.seats.Waiting.{Waiting}
 use Rattle.instance.specs.declared.seats.Waiting.TheVariants as waiting
 use Rattle.instance.specs.Floors.{floor_in}
-use Rattle.instance.specs.Seats.{IsKnownCommand, replied_of}
+use Rattle.instance.specs.Seats.{replied_of}
 use Rattle.instance.specs.Value.{InstanceValue}
 
 -- the actor's command of this number
@@ -44,6 +46,8 @@ Waits set log actor issued (waiting.Tell to) = (0 < issued) × (is_asked (comman
 Waits set log actor issued waiting.Using = (0 < issued) × (is_asked (command_of actor (issued - 1)) log ≡ false)
     × ((name : Name) × (command_at set.work (command_of actor (issued - 1)) ≡ Some (command.NsUse name)))
 Waits set log actor issued waiting.Service = (0 < issued) × (is_asked (command_of actor (issued - 1)) log ≡ true)
+Waits set log actor issued waiting.Jobs = (0 < issued) × (is_asked (command_of actor (issued - 1)) log ≡ false)
+    × IsSome (job_ask_at set.work (command_of actor (issued - 1)))
 
 -- whether a line is the actor's
 abbrev pub is_of : ℕ → Line → Bool
@@ -73,16 +77,30 @@ abbrev pub ActorStands : Setup → Log → List Entry → ℕ → Option Seat �
 ActorStands set log c actor None = Stands log c actor 0 0
 ActorStands set log c actor (Some seat) = Stands log c actor seat.issued (replied_of seat) × IsSeat set log c actor seat
 
+-- whether the line at this place isn't issued yet
+abbrev pub is_ahead : List Seat → ℕ × Line → Bool
+is_ahead seats at = option_map_or (λ seat. nat_le seat.next at.0) (slice_get seats at.1.actor) false
+
+-- the lines that aren't issued yet
+abbrev pub lines_ahead : List Seat → List Line → List Line
+lines_ahead seats lines = map (λ at. at.1) (filter (is_ahead seats) (enumerate_from 0 lines))
+
+-- what was issued and what is ahead submit as many jobs as all lines, and let as many seconds pass
+pub record IsTallied (v : InstanceValue) (lines : List Line) : Type 0 where
+  pub submits : v.services.jobs.submitted + submits_in (lines_ahead v.seats lines) ≡ submits_in lines
+  pub seconds : v.services.jobs.span + seconds_in (lines_ahead v.seats lines) ≡ seconds_in lines
+
 -- an instance stands where this chronicle of its own leaves it, of a run that is given this and has not ended;
 -- the chronicle has 0 for the number of the instance
 pub record AgreesOwn (v : InstanceValue) (set : Setup) (own : List Entry) : Type 0 where
   pub within : IsWithin set.size set.work
-  pub known : All (λ l. IsKnownCommand l.command) set.work.lines
+  pub known : All (λ l. IsBuilt l.command) set.work.lines
+  pub few : KeepsTallies set.work.lines
+  pub tallied : IsTallied v set.work.lines
   pub legal : IsLegal set own
   pub early : Each IsEarlierEntry own
-  pub unposted : v.services.manager.posted ≡ None
   pub seated : length v.seats ≡ length set.work.actors
-  pub agrees : AgreesServices v.services (setting_of set) (log_of set.work top own)
+  pub agrees : AgreesServices v.services (instance_of set) (log_in set.work own)
   pub actors : (actor : ℕ) → ActorStands set (log_of set.work top own) own actor (slice_get v.seats actor)
 
 -- the lines are those of a workload with which the instance stands

@@ -4,6 +4,8 @@ use Rattle.std.specs.List.{range_with_len}
 use Rattle.std.specs.Option.{option_map, option_map_or}
 use Rattle.std.specs.Str.{bytes_eq}
 use Rattle.kvs_model.specs.Store.{Name}
+use Rattle.job_states.specs.declared.job.State.{State}
+use Rattle.kvs_txn.specs.declared.txn.By.{By}
 use Rattle.kvs_rules.specs.Log.{Log}
 use Rattle.kvs_rules.specs.Brokers.{heard}
 use Rattle.workload.specs.declared.work.Command.{Command}
@@ -17,6 +19,7 @@ use Rattle.instance.specs.declared.seats.Seat.{Seat}
 use Rattle.instance.specs.declared.seats.Waiting.{Waiting}
 use Rattle.instance.specs.declared.seats.Waiting.TheVariants as waiting
 use Rattle.instance.specs.Agrees.{is_of}
+use Rattle.instance.specs.Seats.{last_command}
 
 -- the actor's command that was issued last
 abbrev pub open_command : List Line → Seat → Option Command
@@ -62,12 +65,15 @@ left_reply had lines seats space (command.Fence name count) =
 left_reply had lines seats space (command.Wait number) = Some (reply.UnfinishedWait had number)
 left_reply had lines seats space _ = None
 
--- what the actor at this seat is told at the end of its open command, if that did not finish
-abbrev pub unfinished_at : ℕ → List Line → List Seat → Seat → Option Reply
-unfinished_at had lines seats seat =
-    if is_served seat.waiting
-    then option_and_then (left_reply had lines seats seat.subject) (open_command lines seat)
-    else None
+-- what the actor at this seat is told at the end of its open command, if that did not finish: of a result, the state of its job
+abbrev pub unfinished_as : Waiting → ℕ → Option State → List Line → List Seat → Seat → Option Reply
+unfinished_as waiting.Service had left lines seats seat =
+    option_and_then (left_reply had lines seats seat.subject) (open_command lines seat)
+unfinished_as waiting.Jobs had left lines seats seat = option_map reply.UnfinishedJob left
+unfinished_as _ had left lines seats seat = None
+
+abbrev pub unfinished_at : ℕ → Option State → List Line → List Seat → Seat → Option Reply
+unfinished_at had left lines seats seat = unfinished_as seat.waiting had left lines seats seat
 
 -- the closing replies to the actor at this seat, whose open command is told so: the commands behind were not reached
 abbrev pub closings_at : List Line → ℕ → Seat → Reply → List Entry
@@ -75,13 +81,13 @@ closings_at lines actor seat given =
     entry.Replied actor (seat.issued - 1) given None
     ∷ not_reached actor seat.issued (count_by (is_of actor) lines - seat.issued)
 
--- the closing replies to an actor
-abbrev pub closings_of : (ℕ → Name → ℕ) → List Line → List Seat → ℕ → List Entry
-closings_of numbers lines seats actor = option_map_or
+-- the closing replies to an actor, where this is left of its open command, if it waits for a job
+abbrev pub closings_of : (ℕ → Name → ℕ) → (By → Option State) → List Line → List Seat → ℕ → List Entry
+closings_of numbers left lines seats actor = option_map_or
     (λ seat. option_map_or (closings_at lines actor seat)
-    (unfinished_at (numbers seat.broker seat.subject) lines seats seat) [])
+    (unfinished_at (numbers seat.broker seat.subject) (left (last_command actor seat)) lines seats seat) [])
     (slice_get seats actor) []
 
 -- the closing replies, by actor
-abbrev pub closings : (ℕ → Name → ℕ) → List Line → List Seat → List Entry
-closings numbers lines seats = flat_map (closings_of numbers lines seats) (range_with_len 0 (length seats))
+abbrev pub closings : (ℕ → Name → ℕ) → (By → Option State) → List Line → List Seat → List Entry
+closings numbers left lines seats = flat_map (closings_of numbers left lines seats) (range_with_len 0 (length seats))

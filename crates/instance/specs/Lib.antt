@@ -2,6 +2,7 @@ pub mod Floors
 pub mod Seats
 pub mod Replies
 pub mod Value
+pub mod Jobs
 pub mod Steps
 pub mod Order
 pub mod Agrees

@@ -7,20 +7,20 @@ use Rattle.answers.specs.declared.chronicle.Entry.{Entry}
 use Rattle.answers.specs.declared.chronicle.Entry.TheVariants as entry
 use Rattle.answers.specs.declared.steps.Step.{Step}
 use Rattle.answers.specs.Chronicle.{Setup}
-use Rattle.answers.specs.Legal.{IsLegalEntry, IsToldAtIssue}
+use Rattle.answers.specs.Legal.{IsLegalEntry, RestsAtIssue}
 use Rattle.answers.specs.Stretches.{IsStretch}
-use Rattle.answers.specs.Whole.{HasToldAll, IsClosingEntry, IsWhole}
+use Rattle.answers.specs.Whole.{HasComeToRest, IsClosingEntry, IsWhole}
 use Rattle.instance.specs.Agrees.{AgreesOwn}
 use Rattle.instance.specs.Steps.{IsIssue}
 use Rattle.instance.specs.Value.{InstanceValue}
 
 -- the entries are those that the step may make after the chronicle, each is legal, and the instance agrees with both;
--- they keep a chronicle settled, if all brokers are told where the step issues a command
+-- they keep a chronicle settled, if the run has come to rest where the step issues a command
 pub record Follows (set : Setup) (own : List Entry) (s : Step) (new : InstanceValue) (entries : List Entry) : Type 0 where
   pub made : IsStretch set.work own s entries
   pub legal : EachAfter (IsLegalEntry set) own entries
   pub agrees : AgreesOwn new set (own ++ entries)
-  pub settled : (IsIssue s → HasToldAll set own) → EachAfter (IsToldAtIssue set) own entries
+  pub settled : (IsIssue s → HasComeToRest set own) → EachAfter (RestsAtIssue set) own entries
 
 -- the entries follow every chronicle that agrees
 abbrev pub Makes : InstanceValue → Step → InstanceValue → List Entry → Type 0

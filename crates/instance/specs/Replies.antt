@@ -1,12 +1,10 @@
 -- What an actor is told.
-use Rattle.std.specs.Prelude.{◌≡◌, ℕ, [], ◌∷◌, ◌++◌, Option, None}
+use Rattle.std.specs.Prelude.{◌≡◌, ℕ, Option, None}
 use Rattle.kvs_txn.specs.declared.txn.By.{By}
 use Rattle.kvs_rules.specs.declared.events.KvsAnswer.{KvsAnswer}
-use Rattle.kvs_rules.specs.declared.events.KvsEvent.TheVariants as event
-use Rattle.kvs_rules.specs.Log.{Log, Happened}
-use Rattle.kvs_rules.specs.Namespaces.{Setting}
-use Rattle.kvs_rules.specs.Answers.{IsLegalAnswer}
+use Rattle.instance_rules.specs.Log.{Instance, Log}
 use Rattle.services.specs.Agrees.{AgreesServices}
+use Rattle.services.specs.Asks.{Answers, Tells}
 use Rattle.services.specs.Value.{ServicesValue}
 use Rattle.answers.specs.declared.chronicle.Reply.{Reply}
 use Rattle.answers.specs.declared.chronicle.Reply.TheVariants as reply
@@ -18,8 +16,11 @@ use Rattle.instance.specs.declared.seats.Waiting.TheVariants as waiting
 pub record IsTaken (old new : ServicesValue) (by : By) (given : Reply) (number : Option ℕ) : Type 0 where
   pub answer : KvsAnswer
   pub handed : given ≡ reply_of answer
-  pub legal : (set : Setting) (log : Log) → AgreesServices old set log → IsLegalAnswer set log by number answer
-  pub agrees : (set : Setting) (log : Log) → AgreesServices old set log → AgreesServices new set (log ++ Happened (event.Answered by number answer) ∷ [])
+  pub tells : Tells old new by number answer
+
+-- what became of a job command, as the services told it
+abbrev pub IsToldOf : ServicesValue → ServicesValue → By → Reply → Option ℕ → Type 0
+IsToldOf old new by given number = (inst : Instance) (log : Log) → AgreesServices old inst log → Answers new inst log by given number
 
 -- what the actor is told, who waits so
 abbrev pub IsGiven : ServicesValue → ServicesValue → By → Waiting → Reply → Option ℕ → Type 0
@@ -29,3 +30,4 @@ IsGiven old new by waiting.TxnFull given number = (given ≡ reply.TxnFull) × (
 IsGiven old new by (waiting.Tell to) given number = ⊥  -- one that tells another is replied to in that step
 IsGiven old new by waiting.Using given number = (given ≡ reply.Using) × (number ≡ None) × (new ≡ old)
 IsGiven old new by waiting.Service given number = IsTaken old new by given number
+IsGiven old new by waiting.Jobs given number = IsToldOf old new by given number

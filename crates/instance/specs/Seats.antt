@@ -1,5 +1,5 @@
 -- Where an actor stands in its commands.
-use Rattle.std.specs.Prelude.{◌≡◌, ℕ, ◌-◌, ◌≤◌, max, nat_lt, slice_get, slice_set, List, [], ◌∷◌, ◌++◌, Bool, true, false, Option, Some, None, unwrap_or, length, if◌then◌else◌}
+use Rattle.std.specs.Prelude.{◌≡◌, ℕ, ◌-◌, max, nat_lt, slice_get, slice_set, List, [], ◌∷◌, ◌++◌, Bool, true, false, Option, Some, None, is_some, unwrap_or, length, if◌then◌else◌}
 use Rattle.std.specs.Option.{option_map_or, option_map}
 use Rattle.std.specs.List.{cons_option}
 use Rattle.kvs_txn.specs.declared.txn.By.{By}
@@ -8,39 +8,17 @@ use Rattle.kvs_model.specs.Store.{Name}
 use Rattle.kvs_rules.specs.declared.events.KvsAsk.{KvsAsk}
 use Rattle.kvs_rules.specs.Log.{Log, Asked}
 use Rattle.kvs_rules.specs.Namespaces.{Setting}
+use Rattle.job_service.specs.Replies.{can_reply}
 use Rattle.services.specs.Steps.{can_take}
 use Rattle.services.specs.Value.{ServicesValue}
-use Rattle.workload.specs.Limits.{most_members}
 use Rattle.workload.specs.declared.work.Command.{Command}
 use Rattle.workload.specs.declared.work.Command.TheVariants as command
 use Rattle.answers.specs.Commands.{op_of, takes_staged, most_staged, used_name}
+use Rattle.answers.specs.Jobs.{job_ask_of}
 use Rattle.instance.specs.declared.seats.Seat.{Seat}
 use Rattle.instance.specs.declared.seats.Waiting.{Waiting}
 use Rattle.instance.specs.declared.seats.Waiting.TheVariants as waiting
 use Rattle.instance.specs.Floors.{Floors, floor_in}
-
--- the commands that a run carries out
-abbrev pub IsKnownCommand : Command → Type 0
-IsKnownCommand (command.Put path bytes) = Unit {0}
-IsKnownCommand (command.Append path bytes) = Unit {0}
-IsKnownCommand (command.Unlink path) = Unit {0}
-IsKnownCommand (command.Mkdir path) = Unit {0}
-IsKnownCommand (command.Symlink path target) = Unit {0}
-IsKnownCommand command.Commit = Unit {0}
-IsKnownCommand (command.Fence name count) = (1 ≤ count) × (count ≤ most_members)
-IsKnownCommand (command.Get path) = Unit {0}
-IsKnownCommand (command.Ls path) = Unit {0}
-IsKnownCommand (command.Readlink path) = Unit {0}
-IsKnownCommand (command.Wait number) = Unit {0}
-IsKnownCommand (command.Tell actor) = Unit {0}
-IsKnownCommand (command.NsCreate name) = Unit {0}
-IsKnownCommand (command.NsRemove name) = Unit {0}
-IsKnownCommand (command.NsUse name) = Unit {0}
-IsKnownCommand (command.ContentStore bytes) = Unit {0}
-IsKnownCommand (command.ContentLoad reference) = Unit {0}
-IsKnownCommand command.ContentFlush = Unit {0}
-IsKnownCommand command.ContentDrop = Unit {0}
-IsKnownCommand _ = ⊥
 
 -- what an operation that is to be staged behind these finds
 abbrev pub room_behind : List Op → Waiting
@@ -54,7 +32,7 @@ with_op ops op = if nat_lt (length ops) most_staged then ops ++ op ∷ [] else o
 abbrev pub waits_for : Command → Waiting
 waits_for (command.Tell actor) = waiting.Tell actor
 waits_for (command.NsUse name) = waiting.Using
-waits_for _ = waiting.Service
+waits_for c = if is_some (job_ask_of c) then waiting.Jobs else waiting.Service
 
 -- what an actor waits for once the command is issued, where these operations are staged
 abbrev pub waiting_after : Command → List Op → Waiting
@@ -122,3 +100,4 @@ has_come services by waiting.TxnFull = true
 has_come services by (waiting.Tell to) = true
 has_come services by waiting.Using = true
 has_come services by waiting.Service = can_take services by
+has_come services by waiting.Jobs = can_reply services.jobs by

@@ -1,7 +1,8 @@
 -- Which steps an instance can make.
-use Rattle.std.specs.Prelude.{◌≡◌, ℕ, ◌&&◌, nat_lt, Bool, false, List, length, slice_get}
+use Rattle.std.specs.Prelude.{◌≡◌, ℕ, ◌&&◌, nat_lt, Bool, false, List, is_some, length, slice_get}
 use Rattle.std.specs.Option.{option_map_or}
 use Rattle.kvs_rules.specs.declared.events.KvsStep.{KvsStep}
+use Rattle.job_service.specs.Still.{can_tick as jobs_can_tick}
 use Rattle.services.specs.Steps.{can_step}
 use Rattle.services.specs.Value.{ServicesValue}
 use Rattle.workload.specs.declared.work.Line.{Line}
@@ -31,15 +32,27 @@ can_issue lines v actor = has_issue (length lines) v.seats actor
 abbrev pub can_answer : InstanceValue → ℕ → Bool
 can_answer v actor = has_answer v.services v.seats actor
 
--- neither a step of the services nor a reply can be made
+-- whether something that is due can be posted
+abbrev pub can_post : InstanceValue → Bool
+can_post v = is_some v.services.jobs.found
+
+-- whether time can go on
+abbrev pub can_tick : InstanceValue → Bool
+can_tick v = jobs_can_tick v.services.jobs
+
+-- nothing can be made but an issue and the end
 pub record IsAtRest (v : InstanceValue) : Type 0 where
   pub steps : (s : KvsStep) → can_step v.services s ≡ false
   pub answers : (actor : ℕ) → can_answer v actor ≡ false
+  pub posts : can_post v ≡ false
+  pub ticks : can_tick v ≡ false
 
 -- nothing can happen but the end
 pub record IsOver (lines : List Line) (v : InstanceValue) : Type 0 where
   pub steps : (s : KvsStep) → can_step v.services s ≡ false
   pub answers : (actor : ℕ) → can_answer v actor ≡ false
+  pub posts : can_post v ≡ false
+  pub ticks : can_tick v ≡ false
   pub issues : (actor : ℕ) → can_issue lines v actor ≡ false
 
 -- the step issues a command

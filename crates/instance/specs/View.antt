@@ -1,5 +1,5 @@
 -- An instance's value, from its fields.
-use Rattle.std.specs.Prelude.{◌≡◌, ◌≤◌, None, false, length}
+use Rattle.std.specs.Prelude.{◌≡◌, ◌≤◌, false, length}
 use Rattle.instance.specs.declared.actors.Instance.TheInside.{Inside}
 use Rattle.instance.specs.Value.{InstanceValue}
 
@@ -9,7 +9,6 @@ value_of w = record { spent = w.spent; seats = w.seats.items; services = w.servi
 -- what the code rests on, whatever chronicle agrees
 pub record IsFit (v : InstanceValue) : Type 0 where
   pub ready : v.services.spent ≡ false
-  pub unposted : v.services.manager.posted ≡ None
   pub few : length v.seats ≤ 256
 
 abbrev pub IsFitInside : Inside → Type 0

@@ -1,14 +1,16 @@
 //! An instance.
 ghost use Rattle.std.specs.Prelude.{◌≡◌, ◌<◌, ◌≤◌, ◌++◌, [], ◌∷◌, ℕ, true, false, All, List, None, map, slice_get, slice_index_or, IfOk, IfSome, OnErr, OnOk};
-ghost use Rattle.workload.specs.Laws.{IsWithin, IsBuilt};
+ghost use Rattle.workload.specs.Laws.{HasOwnLabels, IsBuilt, IsWithin, KeepsTallies};
 ghost use Rattle.answers.specs.declared.chronicle.Entry.{Entry as EntryValue};
 ghost use Rattle.answers.specs.Chronicle.{Setup, top};
 ghost use Rattle.answers.specs.Entering.{entered};
 ghost use Rattle.answers.specs.Services.{log_of};
-ghost use Rattle.answers.specs.Whole.{HasToldAll};
+ghost use Rattle.answers.specs.Whole.{HasComeToRest};
+ghost use Rattle.job_service.specs.Still.{awaited};
 ghost use Rattle.kvs_model.specs.Store.{Name};
 ghost use Rattle.resource_set.specs.Valid.{IsR};
 ghost use Rattle.resource_set.specs.Writing.{r_text};
+ghost use Rattle.services.specs.Asks.{Keeps};
 ghost use Rattle.services.specs.Order.{possible};
 ghost use Rattle.services.specs.Steps.{can_step};
 ghost use Rattle.instance.specs.declared.seats.Seat.{Seat as SeatValue};
@@ -20,17 +22,17 @@ ghost use Rattle.instance.specs.Makes.{Ends, Makes, MakesOf};
 ghost use Rattle.instance.specs.Order.{answers, issues};
 ghost use Rattle.instance.specs.Replies.{IsGiven};
 ghost use Rattle.instance.specs.Seats.{has_come, is_telling};
-ghost use Rattle.instance.specs.Steps.{IsAtRest, IsOver, can_answer, can_issue};
+ghost use Rattle.instance.specs.Steps.{IsAtRest, IsOver, can_answer, can_issue, can_post, can_tick};
 
 mod walk;
 
 use crate::floors::Floors;
+use crate::jobs::{job_ask, order};
 use crate::seats::{
     Seat, Waiting, ask, begin, first_answer, has_answer, has_issue, issue_from, next_line, raise,
 };
 use crate::unfinished::close_off;
 use answers::{Chronicle, Entry, Reply, Step};
-use kvs_core::laws::users_land_where_nothing_is_posted;
 use kvs_core::{Core, CoreFault, KvsEvents, Setting};
 use kvs_rules::KvsStep;
 use kvs_txn::{Author, By, Txn};
@@ -91,16 +93,16 @@ struct Given {
 }
 
 /// What an actor is told that waits so for its command.
-fn reply_to(services: &mut Services, by: By, waiting: Waiting) -> Given
+fn reply_to(services: &mut Services, by: By, waiting: Waiting) -> Result<Given, AllocError>
     requires ready { services.old.spent ≡ false }
     requires can { has_come services.old by waiting ≡ true }
     requires hands { is_telling waiting ≡ false }
-    ensures ready { services.new.spent ≡ false }
-    ensures posted { services.new.manager.posted ≡ services.old.manager.posted }
-    ensures given { IsGiven services.old services.new by waiting
-        result.reply result.number }
+    ensures ready { OnOk result (services.new.spent ≡ false) }
+    ensures keeps { OnOk result (Keeps services.old services.new) }
+    ensures given { IfOk result (λ given. IsGiven services.old services.new by waiting
+        given.reply given.number) }
 {
-    match waiting {
+    Ok(match waiting {
         Waiting::Nothing | Waiting::Tell { .. } => unreachable!(),
         Waiting::Staged => Given {
             reply: Reply::Staged,
@@ -121,7 +123,14 @@ fn reply_to(services: &mut Services, by: By, waiting: Waiting) -> Given
                 number: held.number,
             }
         }
-    }
+        Waiting::Jobs => {
+            let told = services.reply(by)?;
+            Given {
+                reply: told.reply,
+                number: told.number,
+            }
+        }
+    })
 }
 
 /// Raises the floor of an actor in the namespace that its open command is about to the number of the reply, if it has one.
@@ -163,7 +172,7 @@ impl Instance {
     /// The key-value service, which can go on where the instance can.
     fn core(&self) -> &Core
         requires { self.now.spent ≡ false }
-        ensures value { result.now ≡ self.now.services.manager.core }
+        ensures value { result.now ≡ self.now.services.jobs.manager.core }
         ensures ready { result.now.spent ≡ false }
     {
         self.services.core()
@@ -182,12 +191,14 @@ impl Instance {
         requires fanout { (1 ≤ setting.fanout) × (setting.fanout ≤ 32) }
         requires within { IsWithin setting.size work.now }
         requires built { All (λ l. IsBuilt l.command) work.now.lines }
+        requires labels { HasOwnLabels work.now.lines }
+        requires few { KeepsTallies work.now.lines }
         ensures ready { IfOk result (λ v. v.spent ≡ false) }
         ensures agrees { IfOk result (λ v. (set : Setup) → set.size ≡ setting.size
             → set.fanout ≡ setting.fanout → set.hash ≡ setting.hash → set.grant ≡ r_text grant.now
-            → set.work ≡ work.now → AgreesOwn v set []) }
+            → set.resources ≡ grant.now → set.work ≡ work.now → AgreesOwn v set []) }
     {
-        let services = Services::new(alloc, setting, grant)?;
+        let services = Services::new(alloc, setting, grant, 0)?;
         let seats = seated(alloc, work, setting.size)?;
         Ok(Instance {
             alloc,
@@ -206,8 +217,6 @@ impl Instance {
         ensures spent { OnErr result (self.new.spent ≡ true) }
     {
         self.spent = true;
-        // the job manager posts nothing yet, so what lands is users'
-        users_land_where_nothing_is_posted();
         let events = self.services.turn(step)?;
         let made = enter(self.alloc, events)?;
         self.spent = false;
@@ -227,11 +236,9 @@ impl Instance {
         self.spent = true;
         let seat = &mut self.seats[actor as usize];
         let command = seat.issued.saturating_sub(1);
-        let Given { reply, number } = reply_to(
-            &mut self.services,
-            By { actor, command },
-            seat.waiting,
-        );
+        let by = By { actor, command };
+        let given = reply_to(&mut self.services, by, seat.waiting)?;
+        let Given { reply, number } = given;
         seat.waiting = Waiting::Nothing;
         see(&mut seat.floors, &seat.subject, number)?;
         let replied = Entry::Replied {
@@ -297,14 +304,73 @@ impl Instance {
         self.spent = true;
         let seat = &mut self.seats[actor as usize];
         let command = seat.issued;
-        let asked = begin(self.alloc, seat, actor, &lines[seat.next].command)?;
-        ask(&mut self.services, By { actor, command }, seat, asked)?;
+        let by = By { actor, command };
+        let line = &lines[seat.next].command;
+        let asked = begin(self.alloc, seat, actor, line)?;
+        ask(&mut self.services, by, seat, asked)?;
+        order(
+            &mut self.services,
+            by,
+            seat.broker,
+            job_ask(self.alloc, line)?,
+        )?;
         seat.issued = command + 1;
         seat.last = seat.next;
         seat.next = next_line(lines, seat.next + 1, actor);
         let made = only(self.alloc, Entry::Issued { actor, command })?;
         self.spent = false;
         Ok(made)
+    }
+
+    /// Posts what is due of the job manager: nothing has happened then; it lands in a step of the services. After an error the
+    /// instance is spent.
+    pub fn post(&mut self) -> Result<(), CoreFault>
+        requires ready { self.old.spent ≡ false }
+        requires can { can_post self.old ≡ true }
+        ensures ready { OnOk result (self.new.spent ≡ false) }
+        ensures posted { OnOk result (can_post self.new ≡ false) }
+        ensures makes { OnOk result (Makes self.old (Step.Post 0) self.new []) }
+        ensures spent { OnErr result (self.new.spent ≡ true) }
+    {
+        self.spent = true;
+        self.services.post()?;
+        self.spent = false;
+        Ok(())
+    }
+
+    /// Lets time go on to the next second at which something happens, and gives what happened. After an error the instance is
+    /// spent.
+    pub fn tick(&mut self) -> Result<Chronicle, AllocError>
+        requires ready { self.old.spent ≡ false }
+        requires can { can_tick self.old ≡ true }
+        ensures ready { OnOk result (self.new.spent ≡ false) }
+        ensures makes { IfOk result (Makes self.old Step.Tick self.new) }
+        ensures spent { OnErr result (self.new.spent ≡ true) }
+    {
+        let Some(second) = self.services.jobs().next_second() else {
+            unreachable!()
+        };
+        self.spent = true;
+        self.services.tick(second)?;
+        let made = only(self.alloc, Entry::Ticked { second })?;
+        self.spent = false;
+        Ok(made)
+    }
+
+    /// Whether something that is due can be posted.
+    pub fn can_post(&self) -> bool
+        requires { self.now.spent ≡ false }
+        ensures { result ≡ can_post self.now }
+    {
+        self.services.jobs().can_post()
+    }
+
+    /// Whether time can go on.
+    pub fn can_tick(&self) -> bool
+        requires { self.now.spent ≡ false }
+        ensures { result ≡ can_tick self.now }
+    {
+        self.services.jobs().next_second().is_some()
     }
 
     /// Whether a step of the services can be made.
@@ -368,7 +434,11 @@ impl Instance {
         requires lines { AreLinesOf self.now lines.now }
         ensures left { IfOk result (λ left. (set : Setup) (own : List EntryValue)
             → AgreesOwn self.now set own → set.work.lines ≡ lines.now
-            → left ≡ closings (numbers_in (log_of set.work top own)) lines.now self.now.seats) }
+            → left ≡ closings
+            (numbers_in (log_of set.work top own))
+            (awaited self.now.services.jobs)
+            lines.now
+            self.now.seats) }
         ensures ends { IfOk result (λ left. (set : Setup) (own : List EntryValue)
             → AgreesOwn self.now set own → set.work.lines ≡ lines.now
             → IsOver lines.now self.now → Ends set own left) }
@@ -376,14 +446,15 @@ impl Instance {
         // where nothing but the end can happen, the service is at rest
         self.services.still();
         let core = self.core();
-        close_off(self.alloc, core, lines, &self.seats)
+        let jobs = self.services.jobs();
+        close_off(self.alloc, core, jobs, lines, &self.seats)
     }
 
-    /// Where neither a step of the services nor a reply can be made, all brokers are told.
+    /// Where nothing but an issue or the end can be made, the run has come to rest: all brokers are told, and nothing is due.
     pub fn still(&self)
         requires { self.now.spent ≡ false }
-        ensures told { (set : Setup) (own : List EntryValue) → AgreesOwn self.now set own
-            → IsAtRest self.now → HasToldAll set own }
+        ensures rests { (set : Setup) (own : List EntryValue) → AgreesOwn self.now set own
+            → IsAtRest self.now → HasComeToRest set own }
     {
         self.services.still();
     }

@@ -1,8 +1,9 @@
-//! One instance: actors at its brokers, who stage operations and see how far it has come, and its key-value service.
+//! One instance: actors at its brokers, who stage operations and see how far it has come, its key-value service, and its jobs.
 #![tactic(auto)]
 
 mod actors;
 mod floors;
+mod jobs;
 mod seats;
 #[cfg(test)]
 mod tests;

@@ -1,13 +1,14 @@
 //! Where the actors stand.
-ghost use Rattle.std.specs.Prelude.{◌≡◌, ◌≢◌, ◌++◌, [], ℕ, ◌<◌, ◌≤◌, false, length, slice_index_or, IfOk, IfSome, OnOk, Ok, Some, None, true};
+ghost use Rattle.std.specs.Prelude.{◌≡◌, ◌≢◌, ◌++◌, [], ℕ, ◌<◌, ◌≤◌, false, length, slice_index_or, map, IfOk, IfSome, OnOk, Ok, Some, None, true};
 ghost use Rattle.kvs_txn.specs.declared.txn.Author.TheVariants as author;
 ghost use Rattle.workload.specs.declared.work.Line.{Line as LineValue};
-ghost use Rattle.kvs_rules.specs.Log.{Log, is_asked};
-ghost use Rattle.kvs_rules.specs.Namespaces.{Setting as Service};
+ghost use Rattle.kvs_rules.specs.Log.{is_asked};
+ghost use Rattle.instance_rules.specs.Log.{Instance, Log, Served, service_of};
 ghost use Rattle.services.specs.Agrees.{AgreesServices};
-ghost use Rattle.services.specs.Asks.{IsServedAsk, MayAsk};
+ghost use Rattle.services.specs.Asks.{IsServedAsk, Keeps, MayAsk};
+ghost use Rattle.workload.specs.Laws.{IsBuilt};
 ghost use Rattle.answers.specs.Commands.{ask_of, op_of, most_staged, subject_of};
-ghost use Rattle.instance.specs.Seats.{room_behind, with_op, waiting_after, waits_for, ops_after, space_after, seat_floor, moment_asked, AreTold, IsKnownCommand, IsTheAsk, has_come, is_free};
+ghost use Rattle.instance.specs.Seats.{room_behind, with_op, waiting_after, waits_for, ops_after, space_after, seat_floor, moment_asked, AreTold, IsTheAsk, has_come, is_free};
 ghost use Rattle.instance.specs.Steps.{has_issue, has_answer, next_of};
 
 use crate::floors::Floors;
@@ -20,7 +21,7 @@ use std::mem;
 use workload::{Command, Line};
 
 /// What an actor waits for: for nothing, to be told what became of its operation, to have told another actor what it
-/// saw, to be told that it uses another namespace, or for the service's answer.
+/// saw, to be told that it uses another namespace, for the service's answer, or for what becomes of a job or for time.
 #[derive(Clone, Copy, Debug, PartialEq, Eq)]
 pub enum Waiting {
     Nothing,
@@ -29,6 +30,7 @@ pub enum Waiting {
     Tell { to: u32 },
     Using,
     Service,
+    Jobs,
 }
 
 /// An actor: its broker, the places of its next and its last line in the workload, how many of its commands are issued,
@@ -126,6 +128,16 @@ fn waits_for(command: &Command) -> Waiting
     match command {
         Command::Tell { actor } => Waiting::Tell { to: *actor },
         Command::NsUse { .. } => Waiting::Using,
+        Command::Submit { .. }
+        | Command::Cancel { .. }
+        | Command::Raise { .. }
+        | Command::Urgency { .. }
+        | Command::StateOf { .. }
+        | Command::Info { .. }
+        | Command::Jobs
+        | Command::Why { .. }
+        | Command::ResultOf { .. }
+        | Command::Advance { .. } => Waiting::Jobs,
         _ => Waiting::Service,
     }
 }
@@ -164,14 +176,14 @@ fn turn(alloc: Global, seat: &mut Seat, command: &Command) -> Result<(), AllocEr
     Ok(())
 }
 
-/// Begins a command of an actor: says what it then waits for, and what it asks of the service.
+/// Begins a command of an actor: says what it then waits for, and what it asks of the key-value service.
 pub fn begin(
     alloc: Global,
     seat: &mut Seat,
     actor: u32,
     command: &Command,
 ) -> Result<Option<KvsAsk>, AllocError>
-    requires known { IsKnownCommand command.now }
+    requires known { IsBuilt command.now }
     requires author { seat.old.staged.author ≡ author.User actor }
     ensures seat { OnOk result (seat.new ≡ record seat.old {
       staged = record {
@@ -215,8 +227,8 @@ pub fn begin(
         })),
         Command::ContentFlush => Ok(Some(KvsAsk::Flush)),
         Command::ContentDrop => Ok(Some(KvsAsk::DropClean)),
-        Command::Tell { .. } | Command::NsUse { .. } => Ok(None),
-        _ => unreachable!(),
+        Command::Getroot => unreachable!(),
+        _ => Ok(None),
     }
 }
 
@@ -232,10 +244,12 @@ pub fn ask(
     requires known { IfSome asked IsServedAsk }
     requires may { IfSome asked (MayAsk services.old by seat.now.broker seat.now.subject) }
     ensures ready { OnOk result (services.new.spent ≡ false) }
-    ensures posted { OnOk result (services.new.manager.posted ≡ services.old.manager.posted) }
-    ensures agrees { OnOk result ((set : Service) (log : Log) → AgreesServices services.old set log
-        → IsTheAsk set by seat.now asked → is_asked by log ≡ false
-        → AgreesServices services.new set (log ++ moment_asked by (seat_floor seat.now) asked)) }
+    ensures keeps { OnOk result (Keeps services.old services.new) }
+    ensures agrees { OnOk result ((inst : Instance) (log : Log)
+        → AgreesServices services.old inst log
+        → IsTheAsk inst.service by seat.now asked → is_asked by (service_of log) ≡ false
+        → AgreesServices services.new inst
+        (log ++ map Served (moment_asked by (seat_floor seat.now) asked))) }
 {
     let Some(ask) = asked else {
         return Ok(());
@@ -254,6 +268,7 @@ pub fn has_come(services: &Services, by: By, waiting: Waiting) -> bool
         Waiting::Nothing => false,
         Waiting::Staged | Waiting::TxnFull | Waiting::Tell { .. } | Waiting::Using => true,
         Waiting::Service => services.can_take(by),
+        Waiting::Jobs => services.jobs().can_reply(by),
     }
 }
 

@@ -7,7 +7,10 @@ use answers::{Entry, Reply};
 use fl_digest::Hash;
 use std::alloc::Global;
 use std::test::Fail;
-use workload::laws::{spelled_commands_are_built, spelled_workloads_are_within};
+use workload::laws::{
+    spelled_commands_are_built, spelled_labels_are_their_own, spelled_tallies_are_kept,
+    spelled_workloads_are_within,
+};
 use workload::{Grant, Line, Workload, read};
 
 const SETTING: Setting = Setting {
@@ -50,6 +53,9 @@ fn word_of(reply: &Reply) -> &'static str {
         Reply::Committed => "committed",
         Reply::Read(_) => "read",
         Reply::Told => "told",
+        Reply::Submitted(_) => "submitted",
+        Reply::EndedWith { .. } => "ended",
+        Reply::Advanced { .. } => "advanced",
         Reply::UnfinishedWait { .. } => "unfinished",
         Reply::NotReached => "not reached",
         _ => "other",
@@ -89,6 +95,8 @@ fn begin(alloc: Global, text: &str) -> Result<(Instance, Workload), Fail>
     let work = read(alloc, text.as_bytes(), SETTING.size)?;
     spelled_workloads_are_within();
     spelled_commands_are_built();
+    spelled_labels_are_their_own();
+    spelled_tallies_are_kept();
     let grant = Grant::read(alloc, GRANT.as_bytes())?;
     let instance = Instance::new(alloc, SETTING, grant.resources(), &work)?;
     Ok((instance, work))
@@ -263,6 +271,98 @@ fn a_thousand_operations_are_staged_and_no_more(rt: HostRuntime) -> Result<(), F
     assert_eq!(rt;
         text.as_slice()
             .ends_with(b"0 staged, 0 issued 1000, 0 full, ".as_slice()),
+        true
+    );
+    Ok(())
+}
+
+/// An actor submits a job that runs for 3 seconds, lets 5 pass, and asks for the result.
+const JOBS: &str =
+    "actor a 0\na submit one {\"resources\":[{\"type\":\"slot\",\"count\":1,\"with\":[{\"type\":\"core\",\"count\":1}],\"label\":\"task\"}],\"tasks\":[{\"command\":[\"sleep\",\"3\"],\"slot\":\"task\",\"count\":{\"per_slot\":1}}],\"version\":1}\na advance 5\na result one\n";
+
+/// What an actor sees, and the time.
+fn tell_seen(alloc: Global, text: &mut Vec<u8>, entries: &[Entry]) -> Result<(), Fail> {
+    for entry in entries {
+        let words = match entry {
+            Entry::Issued { actor, command } => format!(in alloc; "{actor} issued {command}, ")?,
+            Entry::Replied { actor, reply, .. } => {
+                format!(in alloc; "{actor} {}, ", word_of(reply))?
+            }
+            Entry::Ticked { second } => format!(in alloc; "ticked {second}, ")?,
+            _ => String::new(alloc),
+        };
+        text.extend_from_slice(words.as_bytes())?;
+    }
+    Ok(())
+}
+
+/// Lets the service make its steps and the job manager its posts for as long as they can.
+fn settle(alloc: Global, instance: &mut Instance, lines: &[Line]) -> Result<(), Fail>
+    requires ready { instance.old.spent ≡ false }
+    requires lines { AreLinesOf instance.old lines.now }
+    ensures ready { OnOk result (instance.new.spent ≡ false) }
+    ensures lines { OnOk result (AreLinesOf instance.new lines.now) }
+{
+    let mut unseen = Vec::new(alloc);
+    for _ in 0..100 {
+        serve(alloc, instance, lines, &mut unseen)?;
+        if !instance.can_post() {
+            return Ok(());
+        }
+        instance.post()?;
+    }
+    Ok(())
+}
+
+/// Replies to the first actor, or else issues its next command, or else lets time go on, and tells whether one could be done.
+fn go_ahead(
+    alloc: Global,
+    instance: &mut Instance,
+    lines: &[Line],
+    text: &mut Vec<u8>,
+) -> Result<bool, Fail>
+    requires ready { instance.old.spent ≡ false }
+    requires lines { AreLinesOf instance.old lines.now }
+    ensures ready { OnOk result (instance.new.spent ≡ false) }
+    ensures lines { OnOk result (AreLinesOf instance.new lines.now) }
+{
+    if instance.can_answer(0) {
+        tell_seen(alloc, text, instance.answer(0)?.as_slice())?;
+        return Ok(true);
+    }
+    if instance.can_issue(lines, 0) {
+        tell_seen(alloc, text, instance.issue(lines, 0)?.as_slice())?;
+        return Ok(true);
+    }
+    if instance.can_tick() {
+        tell_seen(alloc, text, instance.tick()?.as_slice())?;
+        return Ok(true);
+    }
+    Ok(false)
+}
+
+/// What is seen of a whole run.
+fn seen(alloc: Global, instance: &mut Instance, lines: &[Line]) -> Result<Vec<u8>, Fail>
+    requires ready { instance.old.spent ≡ false }
+    requires lines { AreLinesOf instance.old lines.now }
+{
+    let mut text = Vec::new(alloc);
+    for _ in 0..100 {
+        settle(alloc, instance, lines)?;
+        if !go_ahead(alloc, instance, lines, &mut text)? {
+            return Ok(text);
+        }
+    }
+    Ok(text)
+}
+
+#[test]
+fn a_job_runs_while_time_goes_on(rt: HostRuntime) -> Result<(), Fail> {
+    let (mut instance, work) = begin(rt.alloc(), JOBS)?;
+    let text = seen(rt.alloc(), &mut instance, work.lines.as_slice())?;
+    assert_eq!(rt;
+        text.as_slice()
+            == b"0 issued 0, 0 submitted, 0 issued 1, ticked 3, ticked 5, 0 advanced, 0 issued 2, 0 ended, ".as_slice(),
         true
     );
     Ok(())

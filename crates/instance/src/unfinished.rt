@@ -1,14 +1,18 @@
 //! What the commands that didn't finish are told at the end.
-ghost use Rattle.std.specs.Prelude.{◌≡◌, ◌<◌, ◌≤◌, ◌++◌, ◌-◌, false, length, count_by, option_map, All, IfOk, OnOk};
+ghost use Rattle.std.specs.Prelude.{◌≡◌, ◌<◌, ◌≤◌, ◌++◌, ◌-◌, false, length, count_by, option_and_then, option_map, All, IfOk, OnOk};
 ghost use Rattle.kvs_rules.specs.Log.{Log};
 ghost use Rattle.kvs_rules.specs.Namespaces.{Setting as Service};
 ghost use Rattle.kvs_core.specs.Agrees.{Agrees};
-ghost use Rattle.instance.specs.Closings.{closings, closings_of, fence_at, is_served, not_reached, numbers_in, unfinished_at, waiting_in, waits_in};
+ghost use Rattle.job_service.specs.Still.{awaited};
+ghost use Rattle.instance.specs.Closings.{closings, closings_of, fence_at, is_served, left_reply, not_reached, numbers_in, open_command, unfinished_at, waiting_in, waits_in};
 ghost use Rattle.instance.specs.Agrees.{is_of};
 
 use crate::seats::{Seat, Waiting};
 use answers::{Chronicle, Entry, Reply};
+use job_service::JobService;
+use job_states::State;
 use kvs_core::Core;
+use kvs_txn::By;
 use lists::{Bytes, ListOf};
 use std::alloc::{AllocError, Global};
 use workload::{Command, Line};
@@ -85,18 +89,15 @@ fn pass_over(chronicle: &mut Chronicle, actor: u32, from: u32, to: u32) -> Resul
     Ok(())
 }
 
-/// What an actor is told at the end of its open command, if that didn't finish: how many have come of the members of its
-/// fence, or which number its broker has heard of those for which it waits.
-fn unfinished(lines: &[Line], seats: &[Seat], seat: &Seat, heard: u64) -> Option<Reply>
+/// What an actor is told at the end that waits for the key-value service: how many have come of the members of its fence, or
+/// which number its broker has heard of those for which it waits.
+fn left_reply(lines: &[Line], seats: &[Seat], seat: &Seat, heard: u64) -> Option<Reply>
     requires { length seats.now ≤ 256 }
-    ensures { result ≡ unfinished_at heard lines.now seats.now seat.now }
+    ensures { result ≡ option_and_then
+        (left_reply heard lines.now seats.now seat.now.subject)
+        (open_command lines.now seat.now) }
 {
-    let line = if is_served(seat.waiting) {
-        lines.get(seat.last)?
-    } else {
-        return None;
-    };
-    match &line.command {
+    match &lines.get(seat.last)?.command {
         Command::Fence { name, count } => Some(Reply::UnfinishedFence {
             have: members(lines, seats, &seat.subject, name),
             want: *count,
@@ -109,10 +110,29 @@ fn unfinished(lines: &[Line], seats: &[Seat], seat: &Seat, heard: u64) -> Option
     }
 }
 
+/// What an actor is told at the end of its open command, if that didn't finish: of a result, the state of its job.
+fn unfinished(
+    lines: &[Line],
+    seats: &[Seat],
+    seat: &Seat,
+    heard: u64,
+    left: Option<State>,
+) -> Option<Reply>
+    requires { length seats.now ≤ 256 }
+    ensures { result ≡ unfinished_at heard left lines.now seats.now seat.now }
+{
+    match seat.waiting {
+        Waiting::Service => left_reply(lines, seats, seat, heard),
+        Waiting::Jobs => Some(Reply::UnfinishedJob(left?)),
+        _ => None,
+    }
+}
+
 /// Gives an actor its closing replies, if its open command didn't finish.
 fn close_actor(
     chronicle: &mut Chronicle,
     core: &Core,
+    jobs: &JobService,
     lines: &[Line],
     seats: &[Seat],
     actor: u32,
@@ -122,18 +142,21 @@ fn close_actor(
     requires short { length lines.now ≤ 10000 }
     requires within { All (λ seat. seat.broker < core.now.size) seats.now }
     ensures { OnOk result ((set : Service) (log : Log) → Agrees core.now set log
-        → chronicle.new ≡ chronicle.old ++ closings_of (numbers_in log) lines.now seats.now actor) }
+        → chronicle.new ≡ chronicle.old
+        ++ closings_of (numbers_in log) (awaited jobs.now) lines.now seats.now actor) }
 {
     let Some(seat) = seats.get(actor as usize) else {
         return Ok(());
     };
     let heard = core.heard(seat.broker, &seat.subject).unwrap_or(0);
-    let Some(reply) = unfinished(lines, seats, seat, heard) else {
+    let command = seat.issued.saturating_sub(1);
+    let left = jobs.awaited(By { actor, command });
+    let Some(reply) = unfinished(lines, seats, seat, heard, left) else {
         return Ok(());
     };
     chronicle.push(Entry::Replied {
         actor,
-        command: seat.issued.saturating_sub(1),
+        command,
         reply,
         number: None,
     })?;
@@ -145,6 +168,7 @@ fn close_actor(
 pub fn close_off(
     alloc: Global,
     core: &Core,
+    jobs: &JobService,
     lines: &[Line],
     seats: &[Seat],
 ) -> Result<Chronicle, AllocError>
@@ -153,11 +177,11 @@ pub fn close_off(
     requires short { length lines.now ≤ 10000 }
     requires within { All (λ seat. seat.broker < core.now.size) seats.now }
     ensures { IfOk result (λ left. (set : Service) (log : Log) → Agrees core.now set log
-        → left ≡ closings (numbers_in log) lines.now seats.now) }
+        → left ≡ closings (numbers_in log) (awaited jobs.now) lines.now seats.now) }
 {
     let mut left = ListOf::new(alloc);
     for actor in 0..seats.len() as u32 {
-        close_actor(&mut left, core, lines, seats, actor)?;
+        close_actor(&mut left, core, jobs, lines, seats, actor)?;
     }
     Ok(left)
 }

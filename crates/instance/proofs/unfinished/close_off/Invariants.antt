@@ -1,11 +1,12 @@
-use Rattle.std.proofs.Common.{◌≡◌, ◌++◌}
+use Rattle.std.proofs.Common.{◌≡◌}
 use Rattle.std.specs.Prelude.{flat_map}
 use Rattle.std.specs.List.{range_with_len}
 use Rattle.kvs_rules.specs.Log.{Log}
 use Rattle.kvs_rules.specs.Namespaces.{Setting}
 use Rattle.kvs_core.specs.Agrees.{Agrees}
+use Rattle.job_service.specs.Still.{awaited}
 use Rattle.instance.specs.Closings.{closings_of, numbers_in}
 use Rattle.instance.proofs.unfinished.close_off.Given as goal
 
 abbrev pub invariant-loop-actor : goal.invariant-loop-actor
-invariant-loop-actor l = (set : Setting) (log : Log) → Agrees l.core set log → l.left ≡ flat_map (closings_of (numbers_in log) l.lines l.seats) (range_with_len 0 l.actor)
+invariant-loop-actor l = (set : Setting) (log : Log) → Agrees l.core set log → l.left ≡ flat_map (closings_of (numbers_in log) (awaited l.jobs) l.lines l.seats) (range_with_len 0 l.actor)

@@ -1,4 +1,4 @@
-use Rattle.std.proofs.Common.{◌≡◌, ◌∙◌, ◌-◌, ap, sym, subst, true, [], ◌∷◌}
+use Rattle.std.proofs.Common.{◌≡◌, ◌∙◌, ap, sym, subst, true, [], ◌∷◌}
 use Rattle.std.specs.Prelude.{Some}
 use Rattle.std.proofs.lemmas.Option.{slice_get-get_or}
 use Rattle.answers.specs.declared.chronicle.Entry.TheVariants as entry
@@ -17,13 +17,13 @@ returns-clause-makes c = λ set own agrees.
     let a = c.args.actor in
     let can = subst (λ x. can_answer x a ≡ true) (sym c.self.view_is) c.requires.can in
     let seat = c.index_mut-seat.result.now in
-    let reply = c.reply_to-reply.result.reply in
-    let number = c.reply_to-reply.result.number in
-    answer_follows v (subst (λ x. AgreesOwn x set own) (sym c.self.view_is) agrees) a seat c.reply_to-reply.new.services reply number
+    let reply = c.in_ok-given.given.reply in
+    let number = c.in_ok-given.given.number in
+    answer_follows v (subst (λ x. AgreesOwn x set own) (sym c.self.view_is) agrees) a seat c.reply_to.new.services reply number
     (record {
       sits = slice_get-get_or w.seats a seat (actor_within v a can) ∙ ap Some (sym c.index_mut-seat.ensures.value);
-      kept = c.reply_to-reply.ensures.posted;
-      said = subst (λ n. IsGiven w.services c.reply_to-reply.new.services (record { actor = a; command = n }) seat.waiting reply number) c.saturating_sub-command.ensures c.reply_to-reply.ensures.given;
+      kept = c.in_ok-given.ensures.keeps.counts;
+      said = subst (λ n. IsGiven w.services c.reply_to.new.services (record { actor = a; command = n }) seat.waiting reply number) c.saturating_sub-command.ensures c.in_ok-given.ensures.given;
     })
     c.see.new.floors c.in_ok-see.ensures c.in_ok-made.made
     (c.in_ok-made.ensures ∙ ap (λ n. entry.Replied a n reply number ∷ []) c.saturating_sub-command.ensures)

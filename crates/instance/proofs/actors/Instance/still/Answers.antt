@@ -1,12 +1,21 @@
-use Rattle.std.proofs.Common.{ap, subst}
-use Rattle.instance.proofs.Closing.{IsStillQuiet, told_so}
+use Rattle.std.proofs.Common.{subst}
+use Rattle.instance.proofs.Closing.{IsStillSo, rest_so}
 use Rattle.instance.proofs.Owning.{own_of}
 use Rattle.instance.specs.View.{value_of}
 use Rattle.instance.proofs.actors.Instance.still.Goals as goal
 
 pub returns : goal.returns
 returns c = record {
-  told = λ set own agrees rest.
-      told_so (own_of c.args.self.now set own) agrees rest.steps rest.answers
-      (subst (λ v. IsStillQuiet (own_of v set own)) c.self.view_is c.still.ensures.quiet);
+  rests = λ set own agrees rest.
+      let promise : IsStillSo (own_of (value_of c.self.inside) set own) = record {
+        quiet = c.still.ensures.quiet;
+        heard = c.still.ensures.heard;
+        idle = c.still.ensures.idle;
+        advanced = c.still.ensures.advanced;
+        left = c.still.ensures.left;
+        results = c.still.ensures.results;
+      } in
+      rest_so (own_of c.args.self.now set own) agrees
+      (record { steps = rest.steps; answers = rest.answers; posts = rest.posts; ticks = rest.ticks })
+      (subst (λ v. IsStillSo (own_of v set own)) c.self.view_is promise);
 }

@@ -1,0 +1,7 @@
+use Rattle.std.proofs.Common.{◌≡◌, map, take}
+use Rattle.answers.specs.Jobs.{named_by}
+use Rattle.job_commands.specs.Asks.{named_of}
+use Rattle.instance.proofs.jobs.needs_of.Given as goal
+
+abbrev pub invariant-loop-need : goal.invariant-loop-need
+invariant-loop-need l = map named_of l.needs ≡ map named_by (take l.need-index l.depends)

@@ -1,0 +1,152 @@
+//! What actors ask of the job manager and of time.
+ghost use Rattle.std.specs.Prelude.{◌≡◌, ◌++◌, false, true, map, option_map, IfOk, IfSome, OnOk, Some};
+ghost use Rattle.answers.specs.Jobs.{job_ask_of, key_by, named_by};
+ghost use Rattle.instance_rules.specs.Desks.{is_submission};
+ghost use Rattle.instance_rules.specs.Log as rules;
+ghost use Rattle.instance_rules.specs.Log.{Instance, Log};
+ghost use Rattle.job_clock.specs.Children.{AsksNoChild};
+ghost use Rattle.job_commands.specs.Asks.{key_of, named_of, told};
+ghost use Rattle.job_service.specs.Agrees.{HasRoom, IsNewCommand, MayIssue};
+ghost use Rattle.job_service.specs.Times.{HasTime};
+ghost use Rattle.services.specs.Agrees.{AgreesServices};
+ghost use Rattle.instance.specs.Jobs.{CountsIn, issues_of};
+
+use job_commands::{JobAsk, Key, Named, NamedList};
+use kvs_txn::By;
+use lists::{Bytes, Copied, ListOf};
+use services::Services;
+use std::alloc::{AllocError, Global};
+use workload::{Command, InfoKey, Needed};
+
+/// The dependencies that a submission asks for.
+fn needs_of(alloc: Global, depends: &[Needed]) -> Result<NamedList, AllocError>
+    ensures { IfOk result (λ needs. map named_of needs ≡ map named_by depends.now) }
+{
+    let mut needs = ListOf::new(alloc);
+    for need in depends {
+        needs.push(Named {
+            scheme: need.scheme,
+            label: need.label.copy()?,
+        })?;
+    }
+    Ok(needs)
+}
+
+/// What of a job a command asks to see.
+fn key_of(key: InfoKey) -> Key
+    ensures { key_of result ≡ key_by key }
+{
+    match key {
+        InfoKey::Jobspec => Key::Jobspec,
+        InfoKey::R => Key::R,
+        InfoKey::Eventlog => Key::Eventlog,
+    }
+}
+
+/// What a submission asks.
+fn submission(
+    alloc: Global,
+    label: &Bytes,
+    urgency: u32,
+    depends: &[Needed],
+    spec: &Bytes,
+) -> Result<JobAsk, AllocError>
+    ensures { IfOk result (λ asked. told asked
+        ≡ rules.Submit label.now urgency (map named_by depends.now) spec.now) }
+{
+    Ok(JobAsk::Submit {
+        label: label.copy()?,
+        urgency,
+        needs: needs_of(alloc, depends)?,
+        text: spec.copy()?,
+    })
+}
+
+/// What one asks who raises an exception.
+fn exception(label: &Bytes, kind: &Bytes, severity: u32, note: &Bytes) -> Result<JobAsk, AllocError>
+    ensures { IfOk result (λ asked. told asked
+        ≡ rules.Raise label.now kind.now severity note.now) }
+{
+    Ok(JobAsk::Raise {
+        label: label.copy()?,
+        kind: kind.copy()?,
+        severity,
+        note: note.copy()?,
+    })
+}
+
+/// What one asks who wants to see something of a job.
+fn showing(label: &Bytes, key: InfoKey) -> Result<JobAsk, AllocError>
+    ensures { IfOk result (λ asked. told asked ≡ rules.Info label.now (key_by key)) }
+{
+    Ok(JobAsk::Info {
+        label: label.copy()?,
+        key: key_of(key),
+    })
+}
+
+/// What a command asks of the job manager or of time, if it asks anything.
+pub fn job_ask(alloc: Global, command: &Command) -> Result<Option<JobAsk>, AllocError>
+    ensures { IfOk result (λ asked. option_map told asked ≡ job_ask_of command.now) }
+{
+    Ok(Some(match command {
+        Command::Submit {
+            label,
+            urgency,
+            depends,
+            spec,
+        } => submission(alloc, label, *urgency, depends.as_slice(), spec)?,
+        Command::Cancel { label } => JobAsk::Cancel {
+            label: label.copy()?,
+        },
+        Command::Raise {
+            label,
+            kind,
+            severity,
+            note,
+        } => exception(label, kind, *severity, note)?,
+        Command::Urgency { label, urgency } => JobAsk::Urge {
+            label: label.copy()?,
+            urgency: *urgency,
+        },
+        Command::StateOf { label } => JobAsk::StateOf {
+            label: label.copy()?,
+        },
+        Command::Info { label, key } => showing(label, *key)?,
+        Command::Jobs => JobAsk::Jobs,
+        Command::Why { label } => JobAsk::Why {
+            label: label.copy()?,
+        },
+        Command::ResultOf { label } => JobAsk::ResultOf {
+            label: label.copy()?,
+        },
+        Command::Advance { seconds } => JobAsk::Advance { seconds: *seconds },
+        _ => return Ok(None),
+    }))
+}
+
+/// Issues at a broker what a command asks of the job manager or of time, if it asks anything.
+pub fn order(
+    services: &mut Services,
+    by: By,
+    broker: u32,
+    asked: Option<JobAsk>,
+) -> Result<(), AllocError>
+    requires ready { services.old.spent ≡ false }
+    requires may { IfSome asked (MayIssue services.old.jobs by broker) }
+    requires room { IfSome asked (λ ask. is_submission (Some (told ask)) ≡ true
+        → HasRoom services.old.jobs) }
+    requires time { IfSome asked (HasTime services.old.jobs) }
+    requires childless { IfSome asked AsksNoChild }
+    ensures ready { OnOk result (services.new.spent ≡ false) }
+    ensures counts { OnOk result (CountsIn asked services.old services.new) }
+    ensures agrees { OnOk result ((inst : Instance) (log : Log)
+        → AgreesServices services.old inst log
+        → IfSome asked (IsNewCommand inst log by broker)
+        → AgreesServices services.new inst (log ++ issues_of by asked)) }
+{
+    match asked {
+        Some(ask) => services.issue(by, broker, ask),
+        None => Ok(()),
+    }
+}
