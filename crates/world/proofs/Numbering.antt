@@ -10,7 +10,7 @@ use Rattle.kvs_core.proofs.Walking.{behind, within}
 use Rattle.kvs_rules.specs.declared.events.KvsStep.{KvsStep}
 use Rattle.answers.specs.declared.steps.Step.{Step}
 use Rattle.answers.specs.declared.steps.Step.TheVariants as step
-use Rattle.instance.specs.Order.{answers, issues}
+use Rattle.instance.specs.Order.{answers, issues, posts, ticks}
 use Rattle.world.specs.Order.{before_end, or_close, possible_steps}
 use Rattle.world.specs.Value.{WorldValue}
 
@@ -42,33 +42,56 @@ module _ {X : Type 0} where
   got (y ∷ xs) zero x e = (let same : y ≡ x = cc in ap Some same)
   got (y ∷ xs) (suc number) x e = got xs number x e
 
+-- the steps before the end, one part behind the other
 module _ (v : WorldValue) where
+  abbrev served : List Step
+  served = map (step.Kvs 0) (possible v.instance.services)
+
   abbrev replies : List Step
   replies = map step.Answer (answers v.instance)
 
   abbrev begun : List Step
   begun = map step.Issue (issues v.set.work.lines v.instance)
 
-  -- the steps before the end, one part behind the other
+  -- what stands behind the posts, behind the replies and behind the steps of the service
+  abbrev timed : List Step
+  timed = ticks v.instance ++ begun
+
+  abbrev due : List Step
+  due = posts v.instance ++ timed
+
+  abbrev after : List Step
+  after = replies ++ due
+
   pub by-service : (number : ℕ) (s : KvsStep) → nth (possible v.instance.services) number ≡ Ok s → nth (before_end v) number ≡ Ok (step.Kvs 0 s)
-  by-service number s e = within (map (step.Kvs 0) (possible v.instance.services)) (replies ++ begun) number (step.Kvs 0 s) (mapped (step.Kvs 0) (possible v.instance.services) number s e)
+  by-service number s e = within served after number (step.Kvs 0 s) (mapped (step.Kvs 0) (possible v.instance.services) number s e)
 
-  module _ (number left : ℕ) (past : nth (possible v.instance.services) number ≡ Err left) where
-    past-service : nth (before_end v) number ≡ nth (replies ++ begun) left
-    past-service = behind (map (step.Kvs 0) (possible v.instance.services)) (replies ++ begun) number left (unmapped (step.Kvs 0) (possible v.instance.services) number left past)
+  pub past-service : (number left : ℕ) → nth (possible v.instance.services) number ≡ Err left → nth (before_end v) number ≡ nth after left
+  past-service number left e = behind served after number left (unmapped (step.Kvs 0) (possible v.instance.services) number left e)
 
-    pub by-answer : (actor : ℕ) → nth (answers v.instance) left ≡ Ok actor → nth (before_end v) number ≡ Ok (step.Answer actor)
-    by-answer actor e = past-service ∙ within replies begun left (step.Answer actor) (mapped step.Answer (answers v.instance) left actor e)
+  pub by-answer : (number actor : ℕ) → nth (answers v.instance) number ≡ Ok actor → nth after number ≡ Ok (step.Answer actor)
+  by-answer number actor e = within replies due number (step.Answer actor) (mapped step.Answer (answers v.instance) number actor e)
 
-    module _ (more : ℕ) (unanswered : nth (answers v.instance) left ≡ Err more) where
-      past-answers : nth (before_end v) number ≡ nth begun more
-      past-answers = past-service ∙ behind replies begun left more (unmapped step.Answer (answers v.instance) left more unanswered)
+  pub past-answers : (number left : ℕ) → nth (answers v.instance) number ≡ Err left → nth after number ≡ nth due left
+  past-answers number left e = behind replies due number left (unmapped step.Answer (answers v.instance) number left e)
 
-      pub by-issue : (actor : ℕ) → nth (issues v.set.work.lines v.instance) more ≡ Ok actor → nth (before_end v) number ≡ Ok (step.Issue actor)
-      by-issue actor e = past-answers ∙ mapped step.Issue (issues v.set.work.lines v.instance) more actor e
+  pub by-post : (number : ℕ) (s : Step) → nth (posts v.instance) number ≡ Ok s → nth due number ≡ Ok s
+  by-post number s e = within (posts v.instance) timed number s e
 
-      pub by-none : (rest : ℕ) → nth (issues v.set.work.lines v.instance) more ≡ Err rest → nth (before_end v) number ≡ Err rest
-      by-none rest e = past-answers ∙ unmapped step.Issue (issues v.set.work.lines v.instance) more rest e
+  pub past-posts : (number left : ℕ) → nth (posts v.instance) number ≡ Err left → nth due number ≡ nth timed left
+  past-posts number left e = behind (posts v.instance) timed number left e
+
+  pub by-tick : (number : ℕ) (s : Step) → nth (ticks v.instance) number ≡ Ok s → nth timed number ≡ Ok s
+  by-tick number s e = within (ticks v.instance) begun number s e
+
+  pub past-ticks : (number left : ℕ) → nth (ticks v.instance) number ≡ Err left → nth timed number ≡ nth begun left
+  past-ticks number left e = behind (ticks v.instance) begun number left e
+
+  pub by-issue : (number actor : ℕ) → nth (issues v.set.work.lines v.instance) number ≡ Ok actor → nth begun number ≡ Ok (step.Issue actor)
+  by-issue number actor e = mapped step.Issue (issues v.set.work.lines v.instance) number actor e
+
+  pub by-none : (number left : ℕ) → nth (issues v.set.work.lines v.instance) number ≡ Err left → nth begun number ≡ Err left
+  by-none number left e = unmapped step.Issue (issues v.set.work.lines v.instance) number left e
 
 -- where something can be made, the end can't
 pub going-on : (v : WorldValue) → v.closed ≡ false → 0 < length (before_end v) → possible_steps v ≡ before_end v

@@ -7,7 +7,7 @@ use Rattle.answers.specs.declared.chronicle.Entry.{Entry}
 use Rattle.answers.specs.declared.chronicle.Entry.TheVariants as entry
 use Rattle.answers.specs.declared.steps.Step.{Step}
 use Rattle.answers.specs.declared.steps.Step.TheVariants as step
-use Rattle.answers.specs.Legal.{IsLegal, IsLegalEntry, IsSettled, IsToldAtIssue}
+use Rattle.answers.specs.Legal.{IsLegal, IsLegalEntry, IsSettled, RestsAtIssue}
 use Rattle.answers.specs.Stretches.{AreStretches}
 use Rattle.answers.specs.Whole.{IsClosingEntry}
 use Rattle.instance.specs.Makes.{Ends, Follows}
@@ -45,11 +45,11 @@ module _ (v : WorldValue) (s : Step) (i : InstanceValue) (made : List Entry) (f 
     told = ec;
     stretch = f.made;
     ends = ee;
-    settled = λ settled told. subst (IsSettled v.set) (sym ec) (each_joined (IsToldAtIssue v.set) [] v.chronicle made settled (f.settled told));
+    settled = λ settled told. subst (IsSettled v.set) (sym ec) (each_joined (RestsAtIssue v.set) [] v.chronicle made settled (f.settled told));
   }
 
 -- closing replies issue nothing, so they leave a chronicle settled
-settled_closing : (set : _) (c es : List Entry) → Each IsClosingEntry es → EachAfter (IsToldAtIssue set) c es
+settled_closing : (set : _) (c es : List Entry) → Each IsClosingEntry es → EachAfter (RestsAtIssue set) c es
 settled_closing set c [] h = tt
 settled_closing set c (entry.Replied a k given number ∷ es) h = (tt, settled_closing set (c ++ entry.Replied a k given number ∷ []) es h.1)
 settled_closing set c (entry.Issued a k ∷ es) h = absurd h.0
@@ -97,6 +97,6 @@ module _ (v : WorldValue) (left : List Entry) (e : Ends v.set v.chronicle left)
     told = ec ∙ sym one_behind;
     stretch = record { closings = left; split = refl; closing = e.closing };
     ends = ee;
-    settled = λ settled _. subst (IsSettled v.set) (sym ec) (each_push (IsToldAtIssue v.set) (v.chronicle ++ left) entry.Closed
-        (each_joined (IsToldAtIssue v.set) [] v.chronicle left settled (settled_closing v.set v.chronicle left e.closing)) tt);
+    settled = λ settled _. subst (IsSettled v.set) (sym ec) (each_push (RestsAtIssue v.set) (v.chronicle ++ left) entry.Closed
+        (each_joined (RestsAtIssue v.set) [] v.chronicle left settled (settled_closing v.set v.chronicle left e.closing)) tt);
   }

@@ -1,11 +1,26 @@
 //! The steps that can be made, by number.
-ghost use Rattle.std.specs.Prelude.{◌≡◌, ◌↔◌, ◌^◌, ◌-◌, ◌%◌, true, false, length, min, slice_get, IfOk, IfSome, None};
+ghost use Rattle.std.specs.Prelude.{◌≡◌, ◌↔◌, ◌^◌, ◌-◌, ◌%◌, [], ◌∷◌, true, false, if◌then◌else◌, length, min, slice_get, IfOk, IfSome, None};
 ghost use Rattle.kvs_core.specs.Walk.{nth};
 ghost use Rattle.world.specs.Order.{before_end, possible_steps};
 ghost use Rattle.world.specs.Steps.{CanMake};
 
 use super::World;
 use answers::Step;
+
+/// A step that can be made or not, as the number 0 of it alone, or what the number has left behind it.
+fn nth_of_one(can: bool, step: Step, number: u64) -> Result<Step, u64>
+    ensures value { result ≡ nth (if can then step ∷ [] else []) number }
+    ensures can { IfOk result (λ s. (s ≡ step) × (can ≡ true)) }
+{
+    if !can {
+        return Err(number);
+    }
+    if number == 0 {
+        Ok(step)
+    } else {
+        Err(number - 1)
+    }
+}
 
 impl World {
     /// The step of this number among those that can be made before the end, or what the number has left behind them.
@@ -21,6 +36,15 @@ impl World {
         };
         let left = match self.instance.nth_answer(left) {
             Ok(actor) => return Ok(Step::Answer { actor }),
+            Err(left) => left,
+        };
+        let post = Step::Post { instance: 0 };
+        let left = match nth_of_one(self.instance.can_post(), post, left) {
+            Ok(step) => return Ok(step),
+            Err(left) => left,
+        };
+        let left = match nth_of_one(self.instance.can_tick(), Step::Tick, left) {
+            Ok(step) => return Ok(step),
             Err(left) => left,
         };
         match self.instance.nth_issue(self.work.lines.as_slice(), left) {
