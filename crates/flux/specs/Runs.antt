@@ -12,6 +12,7 @@ use Rattle.answers.specs.Stretches.{AreStretches}
 use Rattle.world.specs.declared.order.Schedule.{Schedule}
 use Rattle.world.specs.declared.order.Schedule.TheVariants as schedule
 use Rattle.flux_tools.specs.Tools.{AreToolWords, HasAnswer}
+use Rattle.run_laws.specs.Jobs.{JobsStaySound, LogsOnlyGrow}
 use Rattle.world.specs.Grant.{first_resources, grant_text}
 use Rattle.flux.specs.declared.call.Run.{Run}
 use Rattle.flux.specs.Sides.{Side}
@@ -61,12 +62,15 @@ pub record IsSpelled (size : ℕ) (input : Side) (work : Workload) : Type 0 wher
   pub means : work ≡ spelled text
 
 -- the source was read to its end, its text is a workload's, the chronicle of that workload is legal and whole, and
--- settled where no drawn order is asked for, the text prints it, and the steps made tell the whole of it
+-- settled where no drawn order is asked for, the text prints it, and the steps made tell the whole of it; after each first
+-- part of it jobs stand well in the grant, and no event of a job is lost or changed
 pub record HasRun (o : Options) (input : Side) (run : Run) (text : List ℕ) : Type 0 where
   pub work : Workload
   pub spelled_so : IsSpelled o.size input work
   pub true_run : IsTrueRun (setup_of o work) (is_settled o) o.journal run.chronicle text
   pub stretches : AreStretches work run.steps.items run.ends.items run.chronicle
+  pub sound : JobsStaySound (setup_of o work) run.chronicle
+  pub grows : LogsOnlyGrow (setup_of o work) run.chronicle
 
 -- what a command writes: a run what its options ask for of its one chronicle, a tool the text that it prints
 pub record IsOutput

@@ -1,15 +1,20 @@
 //! A run of a workload, to its end.
-ghost use Rattle.std.specs.Prelude.{◌≡◌, false, true, All, IfOk, OnOk};
+ghost use Rattle.std.specs.Prelude.{◌≡◌, [], false, true, All, IfOk, OnOk};
 ghost use Rattle.run_options.specs.Given.{AreWithin};
-ghost use Rattle.workload.specs.Laws.{IsWithin, IsBuilt};
+ghost use Rattle.workload.specs.Laws.{HasOwnLabels, IsBuilt, IsWithin, KeepsTallies};
 ghost use Rattle.answers.specs.Headline.{IsTrueRun, output_text};
 ghost use Rattle.answers.specs.Legal.{IsSettled};
 ghost use Rattle.answers.specs.Stretches.{AreStretches};
+ghost use Rattle.answers.specs.Jobs.{instance_of};
+ghost use Rattle.instance_rules.specs.Log.{IsInstance};
+ghost use Rattle.run_laws.specs.Jobs.{JobsStaySound, LogsOnlyGrow};
+ghost use Rattle.world.specs.Choice.{order_of};
 ghost use Rattle.world.specs.declared.order.Order.TheVariants as order;
 ghost use Rattle.flux.specs.Runs.{is_settled, schedule_of, setup_of};
 
 use answers::{Chronicle, print_answers, print_journal};
 use kvs_core::CoreFault;
+use run_laws::{jobs_stay_sound, logs_only_grow, time_stays_within};
 use run_options::Options;
 use std::alloc::{AllocError, Global};
 use workload::Workload;
@@ -68,13 +73,18 @@ fn output(
     Ok(text)
 }
 
-/// Runs a workload to its end.
-pub fn play(alloc: Global, options: Options, work: Workload) -> Result<Played, CoreFault>
+/// The world of a workload with its options, before anything has happened. It is one of an instance.
+fn begun(alloc: Global, options: Options, work: Workload) -> Result<World, CoreFault>
     requires options { AreWithin options }
     requires within { IsWithin options.size work }
     requires built { All (λ line. IsBuilt line.command) work.lines }
-    ensures run { IfOk result (λ played. IsTrueRun (setup_of options work) (is_settled options) options.journal played.ended.chronicle played.text.items) }
-    ensures stretches { IfOk result (λ played. AreStretches work played.ended.steps.items played.ended.ends.items played.ended.chronicle) }
+    requires labels { HasOwnLabels work.lines }
+    requires few { KeepsTallies work.lines }
+    ensures ready { IfOk result (λ world. world.spent ≡ false) }
+    ensures set { IfOk result (λ world. world.set ≡ setup_of options work) }
+    ensures order { IfOk result (λ world. world.order ≡ order_of (schedule_of options)) }
+    ensures empty { IfOk result (λ world. world.chronicle ≡ []) }
+    ensures valid { OnOk result (IsInstance (instance_of (setup_of options work))) }
 {
     let setting = Setting {
         size: options.size,
@@ -83,6 +93,21 @@ pub fn play(alloc: Global, options: Options, work: Workload) -> Result<Played, C
     };
     let mut world = World::new(alloc, setting, work)?;
     world.schedule(schedule_of(options));
+    Ok(world)
+}
+
+/// Makes the run of a workload.
+fn run(alloc: Global, options: Options, work: Workload) -> Result<Played, CoreFault>
+    requires options { AreWithin options }
+    requires within { IsWithin options.size work }
+    requires built { All (λ line. IsBuilt line.command) work.lines }
+    requires labels { HasOwnLabels work.lines }
+    requires few { KeepsTallies work.lines }
+    ensures run { IfOk result (λ played. IsTrueRun (setup_of options work) (is_settled options) options.journal played.ended.chronicle played.text.items) }
+    ensures stretches { IfOk result (λ played. AreStretches work played.ended.steps.items played.ended.ends.items played.ended.chronicle) }
+    ensures valid { OnOk result (IsInstance (instance_of (setup_of options work))) }
+{
+    let mut world = begun(alloc, options, work)?;
     make_steps(&mut world)?;
     world.quiet();
     world.steps();
@@ -91,4 +116,22 @@ pub fn play(alloc: Global, options: Options, work: Workload) -> Result<Played, C
         text,
         ended: world.finish(),
     })
+}
+
+/// Runs a workload to its end. Its jobs stay sound, and their logs only grow.
+pub fn play(alloc: Global, options: Options, work: Workload) -> Result<Played, CoreFault>
+    requires options { AreWithin options }
+    requires within { IsWithin options.size work }
+    requires built { All (λ line. IsBuilt line.command) work.lines }
+    requires labels { HasOwnLabels work.lines }
+    requires few { KeepsTallies work.lines }
+    ensures run { IfOk result (λ played. IsTrueRun (setup_of options work) (is_settled options) options.journal played.ended.chronicle played.text.items) }
+    ensures stretches { IfOk result (λ played. AreStretches work played.ended.steps.items played.ended.ends.items played.ended.chronicle) }
+    ensures sound { IfOk result (λ played. JobsStaySound (setup_of options work) played.ended.chronicle) }
+    ensures grows { IfOk result (λ played. LogsOnlyGrow (setup_of options work) played.ended.chronicle) }
+{
+    time_stays_within();
+    jobs_stay_sound();
+    logs_only_grow();
+    run(alloc, options, work)
 }

@@ -1,6 +1,6 @@
 //! What the source is read for.
 ghost use Rattle.std.specs.Prelude.{◌≡◌, ◌≤◌, All, IfOk, IfErr, OnOk};
-ghost use Rattle.workload.specs.Laws.{IsWithin, IsBuilt};
+ghost use Rattle.workload.specs.Laws.{HasOwnLabels, IsBuilt, IsWithin, KeepsTallies};
 ghost use Rattle.flux.specs.Runs.{IsSpelled};
 ghost use Rattle.flux.specs.Sides.{side, FailsAt, IsSteady};
 ghost use Rattle.flux.specs.Faults.{HasReadCause, status_of};
@@ -8,7 +8,10 @@ ghost use Rattle.flux.specs.Faults.{HasReadCause, status_of};
 use crate::call::Fault;
 use outside::{ReadFault, Source, read_all};
 use std::alloc::Global;
-use workload::laws::{spelled_commands_are_built, spelled_workloads_are_within};
+use workload::laws::{
+    spelled_commands_are_built, spelled_labels_are_their_own, spelled_tallies_are_kept,
+    spelled_workloads_are_within,
+};
 use workload::{LineFault, Workload, read};
 
 /// The most bytes of an input.
@@ -22,6 +25,8 @@ pub fn read_work<S: Source>(alloc: Global, size: u32, source: &mut S) -> Result<
         IsSpelled size (side S.left S.faults source.old source.new) work) }
     ensures within { IfOk result (λ work. IsWithin size work) }
     ensures built { IfOk result (λ work. All (λ line. IsBuilt line.command) work.lines) }
+    ensures labels { IfOk result (λ work. HasOwnLabels work.lines) }
+    ensures few { IfOk result (λ work. KeepsTallies work.lines) }
     ensures cause { IfErr result (λ fault.
         HasReadCause size (side S.left S.faults source.old source.new) fault) }
     ensures steady { OnOk result (IsSteady (side S.left S.faults source.old source.new)) }
@@ -38,6 +43,8 @@ pub fn read_work<S: Source>(alloc: Global, size: u32, source: &mut S) -> Result<
         Ok(work) => {
             spelled_workloads_are_within();
             spelled_commands_are_built();
+            spelled_labels_are_their_own();
+            spelled_tallies_are_kept();
             Ok(work)
         }
         Err(LineFault::NoMemory) => Err(Fault::Memory),

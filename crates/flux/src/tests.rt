@@ -377,6 +377,72 @@ const RUNS: [Case; 51] = [
     },
 ];
 
+const JOBS: [Case; 9] = [
+    Case {
+        words: &["run", "--size", "1"],
+        input: "actor a 0\na submit j {\"resources\":[{\"type\":\"slot\",\"count\":1,\"with\":[{\"type\":\"core\",\"count\":1}],\"label\":\"task\"}],\"tasks\":[{\"command\":[\"sleep\",\"10\"],\"slot\":\"task\",\"count\":{\"per_slot\":1}}],\"attributes\":{\"system\":{\"duration\":3600.0,\"cwd\":\"/home/u\",\"environment\":{\"LANG\":\"C\"},\"shell\":{\"options\":{\"rlimit\":{\"nofile\":1024}}}}},\"version\":1}\na advance 10\na state j\na info j eventlog\na info j R\n",
+        status: 0,
+        output: "submitted f1\nadvanced 10\nstate 10 INACTIVE\ninfo 10 {\"context\":{\"flags\":0,\"urgency\":16,\"userid\":0,\"version\":1},\"name\":\"submit\",\"timestamp\":0}\\n{\"name\":\"validate\",\"timestamp\":0}\\n{\"name\":\"depend\",\"timestamp\":0}\\n{\"context\":{\"priority\":16},\"name\":\"priority\",\"timestamp\":0}\\n{\"name\":\"alloc\",\"timestamp\":0}\\n{\"name\":\"start\",\"timestamp\":0}\\n{\"context\":{\"status\":0},\"name\":\"finish\",\"timestamp\":10}\\n{\"context\":{\"final\":true,\"ranks\":\"0\"},\"name\":\"release\",\"timestamp\":10}\\n{\"name\":\"free\",\"timestamp\":10}\\n{\"name\":\"clean\",\"timestamp\":10}\\n\ninfo 10 {\"execution\":{\"R_lite\":[{\"children\":{\"core\":\"0\"},\"rank\":\"0\"}],\"expiration\":3600,\"nodelist\":[\"node0\"],\"starttime\":0},\"version\":1}\n",
+        notice: "done",
+    },
+    Case {
+        words: &["run", "--size", "2"],
+        input: "actor a 0\na submit p {\"resources\":[{\"type\":\"slot\",\"count\":4,\"with\":[{\"type\":\"core\",\"count\":1}],\"label\":\"task\"}],\"tasks\":[{\"command\":[\"sleep\",\"100\"],\"slot\":\"task\",\"count\":{\"per_slot\":1}}],\"attributes\":{\"system\":{\"duration\":0}},\"version\":1}\na submit q {\"resources\":[{\"type\":\"slot\",\"count\":2,\"with\":[{\"type\":\"core\",\"count\":1}],\"label\":\"task\"}],\"tasks\":[{\"command\":[\"sleep\",\"100\"],\"slot\":\"task\",\"count\":{\"per_slot\":1}}],\"attributes\":{\"system\":{\"duration\":0}},\"version\":1}\na submit r {\"resources\":[{\"type\":\"slot\",\"count\":2,\"with\":[{\"type\":\"core\",\"count\":1}],\"label\":\"task\"}],\"tasks\":[{\"command\":[\"sleep\",\"100\"],\"slot\":\"task\",\"count\":{\"per_slot\":1}}],\"attributes\":{\"system\":{\"duration\":0}},\"version\":1}\na submit s {\"resources\":[{\"type\":\"slot\",\"count\":4,\"with\":[{\"type\":\"core\",\"count\":1}],\"label\":\"task\"}],\"tasks\":[{\"command\":[\"sleep\",\"100\"],\"slot\":\"task\",\"count\":{\"per_slot\":1}}],\"attributes\":{\"system\":{\"duration\":0}},\"version\":1}\na why s\na submit t {\"resources\":[{\"type\":\"slot\",\"count\":1,\"with\":[{\"type\":\"core\",\"count\":5}],\"label\":\"task\"}],\"tasks\":[{\"command\":[\"sleep\",\"100\"],\"slot\":\"task\",\"count\":{\"per_slot\":1}}],\"attributes\":{\"system\":{\"duration\":0}},\"version\":1}\na state t\n",
+        status: 0,
+        output: "submitted f1\nsubmitted f2\nsubmitted f3\nsubmitted f4\nwhy 22 Busy f1 f3\nsubmitted f5\nstate 28 INACTIVE\n",
+        notice: "done",
+    },
+    Case {
+        words: &["run", "--size", "1"],
+        input: "actor a 0\na submit j {\"resources\":[{\"type\":\"slot\",\"count\":1,\"with\":[{\"type\":\"core\",\"count\":1}],\"label\":\"task\"}],\"tasks\":[{\"command\":[\"sleep\",\"10\"],\"slot\":\"task\",\"count\":{\"per_slot\":1}}],\"attributes\":{\"system\":{\"duration\":10}},\"version\":1}\na submit k {\"resources\":[{\"type\":\"slot\",\"count\":1,\"with\":[{\"type\":\"core\",\"count\":1}],\"label\":\"task\"}],\"tasks\":[{\"command\":[\"sleep\",\"10\"],\"slot\":\"task\",\"count\":{\"per_slot\":1}}],\"attributes\":{\"system\":{\"duration\":9}},\"version\":1}\na advance 20\na result j\na result k\n",
+        status: 0,
+        output: "submitted f1\nsubmitted f2\nadvanced 20\nended 0\nended 15\n",
+        notice: "done",
+    },
+    Case {
+        words: &["run", "--size", "1"],
+        input: "actor a 0\na submit p {\"resources\":[{\"type\":\"slot\",\"count\":1,\"with\":[{\"type\":\"core\",\"count\":1}],\"label\":\"task\"}],\"tasks\":[{\"command\":[\"false\"],\"slot\":\"task\",\"count\":{\"per_slot\":1}}],\"attributes\":{\"system\":{\"duration\":0}},\"version\":1}\na submit q dep=afterok:p {\"resources\":[{\"type\":\"slot\",\"count\":1,\"with\":[{\"type\":\"core\",\"count\":1}],\"label\":\"task\"}],\"tasks\":[{\"command\":[\"true\"],\"slot\":\"task\",\"count\":{\"per_slot\":1}}],\"attributes\":{\"system\":{\"duration\":0}},\"version\":1}\na result p\na result q\na submit r dep=after:z {\"resources\":[{\"type\":\"slot\",\"count\":1,\"with\":[{\"type\":\"core\",\"count\":1}],\"label\":\"task\"}],\"tasks\":[{\"command\":[\"true\"],\"slot\":\"task\",\"count\":{\"per_slot\":1}}],\"attributes\":{\"system\":{\"duration\":0}},\"version\":1}\n",
+        status: 0,
+        output: "submitted f1\nsubmitted f2\nended 256\nended -\nNoJob\n",
+        notice: "done",
+    },
+    Case {
+        words: &["run", "--size", "1"],
+        input: "actor a 0\na submit h urgency=0 {\"resources\":[{\"type\":\"slot\",\"count\":1,\"with\":[{\"type\":\"core\",\"count\":1}],\"label\":\"task\"}],\"tasks\":[{\"command\":[\"true\"],\"slot\":\"task\",\"count\":{\"per_slot\":1}}],\"attributes\":{\"system\":{\"duration\":0}},\"version\":1}\na why h\na urgency h 16\na state h\na cancel h\n",
+        status: 0,
+        output: "submitted f1\nwhy 4 Held\nraised\nstate 12 INACTIVE\nEnded\n",
+        notice: "done",
+    },
+    Case {
+        words: &["run", "--size", "1"],
+        input: "actor a 0\na submit j {\"resources\":[{\"type\":\"slot\",\"count\":1,\"with\":[{\"type\":\"core\",\"count\":1}],\"label\":\"task\"}],\"tasks\":[{\"command\":[\"sleep\",\"10\"],\"slot\":\"task\",\"count\":{\"per_slot\":1}}],\"attributes\":{\"system\":{\"duration\":0.5,\"cwd\":\"/home/u\",\"environment\":{\"LANG\":\"C\"},\"shell\":{\"options\":{\"rlimit\":{\"nofile\":1024}}}}},\"version\":1}\na state j\n",
+        status: 0,
+        output: "BadSpec 1\nNoJob\n",
+        notice: "done",
+    },
+    Case {
+        words: &["run"],
+        input: "actor a 0\nactor b 1\na submit i {\"resources\":[{\"type\":\"slot\",\"count\":1,\"with\":[{\"type\":\"core\",\"count\":1}],\"label\":\"task\"}],\"tasks\":[{\"command\":[\"true\"],\"slot\":\"task\",\"count\":{\"per_slot\":1}}],\"attributes\":{\"system\":{\"duration\":0}},\"version\":1}\nb submit j {\"resources\":[{\"type\":\"slot\",\"count\":1,\"with\":[{\"type\":\"core\",\"count\":1}],\"label\":\"task\"}],\"tasks\":[{\"command\":[\"true\"],\"slot\":\"task\",\"count\":{\"per_slot\":1}}],\"attributes\":{\"system\":{\"duration\":0}},\"version\":1}\n",
+        status: 0,
+        output: "submitted f1\nsubmitted fJf\n",
+        notice: "done",
+    },
+    Case {
+        words: &["run"],
+        input: "actor a 0\na advance 1000000001\n",
+        status: 1,
+        output: "",
+        notice: "line 2: Limit",
+    },
+    Case {
+        words: &["run", "--size", "1"],
+        input: "actor a 0\na submit j {\"resources\":[{\"type\":\"slot\",\"count\":1,\"with\":[{\"type\":\"core\",\"count\":1}],\"label\":\"task\"}],\"tasks\":[{\"command\":[\"flux\",\"broker\"],\"slot\":\"task\",\"count\":{\"per_slot\":1}}],\"attributes\":{\"system\":{\"duration\":0}},\"version\":1}\n",
+        status: 1,
+        output: "",
+        notice: "line 2: BadCommand",
+    },
+];
+
 const TOOLS: [Case; 13] = [
     Case {
         words: &["idset", "1", "2"],
@@ -518,6 +584,11 @@ fn runs_and_refusals(rt: HostRuntime) -> Result<(), Fail> {
 }
 
 #[test]
+fn jobs_and_time(rt: HostRuntime) -> Result<(), Fail> {
+    compare(&rt, rt.alloc(), &JOBS)
+}
+
+#[test]
 fn tools_and_refusals(rt: HostRuntime) -> Result<(), Fail> {
     compare(&rt, rt.alloc(), &TOOLS)
 }
@@ -565,6 +636,16 @@ fn a_flushed_content_is_found_in_every_order(rt: HostRuntime) -> Result<(), Fail
         rt.alloc(),
         "actor a 5\nactor b 6\na content-store tea at four\na content-flush\na put k x\na commit\nb wait 1\nb content-load sha1-a7117ff95e0a1400af34355bd52dad801b2286ce\na content-drop\na content-load sha1-a7117ff95e0a1400af34355bd52dad801b2286ce\n",
         "stored sha1-a7117ff95e0a1400af34355bd52dad801b2286ce\nflushed\nstaged\ncommitted 1\nreached 1\nblob tea at four\ndropped\nblob tea at four\n--\n",
+    )
+}
+
+#[test]
+fn a_job_ends_before_time_goes_past_it_in_every_order(rt: HostRuntime) -> Result<(), Fail> {
+    shuffled(
+        &rt,
+        rt.alloc(),
+        "actor a 1\nactor b 6\na submit j {\"resources\":[{\"type\":\"slot\",\"count\":1,\"with\":[{\"type\":\"core\",\"count\":1}],\"label\":\"task\"}],\"tasks\":[{\"command\":[\"sleep\",\"2\"],\"slot\":\"task\",\"count\":{\"per_slot\":1}}],\"version\":1}\na advance 3\na result j\na info j R\nb content-store tea at four\n",
+        "submitted fJf\nadvanced 3\nended 0\ninfo 10 {\"execution\":{\"R_lite\":[{\"children\":{\"core\":\"0\"},\"rank\":\"0\"}],\"expiration\":0,\"nodelist\":[\"node0\"],\"starttime\":0},\"version\":1}\nstored sha1-a7117ff95e0a1400af34355bd52dad801b2286ce\n--\n",
     )
 }
 

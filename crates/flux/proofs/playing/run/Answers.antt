@@ -1,0 +1,36 @@
+use Rattle.std.proofs.Common.{◌≡◌, ◌∙◌, ℕ, Bool, Option, Some, None, ap, ap₂, sym, subst, refl, true}
+use Rattle.std.specs.Prelude.{IsTrue}
+use Rattle.fl_digest.specs.declared.Hash.{Hash}
+use Rattle.run_options.specs.declared.Options.{Options}
+use Rattle.answers.specs.Headline.{output_text}
+use Rattle.answers.specs.Legal.{IsLegal, IsSettled}
+use Rattle.answers.specs.Whole.{IsWhole}
+use Rattle.world.specs.Choice.{order_of}
+use Rattle.world.specs.declared.order.Order.TheVariants as order
+use Rattle.flux.specs.Runs.{is_settled, schedule_of, setup_of}
+use Rattle.flux.proofs.playing.run.Goals as goal
+
+-- a run that is to be settled draws nothing
+calm_order : (size fanout : ℕ) (hash : Hash) (shuffle : Option ℕ) (journal : Bool) →
+    let o : Options = record { size = size; fanout = fanout; hash = hash; shuffle = shuffle; journal = journal } in
+    IsTrue (is_settled o) → order_of (schedule_of o) ≡ order.Settled
+calm_order size fanout hash None journal calm = refl
+calm_order size fanout hash (Some seed) journal calm = cc
+
+pub returns-clause-run : goal.returns-clause-run
+returns-clause-run c =
+    let w = c.make_steps.new.world in
+    let o = c.args.options in
+    let set : w.set ≡ setup_of o c.args.work = c.in_ok-make_steps.ensures.set ∙ c.in_ok-world.ensures.set in
+    let told : c.finish.result.chronicle ≡ w.chronicle = c.finish.ensures.chronicle in
+    let legal : IsLegal w.set w.chronicle = c.chronicle.ensures.legal in
+    let whole : IsWhole w.set w.chronicle = c.quiet.ensures.whole (c.quiet.ensures.value ∙ c.in_ok-make_steps.ensures.closed) in
+    record {
+      legal = subst (λ s. IsLegal s c.finish.result.chronicle) set (subst (IsLegal w.set) (sym told) legal);
+      whole = subst (λ s. IsWhole s c.finish.result.chronicle) set (subst (IsWhole w.set) (sym told) whole);
+      at_rest = λ calm.
+          let settled : IsSettled w.set w.chronicle = c.in_ok-make_steps.ensures.settled (c.in_ok-world.ensures.order ∙ calm_order o.size o.fanout o.hash o.shuffle o.journal calm) in
+          subst (λ s. IsSettled s c.finish.result.chronicle) set (subst (IsSettled w.set) (sym told) settled);
+      printed = c.in_ok-text.ensures
+          ∙ ap₂ (λ work chronicle. output_text o.journal (setup_of o work) chronicle) (c.work.ensures ∙ ap (λ s. s.work) set) (c.chronicle.ensures.value ∙ sym told);
+    }

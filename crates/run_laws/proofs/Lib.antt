@@ -1,0 +1,6 @@
+pub mod Newest
+pub mod Moves
+pub mod Growing
+pub mod Sounds
+pub mod Lines
+pub mod Times

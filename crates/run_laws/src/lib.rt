@@ -1,0 +1,7 @@
+//! What a legal chronicle says of its jobs and of its time, from its first entry to its last.
+//! The definitions stand in `specs/`, and the functions of `laws` state the laws.
+#![tactic(auto)]
+
+pub mod laws;
+
+pub use laws::{jobs_stay_sound, logs_only_grow, time_stays_within};
