@@ -177,35 +177,32 @@ fn overfills(table: &Table, who: Author, op: &Op, at: &[Bytes]) -> bool
 }
 
 /// Whether a child is new in a full directory.
-fn is_new_child(table: &Table, place: &[Bytes], child: &[Bytes]) -> Result<bool, AllocError>
-    ensures { IfOk result (λ new. new ≡ (is_none (node_at (store_of table.now.slots.entries) child.now) && nat_le most_names (length (names_in (store_of table.now.slots.entries) place.now)))) }
+fn is_new_child(table: &Table, place: &[Bytes], child: &[Bytes]) -> bool
+    ensures { result ≡ (is_none (node_at (store_of table.now.slots.entries) child.now) && nat_le most_names (length (names_in (store_of table.now.slots.entries) place.now))) }
 {
-    if !table.is_free(child) {
-        return Ok(false);
-    }
-    table.is_full(place)
+    table.is_free(child) && table.is_full(place)
 }
 
 /// Whether a name on the way to the path is new in a full directory.
-fn enters_full(table: &Table, at: &[Bytes]) -> Result<bool, AllocError>
-    ensures { IfOk result (λ full. full ≡ enters_full_from (store_of table.now.slots.entries) [] at.now) }
+fn enters_full(table: &Table, at: &[Bytes]) -> bool
+    ensures { result ≡ enters_full_from (store_of table.now.slots.entries) [] at.now }
 {
     let mut count = 0;
     while count < at.len() {
-        if is_new_child(table, &at[..count], &at[..count + 1])? {
-            return Ok(true);
+        if is_new_child(table, &at[..count], &at[..count + 1]) {
+            return true;
         }
         count += 1;
     }
-    Ok(false)
+    false
 }
 
 /// Whether the operation makes a new name in a full directory.
-fn overfills_directory(table: &Table, op: &Op, at: &[Bytes]) -> Result<bool, AllocError>
-    ensures { IfOk result (λ full. full ≡ enters_full_directory (store_of table.now.slots.entries) op.now at.now) }
+fn overfills_directory(table: &Table, op: &Op, at: &[Bytes]) -> bool
+    ensures { result ≡ enters_full_directory (store_of table.now.slots.entries) op.now at.now }
 {
     match op {
-        Op::Unlink { path: _ } => Ok(false),
+        Op::Unlink { path: _ } => false,
         Op::Put { path: _, bytes: _ } => enters_full(table, at),
         Op::Append { path: _, bytes: _ } => enters_full(table, at),
         Op::Mkdir { path: _ } => enters_full(table, at),
@@ -214,31 +211,25 @@ fn overfills_directory(table: &Table, op: &Op, at: &[Bytes]) -> Result<bool, All
 }
 
 /// The first cause that refuses an operation at the path where it works.
-fn refusal(
-    table: &Table,
-    who: Author,
-    space: Scope,
-    op: &Op,
-    at: &[Bytes],
-) -> Result<Option<Cause>, AllocError>
-    ensures { IfOk result (λ why. why ≡ first_cause (refusals (store_of table.now.slots.entries) who space op.now at.now)) }
+fn refusal(table: &Table, who: Author, space: Scope, op: &Op, at: &[Bytes]) -> Option<Cause>
+    ensures { result ≡ first_cause (refusals (store_of table.now.slots.entries) who space op.now at.now) }
 {
     if reserves(who, space, at) {
-        return Ok(Some(Cause::Reserved));
+        return Some(Cause::Reserved);
     }
     if meets_directory(table, op, at) {
-        return Ok(Some(Cause::IsDir));
+        return Some(Cause::IsDir);
     }
     if meets_link(table, op, at) {
-        return Ok(Some(Cause::IsLink));
+        return Some(Cause::IsLink);
     }
     if overfills(table, who, op, at) {
-        return Ok(Some(Cause::ValueFull));
+        return Some(Cause::ValueFull);
     }
-    if overfills_directory(table, op, at)? {
-        return Ok(Some(Cause::DirFull));
+    if overfills_directory(table, op, at) {
+        return Some(Cause::DirFull);
     }
-    Ok(None)
+    None
 }
 
 /// The path that an operation names.
@@ -274,7 +265,7 @@ pub fn operate(
         return Ok(Some(Cause::Loop));
     };
     let at = at.as_slice();
-    if let Some(why) = refusal(table, who, space, op, at)? {
+    if let Some(why) = refusal(table, who, space, op, at) {
         return Ok(Some(why));
     }
     change(alloc, table, op, at)?;

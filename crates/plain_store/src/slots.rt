@@ -3,12 +3,15 @@ ghost use Rattle.std.specs.Prelude.{◌≡◌, ◌++◌, [], nat_le, length, map
 ghost use Rattle.std.specs.Option.{option_copied};
 ghost use Rattle.kvs_model.specs.Store.{Path as Places, node_at, names_in, without, is_within, child_name, kind_of};
 ghost use Rattle.kvs_model.specs.Operation.{is_directory, is_link, most_names};
+ghost use Rattle.plain_store.specs.Counted.{AreCounts, AreCountable, from_on, stand_together};
 ghost use Rattle.plain_store.specs.Held.{node_of, store_of, slot_at, written, undone, are_logged, link_target, listing};
 
+use crate::counts::{Counts, count_in, forget_count, make_count, recount};
 use kvs_txn::{Kind, Listed, NameList, Path};
 use lists::{Bytes, Copied, ListOf};
 use std::alloc::{AllocError, Global};
 use std::collections::BTreeMap;
+use std::collections::btree_map::Range;
 use std::mem;
 
 /// What stands at a path.
@@ -26,12 +29,16 @@ pub struct Change {
     was: Option<Item>,
 }
 
-/// The items by their paths. An empty slot is a path where nothing stands.
+/// The items by their paths, and how many names lie in each place. An empty slot is a path where
+/// nothing stands.
 #[derive(Drop)]
 pub struct Table {
     slots: BTreeMap<Vec<Bytes>, Option<Item>>,
+    counts: Counts,
     log: Vec<Change>,
     pub ghost logged: { IsTrue (are_logged log.items slots.entries) },
+    pub ghost counted: { AreCounts slots.entries counts.entries },
+    pub ghost countable: { AreCountable log.items counts.entries },
 }
 
 /// The components, in memory of their own.
@@ -105,15 +112,24 @@ fn is_inside(path: &[Bytes], key: &[Bytes]) -> bool
     key.starts_with(path)
 }
 
+/// The slots from a path on. Those at and below the path stand together, before all others.
+fn slots_from(slots: &Slots, path: Vec<Bytes>) -> Range<'_, Vec<Bytes>, Option<Item>>
+    ensures from { result ≡ from_on path.items slots.now.entries }
+    ensures together { IsTrue (stand_together path.items result) }
+{
+    slots.range(path..)
+}
+
 /// The keys at and below a path.
 fn keys_within(alloc: Global, slots: &Slots, path: &[Bytes]) -> Result<Vec<Vec<Bytes>>, AllocError>
     ensures { IfOk result (λ keys. map (λ k. k.items) keys.items ≡ filter (is_within path.now) (map (λ e. e.0.items) slots.now.entries)) }
 {
     let mut keys = Vec::new(alloc);
-    for key in slots.keys() {
-        if is_inside(path, key.as_slice()) {
-            keys.push(copy_of(alloc, key.as_slice())?)?;
+    for (key, _) in slots_from(slots, copy_of(alloc, path)?) {
+        if !is_inside(path, key.as_slice()) {
+            break;
         }
+        keys.push(copy_of(alloc, key.as_slice())?)?;
     }
     Ok(keys)
 }
@@ -162,6 +178,7 @@ impl Table {
     {
         Table {
             slots: BTreeMap::new(alloc),
+            counts: BTreeMap::new(alloc),
             log: Vec::new(alloc),
         }
     }
@@ -170,8 +187,12 @@ impl Table {
     pub fn names(&self, path: &[Bytes]) -> Result<NameList, AllocError>
         ensures { IfOk result (λ names. names ≡ names_in (store_of self.now.slots.entries) path.now) }
     {
-        let mut names = ListOf::new(*self.log.allocator());
-        for (key, slot) in self.slots.iter() {
+        let alloc = *self.log.allocator();
+        let mut names = ListOf::new(alloc);
+        for (key, slot) in slots_from(&self.slots, copy_of(alloc, path)?) {
+            if !is_inside(path, key.as_slice()) {
+                break;
+            }
             if let Some(line) = line_of(path, key.as_slice(), slot)? {
                 names.push(line)?;
             }
@@ -180,14 +201,10 @@ impl Table {
     }
 
     /// Whether a directory has as many names as it may have.
-    pub fn is_full(&self, path: &[Bytes]) -> Result<bool, AllocError>
-        ensures { IfOk result (λ full. full ≡ nat_le most_names (length (names_in (store_of self.now.slots.entries) path.now))) }
+    pub fn is_full(&self, path: &[Bytes]) -> bool
+        ensures { result ≡ nat_le most_names (length (names_in (store_of self.now.slots.entries) path.now)) }
     {
-        if self.slots.len() < 2048 {
-            return Ok(false);
-        }
-        let names = self.names(path)?;
-        Ok(2048 <= names.as_slice().len())
+        2048 <= count_in(&self.counts, path)
     }
 
     /// Whether a directory stands at the path.
@@ -259,15 +276,16 @@ impl Table {
         ensures set { OnOk result (store_of self.new.slots.entries ≡ written (store_of self.old.slots.entries) path.now (option_map node_of item)) }
         ensures before { undone self.new.log.items (store_of self.new.slots.entries) ≡ undone self.old.log.items (store_of self.old.slots.entries) }
     {
+        let _count = self.slots.len();
         let alloc = *self.log.allocator();
         let key = copy_of(alloc, path)?;
         let logged = copy_of(alloc, path)?;
         self.log.reserve(1)?;
-        let was = self.slots.insert(key, item)?;
-        self.log.push_reserved(Change {
-            path: logged,
-            was: was.flatten(),
-        });
+        make_count(alloc, &mut self.counts, path)?;
+        let stands = item.is_some();
+        let was = self.slots.insert(key, item)?.flatten();
+        recount(&mut self.counts, path, was.is_some(), stands);
+        self.log.push_reserved(Change { path: logged, was });
         Ok(())
     }
 
@@ -277,6 +295,10 @@ impl Table {
         ensures log { self.new.log.items ≡ [] }
     {
         while let Some(change) = self.log.pop() {
+            let _count = self.slots.len();
+            let path = change.path.as_slice();
+            let stood = item_in(&self.slots, path).is_some();
+            recount(&mut self.counts, path, stood, change.was.is_some());
             replace(&mut self.slots, change.path, change.was);
         }
     }
@@ -290,6 +312,7 @@ impl Table {
         let log = mem::replace(&mut self.log, Vec::new(alloc));
         for change in log {
             purge(&mut self.slots, change.path.as_slice());
+            forget_count(&mut self.counts, change.path.as_slice());
         }
     }
 }

@@ -93,21 +93,26 @@ fn query_of(verb: &str) -> Query {
     }
 }
 
-/// Does the rows of a table, and answers whether each gives what stands beside it. A row of no words stages no more.
+/// Does the rows of a table on the first store, and answers whether each gives what stands beside it.
 fn holds(alloc: Global, rows: &[(&str, &str)]) -> Result<bool, Fail> {
     let mut store = Store::first(alloc, &Bytes::of(alloc, b"grant")?)?;
+    holds_on(alloc, &mut store, rows)
+}
+
+/// Does the rows of a table, and answers whether each gives what stands beside it.
+fn holds_on(alloc: Global, store: &mut Store, rows: &[(&str, &str)]) -> Result<bool, Fail> {
     let mut txn = Txn::new(alloc, Author::User(0));
     for (line, answer) in rows {
         let (verb, rest) = line.split_once(' ').unwrap_or((*line, ""));
         match verb {
             "get" | "ls" | "readlink" => {
-                let text = found(alloc, &store, query_of(verb), rest)?;
+                let text = found(alloc, store, query_of(verb), rest)?;
                 if text.as_slice() != answer.as_bytes() {
                     return Ok(false);
                 }
             }
             "commit" => {
-                let text = committed(alloc, &mut store, &txn)?;
+                let text = committed(alloc, store, &txn)?;
                 if text.as_slice() != answer.as_bytes() {
                     return Ok(false);
                 }
@@ -181,6 +186,98 @@ const LINKS: [(&str, &str); 28] = [
     ("append l1 x", ""),
     ("commit", "refused 1 IsLink"),
 ];
+
+/// Puts so many names into a directory, each in a transaction of its own, and answers whether all
+/// went well.
+fn fills(alloc: Global, store: &mut Store, directory: &str, count: u32) -> Result<bool, Fail> {
+    for number in 0..count {
+        let line = format!(in alloc; "{directory}.n{number} v")?;
+        let mut txn = Txn::new(alloc, Author::User(0));
+        if txn.stage(op_of(alloc, "put", line.as_str())?).is_err() {
+            return Ok(false);
+        }
+        if store.apply(&txn, Scope::Primary).is_err() {
+            return Ok(false);
+        }
+    }
+    Ok(true)
+}
+
+/// What full directories take, where `a` has 2,047 names, `b` has 2,048 and `c.d` has 3.
+const LIMITS: [(&str, &str); 61] = [
+    ("put b.more v", ""),
+    ("commit", "refused 1 DirFull"),
+    ("mkdir b.more.below", ""),
+    ("commit", "refused 1 DirFull"),
+    ("put b.n0 new", ""),
+    ("put b.n0.below v", ""),
+    ("commit", "ok"),
+    ("get b.n0.below", "value v"),
+    ("put a.more v", ""),
+    ("put a.most v", ""),
+    ("commit", "refused 2 DirFull"),
+    ("get a.more", "Nothing"),
+    ("put a.more v", ""),
+    ("commit", "ok"),
+    ("put a.most v", ""),
+    ("commit", "refused 1 DirFull"),
+    ("unlink b.n1", ""),
+    ("symlink b.more c", ""),
+    ("put b.most v", ""),
+    ("commit", "refused 3 DirFull"),
+    ("get b.n1", "value v"),
+    ("unlink b.n0", ""),
+    ("append b.more v", ""),
+    ("commit", "ok"),
+    ("put b.n0 v", ""),
+    ("commit", "refused 1 DirFull"),
+    ("unlink b.n2", ""),
+    ("unlink b.n3", ""),
+    ("unlink b.n3", ""),
+    ("put . x", ""),
+    ("commit", "refused 4 RootOp"),
+    ("put b.n0 v", ""),
+    ("commit", "refused 1 DirFull"),
+    ("unlink c", ""),
+    ("unlink b", ""),
+    ("put b.n0 v", ""),
+    ("put . x", ""),
+    ("commit", "refused 4 RootOp"),
+    ("put b.n0 v", ""),
+    ("commit", "refused 1 DirFull"),
+    ("ls c", "names d."),
+    ("ls c.d", "names n0 n1 n2"),
+    ("unlink b.n3", ""),
+    ("unlink b.n3", ""),
+    ("put b.n0 v", ""),
+    ("put b.n3 v", ""),
+    ("commit", "refused 4 DirFull"),
+    ("unlink c", ""),
+    ("unlink b", ""),
+    ("put b.n0 v", ""),
+    ("put c v", ""),
+    ("put c.d.n7 v", ""),
+    ("put c.d-e v", ""),
+    ("commit", "ok"),
+    ("ls b", "names n0"),
+    ("ls c", "names d. d-e"),
+    ("ls c.d", "names n7"),
+    ("ls .", "names a. b. c. job. resource."),
+    ("put a.most v", ""),
+    ("commit", "refused 1 DirFull"),
+    ("get a.n2046", "value v"),
+];
+
+#[test]
+fn full_directories_take_no_new_names(rt: HostRuntime) -> Result<(), Fail> {
+    let alloc = rt.alloc();
+    let mut store = Store::first(alloc, &Bytes::of(alloc, b"grant")?)?;
+    assert!(rt; fills(alloc, &mut store, "a", 2047)?);
+    assert!(rt; fills(alloc, &mut store, "b", 2048)?);
+    assert!(rt; fills(alloc, &mut store, "c.d", 3)?);
+    assert!(rt; holds_on(alloc, &mut store, &LIMITS)?);
+    Ok(())
+}
 
 #[test]
 fn values_and_directories_have_their_answers(rt: HostRuntime) -> Result<(), Fail> {
