@@ -1,7 +1,6 @@
 -- No two submissions that a text spells have one label.
 use Rattle.std.proofs.Common.{◌≡◌, ◌⊎◌, inl, inr, ℕ, true, false, List, [], ◌∷◌, ◌++◌, refl, sym, subst, true≢false}
 use Rattle.std.specs.Prelude.{None}
-use Rattle.std.specs.Str.{IsUtf8}
 use Rattle.std.proofs.lemmas.Bool.{and_parts}
 use Rattle.std.proofs.lemmas.Slice.Eq.{bytes_eq-Decides}
 use Rattle.workload.specs.Laws.{HasOwnLabels}
@@ -10,7 +9,7 @@ use Rattle.workload.specs.Submits.{label_of}
 use Rattle.workload.specs.Tallies.{declares, is_declared}
 use Rattle.workload.specs.Verbs.{first_of, faults_of, said, submission}
 use Rattle.workload.proofs.Along.{fails, none_applies, stands}
-use Rattle.workload.proofs.Commands.{lines_keep}
+use Rattle.workload.proofs.Commands.{IsSpoken, lines_keep}
 use Rattle.workload.specs.declared.verbs.Verb.{Verb}
 use Rattle.workload.specs.declared.verbs.Verb.TheVariants as verb
 use Rattle.workload.specs.declared.work.Line.{Line}
@@ -48,14 +47,14 @@ own_pushed lines more h fresh before line after label split says = elim (last_or
 fresh_label : (work : Workload) (number : ℕ) (tail : List ℕ) (v : Verb) (label : List ℕ) → first_of (faults_of number (said work v tail)) ≡ None → declares label (said work v tail).command ≡ true → is_declared label work.lines ≡ false
 fresh_label work number tail verb.Submit label none says =
     let tests = none_applies (faults_of number (submission work tail)) none in
-    let options = and_parts _ _ (and_parts _ _ (and_parts _ _ (and_parts _ _ (stands _ tests.1.0)).0).0).0 in
+    let options = and_parts _ _ (and_parts _ _ (and_parts _ _ (stands _ tests.1.0)).0).0 in
     let new : is_declared (label_of tail) work.lines ≡ false = fails _ (and_parts _ _ options.0).1 in
     subst (λ l. is_declared l work.lines ≡ false) ((bytes_eq-Decides (label_of tail) label).0 says) new
 fresh_label work number tail v label none says = absurd (true≢false (sym says))
 
-one_own : (work : Workload) (number : ℕ) (tail : List ℕ) (v : Verb) (actor : ℕ) → IsUtf8 tail → HasOwnLabels work.lines → first_of (faults_of number (said work v tail)) ≡ None
-    → HasOwnLabels (work.lines ++ record { actor = actor; command = (said work v tail).command } ∷ [])
-one_own work number tail v actor text h none = own_pushed work.lines (record { actor = actor; command = (said work v tail).command }) h (λ label says. fresh_label work number tail v label none says)
+one_own : (work : Workload) (by number : ℕ) (tail : List ℕ) (v : Verb) → IsSpoken work by number v tail → HasOwnLabels work.lines
+    → HasOwnLabels (work.lines ++ record { actor = by; command = (said work v tail).command } ∷ [])
+one_own work by number tail v is h = own_pushed work.lines (record { actor = by; command = (said work v tail).command }) h (λ label says. fresh_label work number tail v label is.none says)
 
 none_own : HasOwnLabels []
 none_own [] line after label split says = absurd (cc)

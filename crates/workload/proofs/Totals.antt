@@ -1,18 +1,18 @@
 -- What a text spells asks for no more in all than the limits allow.
-use Rattle.std.proofs.Common.{◌≡◌, ℕ, ◌+◌, ◌<◌, ◌≤◌, Bool, true, false, cond, List, [], ◌∷◌, ◌++◌, refl, sym, ap, ◌∙◌, subst, arith, true≢false, count_by}
-use Rattle.std.specs.Prelude.{None, sum_by}
-use Rattle.std.specs.Str.{IsUtf8}
+use Rattle.std.proofs.Common.{◌≡◌, ℕ, ◌+◌, ◌<◌, ◌≤◌, ◌&&◌, Bool, true, false, cond, List, [], ◌∷◌, ◌++◌, refl, sym, ap, ◌∙◌, subst, arith, true≢false, count_by}
+use Rattle.std.specs.Prelude.{None, nat_le, sum_by}
+use Rattle.workload.specs.Submits.{begins_instance, json_of}
 use Rattle.std.proofs.lemmas.Bool.{leb-false, ltb-false}
 use Rattle.std.proofs.lemmas.List.Sums.{sum_by-append, sum_by-cons}
 use Rattle.std.proofs.lemmas.Slice.Eq.{bytes_eq-Decides}
 use Rattle.workload.specs.Laws.{KeepsTallies}
-use Rattle.workload.specs.Limits.{most_posts, most_seconds, most_submits}
+use Rattle.workload.specs.Limits.{most_instances, most_posts, most_seconds, most_submits}
 use Rattle.workload.specs.Reading.{first_fault, spelled}
-use Rattle.workload.specs.Tallies.{posts_in, posts_on, seconds_in, seconds_of, submits, submits_in}
+use Rattle.workload.specs.Tallies.{begins, instances_in, posts_in, posts_on, seconds_in, seconds_of, submits, submits_in}
 use Rattle.workload.specs.Verbs.{first_of, faults_of, said, submission, cancelling, raising, urging, advancing}
 use Rattle.workload.specs.Words.{first_word}
 use Rattle.workload.proofs.Along.{none_applies}
-use Rattle.workload.proofs.Commands.{lines_keep}
+use Rattle.workload.proofs.Commands.{IsSpoken, lines_keep}
 use Rattle.workload.specs.declared.verbs.Verb.{Verb}
 use Rattle.workload.specs.declared.verbs.Verb.TheVariants as verb
 use Rattle.workload.specs.declared.work.Line.{Line}
@@ -39,6 +39,21 @@ submits_room : (work : Workload) (number : ℕ) (tail : List ℕ) (v : Verb) →
 submits_room work number tail verb.Submit none counted = leb-false most_submits (submits_in work.lines) (none_applies (faults_of number (submission work tail)) none).1.1.1.0
 submits_room work number tail v none counted = absurd (true≢false (sym counted))
 
+-- so does one that begins an instance, beside the top
+instances_room : (work : Workload) (number : ℕ) (tail : List ℕ) (v : Verb) → first_of (faults_of number (said work v tail)) ≡ None → begins (said work v tail).command ≡ true → instances_in work.lines < most_instances
+instances_room work number tail verb.Submit none counted =
+    let test : (begins_instance (json_of tail) && nat_le most_instances (instances_in work.lines)) ≡ false = (none_applies (faults_of number (submission work tail)) none).1.1.1.1.0 in
+    leb-false most_instances (instances_in work.lines) (sym (ap (λ b. b && nat_le most_instances (instances_in work.lines)) counted) ∙ test)
+instances_room work number tail v none counted = absurd (true≢false (sym counted))
+
+begun_kept : (work : Workload) (by number : ℕ) (tail : List ℕ) (v : Verb) → first_of (faults_of number (said work v tail)) ≡ None → instances_in work.lines ≤ most_instances
+    → instances_in (work.lines ++ record { actor = by; command = (said work v tail).command } ∷ []) ≤ most_instances
+begun_kept work by number tail v none h =
+    let line : Line = record { actor = by; command = (said work v tail).command } in
+    let kept : count_by (λ l. begins l.command) (work.lines ++ line ∷ []) ≤ 15 =
+    count_pushed (λ l. begins l.command) work.lines line 15 (omega (arith, h)) (λ counted. let room : instances_in work.lines < most_instances = instances_room work number tail v none counted in omega (arith, room)) in
+    omega (arith, kept)
+
 -- so does an event of the job of a label
 label_room : (work : Workload) (own label : List ℕ) → posts_in own work.lines < most_posts → own ≡ label → posts_in label work.lines < most_posts
 label_room work own label room same = subst (λ l. posts_in l work.lines < most_posts) same room
@@ -57,20 +72,22 @@ seconds_room : (work : Workload) (number : ℕ) (tail : List ℕ) (v : Verb) →
 seconds_room work number tail verb.Advance none h = ltb-false most_seconds (seconds_in work.lines + seconds_of (advancing work tail).command) (none_applies (faults_of number (advancing work tail)) none).1.1.1.0
 seconds_room work number tail v none h = omega (arith, h)
 
-one_kept : (work : Workload) (number : ℕ) (tail : List ℕ) (v : Verb) (actor : ℕ) → IsUtf8 tail → KeepsTallies work.lines → first_of (faults_of number (said work v tail)) ≡ None
-    → KeepsTallies (work.lines ++ record { actor = actor; command = (said work v tail).command } ∷ [])
-one_kept work number tail v actor text h none =
-    let line : Line = record { actor = actor; command = (said work v tail).command } in
+one_kept : (work : Workload) (by number : ℕ) (tail : List ℕ) (v : Verb) → IsSpoken work by number v tail → KeepsTallies work.lines
+    → KeepsTallies (work.lines ++ record { actor = by; command = (said work v tail).command } ∷ [])
+one_kept work by number tail v is h =
+    let none = is.none in
+    let line : Line = record { actor = by; command = (said work v tail).command } in
     let more : seconds_in (work.lines ++ line ∷ []) ≡ seconds_in work.lines + seconds_of (said work v tail).command = sum_pushed (λ l. seconds_of l.command) work.lines line in
     let room : seconds_in work.lines + seconds_of (said work v tail).command ≤ most_seconds = seconds_room work number tail v none h.seconds in
     record {
       submits = count_pushed (λ l. submits l.command) work.lines line most_submits h.submits (submits_room work number tail v none);
+      instances = begun_kept work by number tail v none h.instances;
       seconds = omega (arith, more, room);
       posts = λ label. count_pushed (λ l. posts_on label l.command) work.lines line most_posts (h.posts label) (posts_room work number tail v label none);
     }
 
 none_kept : KeepsTallies []
-none_kept = record { submits = omega arith; seconds = omega arith; posts = λ label. omega arith }
+none_kept = record { submits = omega arith; instances = omega arith; seconds = omega arith; posts = λ label. omega arith }
 
 pub text_tallies : (size : ℕ) (text : List ℕ) → first_fault size text ≡ None → KeepsTallies (spelled text).lines
 text_tallies = lines_keep KeepsTallies one_kept none_kept

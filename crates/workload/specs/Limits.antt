@@ -54,6 +54,10 @@ most_submits = 1000
 abbrev pub most_needs : ℕ
 most_needs = 32
 
+-- the most instances, the top one included
+abbrev pub most_instances : ℕ
+most_instances = 16
+
 -- the highest urgency, and the highest severity of an exception
 abbrev pub most_urgency : ℕ
 most_urgency = 31

@@ -1,7 +1,8 @@
 -- What the command lines of a workload declare and ask for in all.
-use Rattle.std.specs.Prelude.{ℕ, List, Bool, true, false, count_by}
+use Rattle.std.specs.Prelude.{ℕ, ◌+◌, List, Bool, true, false, count_by}
 use Rattle.std.specs.List.{list_any, sum_by}
 use Rattle.std.specs.Str.{bytes_eq}
+use Rattle.workload.specs.Submits.{begins_instance}
 use Rattle.workload.specs.declared.work.Command.{Command}
 use Rattle.workload.specs.declared.work.Command.TheVariants as command
 use Rattle.workload.specs.declared.work.Line.{Line}
@@ -22,6 +23,15 @@ submits _ = false
 -- how many jobs these lines submit
 abbrev pub submits_in : List Line → ℕ
 submits_in lines = count_by (λ line. submits line.command) lines
+
+-- the command submits a job that begins an instance
+abbrev pub begins : Command → Bool
+begins (command.Submit label urgency depends spec) = begins_instance spec
+begins _ = false
+
+-- how many instances there may be: the top, and one for each submission that begins one
+abbrev pub instances_in : List Line → ℕ
+instances_in lines = count_by (λ line. begins line.command) lines + 1
 
 -- the command asks for an event of the job of this label
 abbrev pub posts_on : List ℕ → Command → Bool

@@ -86,7 +86,7 @@ const SUBMISSIONS: [(&str, Option<LineFault>); 22] = [
     ("submit m dep=after:j.k {}", UNFORMED),
     ("submit m dep=after {}", UNFORMED),
     ("submit m urgency=32 other {}", UNFORMED),
-    (CHILD, UNFORMED),
+    (CHILD, None),
 ];
 
 #[test]

@@ -1,4 +1,4 @@
-//! The commands on jobs and on time but `submit`, each of the text behind its verb.
+//! The commands on jobs, on time and on children but `submit`, each of the text behind its verb.
 ghost use Rattle.std.specs.Prelude.{◌≡◌};
 ghost use Rattle.workload.specs.Verbs.{first_of, faults_of, said, key_of, Reads};
 
@@ -202,4 +202,18 @@ pub fn advance(work: &Workload, line: u64, tail: &str) -> Result<Command, LineFa
         });
     }
     Ok(Command::Advance { seconds })
+}
+
+/// The command `shutdown`, behind which no word stands.
+pub fn shutdown(work: &Workload, line: u64, tail: &str) -> Result<Command, LineFault>
+    ensures { Reads
+        (first_of (faults_of line (said work.now Verb.Shutdown tail.now)))
+        (λ c. c ≡ (said work.now Verb.Shutdown tail.now).command)
+        result }
+{
+    let (word, _) = cut(tail);
+    if !word.is_empty() {
+        return Err(LineFault::BadCommand { line });
+    }
+    Ok(Command::Shutdown)
 }

@@ -33,6 +33,9 @@ pub const MOST_MEMBERS: u64 = 256;
 /// The most submissions.
 pub const MOST_SUBMITS: usize = 1_000;
 
+/// The most instances, the top one included.
+pub const MOST_INSTANCES: usize = 16;
+
 /// The most dependencies of a submission that its line names.
 pub const MOST_NEEDS: usize = 32;
 

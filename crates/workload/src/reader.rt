@@ -1,16 +1,18 @@
-ghost use Rattle.std.specs.Prelude.{◌≡◌, ◌≤◌, ◌<◌, ◌+◌, ◌++◌, [], ◌∷◌, length, if◌then◌else◌, IfSome, OnOk, Some};
+ghost use Rattle.std.specs.Prelude.{◌≡◌, ◌≤◌, ◌<◌, ◌+◌, ◌++◌, [], ◌∷◌, length, if◌then◌else◌, option_map, IfSome, OnOk, Some};
 ghost use Rattle.std.specs.Str.Lines.{strip_carriage_return};
 ghost use Rattle.workload.specs.Limits.{most_text, most_actors};
 ghost use Rattle.workload.specs.Lines.{lines_of};
 ghost use Rattle.workload.specs.Words.{first_word, behind_word};
 ghost use Rattle.workload.specs.Verbs.{first_of, Faults, Reads};
 ghost use Rattle.workload.specs.Grants.{grant_of, grant_faults, told_faults, with_grant};
-ghost use Rattle.workload.specs.Reading.{is_declaration, actor_of, actor_faults, verb_faults, command_faults, command_of, line_of, fault_in, with_lines, empty, line_faults, with_line, with_actor, with_command, is_passed_over, first_fault, spelled};
+ghost use Rattle.workload.specs.Reading.{is_declaration, is_home, label_in, actor_of, declaration_faults, actor_faults, verb_faults, command_faults, command_of, line_of, fault_in, with_lines, empty, line_faults, with_line, with_actor, with_command, is_passed_over, first_fault, spelled};
 
 use crate::faults::{LineFault, Which};
 use crate::grant::Grant;
+use crate::homes::said_by;
 use crate::limits::{MOST_ACTORS, MOST_COMMANDS, MOST_LINE, MOST_TEXT};
-use crate::verbs::{Verb, command};
+use crate::offered::{asks_child, is_of_child};
+use crate::verbs::Verb;
 use crate::words::{can_name, cut, number};
 use crate::work::{Actor, ActorList, Command, Line, Workload, place};
 use lists::Bytes;
@@ -18,22 +20,76 @@ use resource_set::RFault;
 use std::alloc::Global;
 use std::str;
 
-/// Whether the text behind the word `actor` is one free name and one word.
+/// Whether the words behind an actor's rank are none, or `of` and a label.
+fn can_home(words: &str) -> bool
+    ensures { result ≡ is_home words.now }
+{
+    let (word, rest) = cut(words);
+    let (label, rest) = cut(rest);
+    let (more, _) = cut(rest);
+    word.is_empty() || word == "of" && can_name(label) && more.is_empty()
+}
+
+/// The label that the words behind an actor's rank name, where there are words.
+pub fn label_in(words: &str) -> Option<&str>
+    ensures { option_map (λ label. label.now) result ≡ label_in words.now }
+{
+    let (word, rest) = cut(words);
+    let (label, _) = cut(rest);
+    if word.is_empty() { None } else { Some(label) }
+}
+
+/// Whether the text behind the word `actor` is one free name, one word, and maybe a child's label.
 fn can_declare(actors: &ActorList, tail: &str) -> bool
     ensures { result ≡ is_declaration actors.now tail.now }
 {
     let (name, rest) = cut(tail);
     let (rank, rest) = cut(rest);
-    let (more, _) = cut(rest);
     can_name(name)
         && name != "actor"
         && name != "grant"
         && place(actors, name).is_none()
         && !rank.is_empty()
-        && more.is_empty()
+        && can_home(rest)
 }
 
 /// The actor that the text behind the word `actor` declares, in the line of this number.
+pub fn declared(
+    alloc: Global,
+    size: u32,
+    actors: &ActorList,
+    line: u64,
+    tail: &str,
+) -> Result<Actor, LineFault>
+    ensures { Reads
+        (first_of (declaration_faults size actors.now line tail.now))
+        (λ a. a ≡ actor_of tail.now)
+        result }
+{
+    if !can_declare(actors, tail) {
+        return Err(LineFault::BadCommand { line });
+    }
+    let (name, rest) = cut(tail);
+    let (rank, rest) = cut(rest);
+    let Some(rank) = number(rank) else {
+        return Err(LineFault::BadNumber { line });
+    };
+    let label = label_in(rest);
+    if label.is_none() && u64::from(size) <= rank {
+        return Err(LineFault::Limit {
+            line,
+            which: Which::Rank,
+        });
+    }
+    let name = Bytes::of(alloc, name.as_bytes())?;
+    let of = match label {
+        Some(label) => Some(Bytes::of(alloc, label.as_bytes())?),
+        None => None,
+    };
+    Ok(Actor { name, rank, of })
+}
+
+/// The actor that an actor's line declares, where the text behind the word `actor` is this.
 fn actor(
     alloc: Global,
     size: u32,
@@ -49,39 +105,33 @@ fn actor(
             which: Which::Actors,
         });
     }
-    if !can_declare(actors, tail) {
+    if is_of_child(tail) {
         return Err(LineFault::BadCommand { line });
     }
-    let (name, rest) = cut(tail);
-    let (rank, _) = cut(rest);
-    let Some(rank) = number(rank) else {
-        return Err(LineFault::BadNumber { line });
-    };
-    if u64::from(size) <= rank {
-        return Err(LineFault::Limit {
-            line,
-            which: Which::Rank,
-        });
-    }
-    let name = Bytes::of(alloc, name.as_bytes())?;
-    Ok(Actor {
-        name,
-        rank,
-        of: None,
-    })
+    declared(alloc, size, actors, line, tail)
 }
 
-/// The command that a text spells, in the line of this number.
+/// The command that a text spells, in the line of this number, where the actor of the number `by`
+/// says it.
 #[tactic(auto, unfolding(crate::specs::Reading::verb_faults))]
-fn order(alloc: Global, work: &Workload, line: u64, text: &str) -> Result<Command, LineFault>
+fn order(
+    alloc: Global,
+    work: &Workload,
+    by: usize,
+    line: u64,
+    text: &str,
+) -> Result<Command, LineFault>
     requires { length work.now.actors ≤ most_actors }
-    ensures { Reads (first_of (verb_faults work.now line text.now)) (λ c. command_of work.now text.now ≡ Some c) result }
+    ensures { Reads (first_of (verb_faults work.now by line text.now)) (λ c. command_of work.now text.now ≡ Some c) result }
 {
     let (word, tail) = cut(text);
     let Some(verb) = Verb::of(word) else {
         return Err(LineFault::BadCommand { line });
     };
-    command(alloc, work, verb, line, tail)
+    if asks_child(alloc, verb, tail)? {
+        return Err(LineFault::BadCommand { line });
+    }
+    said_by(alloc, work, by, verb, line, tail)
 }
 
 /// The command line that a line of this number is.
@@ -99,7 +149,7 @@ fn command_line(alloc: Global, work: &Workload, number: u64, line: &str) -> Resu
     let Some(actor) = place(&work.actors, name) else {
         return Err(LineFault::NoActor { line: number });
     };
-    let command = order(alloc, work, number, text)?;
+    let command = order(alloc, work, actor, number, text)?;
     Ok(Line {
         actor: actor as u32,
         command,

@@ -8,8 +8,8 @@ ghost use Rattle.workload.specs.Submits.{head_of, json_of, value_of, urgency_in,
 ghost use Rattle.workload.specs.Verbs.{first_of, faults_of, said, Reads};
 
 use crate::faults::{LineFault, Which};
-use crate::limits::{MOST_NEEDS, MOST_SUBMITS, MOST_URGENCY};
-use crate::tallies::{is_declared, submits_in};
+use crate::limits::{MOST_INSTANCES, MOST_NEEDS, MOST_SUBMITS, MOST_URGENCY};
+use crate::tallies::{instances_in, is_declared, submits_in};
 use crate::verbs::Verb;
 use crate::words::{can_name, cut, number_within};
 use crate::work::{Command, Needed, NeededList, Workload};
@@ -22,7 +22,7 @@ use std::alloc::{AllocError, Global};
 const USUAL_URGENCY: u32 = 16;
 
 /// The words before a jobspec's text, and that text, which begins at the first `{`.
-fn before_json(tail: &str) -> (&str, &[u8])
+pub fn before_json(tail: &str) -> (&str, &[u8])
     ensures head { result.0.now ≡ head_of tail.now }
     ensures json { result.1.now ≡ json_of tail.now }
 {
@@ -128,7 +128,7 @@ fn needs_of(alloc: Global, text: &str) -> Result<NeededList, AllocError>
 
 /// Whether a text is a jobspec whose command begins an instance.
 #[tactic(auto, unfolding(crate::specs::Submits::begins_instance))]
-fn begins_instance(alloc: Global, text: &[u8]) -> Result<bool, AllocError>
+pub fn begins_instance(alloc: Global, text: &[u8]) -> Result<bool, AllocError>
     ensures { IfOk result (λ begins. begins ≡ begins_instance text.now) }
 {
     match job_spec::read(alloc, text) {
@@ -142,7 +142,7 @@ fn begins_instance(alloc: Global, text: &[u8]) -> Result<bool, AllocError>
 }
 
 /// The command `submit`. A text that is no jobspec is no fault of the line: the submission is told
-/// so. One whose command begins an instance is.
+/// so.
 pub fn submit(alloc: Global, work: &Workload, line: u64, tail: &str) -> Result<Command, LineFault>
     ensures { Reads
         (first_of (faults_of line (said work.now Verb.Submit tail.now)))
@@ -157,7 +157,7 @@ pub fn submit(alloc: Global, work: &Workload, line: u64, tail: &str) -> Result<C
         return Err(LineFault::BadCommand { line });
     }
     let depends = needs_of(alloc, words)?;
-    if MOST_NEEDS < depends.as_slice().len() || begins_instance(alloc, json)? {
+    if MOST_NEEDS < depends.as_slice().len() {
         return Err(LineFault::BadCommand { line });
     }
     let Some(urgency) = urgency_of(digits) else {
@@ -167,6 +167,12 @@ pub fn submit(alloc: Global, work: &Workload, line: u64, tail: &str) -> Result<C
         return Err(LineFault::Limit {
             line,
             which: Which::Submits,
+        });
+    }
+    if begins_instance(alloc, json)? && MOST_INSTANCES <= instances_in(alloc, lines)? {
+        return Err(LineFault::Limit {
+            line,
+            which: Which::Instances,
         });
     }
     let label = Bytes::of(alloc, label.as_bytes())?;

@@ -1,10 +1,12 @@
 //! What the command lines of a workload declare and ask for in all.
-ghost use Rattle.std.specs.Prelude.{◌≡◌, ◌^◌, ◌-◌, min};
+ghost use Rattle.std.specs.Prelude.{◌≡◌, ◌^◌, ◌-◌, min, IfOk};
 ghost use Rattle.std.specs.Str.{bytes_eq};
-ghost use Rattle.workload.specs.Tallies.{declares, is_declared, submits, submits_in, posts_on, posts_in, seconds_of, seconds_in};
+ghost use Rattle.workload.specs.Tallies.{begins, declares, instances_in, is_declared, submits, submits_in, posts_on, posts_in, seconds_of, seconds_in};
 
+use crate::submits::begins_instance;
 use crate::work::{Command, Line};
 use lists::Bytes;
+use std::alloc::{AllocError, Global};
 
 /// Whether a label is this one.
 fn is_label(label: &Bytes, wanted: &str) -> bool
@@ -44,6 +46,29 @@ pub fn submits_in(lines: &[Line]) -> usize
     ensures { result ≡ submits_in lines.now }
 {
     lines.iter().filter(|line| submits(&line.command)).count()
+}
+
+/// Whether a command submits a job that begins an instance.
+fn begins(alloc: Global, command: &Command) -> Result<bool, AllocError>
+    ensures { IfOk result (λ is. is ≡ begins command.now) }
+{
+    match command {
+        Command::Submit { spec, .. } => begins_instance(alloc, spec.as_slice()),
+        _ => Ok(false),
+    }
+}
+
+/// How many instances there may be: the top, and one for each submission that begins one.
+pub fn instances_in(alloc: Global, lines: &[Line]) -> Result<usize, AllocError>
+    ensures { IfOk result (λ count. count ≡ instances_in lines.now) }
+{
+    let mut count = 1;
+    for line in lines {
+        if begins(alloc, &line.command)? {
+            count += 1;
+        }
+    }
+    Ok(count)
 }
 
 /// Whether a command asks for an event of the job of this label.

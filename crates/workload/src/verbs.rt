@@ -6,7 +6,7 @@ ghost use Rattle.workload.specs.Verbs.{first_of, faults_of, verb_of, said, one_k
 
 use crate::contents::{content_drop, content_flush, content_load, content_store};
 use crate::faults::{LineFault, Which};
-use crate::jobs::{advance, cancel, info, jobs, raise, result_of, state, urgency, why};
+use crate::jobs::{advance, cancel, info, jobs, raise, result_of, shutdown, state, urgency, why};
 use crate::limits::{MOST_MEMBERS, MOST_VALUE};
 use crate::submits::submit;
 use crate::words::{can_name, cut, number, number_within};
@@ -47,6 +47,7 @@ pub enum Verb {
     Why,
     Result,
     Advance,
+    Shutdown,
 }
 
 impl Verb {
@@ -84,6 +85,7 @@ impl Verb {
             "why" => Some(Verb::Why),
             "result" => Some(Verb::Result),
             "advance" => Some(Verb::Advance),
+            "shutdown" => Some(Verb::Shutdown),
             _ => None,
         }
     }
@@ -384,5 +386,6 @@ pub fn command(
         Verb::Why => why(alloc, work, line, tail),
         Verb::Result => result_of(alloc, work, line, tail),
         Verb::Advance => advance(work, line, tail),
+        Verb::Shutdown => shutdown(work, line, tail),
     }
 }

@@ -127,9 +127,12 @@ pub enum Command {
     Advance {
         seconds: u64,
     },
+    /// The end of the child instance in which the actor stands.
+    Shutdown,
 }
 
 /// An actor: its name, its broker, and the label of the job in whose child instance it stands, if it stands in one.
+/// In a child the broker is that of the rank modulo the number of its brokers.
 #[derive(Drop)]
 pub struct Actor {
     pub name: Bytes,
