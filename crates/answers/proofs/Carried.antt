@@ -111,6 +111,8 @@ module _ (set : Setup) where
       on (Some x) e = cc
   lands_so c (entry.Told from to) number authors groups h = cc
   lands_so c (entry.Ticked second) number authors groups h = cc
+  lands_so c (entry.Born child parent job label second grant) number authors groups h = cc
+  lands_so c (entry.Gone child parent job shut) number authors groups h = cc
   lands_so c entry.Closed number authors groups h = cc
 
 module _ (set : Setup) (by : By) (asks : is_some (job_ask_at set.work by) ≡ true) where
@@ -211,6 +213,8 @@ module _ (set : Setup) (by : By) (none : job_ask_at set.work by ≡ None) where
   entry_asked c (entry.Replied a k given number) legal h = never _ (answered_none by (record { actor = a; command = k }) number (answer_of given) true) h
   entry_asked c (entry.Told from to) legal h = no_author by h
   entry_asked c (entry.Ticked second) legal h = no_author by h
+  entry_asked c (entry.Born child parent job label second grant) legal h = no_author by h
+  entry_asked c (entry.Gone child parent job shut) legal h = no_author by h
   entry_asked c entry.Closed legal h = no_author by h
 
   IsAskedThere : Log → Type 0

@@ -1,6 +1,6 @@
 -- What no chronicle with jobs can hold: a submission that is told before it lands, a post of the
 -- manager with nothing due, a tick without an advance.
-use Rattle.std.proofs.Common.{◌≡◌, ℕ, ◌<◌, inl, inr, List, [], ◌∷◌, true, false, Some, None, refl, sym, subst, arith, true≢false, codes}
+use Rattle.std.proofs.Common.{◌≡◌, ℕ, ◌<◌, inl, inr, List, [], ◌∷◌, Bool, true, false, Some, None, refl, sym, subst, arith, true≢false, codes}
 use Rattle.std.specs.Prelude.{Contains, Option}
 use Rattle.std.specs.List.{AllByRecursion as Each}
 use Rattle.fl_digest.specs.declared.Hash.TheVariants as hash
@@ -8,6 +8,7 @@ use Rattle.kvs_txn.specs.declared.txn.Author.TheVariants as author
 use Rattle.kvs_txn.specs.declared.txn.By.{By}
 use Rattle.kvs_txn.specs.declared.txn.Group.{Group}
 use Rattle.kvs_model.specs.History.{first_store}
+use Rattle.kvs_model.specs.Store.{Store}
 use Rattle.kvs_rules.specs.Log.{same_command}
 use Rattle.kvs_rules.specs.Namespaces.{primary}
 use Rattle.kvs_rules.proofs.Asking.{command_is}
@@ -16,6 +17,7 @@ use Rattle.manager_rules.specs.Keys.{job_path}
 use Rattle.manager_rules.specs.Posts.{Desk, Post, Submits, Does, IsDuePost}
 use Rattle.instance_rules.specs.Desks.{IsDeskOf, IsDueAt}
 use Rattle.instance_rules.specs.Family.{HasTarget}
+use Rattle.instance_rules.specs.Legal.{IsLegalMoment}
 use Rattle.instance_rules.specs.Log as rules
 use Rattle.resource_set.specs.declared.node.Resources.{Resources}
 use Rattle.workload.specs.declared.work.Command.TheVariants as command
@@ -26,6 +28,7 @@ use Rattle.answers.specs.declared.chronicle.Reply.TheVariants as reply
 use Rattle.answers.specs.Chronicle.{Setup}
 use Rattle.answers.specs.Jobs.{instance_of, job_ask_at, living_of, log_in}
 use Rattle.answers.specs.Legal.{IsLegalEntry}
+use Rattle.answers.specs.Runs.{ComesInTime}
 use Rattle.answers.proofs.JobLogs.{only}
 use Rattle.answers.proofs.Services.{or_cases}
 
@@ -43,7 +46,7 @@ abbrev no_resources : Resources
 no_resources = record { nodes = []; starttime = 0; expiration = 0 }
 
 abbrev setup : Setup
-setup = record { size = 1; fanout = 2; hash = hash.Sha1; grant = codes "grant"; resources = no_resources; work = work }
+setup = record { size = 1; fanout = 2; hash = hash.Sha1; grant = codes "grant"; resources = no_resources; birth = 0; work = work }
 
 abbrev e1 : Entry
 e1 = entry.Issued 0 0
@@ -60,6 +63,9 @@ no_job : (jobs : List StoredJob) → Each (IsStored (first_store (codes "grant")
 unfolding job_path
 no_job [] h j there = absurd (omega (arith, there.1))
 no_job (x ∷ jobs) h j there = let text = h.0.logged.text in cc
+
+same_store : (st : Store) → Some (first_store (codes "grant")) ≡ Some st → st ≡ first_store (codes "grant")
+same_store st e = cc
 
 no_open : (by : By) → rules.is_issued by (log_in work []) ≡ true → ⊥
 no_open by h = absurd (true≢false (sym h))
@@ -87,8 +93,29 @@ no_target target h = elim (or_cases (same_command h.by (record { actor = 0; comm
   | inr none ↦ absurd (true≢false (sym none))
 ]
 
-no_idle_tick : (second : ℕ) → IsLegalEntry setup (e1 ∷ []) (entry.Ticked second) → ⊥
-no_idle_tick second h = elim h.grounds.may.wanted [
-  | inl t ↦ no_target h.grounds.may.target (subst (λ l. HasTarget l h.grounds.may.target) (only (living_of setup (e1 ∷ [])) t.0 t.1) t.2)
+no_idle_tick : (second : ℕ) → ComesInTime setup (e1 ∷ []) (entry.Ticked second) → ⊥
+no_idle_tick second h = elim h.wanted [
+  | inl t ↦ no_target h.target (subst (λ l. HasTarget l h.target) (only (living_of setup (e1 ∷ [])) t.0 t.1) t.2)
   | inr left ↦ absurd (omega (arith, left.1))
 ]
+
+-- no second comes twice
+no_second_again : IsLegalEntry setup [] (entry.Ticked 0) → ⊥
+no_second_again h = let above : 0 < 0 = h.grounds.0 in absurd (omega arith)
+
+-- a child of another instance is none of this one's
+no_birth_of_another : (child job second : ℕ) → IsLegalEntry setup (e1 ∷ []) (entry.Born child 1 job (codes "j") second no_resources) → ⊥
+no_birth_of_another child job second h = let own : ◌≡◌ {A = ℕ} 1 0 = h.grounds.0 in absurd (omega arith)
+
+-- nothing is born where no job runs, and nothing ends where no child lives
+no_idle_birth : (child job second : ℕ) → IsLegalEntry setup [] (entry.Born child 0 job (codes "j") second no_resources) → ⊥
+no_idle_birth child job second h = on h.grounds.1
+  where
+    on : IsLegalMoment (instance_of setup) [] (rules.Born job) → ⊥
+    on (st, standing, (desk, is, due)) = no_job desk.scene.jobs (subst (λ s. Each (IsStored s) desk.scene.jobs) (same_store st standing) is.jobs.stored) due.j due.known
+
+no_idle_end : (child job : ℕ) (shut : Bool) → IsLegalEntry setup [] (entry.Gone child 0 job shut) → ⊥
+no_idle_end child job shut h = on h.grounds.1
+  where
+    on : IsLegalMoment (instance_of setup) [] (rules.Gone job shut) → ⊥
+    on (st, standing, (desk, is, due)) = no_job desk.scene.jobs (subst (λ s. Each (IsStored s) desk.scene.jobs) (same_store st standing) is.jobs.stored) due.j due.known

@@ -1,5 +1,5 @@
 -- The log of the top instance has the log of its service in it, and the issues of its job commands.
-use Rattle.std.proofs.Common.{◌≡◌, ℕ, zero, suc, ◌==◌, ◌&&◌, ◌||◌, inl, inr, List, [], ◌∷◌, ◌++◌, Bool, true, false, cond, Option, Some, None, is_some, option_map, filter_map, refl, sym, ap, ap₂, ◌∙◌, subst, arith, true≢false}
+use Rattle.std.proofs.Common.{◌≡◌, ℕ, zero, suc, ◌==◌, ◌&&◌, ◌||◌, List, [], ◌∷◌, ◌++◌, Bool, true, false, cond, Option, Some, None, is_some, option_map, filter_map, refl, sym, ap, ap₂, ◌∙◌, arith, true≢false}
 use Rattle.std.specs.Prelude.{Contains, slice_get}
 use Rattle.std.specs.Option.{option_and_then, option_map_or}
 use Rattle.std.specs.List.{AllByRecursion as Each, cons_option, list_any}
@@ -12,7 +12,7 @@ use Rattle.kvs_txn.specs.declared.txn.By.{By}
 use Rattle.kvs_txn.specs.declared.txn.Txn.{Txn}
 use Rattle.kvs_rules.specs.Log as service
 use Rattle.instance_rules.specs.Log as rules
-use Rattle.instance_rules.specs.Log.{IsInstance, JobReply, Moment, Log, Served, Issued, Replied, issues_now, served, service_of}
+use Rattle.instance_rules.specs.Log.{IsInstance, JobReply, Moment, Log, Served, Issued, Replied, Born, Gone, issues_now, served, service_of}
 use Rattle.answers.specs.declared.chronicle.Entry.{Entry}
 use Rattle.answers.specs.declared.chronicle.Entry.TheVariants as entry
 use Rattle.answers.specs.declared.chronicle.Reply.{Reply}
@@ -24,7 +24,7 @@ use Rattle.workload.specs.declared.work.Workload.{Workload}
 use Rattle.answers.specs.Chronicle.{Setup, top, before_issue, is_issued, issues}
 use Rattle.answers.specs.Commands.{ask_of, broker_of, command_at, namespace_at, subject_at, subject_of}
 use Rattle.answers.specs.Services.{asked_at, moment_of, moments_after, log_of, request_of}
-use Rattle.answers.specs.Jobs.{HasNoAdvance, IsSetup, IsWithoutJobs, instance_of, job_ask_of, job_ask_at, job_reply_of, happening_of, happenings_after, living_of, log_in}
+use Rattle.answers.specs.Jobs.{HasNoAdvance, IsSetup, IsWithoutJobs, instance_of, job_ask_of, job_ask_at, job_reply_of, happening_of, happenings_after, log_in}
 
 -- what the service has of a moment, if there is one
 abbrev in_service : Option Moment → Option service.Moment
@@ -48,6 +48,7 @@ apart_of txn command.Jobs h = refl
 apart_of txn (command.Why label) h = refl
 apart_of txn (command.ResultOf label) h = refl
 apart_of txn (command.Advance seconds) h = refl
+apart_of txn command.Shutdown h = refl
 apart_of txn c h = absurd (true≢false (sym h))
 
 apart : (txn : Txn) (o : Option Command) → is_some (option_and_then job_ask_of o) ≡ true
@@ -81,13 +82,21 @@ replied_kept work c actor number reply.Held at_ = refl
 replied_kept work c actor number reply.Ready at_ = refl
 replied_kept work c actor number (reply.EndedWith status) at_ = refl
 replied_kept work c actor number (reply.Advanced second) at_ = refl
+replied_kept work c actor number reply.Shut at_ = refl
 replied_kept work c actor number given at_ = kept (moment_of work top c (entry.Replied actor number given at_))
+
+-- births and ends are none of the service
+unserved : (b : Bool) (m : Moment) → served m ≡ None → in_service (cond b (Some m) None) ≡ None
+unserved true m e = e
+unserved false m e = refl
 
 entry_kept : (work : Workload) (c : List Entry) (e : Entry) → in_service (happening_of work c e) ≡ moment_of work top c e
 entry_kept work c (entry.Issued actor number) =
     issued_kept work c (record { actor = actor; command = number }) _ refl
 entry_kept work c (entry.Replied actor number given at_) = replied_kept work c actor number given at_
 entry_kept work c (entry.Ticked second) = refl
+entry_kept work c (entry.Born child parent job label second grant) = unserved (parent == top) (Born job) refl
+entry_kept work c (entry.Gone child parent job shut) = unserved (parent == top) (Gone job shut) refl
 entry_kept work c e = kept (moment_of work top c e)
 
 pub only : {A : Type 0} (x y : A) → Contains (x ∷ []) y → y ≡ x
@@ -120,6 +129,7 @@ in_primary command.Jobs own h = refl
 in_primary (command.Why label) own h = refl
 in_primary (command.ResultOf label) own h = refl
 in_primary (command.Advance seconds) own h = refl
+in_primary command.Shutdown own h = refl
 in_primary c own h = absurd (true≢false (sym h))
 
 pub about_primary : (work : Workload) (by : By) → is_some (job_ask_at work by) ≡ true → subject_at work by ≡ primary
@@ -159,10 +169,16 @@ module _ (work : Workload) (by : By) (asks : is_some (job_ask_at work by) ≡ tr
   issued_as c other true e = refl
   issued_as c other false e = served_none (moment_of work top c (entry.Issued other.actor other.command)) ∙ sym (other_command other e)
 
+  unissued : (b : Bool) (m : Moment) → issues_now by m ≡ false → issues_in by (cond b (Some m) None) ≡ false
+  unissued true m e = e
+  unissued false m e = refl
+
   entry_issues : (c : List Entry) (e : Entry) → issues_in by (happening_of work c e) ≡ issues by e
   entry_issues c (entry.Issued actor number) = issued_as c (record { actor = actor; command = number }) _ refl
   entry_issues c (entry.Replied actor number given at_) = told_none (record { actor = actor; command = number }) at_ (job_reply_of given) (moment_of work top c (entry.Replied actor number given at_))
   entry_issues c (entry.Ticked second) = refl
+  entry_issues c (entry.Born child parent job label second grant) = unissued (parent == top) (Born job) refl
+  entry_issues c (entry.Gone child parent job shut) = unissued (parent == top) (Gone job shut) refl
   entry_issues c e = served_none (moment_of work top c e)
 
   until_option : (o : Option Moment) (log : Log) (b : Bool) → issues_in by o ≡ b → until (issues_now by) (cons_option o log) ≡ cond b [] (cons_option o (until (issues_now by) log))
@@ -219,13 +235,7 @@ asks_nothing work h by = nothing_asked by.actor by.command work.lines h
 
 -- no advance waits there
 pub no_advance : (set : Setup) → IsWithoutJobs set.work → (c : List Entry) → HasNoAdvance set c
-no_advance set h c target (inl (l, here, waits)) =
-    let same : l ≡ living_of set c = only (living_of set c) l here in
-    none waits.by waits.seconds (subst (λ x. x.inst.asks waits.by ≡ Some (rules.Advance waits.seconds)) same waits.asks)
-  where
-    none : (by : By) (seconds : ℕ) → job_ask_at set.work by ≡ Some (rules.Advance seconds) → ⊥
-    none by seconds e = let never : None ≡ Some (rules.Advance seconds) = sym (asks_nothing set.work h by) ∙ e in cc
-no_advance set h c target (inr left) = absurd (omega (arith, left.1))
+no_advance set h c target waits = let never : None ≡ Some (rules.Advance waits.seconds) = sym (asks_nothing set.work h waits.by) ∙ waits.asks in cc
 
 -- the top instance keeps what an instance does
 pub is_instance : (set : Setup) → IsSetup set → IsInstance (instance_of set)

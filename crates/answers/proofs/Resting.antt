@@ -1,6 +1,6 @@
 -- Where a workload has no command on jobs or time, no job stands in the store, the manager has
 -- nothing to do, and nothing keeps a run from its end.
-use Rattle.std.proofs.Common.{◌≡◌, ◌⊎◌, inl, inr, ℕ, suc, List, [], ◌∷◌, ◌++◌, Bool, true, false, cond, length, Option, Some, None, option_map, unwrap_or, Result, Ok, Err, refl, sym, ap, ap₂, ◌∙◌, subst, arith, append-nil}
+use Rattle.std.proofs.Common.{◌≡◌, ◌⊎◌, inl, inr, ℕ, ◌==◌, suc, List, [], ◌∷◌, ◌++◌, Bool, true, false, cond, length, Option, Some, None, option_map, unwrap_or, Result, Ok, Err, refl, sym, ap, ap₂, ◌∙◌, subst, arith, append-nil, append_assoc}
 use Rattle.std.specs.Prelude.{Contains, IfSome, is_some, option_and_then}
 use Rattle.std.specs.Option.{option_map_or}
 use Rattle.std.specs.List.{AllByRecursion as Each, cons_option}
@@ -19,34 +19,34 @@ use Rattle.kvs_rules.specs.Landings.{IsAdvance, IsLegalLanding, IsManagers, IsUs
 use Rattle.kvs_rules.specs.Log as service
 use Rattle.kvs_rules.specs.Log.{Asked, Happened}
 use Rattle.kvs_rules.specs.Namespaces.{groups_landed, landed, landings, newest_store, number_landed, primary}
-use Rattle.kvs_rules.specs.Quiet.{AreAllTold}
-use Rattle.kvs_rules.specs.Sequence.{latest}
 use Rattle.kvs_rules.proofs.Logs.{landed_push, number_or_not, own_number}
-use Rattle.kvs_rules.proofs.Sequences.{each_along}
+use Rattle.kvs_rules.proofs.Sequences.{each_along, latest_push}
 use Rattle.kvs_rules.proofs.Stores.{after_push, landings_push}
 use Rattle.store_laws.specs.Reserved.{IsUserAuthor}
 use Rattle.manager_rules.specs.declared.asked.Asked.{Asked as Want}
 use Rattle.manager_rules.specs.declared.asked.Asked.TheVariants as asked
-use Rattle.manager_rules.specs.Jobs.{AreJobsOf}
+use Rattle.manager_rules.specs.Jobs.{AreJobsOf, StoredJob}
 use Rattle.manager_rules.specs.Posts.{Desk, Post, Submits, Does, IsDuePost}
 use Rattle.manager_rules.specs.Times.{IsIdle}
 use Rattle.manager_rules.proofs.Others.{first_jobs}
 use Rattle.manager_rules.proofs.Stores.{users_leave_jobs}
 use Rattle.manager_rules.proofs.Unique.{jobs_are_one}
 use Rattle.instance_rules.specs.Desks.{AreDueFrom, IsDeskOf, IsDueFor, StandsAsked}
-use Rattle.instance_rules.specs.Family.{IsEndOf, IsFamilyIdle, Living, MayClose, OfLiving}
-use Rattle.instance_rules.specs.Legal.{IsDueEvent, OfDesk}
-use Rattle.instance_rules.specs.Log.{JobAsk, JobReply, Log, Moment, Issued, Replied, Served, child_of, child_told, now_of, service_of}
+use Rattle.instance_rules.specs.Family.{MayClose}
+use Rattle.instance_rules.specs.Legal.{IsDueEvent, IsLegalMoment, OfDesk}
+use Rattle.instance_rules.specs.Log.{JobAsk, JobReply, Log, Moment, Born, Gone, Issued, Replied, Served, child_of, child_told, now_of, service_of}
 use Rattle.workload.specs.declared.work.Workload.{Workload}
 use Rattle.answers.specs.declared.chronicle.Entry.{Entry}
 use Rattle.answers.specs.declared.chronicle.Entry.TheVariants as entry
 use Rattle.answers.specs.Chronicle.{Setup, top}
-use Rattle.answers.specs.Jobs.{IsWithoutJobs, default_priority, family_of, happening_of, happenings_after, instance_of, job_ask_at, job_reply_of, living_of, log_in}
+use Rattle.answers.specs.Jobs.{IsWithoutJobs, default_priority, happening_of, happenings_after, instance_of, job_ask_at, job_reply_of, log_in}
 use Rattle.answers.specs.Legal.{IsLegal, IsLegalEntry}
+use Rattle.answers.specs.Runs.{family_of}
 use Rattle.answers.specs.Services.{log_of, moment_of, setting_of}
 use Rattle.answers.specs.Whole.{HasComeToRest, HasToldAll}
 use Rattle.answers.proofs.Carried.{lands_so, legal_in}
-use Rattle.answers.proofs.JobLogs.{asks_nothing, no_advance, only, service_kept}
+use Rattle.answers.proofs.Alone.{family_closes}
+use Rattle.answers.proofs.JobLogs.{asks_nothing, no_advance, service_kept}
 use Rattle.answers.proofs.Services.{log_push}
 
 none_in : {A P : Type 0} (x : A) → Contains [] x → P
@@ -56,7 +56,23 @@ as_user : (who : Author) → IsUser who → IsUserAuthor who
 as_user (author.User id) h = tt
 as_user author.Manager h = h
 
--- ---- no child lives
+-- ---- what an entry says of a child
+
+happenings_after-append : (work : Workload) (c xs ys : List Entry) → happenings_after work c (xs ++ ys) ≡ happenings_after work c xs ++ happenings_after work (c ++ xs) ys
+happenings_after-append work c [] ys = ap (λ b. happenings_after work b ys) (sym (append-nil c))
+happenings_after-append work c (x ∷ xs) ys =
+    ap (cons_option (happening_of work c x)) (happenings_after-append work (c ++ x ∷ []) xs ys ∙ ap (λ b. happenings_after work (c ++ x ∷ []) xs ++ happenings_after work b ys) (append_assoc c (x ∷ []) xs))
+    ∙ sym (joined (happening_of work c x) _ _)
+  where
+    joined : (o : Option Moment) (xs ys : Log) → cons_option o xs ++ ys ≡ cons_option o (xs ++ ys)
+    joined None xs ys = refl
+    joined (Some m) xs ys = refl
+
+-- neither a birth nor an end
+abbrev IsOfNoChild : Entry → Type 0
+IsOfNoChild (entry.Born child parent job label second grant) = ⊥
+IsOfNoChild (entry.Gone child parent job shut) = ⊥
+IsOfNoChild _ = Unit {0}
 
 module _ (id : ℕ) where
   abbrev told_of : Option Moment → Option (Option (Bool × Bool))
@@ -75,22 +91,21 @@ module _ (id : ℕ) where
   replied_tells by number None o = served_tells o
   replied_tells by number (Some x) o = refl
 
-  entry_tells : (work : Workload) (c : List Entry) (e : Entry) → told_of (happening_of work c e) ≡ None
-  entry_tells work c (entry.Issued actor number) = issued_tells (record { actor = actor; command = number }) (is_some (job_ask_at work (record { actor = actor; command = number }))) (moment_of work top c (entry.Issued actor number))
-  entry_tells work c (entry.Replied actor number given at_) = replied_tells (record { actor = actor; command = number }) at_ (job_reply_of given) (moment_of work top c (entry.Replied actor number given at_))
-  entry_tells work c (entry.Ticked second) = refl
-  entry_tells work c e = served_tells (moment_of work top c e)
+  entry_tells : (work : Workload) (c : List Entry) (e : Entry) → IsOfNoChild e → told_of (happening_of work c e) ≡ None
+  entry_tells work c (entry.Issued actor number) h = issued_tells (record { actor = actor; command = number }) (is_some (job_ask_at work (record { actor = actor; command = number }))) (moment_of work top c (entry.Issued actor number))
+  entry_tells work c (entry.Replied actor number given at_) h = replied_tells (record { actor = actor; command = number }) at_ (job_reply_of given) (moment_of work top c (entry.Replied actor number given at_))
+  entry_tells work c (entry.Ticked second) h = refl
+  entry_tells work c (entry.Born child parent job label second grant) h = absurd h
+  entry_tells work c (entry.Gone child parent job shut) h = absurd h
+  entry_tells work c e h = served_tells (moment_of work top c e)
 
-  skips : (o : Option Moment) (log : Log) → told_of o ≡ None → latest (child_told id) None (cons_option o log) ≡ latest (child_told id) None log
-  skips None log e = refl
-  skips (Some m) log e = ap (λ x. latest (child_told id) (unwrap_or x None) log) e
+  still_none : (o : Option Moment) (log : Log) → told_of o ≡ None → child_of log id ≡ None → child_of (log ++ cons_option o []) id ≡ None
+  still_none None log e h = ap (λ l. child_of l id) (append-nil log) ∙ h
+  still_none (Some m) log e h = latest_push (child_told id) None log m ∙ ap (λ o. unwrap_or o (child_of log id)) e ∙ h
 
-  after_tells : (work : Workload) (c xs : List Entry) → latest (child_told id) None (happenings_after work c xs) ≡ None
-  after_tells work c [] = refl
-  after_tells work c (e ∷ xs) = skips (happening_of work c e) (happenings_after work (c ++ e ∷ []) xs) (entry_tells work c e) ∙ after_tells work (c ++ e ∷ []) xs
-
-  no_child : (work : Workload) (c : List Entry) → child_of (log_in work c) id ≡ None
-  no_child work c = after_tells work [] c
+  child_push : (work : Workload) (c : List Entry) (e : Entry) → IsOfNoChild e → child_of (log_in work c) id ≡ None → child_of (log_in work (c ++ e ∷ [])) id ≡ None
+  child_push work c e none h =
+      ap (λ l. child_of l id) (happenings_after-append work [] c (e ∷ [])) ∙ still_none (happening_of work c e) (log_in work c) (entry_tells work c e none) h
 
 -- ---- the moments that land nothing in `primary`
 
@@ -211,13 +226,40 @@ module _ (set : Setup) (without : IsWithoutJobs set.work) where
       (λ d e before h again. subst HasNoJobs (sym (log_push set.work top d e)) (pushed d e (moment_of set.work top d e) refl h again))
       [] c tt legal begins
 
+  -- ---- no child lives
+
+  no_job_there : (c : List Entry) → HasNoJobs (log_of set.work top c) → {P : Desk → Type 0} → ((desk : Desk) → P desk → (j : StoredJob) × Contains desk.scene.jobs j) → OfDesk (instance_of set) (log_in set.work c) P → ⊥
+  no_job_there c h job_in there =
+      let st = there.0 in
+      let desk = there.2.0 in
+      let stands : newest_store (setting_of set) (log_of set.work top c) primary ≡ Some st = ap (λ l. newest_store (setting_of set) l primary) (sym (service_kept set.work c)) ∙ there.1 in
+      let same : st ≡ h.store = same_one st h.store (sym stands ∙ h.stands) in
+      let none : desk.scene.jobs ≡ [] = jobs_are_one st desk.scene.jobs [] there.2.1.jobs (subst (λ s. AreJobsOf s []) (sym same) h.are) in
+      let job = job_in desk there.2.2 in
+      none_in job.0 (subst (λ js. Contains js job.0) none job.1)
+
+  has_no_child : (c : List Entry) → IsLegal set c → (e : Entry) → IsLegalEntry set c e → IsOfNoChild e
+  has_no_child c legal (entry.Born child parent job label second grant) h =
+      no_job_there c (no_jobs c legal) (λ desk due. (due.j, due.known))
+      (subst (λ p. IfSome (cond (p == top) (Some (Born job)) None) (IsLegalMoment (instance_of set) (log_in set.work c))) h.grounds.0 h.grounds.1)
+  has_no_child c legal (entry.Gone child parent job shut) h =
+      no_job_there c (no_jobs c legal) (λ desk due. (due.j, due.known))
+      (subst (λ p. IfSome (cond (p == top) (Some (Gone job shut)) None) (IsLegalMoment (instance_of set) (log_in set.work c))) h.grounds.0 h.grounds.1)
+  has_no_child c legal _ h = tt
+
+  no_child : (c : List Entry) → IsLegal set c → (id : ℕ) → child_of (log_in set.work c) id ≡ None
+  no_child c legal id =
+      each_along (IsLegalEntry set) (λ d. child_of (log_in set.work d) id ≡ None)
+      (λ d e before h again. child_push id set.work d e (has_no_child d before e h) again)
+      [] c tt legal refl
+
   -- ---- the end
 
-  module _ (d : List Entry) where
+  module _ (d : List Entry) (childless : (id : ℕ) → child_of (log_in set.work d) id ≡ None) where
     abbrev desk_there : Desk
     desk_there = record {
       scene = record { now = now_of (instance_of set) (log_in set.work d); grant = set.resources; jobs = []; asked = []; answer = default_priority };
-      birth = 0;
+      birth = set.birth;
       submits = [];
     }
 
@@ -225,7 +267,7 @@ module _ (set : Setup) (without : IsWithoutJobs set.work) where
     none_stands (asked.Cancel by job) h = none_asked by _ h.asks
     none_stands (asked.Raise by job kind severity note) h = none_asked by _ h.asks
     none_stands (asked.Urgency by job urgency) h = none_asked by _ h.asks
-    none_stands (asked.Child job living shut) h = let never : ◌≡◌ {A = Option (Bool × Bool)} None (Some (living, shut)) = sym (no_child job set.work d) ∙ h in cc
+    none_stands (asked.Child job living shut) h = let never : ◌≡◌ {A = Option (Bool × Bool)} None (Some (living, shut)) = sym (childless job) ∙ h in cc
 
     desk_is : (st : Store) → AreJobsOf st [] → IsDeskOf (instance_of set) (log_in set.work d) st desk_there
     desk_is st are = record {
@@ -248,24 +290,14 @@ module _ (set : Setup) (without : IsWithoutJobs set.work) where
     rests : HasNoJobs (log_of set.work top d) → OfDesk (instance_of set) (log_in set.work d) IsIdle
     rests h = (h.store, ap (λ l. newest_store (setting_of set) l primary) (service_kept set.work d) ∙ h.stands, (desk_there, desk_is h.store h.are, is_idle))
 
-    no_end : (l : Living) → Contains (family_of set d) l → IsEndOf (family_of set d) l → ⊥
-    no_end l here end = let never : ◌≡◌ {A = Option (ℕ × ℕ)} None (Some (end.parent.number, end.job)) = ap (λ x. x.from) (sym (only (living_of set d) l here)) ∙ end.from in cc
-
-    -- nothing is due where the service's log is that of a legal chronicle
-    pub family_idle : (c : List Entry) → IsLegal set c → log_of set.work top d ≡ log_of set.work top c → IsFamilyIdle (family_of set d)
-    family_idle c legal same = record {
-      idle = λ l here. subst (λ x. OfLiving x IsIdle) (sym (only (living_of set d) l here)) (rests (subst HasNoJobs (sym same) (no_jobs c legal)));
-      stays = no_end;
-    }
-
-    -- nor is anything due, all are told, and no advance waits
-    pub may_close : (c : List Entry) → IsLegal set c → log_of set.work top d ≡ log_of set.work top c → HasToldAll set d → MayClose (family_of set d) []
-    may_close c legal same told = record {
-      idle = family_idle c legal same;
-      told = λ l here. subst (λ x. AreAllTold x.inst.service (service_of x.log)) (sym (only (living_of set d) l here)) (subst (AreAllTold (setting_of set)) (sym (service_kept set.work d)) told);
-      advanced = no_advance set without d;
-    }
+  -- nothing is due where the log is that of a legal chronicle
+  pub idle_as : (d c : List Entry) → IsLegal set c → log_in set.work d ≡ log_in set.work c → OfDesk (instance_of set) (log_in set.work d) IsIdle
+  idle_as d c legal same = subst (λ log. OfDesk (instance_of set) log IsIdle) (sym same) (rests c (no_child c legal) (no_jobs c legal))
 
   -- where a legal chronicle has told all brokers, it has come to rest
   pub comes_to_rest : (c : List Entry) → IsLegal set c → HasToldAll set c → HasComeToRest set c
-  comes_to_rest c legal told = record { told = told; idle = family_idle c c legal refl }
+  comes_to_rest c legal told = record { told = told; idle = idle_as c c legal refl }
+
+  -- and its run may end, since no advance waits
+  pub may_close : (c : List Entry) → IsLegal set c → HasToldAll set c → MayClose (family_of set c) []
+  may_close c legal told = family_closes set c (comes_to_rest c legal told) (no_advance set without c)

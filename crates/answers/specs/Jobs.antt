@@ -1,6 +1,6 @@
--- The top instance of a run with its jobs and its time: what its commands on jobs ask, which replies
--- are theirs, and its log.
-use Rattle.std.specs.Prelude.{◌≡◌, ◌<◌, ◌^◌, ℕ, List, [], ◌∷◌, ◌++◌, Option, Some, None, IfSome, false, is_some, map, max, min, option_and_then, option_map, if◌then◌else◌}
+-- An instance with its jobs, its children and its time: what its commands on jobs ask, which replies are
+-- theirs, and its log.
+use Rattle.std.specs.Prelude.{◌≡◌, ◌<◌, ◌^◌, ◌==◌, ℕ, List, [], ◌∷◌, ◌++◌, Option, Some, None, IfSome, false, is_some, map, max, min, option_and_then, option_map, if◌then◌else◌}
 use Rattle.std.specs.List.{AllByRecursion as Each, cons_option}
 use Rattle.std.specs.Option.{option_map_or}
 use Rattle.kvs_txn.specs.declared.txn.By.{By}
@@ -8,8 +8,8 @@ use Rattle.job_rules.specs.Fits.{IsGrant}
 use Rattle.resource_set.specs.Writing.{r_text}
 use Rattle.tap.specs.declared.Ask.{Ask}
 use Rattle.instance_rules.specs.Log as rules
-use Rattle.instance_rules.specs.Log.{Instance, JobAsk, JobReply, Key, JobspecKey, RKey, LogKey, Log, Moment, Named, Served, Issued, Replied, Ticked, IsInRange, now_of}
-use Rattle.instance_rules.specs.Family.{IsTarget, Living, MayTick}
+use Rattle.instance_rules.specs.Log.{Instance, JobAsk, JobReply, Key, JobspecKey, RKey, LogKey, Log, Moment, Named, Served, Issued, Replied, Ticked, Born, Gone, IsInRange, now_of}
+use Rattle.instance_rules.specs.Family.{HasTarget, Living}
 use Rattle.instance_rules.specs.Legal.{IsLegalMoment}
 use Rattle.answers.specs.declared.chronicle.Entry.{Entry}
 use Rattle.answers.specs.declared.chronicle.Entry.TheVariants as entry
@@ -36,7 +36,7 @@ key_by key.Jobspec = JobspecKey
 key_by key.R = RKey
 key_by key.Eventlog = LogKey
 
--- what a command asks of the job manager or of time, if it asks anything
+-- what a command asks of the job manager, of time or of its instance, if it asks anything
 abbrev pub job_ask_of : Command → Option JobAsk
 job_ask_of (command.Submit label urgency depends spec) =
     Some (rules.Submit label urgency (map named_by depends) spec)
@@ -49,6 +49,7 @@ job_ask_of command.Jobs = Some rules.Jobs
 job_ask_of (command.Why label) = Some (rules.Why label)
 job_ask_of (command.ResultOf label) = Some (rules.ResultOf label)
 job_ask_of (command.Advance seconds) = Some (rules.Advance seconds)
+job_ask_of command.Shutdown = Some rules.Shutdown
 job_ask_of _ = None
 
 abbrev pub job_ask_at : Workload → By → Option JobAsk
@@ -74,6 +75,7 @@ job_reply_of reply.Held = Some rules.Held
 job_reply_of reply.Ready = Some rules.Ready
 job_reply_of (reply.EndedWith status) = Some (rules.EndedWith status)
 job_reply_of (reply.Advanced second) = Some (rules.Advanced second)
+job_reply_of reply.Shut = Some rules.Shut
 job_reply_of _ = None
 
 -- ---- the instance and its log
@@ -83,11 +85,11 @@ job_reply_of _ = None
 abbrev pub default_priority : Ask → ℕ
 default_priority ask = min (max ask.urgency 1) 4294967294
 
--- the top instance, in which all actors stand, and which is born with the run
+-- the instance that is given this
 abbrev pub instance_of : Setup → Instance
 instance_of set = record {
   service = setting_of set;
-  birth = 0;
+  birth = set.birth;
   grant = set.resources;
   answer = default_priority;
   asks = job_ask_at set.work;
@@ -105,6 +107,10 @@ happening_of work c (entry.Replied actor command given number) =
     option_map_or (λ r. Some (Replied by r number)) (job_reply_of given)
     (option_map Served (moment_of work top c (entry.Replied actor command given number)))
 happening_of work c (entry.Ticked second) = Some (Ticked second)
+happening_of work c (entry.Born child parent job label second grant) =
+    if parent == top then Some (Born job) else None
+happening_of work c (entry.Gone child parent job shut) =
+    if parent == top then Some (Gone job shut) else None
 happening_of work c e = option_map Served (moment_of work top c e)
 
 -- the moments of the instance among further entries
@@ -122,7 +128,7 @@ abbrev pub IsLegalHappening : Setup → List Entry → Entry → Type 0
 IsLegalHappening set c e = IfSome (happening_of set.work c e)
     (IsLegalMoment (instance_of set) (log_in set.work c))
 
--- what a run is given fits together: the text is that of the resources, and the numbers and texts of
+-- what an instance is given fits together: the text is that of the resources, and the numbers and texts of
 -- commands on jobs are within their ranges
 pub record IsSetup (set : Setup) : Type 0 where
   pub text : set.grant ≡ r_text set.resources
@@ -136,7 +142,7 @@ pub record IsSetup (set : Setup) : Type 0 where
 abbrev pub second_of : Setup → List Entry → ℕ
 second_of set c = now_of (instance_of set) (log_in set.work c)
 
--- the top instance as one that lives: no job is its own, and nobody shuts it down
+-- the instance as one that lives, as if no job were its own and nobody shut it down
 abbrev pub living_of : Setup → List Entry → Living
 living_of set c = record {
   number = top;
@@ -146,19 +152,9 @@ living_of set c = record {
   shuts = false;
 }
 
--- the instances that live: the top one alone, until jobs have children
-abbrev pub family_of : Setup → List Entry → List Living
-family_of set c = living_of set c ∷ []
-
--- time goes on to this second: nothing is due, an advance is open, and nothing that it waits for
--- comes before
-pub record IsLegalTick (set : Setup) (c : List Entry) (second : ℕ) : Type 0 where
-  pub happens : IsLegalHappening set c (entry.Ticked second)
-  pub may : MayTick (family_of set c) (second_of set c) [] second
-
 -- no advance waits for its second
 abbrev pub HasNoAdvance : Setup → List Entry → Type 0
-HasNoAdvance set c = (target : ℕ) → IsTarget (family_of set c) [] target → ⊥
+HasNoAdvance set c = (target : ℕ) → HasTarget (living_of set c) target → ⊥
 
 -- ---- workloads
 
