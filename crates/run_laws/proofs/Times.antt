@@ -1,16 +1,16 @@
 -- Along a legal chronicle the second stays within the seconds of the advances that are issued.
-use Rattle.std.proofs.Common.{◌≡◌, ℕ, ◌+◌, ◌≤◌, ◌||◌, inl, inr, List, [], ◌∷◌, ◌++◌, Bool, true, false, cond, Option, Some, None, is_some, option_map, unwrap_or, refl, sym, ap, ap₂, ◌∙◌, ◌==◌, subst, arith, append-nil, append_assoc, true≢false}
+use Rattle.std.proofs.Common.{◌≡◌, ℕ, ◌+◌, ◌<◌, ◌≤◌, ◌^◌, ◌||◌, inl, inr, List, [], ◌∷◌, ◌++◌, Bool, true, false, cond, Option, Some, None, is_some, option_map, unwrap_or, refl, sym, ap, ap₂, ◌∙◌, ◌==◌, subst, arith, append-nil, append_assoc, true≢false}
 use Rattle.std.specs.List.{cons_option, list_any}
 use Rattle.std.specs.Option.{option_and_then, option_map_or}
 use Rattle.std.proofs.lemmas.List.Folds.{list_any-append}
 use Rattle.std.proofs.lemmas.List.Sums.{sum_by_push}
-use Rattle.kvs_rules.proofs.Sequences.{each_along, latest_push, until-append}
+use Rattle.kvs_rules.proofs.Sequences.{each_along, each_parts, latest_push, until-append}
 use Rattle.kvs_rules.specs.Log as service
 use Rattle.kvs_rules.specs.Sequence.{EachAfter, until}
 use Rattle.kvs_txn.specs.declared.txn.By.{By}
-use Rattle.instance_rules.specs.Family.{HasTarget, IsTarget}
+use Rattle.instance_rules.specs.Family.{HasTarget, IsTarget, MayTick}
 use Rattle.instance_rules.specs.Log as rules
-use Rattle.instance_rules.specs.Log.{JobReply, Log, Moment, Issued, Replied, Served, now_of, ticked}
+use Rattle.instance_rules.specs.Log.{JobReply, Log, Moment, Born, Gone, Issued, Replied, Served, now_of, ticked}
 use Rattle.instance_rules.proofs.Ends.{target_kept}
 use Rattle.workload.specs.Laws.{KeepsTallies}
 use Rattle.workload.specs.Tallies.{seconds_in, seconds_of}
@@ -21,13 +21,14 @@ use Rattle.answers.specs.declared.chronicle.Entry.{Entry}
 use Rattle.answers.specs.declared.chronicle.Entry.TheVariants as entry
 use Rattle.answers.specs.Chronicle.{Setup, before_issue, is_issued, issues, top}
 use Rattle.answers.specs.Commands.{command_at}
-use Rattle.answers.specs.Jobs.{IsLegalTick, family_of, happening_of, happenings_after, instance_of, job_ask_at, job_ask_of, job_reply_of, living_of, log_in, second_of}
+use Rattle.answers.specs.Jobs.{happening_of, happenings_after, instance_of, job_ask_at, job_ask_of, job_reply_of, living_of, log_in, second_of}
 use Rattle.answers.specs.Legal.{IsLegal, IsLegalEntry}
+use Rattle.answers.specs.Runs.{ComesInTime, IsInTime, family_of}
 use Rattle.answers.specs.Services.{moment_of}
 use Rattle.answers.proofs.JobLogs.{issued_alike, log_before_issue, only}
 use Rattle.answers.proofs.Services.{eqb_is, first_of, or_cases}
 use Rattle.answers.proofs.Services as services
-use Rattle.run_laws.specs.Times.{HasTime, seconds_at, seconds_by, seconds_issued}
+use Rattle.run_laws.specs.Times.{HasTime, KeepsTime, seconds_at, seconds_by, seconds_issued}
 use Rattle.run_laws.proofs.Lines.{issued_within}
 
 -- ---- the log of the instance, one entry further
@@ -63,10 +64,16 @@ replied_ticks : (by : By) (number : Option ℕ) (r : Option JobReply) (o : Optio
 replied_ticks by number None o = served_ticks o
 replied_ticks by number (Some x) o = refl
 
+child_ticks : (b : Bool) (m : Moment) → ticked m ≡ None → tick_of (cond b (Some m) None) ≡ None
+child_ticks true m e = e
+child_ticks false m e = refl
+
 entry_ticks : (work : Workload) (c : List Entry) (e : Entry) → tick_of (happening_of work c e) ≡ ticks e
 entry_ticks work c (entry.Issued actor number) = issued_ticks (record { actor = actor; command = number }) (is_some (job_ask_at work (record { actor = actor; command = number }))) (moment_of work top c (entry.Issued actor number))
 entry_ticks work c (entry.Replied actor number given at_) = replied_ticks (record { actor = actor; command = number }) at_ (job_reply_of given) (moment_of work top c (entry.Replied actor number given at_))
 entry_ticks work c (entry.Ticked second) = refl
+entry_ticks work c (entry.Born child parent job label second grant) = child_ticks (parent == top) (Born job) refl
+entry_ticks work c (entry.Gone child parent job shut) = child_ticks (parent == top) (Gone job shut) refl
 entry_ticks work c e = served_ticks (moment_of work top c e)
 
 second_push : (set : Setup) (c : List Entry) (e : Entry) → second_of set (c ++ e ∷ []) ≡ unwrap_or (ticks e) (second_of set c)
@@ -77,7 +84,7 @@ second_push set c e =
   where
     pushed : (log : Log) (o : Option Moment) → now_of (instance_of set) (log ++ cons_option o []) ≡ unwrap_or (tick_of o) (now_of (instance_of set) log)
     pushed log None = ap (now_of (instance_of set)) (append-nil log)
-    pushed log (Some m) = latest_push ticked 0 log m
+    pushed log (Some m) = latest_push ticked set.birth log m
 
 -- ---- open advances
 
@@ -107,11 +114,11 @@ issued_seconds work by _ h = absurd (true≢false (sym h))
 
 module _ (set : Setup) where
   -- the second is within what is issued, and so is that of each issue with its own seconds
-  record IsInTime (c : List Entry) : Type 0 where
-    present : second_of set c ≤ seconds_issued set.work c
-    targets : (by : By) → is_issued by c ≡ true → second_of set (before_issue by c) + seconds_at set.work by ≤ seconds_issued set.work c
+  record IsWithin (c : List Entry) : Type 0 where
+    present : second_of set c ≤ set.birth + seconds_issued set.work c
+    targets : (by : By) → is_issued by c ≡ true → second_of set (before_issue by c) + seconds_at set.work by ≤ set.birth + seconds_issued set.work c
 
-  target_within : (c : List Entry) → IsInTime c → (target : ℕ) → HasTarget (living_of set c) target → target ≤ seconds_issued set.work c
+  target_within : (c : List Entry) → IsWithin c → (target : ℕ) → HasTarget (living_of set c) target → target ≤ set.birth + seconds_issued set.work c
   target_within c h target t =
       let asks : is_some (job_ask_at set.work t.by) ≡ true = ap is_some t.asks in
       let issued : is_issued t.by c ≡ true = sym (issued_alike set.work t.by asks c) ∙ t.waits.issued in
@@ -121,25 +128,25 @@ module _ (set : Setup) where
       let low = h.targets t.by issued in
       omega (arith, began, long, is, low)
 
-  wanted_within : (c : List Entry) → IsInTime c → (target : ℕ) → IsTarget (family_of set c) [] target → target ≤ seconds_issued set.work c
+  wanted_within : (c : List Entry) → IsWithin c → (target : ℕ) → IsTarget (family_of set c) [] target → target ≤ set.birth + seconds_issued set.work c
   wanted_within c h target (inl (l, here, t)) = target_within c h target (subst (λ x. HasTarget x target) (only (living_of set c) l here) t)
   wanted_within c h target (inr none) = absurd (omega (arith, none.1))
 
-  tick_within : (c : List Entry) (second : ℕ) → IsInTime c → IsLegalTick set c second → second ≤ seconds_issued set.work c
-  tick_within c second h tick =
-      let low : second ≤ tick.may.target = target_kept (family_of set c) (second_of set c) [] second tick.may tick.may.target tick.may.wanted tick.may.unreached in
-      let high = wanted_within c h tick.may.target tick.may.wanted in
+  tick_within : (c : List Entry) (second : ℕ) → IsWithin c → MayTick (family_of set c) (second_of set c) [] second → second ≤ set.birth + seconds_issued set.work c
+  tick_within c second h may =
+      let low : second ≤ may.target = target_kept (family_of set c) (second_of set c) [] second may may.target may.wanted may.unreached in
+      let high = wanted_within c h may.target may.wanted in
       omega (arith, low, high)
 
-  now_within : (c : List Entry) (e : Entry) → IsLegalEntry set c e → IsInTime c → unwrap_or (ticks e) (second_of set c) ≤ seconds_issued set.work c
-  now_within c (entry.Ticked second) legal h = tick_within c second h legal.grounds
-  now_within c _ legal h = h.present
+  now_within : (c : List Entry) (e : Entry) → ComesInTime set c e → IsWithin c → unwrap_or (ticks e) (second_of set c) ≤ set.birth + seconds_issued set.work c
+  now_within c (entry.Ticked second) timely h = tick_within c second h timely
+  now_within c _ timely h = h.present
 
-  time_step : (c : List Entry) (e : Entry) → EachAfter (IsLegalEntry set) [] c → IsLegalEntry set c e → IsInTime c → IsInTime (c ++ e ∷ [])
-  time_step c e before legal h = record {
+  time_step : (c : List Entry) (e : Entry) → EachAfter (ComesInTime set) [] c → ComesInTime set c e → IsWithin c → IsWithin (c ++ e ∷ [])
+  time_step c e before timely h = record {
     present =
         let now = second_push set c e in
-        let within = now_within c e legal h in
+        let within = now_within c e timely h in
         omega (arith, now, within, longer);
     targets = λ by issued. target by (is_issued by c) refl (sym (list_any-append (issues by) c (e ∷ []) ∙ ap (λ b. is_issued by c || b) (or_false (issues by e))) ∙ issued);
   }
@@ -151,7 +158,7 @@ module _ (set : Setup) where
       or_false true = refl
       or_false false = refl
 
-      target : (by : By) (b : Bool) → is_issued by c ≡ b → (is_issued by c || issues by e) ≡ true → second_of set (before_issue by (c ++ e ∷ [])) + seconds_at set.work by ≤ seconds_issued set.work (c ++ e ∷ [])
+      target : (by : By) (b : Bool) → is_issued by c ≡ b → (is_issued by c || issues by e) ≡ true → second_of set (before_issue by (c ++ e ∷ [])) + seconds_at set.work by ≤ set.birth + seconds_issued set.work (c ++ e ∷ [])
       target by true was any =
           let same : second_of set (before_issue by (c ++ e ∷ [])) ≡ second_of set (before_issue by c) = ap (second_of set) (until-append (issues by) c (e ∷ []) was) in
           let low = h.targets by was in
@@ -163,17 +170,29 @@ module _ (set : Setup) where
           let low = h.present in
           omega (arith, same, own, low, longer)
 
-  in_time : (c : List Entry) → IsLegal set c → IsInTime c
-  in_time c legal = each_along (IsLegalEntry set) IsInTime time_step [] c tt legal (record { present = omega arith; targets = λ by none. absurd (true≢false (sym none)) })
+  all_within : (c : List Entry) → IsInTime set c → IsWithin c
+  all_within c timely = each_along (ComesInTime set) IsWithin time_step [] c tt timely (record { present = omega arith; targets = λ by none. absurd (true≢false (sym none)) })
 
-  pub time_issued : (c : List Entry) → IsLegal set c → second_of set c ≤ seconds_issued set.work c
-  time_issued c legal = (in_time c legal).present
+  pub time_issued : (c : List Entry) → IsLegal set c → IsInTime set c → second_of set c ≤ set.birth + seconds_issued set.work c
+  time_issued c legal timely = (all_within c timely).present
 
-  pub time_within : (c : List Entry) → IsLegal set c → second_of set c ≤ seconds_in set.work.lines
-  time_within c legal =
-      let a = time_issued c legal in
+  pub time_within : (c : List Entry) → IsLegal set c → IsInTime set c → second_of set c ≤ set.birth + seconds_in set.work.lines
+  time_within c legal timely =
+      let a = time_issued c legal timely in
       let b = issued_within set c legal in
       omega (arith, a, b)
 
-pub has_time : (work : Workload) → KeepsTallies work.lines → HasTime work
-has_time work h = let low = h.seconds in omega (arith, low)
+  -- so it does before each entry
+  module _ (fits : HasTime set) where
+    kept_after : (past more : List Entry) → IsLegal set (past ++ more) → IsInTime set (past ++ more) → EachAfter (λ c e. second_of set c < 2 ^ 64) past more
+    kept_after past [] legal timely = tt
+    kept_after past (e ∷ more) legal timely =
+        let first : second_of set past ≤ set.birth + seconds_in set.work.lines = time_within past (each_parts (IsLegalEntry set) [] past (e ∷ more) legal).0 (each_parts (ComesInTime set) [] past (e ∷ more) timely).0 in
+        let split : past ++ (e ∷ more) ≡ (past ++ e ∷ []) ++ more = sym (append_assoc past (e ∷ []) more) in
+        (omega (arith, first, fits), kept_after (past ++ e ∷ []) more (subst (IsLegal set) split legal) (subst (IsInTime set) split timely))
+
+    pub keeps_time : (c : List Entry) → IsLegal set c → IsInTime set c → KeepsTime set c
+    keeps_time c legal timely = kept_after [] c legal timely
+
+pub has_time : (set : Setup) → set.birth ≡ 0 → KeepsTallies set.work.lines → HasTime set
+has_time set first h = let low = h.seconds in omega (arith, first, low)

@@ -1,21 +1,21 @@
-ghost use Rattle.std.specs.Prelude.{◌≤◌, IsSome, List};
+ghost use Rattle.std.specs.Prelude.{◌≡◌, ◌+◌, ◌≤◌, IsSome, List};
 ghost use Rattle.workload.specs.Laws.{KeepsTallies};
 ghost use Rattle.workload.specs.Tallies.{seconds_in};
-ghost use Rattle.workload.specs.declared.work.Workload.{Workload};
 ghost use Rattle.answers.specs.declared.chronicle.Entry.{Entry};
 ghost use Rattle.answers.specs.Chronicle.{Setup};
 ghost use Rattle.answers.specs.Jobs.{instance_of, second_of};
 ghost use Rattle.instance_rules.specs.Log.{IsInstance};
 ghost use Rattle.answers.specs.Legal.{IsLegal};
+ghost use Rattle.answers.specs.Runs.{IsInTime};
 ghost use Rattle.run_laws.specs.Jobs.{JobsStaySound, LogsOnlyGrow, store_of};
-ghost use Rattle.run_laws.specs.Times.{HasTime, seconds_issued};
+ghost use Rattle.run_laws.specs.Times.{HasTime, KeepsTime, seconds_issued};
 
 /// However much of a legal chronicle has happened, `primary` has its store. Each log in it replays,
 /// each live job has units that satisfy its jobspec and lie in the grant, and no two live jobs have
 /// a unit in common (Flux RFC 21).
 pub fn jobs_stay_sound()
     ensures sound { (set : Setup) (c : List Entry) → IsInstance (instance_of set)
-        → HasTime set.work → IsLegal set c → JobsStaySound set c }
+        → KeepsTime set c → IsLegal set c → JobsStaySound set c }
     ensures standing { (set : Setup) (c : List Entry) → IsLegal set c → IsSome (store_of set c) }
 {}
 
@@ -23,15 +23,18 @@ pub fn jobs_stay_sound()
 /// before (Flux RFC 18).
 pub fn logs_only_grow()
     ensures { (set : Setup) (c : List Entry) → IsInstance (instance_of set)
-        → HasTime set.work → IsLegal set c → LogsOnlyGrow set c }
+        → KeepsTime set c → IsLegal set c → LogsOnlyGrow set c }
 {}
 
-/// Time goes no further than the advances that are issued let it, and each of these is one line of
-/// the workload. So the seconds of a workload within its limits have their place in 64 bits.
+/// Where time goes on as a run lets it, it goes no further than the advances that are issued let it,
+/// and each of these is one line of the workload. So the seconds of a workload within its limits have
+/// their place in 64 bits.
 pub fn time_stays_within()
-    ensures issued { (set : Setup) (c : List Entry) → IsLegal set c
-        → second_of set c ≤ seconds_issued set.work c }
-    ensures within { (set : Setup) (c : List Entry) → IsLegal set c
-        → second_of set c ≤ seconds_in set.work.lines }
-    ensures fits { (work : Workload) → KeepsTallies work.lines → HasTime work }
+    ensures issued { (set : Setup) (c : List Entry) → IsLegal set c → IsInTime set c
+        → second_of set c ≤ set.birth + seconds_issued set.work c }
+    ensures within { (set : Setup) (c : List Entry) → IsLegal set c → IsInTime set c
+        → second_of set c ≤ set.birth + seconds_in set.work.lines }
+    ensures kept { (set : Setup) (c : List Entry) → HasTime set → IsLegal set c → IsInTime set c
+        → KeepsTime set c }
+    ensures fits { (set : Setup) → set.birth ≡ 0 → KeepsTallies set.work.lines → HasTime set }
 {}
