@@ -38,6 +38,7 @@ setup_of o work = record {
   hash = o.hash;
   grant = grant_text o.size work;
   resources = first_resources o.size work;
+  birth = 0;
   work = work;
 }
 
@@ -61,7 +62,7 @@ pub record IsSpelled (size : ℕ) (input : Side) (work : Workload) : Type 0 wher
   pub sound : first_fault size text ≡ None
   pub means : work ≡ spelled text
 
--- the source was read to its end, its text is a workload's, the chronicle of that workload is legal and whole, and
+-- the source was read to its end, its text is a workload's, the chronicle of that workload is legal and whole, in time, and
 -- settled where no drawn order is asked for, the text prints it, and the steps made tell the whole of it; after each first
 -- part of it jobs stand well in the grant, and no event of a job is lost or changed
 pub record HasRun (o : Options) (input : Side) (run : Run) (text : List ℕ) : Type 0 where

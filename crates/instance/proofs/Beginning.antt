@@ -105,7 +105,7 @@ begin_agrees set services seats within known few start agrees first = record {
           subst (λ n. Stands [] [] a n (replied_of seat)) (sym one.fresh) (subst (λ n. Stands [] [] a 0 n) (sym replied) (stands_first a)),
           record {
             home = one.home ∙ sym home;
-            inside = subst (λ n. n < set.size) (sym one.home) (subst (λ x. x.rank < set.size) (actor.1 actor.0) (within.ranks a actor.0 low_actor));
+            inside = subst (λ n. n < set.size) (sym one.home) (subst (λ x. x.rank < set.size) (actor.1 actor.0) (within.ranks a actor.0 low_actor (within.tops a actor.0 low_actor)));
             author = one.author;
             opened = λ some. absurd (omega (arith, some, one.fresh));
             placed = one.placed;

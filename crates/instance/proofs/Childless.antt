@@ -75,6 +75,7 @@ asks_none c built (ask.Submit label urgency needs text) e = submits c built e
     submits (command.Why other) b same = cc
     submits (command.ResultOf other) b same = cc
     submits (command.Advance seconds) b same = cc
+    submits command.Shutdown b same = absurd b
     submits _ b same = cc
 asks_none c built _ e = tt
 

@@ -16,7 +16,7 @@ use Rattle.kvs_model.specs.Store.{Name}
 use Rattle.kvs_rules.specs.declared.events.KvsStep.{KvsStep}
 use Rattle.kvs_rules.specs.Quiet.{IsQuiet, IsShortFence}
 use Rattle.manager_rules.specs.Times.{IsIdle}
-use Rattle.instance_rules.specs.Family.{IsLeftResult, IsTarget, Living, MayClose}
+use Rattle.instance_rules.specs.Family.{IsLeftResult, IsTarget, Living}
 use Rattle.instance_rules.specs.Legal.{OfDesk}
 use Rattle.instance_rules.specs.Log as rules
 use Rattle.instance_rules.specs.Log.{Instance, Log as InstanceLog, service_of}
@@ -38,7 +38,7 @@ use Rattle.answers.specs.declared.chronicle.Reply.{Reply}
 use Rattle.answers.specs.declared.chronicle.Reply.TheVariants as reply
 use Rattle.answers.specs.Chronicle.{top, is_issued, issues_of, replies_to, answer_of}
 use Rattle.answers.specs.Commands.{ask_at, broker_of, command_at, subject_at}
-use Rattle.answers.specs.Jobs.{family_of, instance_of, job_ask_at, job_ask_of, living_of, log_in}
+use Rattle.answers.specs.Jobs.{HasNoAdvance, instance_of, job_ask_at, job_ask_of, living_of, log_in}
 use Rattle.answers.specs.Services.{setting_of, log_of, moment_of, moments_after}
 use Rattle.answers.specs.Whole.{HasComeToRest}
 use Rattle.answers.proofs.JobLogs.{asks_no_service}
@@ -54,7 +54,8 @@ use Rattle.instance.specs.Agrees.{command_of, Waits, ActorStands, IsSeat}
 use Rattle.instance.specs.Steps.{IsOver, can_post, can_tick, has_answer}
 use Rattle.instance.specs.Value.{InstanceValue}
 use Rattle.instance.proofs.Owning.{Own, DoesAgree}
-use Rattle.instance.proofs.Families.{has_rest, is_top, may_close, no_advance_left}
+use Rattle.instance.proofs.Given.{no_shutdown}
+use Rattle.instance.proofs.Families.{has_rest, is_top, no_advance_left}
 use Rattle.instance.proofs.Listing.{any_counted, none_counted}
 use Rattle.instance.proofs.Logs.{log_issued, log_open, served_log}
 use Rattle.instance.proofs.Leaving.{IsStuck, IsDone, IsLeft, IsServedCause, IsStuckResult, IsShortAsk, IsAboveAsk, asks_so, fence_command, wait_command, free_finished, free_unserved, in_fence, left_asks, numbers_of, seat_told, seated, states_of, unseated}
@@ -97,6 +98,8 @@ moment_answers work c (entry.Dropped other broker reference) by h = never _ (hap
 moment_answers work c (entry.Replied a k given number) by h = answered_so by (record { actor = a; command = k }) number (answer_of given) true h
 moment_answers work c (entry.Told from to) by h = absurd (true≢false (sym h))
 moment_answers work c (entry.Ticked second) by h = absurd (true≢false (sym h))
+moment_answers work c (entry.Born child parent job label second grant) by h = absurd (true≢false (sym h))
+moment_answers work c (entry.Gone child parent job shut) by h = absurd (true≢false (sym h))
 moment_answers work c entry.Closed by h = absurd (true≢false (sym h))
 
 answered_replied : (work : Workload) (by : By) (c xs : List Entry) → list_any (answers_now by) (moments_after work top c xs) ≡ true → list_any (replies_to by) xs ≡ true
@@ -523,27 +526,6 @@ still_so v h rest = record {
 pub core_agrees : (v : Own) → DoesAgree v → Agrees v.instance.services.jobs.manager.core (setting_of v.set) (log_of v.set.work top v.chronicle)
 core_agrees v h = subst (Agrees v.instance.services.jobs.manager.core (setting_of v.set)) (served_log v.set.work v.chronicle) h.agrees.jobs.core
 
--- no command of a workload shuts an instance down
-never_shuts : (c : Command) → job_ask_of c ≡ Some rules.Shutdown → ⊥
-never_shuts (command.Submit label urgency depends spec) e = cc
-never_shuts (command.Cancel label) e = cc
-never_shuts (command.Raise label kind severity note) e = cc
-never_shuts (command.Urgency label urgency) e = cc
-never_shuts (command.StateOf label) e = cc
-never_shuts (command.Info label shown) e = cc
-never_shuts command.Jobs e = cc
-never_shuts (command.Why label) e = cc
-never_shuts (command.ResultOf label) e = cc
-never_shuts (command.Advance seconds) e = cc
-never_shuts _ e = cc
-
-never_shuts_so : (o : Option Command) → option_and_then job_ask_of o ≡ Some rules.Shutdown → ⊥
-never_shuts_so None e = cc
-never_shuts_so (Some c) e = never_shuts c e
-
-no_shutdown : (work : Workload) (by : By) → job_ask_at work by ≢ Some rules.Shutdown
-no_shutdown work by = never_shuts_so (command_at work by)
-
 -- what the services promise where they are still
 pub record IsStillSo (v : Own) : Type 0 where
   pub quiet : (i : Instance) (l : InstanceLog) → AgreesServices v.instance.services i l → IsStill v.instance.services → IsQuiet i.service (service_of l)
@@ -565,19 +547,18 @@ module _ (v : Own) (h : DoesAgree v) (rest : CanDoNothing v.instance) (promise :
       subst (λ l. (broker : ℕ) (space : Name) → broker < v.set.size → is_live l space ≡ true → IsSome (heard l broker space)) (served_log v.set.work v.chronicle)
       (promise.heard (instance_of v.set) (log_in v.set.work v.chronicle) h.agrees still_here)
 
-  -- the run has come to rest
+  -- the instance has come to rest
   pub rest_so : HasComeToRest v.set v.chronicle
   rest_so = has_rest v.set v.chronicle (promise.quiet (instance_of v.set) (log_in v.set.work v.chronicle) h.agrees still_here).told
       (promise.idle (instance_of v.set) (log_in v.set.work v.chronicle) h.agrees still_here)
 
-  -- and may end
-  pub closes_so : MayClose (family_of v.set v.chronicle) []
-  closes_so = may_close v.set v.chronicle rest_so
-      (no_advance_left v.set v.chronicle (λ living is. promise.advanced (instance_of v.set) (log_in v.set.work v.chronicle) living h.agrees still_here is))
+  -- and no advance waits
+  pub advanced_so : HasNoAdvance v.set v.chronicle
+  advanced_so = no_advance_left v.set v.chronicle (λ living is. promise.advanced (instance_of v.set) (log_in v.set.work v.chronicle) living h.agrees still_here is)
 
   -- the job commands that are open wait for results
   pub results_so : AreResults v h
-  results_so by asks waits = on (awaited v.instance.services.jobs by) refl (promise.left (instance_of v.set) (log_in v.set.work v.chronicle) h.agrees still_here by asks (no_shutdown v.set.work by) waits)
+  results_so by asks waits = on (awaited v.instance.services.jobs by) refl (promise.left (instance_of v.set) (log_in v.set.work v.chronicle) h.agrees still_here by asks (no_shutdown v.set.work h.known by) waits)
     where
       on : (o : Option State) → awaited v.instance.services.jobs by ≡ o → IsSome o → IsStuckResult v by
       on None e some = absurd (true≢false (sym some))

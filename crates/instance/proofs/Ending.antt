@@ -48,8 +48,8 @@ use Rattle.instance.proofs.Ranges.{counted_flat, counted_none, counted_one, coun
 use Rattle.instance.proofs.Commanding.{own_length}
 use Rattle.instance.proofs.Leaving.{IsCause, IsDone, IsLeft, IsStuckFence, ends_at, in_fence, numbers_of, seat_told, states_of, told_of}
 use Rattle.answers.proofs.Carried.{unasked_uncarried}
-use Rattle.instance.proofs.Closing.{AreResults, CanDoNothing, IsStillSo, closes_so, heard_so, left_of, past_all, quiet_so, results_so}
-use Rattle.instance.proofs.Families.{closes_at_end, same_living, told_at_end}
+use Rattle.instance.proofs.Closing.{AreResults, CanDoNothing, IsStillSo, advanced_so, heard_so, left_of, past_all, quiet_so, rest_so, results_so}
+use Rattle.instance.proofs.Families.{advanced_at_end, rests_at_end, same_living}
 use Rattle.instance.proofs.Logs.{log_closed, log_without, served_log}
 use Rattle.instance.proofs.Results.{unissued_uncarried}
 use Rattle.instance.proofs.Going.{unended}
@@ -110,6 +110,8 @@ none_issued by (entry.Got i b reference ∷ es) h = absurd h.0
 none_issued by (entry.Dropped i b reference ∷ es) h = absurd h.0
 none_issued by (entry.Told from to ∷ es) h = absurd h.0
 none_issued by (entry.Ticked second ∷ es) h = absurd h.0
+none_issued by (entry.Born child parent job label second grant ∷ es) h = absurd h.0
+none_issued by (entry.Gone child parent job shut ∷ es) h = absurd h.0
 none_issued by (entry.Closed ∷ es) h = absurd h.0
 
 none_ended : (es : List Entry) → Each IsClosingEntry es → list_any is_end es ≡ false
@@ -123,6 +125,8 @@ none_ended (entry.Got i b reference ∷ es) h = absurd h.0
 none_ended (entry.Dropped i b reference ∷ es) h = absurd h.0
 none_ended (entry.Told from to ∷ es) h = absurd h.0
 none_ended (entry.Ticked second ∷ es) h = absurd h.0
+none_ended (entry.Born child parent job label second grant ∷ es) h = absurd h.0
+none_ended (entry.Gone child parent job shut ∷ es) h = absurd h.0
 none_ended (entry.Closed ∷ es) h = absurd h.0
 
 -- ---- what is left at the end
@@ -656,8 +660,8 @@ module _ (v : Own) (h : DoesAgree v) (over : IsOver v.set.work.lines v.instance)
     closing = grounded;
     answered = λ by some. replied_once by some;
     no_other = λ by none. not_replied by none;
-    told = told_at_end v.set v.chronicle left closing_all quiet.told;
-    closes = closes_at_end v.set v.chronicle left closing_all (closes_so v h rest promise);
+    rests = rests_at_end v.set v.chronicle left closing_all (rest_so v h rest promise);
+    advanced = advanced_at_end v.set v.chronicle left closing_all (advanced_so v h rest promise);
   }
 
   pub close_ends : Ends v.set v.chronicle left

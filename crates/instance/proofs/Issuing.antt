@@ -440,6 +440,7 @@ module _ (v : Own) (h : DoesAgree v) (a : ℕ) (seat : Seat) (is : IsIssuing v a
       waits_issued command.ContentFlush known same = waits_asked ask.Flush (eq ∙ ap (ask_of txn) (sym same))
       waits_issued command.ContentDrop known same = waits_asked ask.DropClean (eq ∙ ap (ask_of txn) (sym same))
       waits_issued command.Getroot known same = absurd known
+      waits_issued command.Shutdown known same = absurd known
       waits_issued c known same = waits_jobs c refl same (eq ∙ ap (ask_of txn) (sym same))
 
       -- the actor's seat behind the issue

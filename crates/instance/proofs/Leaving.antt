@@ -188,6 +188,7 @@ is_fence t command.Jobs name count txn e = cc
 is_fence t (command.Why label) name count txn e = cc
 is_fence t (command.ResultOf label) name count txn e = cc
 is_fence t (command.Advance seconds) name count txn e = cc
+is_fence t command.Shutdown name count txn e = cc
 
 is_wait : (t : Txn) (c : Command) (number : ℕ) → ask_of t c ≡ Some (ask.Wait number) → c ≡ command.Wait number
 is_wait t (command.Put path bytes) number e = cc
@@ -220,6 +221,7 @@ is_wait t command.Jobs number e = cc
 is_wait t (command.Why label) number e = cc
 is_wait t (command.ResultOf label) number e = cc
 is_wait t (command.Advance seconds) number e = cc
+is_wait t command.Shutdown number e = cc
 
 -- what a command asks is told by what it is
 command_so : (work : Workload) (by : By) (asked : KvsAsk) (c : Command) → ((t : Txn) (d : Command) → ask_of t d ≡ Some asked → d ≡ c) → ask_at work by ≡ Some asked → command_at work by ≡ Some c

@@ -13,7 +13,7 @@ use Rattle.kvs_rules.specs.Log.{Happened, same_command}
 use Rattle.kvs_rules.specs.Namespaces.{Request}
 use Rattle.kvs_txn.specs.declared.txn.By.{By}
 use Rattle.instance_rules.specs.Log as rules
-use Rattle.instance_rules.specs.Log.{IsOpen, JobReply, Log, Moment, Issued, Replied, Served, Ticked, issues_now, replies_now, service_of}
+use Rattle.instance_rules.specs.Log.{IsOpen, JobReply, Log, Moment, Born, Gone, Issued, Replied, Served, Ticked, issues_now, replies_now, service_of}
 use Rattle.answers.specs.declared.chronicle.Entry.{Entry}
 use Rattle.answers.specs.declared.chronicle.Entry.TheVariants as entry
 use Rattle.answers.specs.declared.chronicle.Reply.{Reply}
@@ -151,6 +151,7 @@ pub closing_is : (work : Workload) (c : List Entry) (actor number : ℕ) (given 
 closing_is work c actor number (reply.UnfinishedFence have want) at_ h = refl
 closing_is work c actor number (reply.UnfinishedWait had wanted) at_ h = refl
 closing_is work c actor number (reply.UnfinishedJob where_) at_ h = refl
+closing_is work c actor number reply.UnfinishedUnborn at_ h = refl
 closing_is work c actor number reply.NotReached at_ h = refl
 closing_is work c actor number _ at_ h = absurd (true≢false (sym h))
 
@@ -164,6 +165,8 @@ entry_closes work c (entry.Got i b reference) h = absurd h
 entry_closes work c (entry.Dropped i b reference) h = absurd h
 entry_closes work c (entry.Told from to) h = absurd h
 entry_closes work c (entry.Ticked second) h = absurd h
+entry_closes work c (entry.Born child parent job label second grant) h = absurd h
+entry_closes work c (entry.Gone child parent job shut) h = absurd h
 entry_closes work c entry.Closed h = absurd h
 
 pub log_closing : (work : Workload) (c es : List Entry) → Each IsClosingEntry es → log_in work (c ++ es) ≡ log_in work c
@@ -220,16 +223,28 @@ module _ (work : Workload) (by : By) where
   told_issues other number None o = served_issues o
   told_issues other number (Some x) o = refl
 
+  child_replies : (b : Bool) (m : Moment) → replies_now by m ≡ false → replies_in by (cond b (Some m) None) ≡ false
+  child_replies true m e = e
+  child_replies false m e = refl
+
+  child_issues : (b : Bool) (m : Moment) → issues_now by m ≡ false → issues_in by (cond b (Some m) None) ≡ false
+  child_issues true m e = e
+  child_issues false m e = refl
+
   entry_replies : (c : List Entry) (e : Entry) → replies_to by e ≡ false → replies_in by (happening_of work c e) ≡ false
   entry_replies c (entry.Issued a k) h = issued_replies (record { actor = a; command = k }) (is_some (job_ask_at work (record { actor = a; command = k }))) (moment_of work top c (entry.Issued a k))
   entry_replies c (entry.Replied a k given at_) h = told_replies (record { actor = a; command = k }) at_ (job_reply_of given) (moment_of work top c (entry.Replied a k given at_)) h
   entry_replies c (entry.Ticked second) h = refl
+  entry_replies c (entry.Born child parent job label second grant) h = child_replies (parent == top) (Born job) refl
+  entry_replies c (entry.Gone child parent job shut) h = child_replies (parent == top) (Gone job shut) refl
   entry_replies c e h = served_replies (moment_of work top c e)
 
   entry_issues : (c : List Entry) (e : Entry) → issues by e ≡ false → issues_in by (happening_of work c e) ≡ false
   entry_issues c (entry.Issued a k) h = issued_issues (record { actor = a; command = k }) (is_some (job_ask_at work (record { actor = a; command = k }))) (moment_of work top c (entry.Issued a k)) h
   entry_issues c (entry.Replied a k given at_) h = told_issues (record { actor = a; command = k }) at_ (job_reply_of given) (moment_of work top c (entry.Replied a k given at_))
   entry_issues c (entry.Ticked second) h = refl
+  entry_issues c (entry.Born child parent job label second grant) h = child_issues (parent == top) (Born job) refl
+  entry_issues c (entry.Gone child parent job shut) h = child_issues (parent == top) (Gone job shut) refl
   entry_issues c e h = served_issues (moment_of work top c e)
 
   any_replies : (o : Option Moment) (log : Log) → list_any (replies_now by) (cons_option o log) ≡ (replies_in by o || list_any (replies_now by) log)

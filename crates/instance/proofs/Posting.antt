@@ -7,6 +7,7 @@ use Rattle.instance_rules.specs.Log.{Instance, Log as InstanceLog, Ticked, now_o
 use Rattle.job_clock.specs.Standing.{IsTop}
 use Rattle.kvs_rules.specs.Log.{Log}
 use Rattle.kvs_rules.proofs.Sequences.{each_push}
+use Rattle.kvs_rules.specs.Sequence.{EachAfter}
 use Rattle.services.specs.Agrees.{AgreesServices}
 use Rattle.services.specs.Asks.{Keeps}
 use Rattle.services.specs.Value.{ServicesValue}
@@ -16,13 +17,14 @@ use Rattle.answers.specs.declared.steps.Step.TheVariants as step
 use Rattle.answers.specs.Chronicle.{top}
 use Rattle.answers.specs.Jobs.{instance_of, log_in}
 use Rattle.answers.specs.Legal.{IsLegalEntry}
+use Rattle.answers.specs.Runs.{ComesInTime}
 use Rattle.answers.specs.Services.{log_of}
 use Rattle.answers.specs.Whole.{IsEarlierEntry}
 use Rattle.answers.proofs.Floors.{floor_push}
 use Rattle.answers.proofs.Services.{log_push}
 use Rattle.instance.specs.Agrees.{ActorStands, AgreesOwn}
 use Rattle.instance.specs.Makes.{Follows}
-use Rattle.instance.proofs.Families.{legal_tick, made_tick, rests_at_tick}
+use Rattle.instance.proofs.Families.{legal_tick, made_tick, rests_at_tick, timely_tick}
 use Rattle.instance.proofs.Going.{unended}
 use Rattle.instance.proofs.Lining.{same_lines, tallied_on}
 use Rattle.instance.proofs.Listing.{each_append}
@@ -55,8 +57,14 @@ post_follows v h services keeps agrees = record {
 pub record IsTicked (old new : ServicesValue) (second : ℕ) : Type 0 where
   pub keeps : Keeps old new
   pub legal : (i : Instance) (l : InstanceLog) → AgreesServices old i l → IsLegalMoment i l (Ticked second)
-  pub may : (i : Instance) (l : InstanceLog) (living : Living) → AgreesServices old i l → IsTop i l living → MayTick (living ∷ []) (now_of i l) [] second
   pub agrees : (i : Instance) (l : InstanceLog) → AgreesServices old i l → AgreesServices new i (l ++ Ticked second ∷ [])
+
+-- the tick comes in time in a run of this instance alone
+pub tick_in_time : (v : Own) → DoesAgree v → (second : ℕ) → ((i : Instance) (l : InstanceLog) (living : Living) → AgreesServices v.instance.services i l → IsTop i l living → MayTick (living ∷ []) (now_of i l) [] second) →
+    (es : List Entry) → es ≡ entry.Ticked second ∷ [] → EachAfter (ComesInTime v.set) v.chronicle es
+tick_in_time v h second may es same =
+    subst (EachAfter (ComesInTime v.set) v.chronicle) (sym same)
+    (timely_tick v.set v.chronicle second (λ living is. may (instance_of v.set) (log_in v.set.work v.chronicle) living h.agrees is))
 
 pub tick_follows : (v : Own) → DoesAgree v → (second : ℕ) (services : ServicesValue) → IsTicked v.instance.services services second →
     (es : List Entry) → es ≡ entry.Ticked second ∷ [] → Follows v.set v.chronicle step.Tick (stepped v.instance.seats services) es
@@ -66,7 +74,7 @@ tick_follows v h second services t es same =
     let now : InstanceLog = log_in v.set.work v.chronicle in
     let log : Log = log_of v.set.work top v.chronicle in
     let c : List Entry = v.chronicle ++ e ∷ [] in
-    let legal : IsLegalEntry v.set v.chronicle e = legal_tick v.set v.chronicle second (unended v.chronicle h.early) (t.legal inst now h.agrees) (λ living is. t.may inst now living h.agrees is) in
+    let legal : IsLegalEntry v.set v.chronicle e = legal_tick v.set v.chronicle second (unended v.chronicle h.early) (t.legal inst now h.agrees) in
     subst (Follows v.set v.chronicle step.Tick (stepped v.instance.seats services)) (sym same) (record {
       made = made_tick v.set.work v.chronicle second;
       legal = (legal, tt);

@@ -161,6 +161,7 @@ of_jobs reply.Held told e = hands_on reply.Held rules.Held told refl refl (λ se
 of_jobs reply.Ready told e = hands_on reply.Ready rules.Ready told refl refl (λ set c by number h. h) e
 of_jobs (reply.EndedWith status) told e = hands_on (reply.EndedWith status) (rules.EndedWith status) told refl refl (λ set c by number h. h) e
 of_jobs (reply.Advanced second) told e = hands_on (reply.Advanced second) (rules.Advanced second) told refl refl (λ set c by number h. h) e
+of_jobs reply.Shut told e = hands_on reply.Shut rules.Shut told refl refl (λ set c by number h. h) e
 of_jobs _ told e = none_told told e
 
 pub same_self : (by : By) → same_command by by ≡ true

@@ -56,6 +56,7 @@ pub told_goes_on : (given : Reply) (r : JobReply) → job_reply_of given ≡ Som
 told_goes_on (reply.UnfinishedFence have want) r e = nothing_told r e
 told_goes_on (reply.UnfinishedWait had wanted) r e = nothing_told r e
 told_goes_on (reply.UnfinishedJob where_) r e = nothing_told r e
+told_goes_on reply.UnfinishedUnborn r e = nothing_told r e
 told_goes_on reply.NotReached r e = nothing_told r e
 told_goes_on _ r e = refl
 
@@ -80,6 +81,7 @@ module _ (set : Setup) (c : List Entry) (by : By) (number : Option ℕ) where
   told_grounds reply.Ready r e h = subst IsFor (same_told _ r e) h
   told_grounds (reply.EndedWith status) r e h = subst IsFor (same_told _ r e) h
   told_grounds (reply.Advanced second) r e h = subst IsFor (same_told _ r e) h
+  told_grounds reply.Shut r e h = subst IsFor (same_told _ r e) h
   told_grounds _ r e h = nothing_told r e
 
 module _ (set : Setup) (c : List Entry) (new : ServicesValue) (by : By) (given : Reply) (number : Option ℕ) (a : Answers new (instance_of set) (log_in set.work c) by given number) where

@@ -105,6 +105,7 @@ module _ (set : Setup) (c : List Entry) (by : By) (asks : IsSome (job_ask_at set
   told_of_jobs (reply.UnfinishedFence have want) number early h = absurd (true≢false early)
   told_of_jobs (reply.UnfinishedWait had wanted) number early h = absurd (true≢false early)
   told_of_jobs (reply.UnfinishedJob where_) number early h = absurd (true≢false early)
+  told_of_jobs reply.UnfinishedUnborn number early h = absurd (true≢false early)
   told_of_jobs reply.NotReached number early h = absurd (true≢false early)
   told_of_jobs given number early h = handed number (answer_of given) (job_reply_of given) h
 
@@ -135,6 +136,8 @@ module _ (set : Setup) (by : By) (asks : IsSome (job_ask_at set.work by)) where
   here c (entry.Dropped i b reference) legal early is = absurd (true≢false (sym is))
   here c (entry.Told from to) legal early is = absurd (true≢false (sym is))
   here c (entry.Ticked second) legal early is = absurd (true≢false (sym is))
+  here c (entry.Born child parent job label second grant) legal early is = absurd (true≢false (sym is))
+  here c (entry.Gone child parent job shut) legal early is = absurd (true≢false (sym is))
   here c entry.Closed legal early is = absurd (true≢false (sym is))
 
   one_more : (log : Log) (o : Option Moment) → answers_in o ≡ true → list_any (replies_now by) (log ++ cons_option o []) ≡ true

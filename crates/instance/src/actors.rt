@@ -1,13 +1,15 @@
 //! An instance.
-ghost use Rattle.std.specs.Prelude.{◌≡◌, ◌<◌, ◌≤◌, ◌++◌, [], ◌∷◌, ℕ, true, false, All, List, None, map, slice_get, slice_index_or, IfOk, IfSome, OnErr, OnOk};
+ghost use Rattle.std.specs.Prelude.{◌≡◌, ◌<◌, ◌≤◌, ◌+◌, ◌^◌, ◌++◌, [], ◌∷◌, ℕ, true, false, All, List, None, map, slice_get, slice_index_or, IfOk, IfSome, OnErr, OnOk};
 ghost use Rattle.workload.specs.Laws.{HasOwnLabels, IsBuilt, IsWithin, KeepsTallies};
 ghost use Rattle.answers.specs.declared.chronicle.Entry.{Entry as EntryValue};
 ghost use Rattle.answers.specs.Chronicle.{Setup, top};
 ghost use Rattle.answers.specs.Entering.{entered};
+ghost use Rattle.answers.specs.Runs.{ComesInTime};
 ghost use Rattle.answers.specs.Services.{log_of};
 ghost use Rattle.answers.specs.Whole.{HasComeToRest};
 ghost use Rattle.job_service.specs.Still.{awaited};
 ghost use Rattle.kvs_model.specs.Store.{Name};
+ghost use Rattle.kvs_rules.specs.Sequence.{EachAfter};
 ghost use Rattle.resource_set.specs.Valid.{IsR};
 ghost use Rattle.resource_set.specs.Writing.{r_text};
 ghost use Rattle.services.specs.Asks.{Keeps};
@@ -178,13 +180,14 @@ impl Instance {
         self.services.core()
     }
 
-    /// An instance of some brokers with the actors of a workload, before anything has happened. Its first store has the
-    /// text of the grant.
+    /// An instance of some brokers with the actors of a workload that is born at this second, before anything has
+    /// happened. Its first store has the text of the grant.
     pub fn new(
         alloc: Global,
         setting: Setting,
         grant: &Resources,
         work: &Workload,
+        birth: u64,
     ) -> Result<Instance, CoreFault>
         requires grant { IsR grant.now }
         requires size { (1 ≤ setting.size) × (setting.size ≤ 32) }
@@ -193,12 +196,14 @@ impl Instance {
         requires built { All (λ l. IsBuilt l.command) work.now.lines }
         requires labels { HasOwnLabels work.now.lines }
         requires few { KeepsTallies work.now.lines }
+        requires early { birth + 1000000000 < 2 ^ 64 }
         ensures ready { IfOk result (λ v. v.spent ≡ false) }
         ensures agrees { IfOk result (λ v. (set : Setup) → set.size ≡ setting.size
             → set.fanout ≡ setting.fanout → set.hash ≡ setting.hash → set.grant ≡ r_text grant.now
-            → set.resources ≡ grant.now → set.work ≡ work.now → AgreesOwn v set []) }
+            → set.resources ≡ grant.now → set.birth ≡ birth → set.work ≡ work.now
+            → AgreesOwn v set []) }
     {
-        let services = Services::new(alloc, setting, grant, 0)?;
+        let services = Services::new(alloc, setting, grant, birth)?;
         let seats = seated(alloc, work, setting.size)?;
         Ok(Instance {
             alloc,
@@ -338,13 +343,15 @@ impl Instance {
         Ok(())
     }
 
-    /// Lets time go on to the next second at which something happens, and gives what happened. After an error the instance is
-    /// spent.
+    /// Lets time go on to the next second at which something happens, and gives what happened: it comes in time in a run of
+    /// this instance alone. After an error the instance is spent.
     pub fn tick(&mut self) -> Result<Chronicle, AllocError>
         requires ready { self.old.spent ≡ false }
         requires can { can_tick self.old ≡ true }
         ensures ready { OnOk result (self.new.spent ≡ false) }
         ensures makes { IfOk result (Makes self.old Step.Tick self.new) }
+        ensures in_time { IfOk result (λ made. (set : Setup) (own : List EntryValue)
+            → AgreesOwn self.old set own → EachAfter (ComesInTime set) own made) }
         ensures spent { OnErr result (self.new.spent ≡ true) }
     {
         let Some(second) = self.services.jobs().next_second() else {
@@ -450,7 +457,8 @@ impl Instance {
         close_off(self.alloc, core, jobs, lines, &self.seats)
     }
 
-    /// Where nothing but an issue or the end can be made, the run has come to rest: all brokers are told, and nothing is due.
+    /// Where nothing but an issue or the end can be made, the instance has come to rest: all its brokers are told, and nothing
+    /// is due.
     pub fn still(&self)
         requires { self.now.spent ≡ false }
         ensures rests { (set : Setup) (own : List EntryValue) → AgreesOwn self.now set own

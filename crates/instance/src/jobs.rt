@@ -10,6 +10,7 @@ ghost use Rattle.job_service.specs.Agrees.{HasRoom, IsNewCommand, MayIssue};
 ghost use Rattle.job_service.specs.Times.{HasTime};
 ghost use Rattle.services.specs.Agrees.{AgreesServices};
 ghost use Rattle.instance.specs.Jobs.{CountsIn, issues_of};
+ghost use Rattle.workload.specs.Laws.{IsBuilt};
 
 use job_commands::{JobAsk, Key, Named, NamedList};
 use kvs_txn::By;
@@ -87,6 +88,7 @@ fn showing(label: &Bytes, key: InfoKey) -> Result<JobAsk, AllocError>
 
 /// What a command asks of the job manager or of time, if it asks anything.
 pub fn job_ask(alloc: Global, command: &Command) -> Result<Option<JobAsk>, AllocError>
+    requires { IsBuilt command.now }
     ensures { IfOk result (λ asked. option_map told asked ≡ job_ask_of command.now) }
 {
     Ok(Some(match command {
@@ -121,6 +123,7 @@ pub fn job_ask(alloc: Global, command: &Command) -> Result<Option<JobAsk>, Alloc
             label: label.copy()?,
         },
         Command::Advance { seconds } => JobAsk::Advance { seconds: *seconds },
+        Command::Shutdown => unreachable!(),
         _ => return Ok(None),
     }))
 }

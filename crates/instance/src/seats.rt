@@ -137,7 +137,8 @@ fn waits_for(command: &Command) -> Waiting
         | Command::Jobs
         | Command::Why { .. }
         | Command::ResultOf { .. }
-        | Command::Advance { .. } => Waiting::Jobs,
+        | Command::Advance { .. }
+        | Command::Shutdown => Waiting::Jobs,
         _ => Waiting::Service,
     }
 }
@@ -157,7 +158,8 @@ fn subject_of(alloc: Global, command: &Command, own: &Bytes) -> Result<Bytes, Al
         | Command::Jobs
         | Command::Why { .. }
         | Command::ResultOf { .. }
-        | Command::Advance { .. } => Bytes::of(alloc, b"primary"),
+        | Command::Advance { .. }
+        | Command::Shutdown => Bytes::of(alloc, b"primary"),
         _ => own.copy(),
     }
 }
@@ -227,7 +229,7 @@ pub fn begin(
         })),
         Command::ContentFlush => Ok(Some(KvsAsk::Flush)),
         Command::ContentDrop => Ok(Some(KvsAsk::DropClean)),
-        Command::Getroot => unreachable!(),
+        Command::Getroot | Command::Shutdown => unreachable!(),
         _ => Ok(None),
     }
 }

@@ -98,7 +98,7 @@ fn begin(alloc: Global, text: &str) -> Result<(Instance, Workload), Fail>
     spelled_labels_are_their_own();
     spelled_tallies_are_kept();
     let grant = Grant::read(alloc, GRANT.as_bytes())?;
-    let instance = Instance::new(alloc, SETTING, grant.resources(), &work)?;
+    let instance = Instance::new(alloc, SETTING, grant.resources(), &work, 0)?;
     Ok((instance, work))
 }
 

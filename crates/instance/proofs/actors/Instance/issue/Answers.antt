@@ -130,3 +130,10 @@ returns-clause-makes c = λ set own agrees same.
       orders = c.in_ok-order.ensures.agrees;
     })
     c.in_ok-made.made c.in_ok-made.ensures
+
+pub job_ask-requires : goal.job_ask-requires
+job_ask-requires c =
+    let seat = c.index_mut-seat.result.now in
+    let lines = c.args.lines.now in
+    let s = starting (value_of c.self.inside) c.args.self.now lines c.args.actor seat c.self.view_is c.requires.lines c.requires.can c.index_mut-seat.ensures.value in
+    start_known (value_of c.self.inside) lines c.args.actor seat s c.index-lines-seat.result

@@ -12,6 +12,7 @@ invariant_of-self-2 c = λ _.
     let runs = ap (λ v. v.closed) c.self.view_is ∙ c.requires.can.0 in
     step_sound v step.Tick c.tick.new.self c.in_ok-made.made (c.in_ok-made.ensures.makes v.set v.chronicle (h.agrees runs))
     c.enter.new.chronicle c.keep.new.steps.items c.keep.new.ends.items c.in_ok-enter.ensures c.in_ok-keep.ensures.steps c.in_ok-keep.ensures.ends h runs c.in_ok-made.ensures.ready
+    (c.in_ok-made.ensures.in_time v.set v.chronicle (h.agrees runs))
 
 pub returns-clause-advances : goal.returns-clause-advances
 returns-clause-advances c =
