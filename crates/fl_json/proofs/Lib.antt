@@ -4,5 +4,6 @@ pub mod Cuts
 pub mod Gifts
 pub mod Inside
 pub mod Lexing
+pub mod Pieces
 pub mod Values
 pub mod WholeTexts

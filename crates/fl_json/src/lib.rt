@@ -3,6 +3,7 @@
 
 pub mod faults;
 pub mod fields;
+pub mod laws;
 pub mod numbers;
 pub mod reading;
 #[cfg(test)]
@@ -10,5 +11,6 @@ mod tests;
 
 pub use faults::JsonFault;
 pub use fields::{field, list, number, word};
+pub use laws::pieces_make_up_their_text;
 pub use reading::{read, text};
 pub use serde_json::Value;

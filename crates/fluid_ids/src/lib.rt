@@ -4,6 +4,7 @@
 pub mod faults;
 pub mod forms;
 pub mod generator;
+pub mod laws;
 pub mod printer;
 pub mod reader;
 #[cfg(test)]
@@ -12,5 +13,6 @@ mod tests;
 pub use faults::FluidFault;
 pub use forms::Form;
 pub use generator::Generator;
+pub use laws::{ids_tell_their_parts, printed_ids_are_read_again};
 pub use printer::print;
 pub use reader::read;

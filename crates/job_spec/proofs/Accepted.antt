@@ -172,3 +172,20 @@ reading_ok text = tested IsSpec fault.TooLarge (nat_le (length text) 65536) _ (�
 
 pub accepted_tells : (text : List ℕ) (spec : JobSpec) → spec_reading text ≡ Ok spec → IsSpec spec
 accepted_tells text spec e = subst (λ r. IfOk r IsSpec) e (reading_ok text)
+
+-- ---- its text
+
+spec_keeps : (text : List ℕ) (d : Data) → IfOk (spec_of text d) (λ spec. spec.text ≡ text)
+unfolding spec_of
+spec_keeps text d =
+    let keeps : JobSpec → Type 0 = λ spec. spec.text ≡ text in
+    after keeps (unless fault.BadVersion (is_version_1 d)) _ (λ version. after keeps (wanted_of d) _ (λ w. after keeps (work_of w.slots.label d) _ (λ work. after keeps (limits_of d) _ (λ limits. refl))))
+
+reading_keeps : (text : List ℕ) → IfOk (spec_reading text) (λ spec. spec.text ≡ text)
+unfolding spec_reading
+reading_keeps text =
+    let keeps : JobSpec → Type 0 = λ spec. spec.text ≡ text in
+    after keeps (unless fault.TooLarge (nat_le (length text) 65536)) _ (λ short. after keeps (value_of (reading text)) _ (λ d. spec_keeps text d))
+
+pub accepted_keeps : (text : List ℕ) (spec : JobSpec) → spec_reading text ≡ Ok spec → spec.text ≡ text
+accepted_keeps text spec e = subst (λ r. IfOk r (λ spec. spec.text ≡ text)) e (reading_keeps text)

@@ -7,3 +7,8 @@ ghost use Rattle.job_spec.specs.declared.spec.JobSpec.{JobSpec};
 pub fn accepted_texts_tell_jobspecs()
     ensures { (text : List ℕ) (spec : JobSpec) → spec_reading text ≡ Ok spec → IsSpec spec }
 {}
+
+/// The jobspec of a text keeps it.
+pub fn accepted_texts_are_kept()
+    ensures { (text : List ℕ) (spec : JobSpec) → spec_reading text ≡ Ok spec → spec.text ≡ text }
+{}

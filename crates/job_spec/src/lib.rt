@@ -13,6 +13,6 @@ mod tests;
 mod works;
 
 pub use faults::{Place, SpecFault};
-pub use laws::accepted_texts_tell_jobspecs;
+pub use laws::{accepted_texts_are_kept, accepted_texts_tell_jobspecs};
 pub use reading::read;
 pub use spec::{Depend, JobSpec, Needs, Scheme, Tasks, WordList};
