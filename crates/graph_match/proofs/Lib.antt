@@ -7,5 +7,6 @@ pub mod Counting
 pub mod Freeing
 pub mod Blocking
 pub mod Letters
+pub mod Named
 pub mod Blocks
 pub mod Skips

@@ -6,7 +6,7 @@ ghost use Rattle.resource_set.specs.Units.{AreHosts};
 ghost use Rattle.job_rules.specs.Fits.{AreWithin, CanFit, HasIdSets, IsGrant, IsSpec, IsWithin, NeverFits, end_of, first_fit, free_of, sooner};
 ghost use Rattle.job_rules.specs.Worths.{total, wanted as wanted_of, worth as worth_of};
 ghost use Rattle.resource_set.specs.declared.node.Node.{Node as Taken};
-ghost use Rattle.job_rules.specs.Fits.{AreApart, AreBlockers, nodes_of};
+ghost use Rattle.job_rules.specs.Fits.{AreApart, AreBlockers, AreLive, nodes_of};
 ghost use Rattle.graph_match.specs.Answers.{NamesBlockers};
 ghost use Rattle.graph_match.specs.Holds.{IsNew, with_hold, without_hold};
 ghost use Rattle.graph_match.specs.Kept.{IsKept};
@@ -435,6 +435,14 @@ impl Graph {
         ensures { result ≡ rack_of (free_of self.now.grant self.now.live) rack }
     {
         self.places.rack_free(rack)
+    }
+
+    /// What every graph keeps: its hosts are a grant's, and the live jobs hold units of it, no two of them one in common.
+    pub fn keeps(&self)
+        ensures grant { IsGrant self.now.grant }
+        ensures live { AreLive self.now.grant self.now.live }
+    {
+        let _live = &self.live;
     }
 
     /// Lets a new job hold free units, by their hosts' ranks and names, as `fit` gives them.

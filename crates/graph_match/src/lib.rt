@@ -3,6 +3,7 @@
 
 pub mod fit;
 pub mod graph;
+pub mod laws;
 pub mod place;
 pub mod pool;
 pub mod racks;
@@ -13,4 +14,5 @@ mod tests;
 
 pub use fit::{Fit, JobList};
 pub use graph::Graph;
+pub use laws::{given_units_are_an_r, given_units_satisfy};
 pub use racks::Free;

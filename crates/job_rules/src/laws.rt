@@ -2,9 +2,10 @@ ghost use Rattle.std.specs.Prelude.{◌≡◌, ℕ, List, Some, None, ◌↔◌,
 ghost use Rattle.idset.specs.Ids.{has};
 ghost use Rattle.job_spec.specs.declared.spec.JobSpec.{JobSpec};
 ghost use Rattle.resource_set.specs.declared.node.Node.{Node};
-ghost use Rattle.resource_set.specs.Units.{LiesIn};
+ghost use Rattle.resource_set.specs.Units.{AreApart as ShareNoUnit, IsDifference, LiesIn};
+ghost use Rattle.job_spec.specs.Sound.{IsSpec as IsRead};
 ghost use Rattle.job_rules.specs.declared.hold.Hold.{Hold};
-ghost use Rattle.job_rules.specs.Fits.{AreBlockers, CanFit, HaveSlots, IsGrant, IsSpec, IsUnitSet, Satisfies, first_fit, free_of, spread};
+ghost use Rattle.job_rules.specs.Fits.{AreApart, AreBlockers, AreWithin, CanFit, HaveSlots, IsGrant, IsSpec, IsUnitSet, NeverFits, Satisfies, first_fit, free_of, nodes_of, spread};
 ghost use Rattle.job_rules.specs.Worths.{total, wanted, worth};
 
 /// What first fit spreads over hosts has as many slots as are wanted.
@@ -43,4 +44,31 @@ pub fn each_blocker_stands_in_the_way()
     ensures { (spec : JobSpec) (grant : List Node) (live : List Hold) (ids : List ℕ) (hold : Hold)
         → AreBlockers spec grant live ids → Contains live hold → Contains ids hold.id
         → CanFit spec grant (free_of grant (filter (λ h. has ids h.id && not (h.id == hold.id)) live)) }
+{}
+
+/// A jobspec that is read is one.
+pub fn jobspecs_that_are_read_are_some()
+    ensures { (spec : JobSpec) → IsRead spec → IsSpec spec }
+{}
+
+/// What is free of a grant are its units without those of live jobs.
+pub fn free_units_are_those_that_are_left()
+    ensures { (grant : List Node) (live : List Hold)
+        → IsDifference grant (nodes_of live) (free_of grant live) }
+{}
+
+/// Hosts that lie within others have no units but theirs.
+pub fn hosts_within_others_have_their_units()
+    ensures { (part whole : List Node) → AreWithin part whole → LiesIn part whole }
+{}
+
+/// Hosts are apart exactly where they have no unit in common.
+pub fn hosts_apart_have_no_unit_in_common()
+    ensures { (a b : List Node) → AreApart a b ↔ ShareNoUnit a b }
+{}
+
+/// First fit gives nothing to a job that never fits.
+pub fn what_never_fits_gets_nothing()
+    ensures { (spec : JobSpec) (grant : List Node) (live : List Hold) → IsSpec spec → IsGrant grant
+        → NeverFits spec grant → first_fit spec grant (free_of grant live) ≡ None }
 {}

@@ -8,6 +8,8 @@ mod laws;
 pub use hold::Hold;
 pub use laws::{
     blockers_are_one_list, each_blocker_stands_in_the_way, first_fit_gives_free_units_that_satisfy,
-    first_fit_gives_nothing_where_nothing_satisfies, spread_slots_are_as_many_as_wanted,
-    units_satisfy_where_hosts_bring_enough,
+    first_fit_gives_nothing_where_nothing_satisfies, free_units_are_those_that_are_left,
+    hosts_apart_have_no_unit_in_common, hosts_within_others_have_their_units,
+    jobspecs_that_are_read_are_some, spread_slots_are_as_many_as_wanted,
+    units_satisfy_where_hosts_bring_enough, what_never_fits_gets_nothing,
 };

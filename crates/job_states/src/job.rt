@@ -2,7 +2,7 @@ ghost use Rattle.std.specs.Prelude.{◌≡◌};
 ghost use Rattle.job_states.specs.Names.{state_name};
 ghost use Rattle.job_states.specs.declared.job.ReplayFault.TheVariants.{NoMemory};
 
-use lists::{Bytes, ListOf};
+use lists::{Bytes, Copied, ListOf};
 use std::alloc::AllocError;
 use std::error::Error;
 use std::fmt;
@@ -70,6 +70,25 @@ pub struct Job {
     /// The dependencies that were added, and those that were removed.
     pub added: DependList,
     pub removed: DependList,
+}
+
+impl Copied for Job {
+    fn copy(&self) -> Result<Job, AllocError> {
+        Ok(Job {
+            state: self.state,
+            userid: self.userid,
+            urgency: self.urgency,
+            priority: self.priority,
+            status: self.status,
+            severe: self.severe,
+            allocated: self.allocated,
+            started: self.started,
+            released: self.released,
+            freed: self.freed,
+            added: self.added.copy()?,
+            removed: self.removed.copy()?,
+        })
+    }
 }
 
 /// An event with those parts of its context that it needs.

@@ -9,6 +9,7 @@ mod table;
 #[cfg(test)]
 mod tests;
 
-pub use job::{DependList, Job, ReplayFault, State};
+pub use job::{Change, DependList, Job, ReplayFault, State};
 pub use laws::{a_refusal_stays, beginnings_of_logs_replay, one_event_more_is_one_step};
 pub use replaying::{begin, replay, step};
+pub use table::can_stand;
