@@ -7,6 +7,7 @@ pub mod printing;
 pub mod reading;
 #[cfg(test)]
 mod tests;
+mod writing;
 
 pub use faults::ObjectFault;
 pub use object::{Object, ObjectMap};
