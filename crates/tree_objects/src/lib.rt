@@ -5,6 +5,7 @@ pub mod faults;
 pub mod object;
 pub mod printing;
 pub mod reading;
+mod scanning;
 #[cfg(test)]
 mod tests;
 mod writing;
