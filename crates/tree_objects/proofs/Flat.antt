@@ -1,32 +1,58 @@
 -- On directories in which no directory is, and which are read again.
-use Rattle.std.proofs.Common.{◌≡◌, ℕ, zero, suc, ◌+◌, ◌<◌, ◌≤◌, lit<, lit≤, List, [], ◌∷◌, drop, refl, sym, ap, ◌∙◌, subst, arith}
-use Rattle.std.specs.Prelude.{IsTrue, Ok, slice_index}
+use Rattle.std.proofs.Common.{◌≡◌, ℕ, zero, suc, ◌+◌, ◌<◌, ◌≤◌, ◌*◌, ◌/◌, ◌%◌, lit<, lit≤, true, List, [], ◌∷◌, length, inl, inr, codes, refl, sym, ap, ◌∙◌, subst, arith}
+use Rattle.std.specs.Prelude.{IsTrue, slice_index, slice_index_or}
 use Rattle.std.specs.FinMap.Entries as finite
-use Rattle.std.specs.List.{All}
-use Rattle.std.proofs.lemmas.List.Elements.{All-head, All-tail}
+use Rattle.std.specs.List.{All, AllPass}
+use Rattle.std.proofs.lemmas.List.Elements.{All-cons, All-head, All-nil, All-tail}
+use Rattle.std.proofs.lemmas.List.{append_cancel_left}
 use Rattle.base64.specs.GeneralPurpose.{IsBytes}
+use Rattle.fl_digest.specs.declared.BlobRef.{BlobRef}
+use Rattle.fl_digest.specs.declared.Digest.{Digest}
+use Rattle.fl_digest.specs.declared.Digest.TheVariants as digest
+use Rattle.fl_digest.specs.Reference.{hex_digit, hex_text, digest_text, reference_text, is_lower_digit, AreBytes, IsReferenceText, IsWhole, IsWholeDigest}
 use Rattle.serde_json.specs.Data.{Data, depth, members_depth}
 use Rattle.serde_json.specs.Read.{max_depth}
 use Rattle.kvs_model.specs.Store.{Name}
-use Rattle.kvs_txn.specs.Keys.{IsKey}
-use Rattle.tree_rules.specs.Objects.{Tree, val, symlink, dir, Entries, entries_of, listed, tree_data, entries_data}
+use Rattle.tree_rules.specs.Objects.{Tree, val, valref, dir, dirref, Entries, entries_of, listed, tree_data, entries_data}
 use Rattle.tree_rules.specs.Names.{name_cmp}
 use Rattle.tree_objects.specs.Reading.{IsReadable, AreReadable, IsFlat}
 
 abbrev Small : ℕ → Type 0
 Small b = b < 256
 
-all_bytes : (bytes : List ℕ) → All Small bytes → IsBytes bytes
-all_bytes [] h zero = lit< tt
-all_bytes [] h (suc i) = lit< tt
-all_bytes (b ∷ bytes) h zero = All-head Small b bytes h
-all_bytes (b ∷ bytes) h (suc i) = all_bytes bytes (All-tail Small b bytes h) i
+-- ---- a reference whose text is one is whole
 
-pub value_flat : (bytes : List ℕ) → All Small bytes → IsFlat (val bytes)
-value_flat bytes h = record { readable = all_bytes bytes h; shallow = lit≤ tt }
+high_digit : (d : ℕ) → is_lower_digit (hex_digit d) ≡ true → d < 16
+high_digit d h = grind (arith)
 
-pub link_flat : (path : List Name) → IsKey path → IsFlat (symlink path)
-link_flat path h = record { readable = h; shallow = lit≤ tt }
+small_byte : (b : ℕ) → b / 16 < 16 → b < 256
+small_byte b h = omega (arith, h)
+
+bytes_of_digits : (xs : List ℕ) → AllPass is_lower_digit (hex_text xs) → All Small xs
+bytes_of_digits [] h = All-nil Small
+bytes_of_digits (x ∷ xs) h =
+    let p = λ (c : ℕ). is_lower_digit c ≡ true in
+    let tail = All-tail p (hex_digit (x / 16)) (hex_digit (x % 16) ∷ hex_text xs) h in
+    All-cons Small x xs (small_byte x (high_digit (x / 16) (All-head p (hex_digit (x / 16)) (hex_digit (x % 16) ∷ hex_text xs) h))) (bytes_of_digits xs (All-tail p (hex_digit (x % 16)) (hex_text xs) tail))
+
+two_each : (xs : List ℕ) → length (hex_text xs) ≡ 2 * length xs
+two_each [] = refl
+two_each (x ∷ xs) = let e = two_each xs in omega (arith, e)
+
+whole_bytes : (n : ℕ) (xs digits : List ℕ) → hex_text xs ≡ digits → length digits ≡ 2 * n → AllPass is_lower_digit digits → AreBytes n xs
+whole_bytes n xs digits same len pass =
+    let l : length (hex_text xs) ≡ 2 * n = ap length same ∙ len in
+    let t = two_each xs in
+    (omega (arith, l, t), bytes_of_digits xs (subst (AllPass is_lower_digit) (sym same) pass))
+
+whole_digest : (d : Digest) → IsReferenceText (digest_text d) → IsWholeDigest d
+whole_digest (digest.Sha1 x) (inl p) = whole_bytes 20 x p.0 (append_cancel_left (codes "sha1-") (hex_text x) p.0 p.1) p.2 p.3
+whole_digest (digest.Sha1 x) (inr p) = let fourth : 49 ≡ 50 = ap (λ (l : List ℕ). slice_index_or l 3 0) p.1 in absurd (omega (arith, fourth))
+whole_digest (digest.Sha256 x) (inl p) = let fourth : 50 ≡ 49 = ap (λ (l : List ℕ). slice_index_or l 3 0) p.1 in absurd (omega (arith, fourth))
+whole_digest (digest.Sha256 x) (inr p) = whole_bytes 32 x p.0 (append_cancel_left (codes "sha256-") (hex_text x) p.0 p.1) p.2 p.3
+
+pub whole_reference : (text : List ℕ) (r : BlobRef) → text ≡ reference_text r → IsReferenceText text → IsWhole r
+whole_reference text r same h = whole_digest r.digest (subst IsReferenceText same h)
 
 -- what is left of a directory's entries, none of which is a directory
 pub record AreFlat (rest : List (Name × Tree)) : Type 0 where

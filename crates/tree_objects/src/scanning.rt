@@ -2,6 +2,7 @@
 ghost use Rattle.std.specs.Prelude.{◌<◌, ◌≤◌, Ok, IfSome, IsTrue, length};
 ghost use Rattle.base64.specs.GeneralPurpose.{IsBytes};
 ghost use Rattle.std.specs.List.{All};
+ghost use Rattle.fl_digest.specs.Reference.{IsWhole};
 ghost use Rattle.serde_json.specs.Data.{depth};
 ghost use Rattle.serde_json.specs.Read.{max_depth};
 ghost use Rattle.tree_rules.specs.Objects.{dir, tree_data};
@@ -12,6 +13,7 @@ ghost use Rattle.tree_objects.specs.declared.object.Object.TheVariants.{Dir};
 use crate::object::{Object, ObjectMap};
 use crate::printing::print;
 use base64::engine::general_purpose::STANDARD;
+use fl_digest::{BlobRef, RefList};
 use kvs_txn::Path;
 use lists::Bytes;
 use std::alloc::Global;
@@ -52,21 +54,33 @@ fn link_first(alloc: Global, text: &[u8]) -> Option<(Object, &[u8])> {
     Some((Object::Symlink(target), rest))
 }
 
+/// An object that is a reference, and what stands behind it.
+fn reference_first(alloc: Global, text: &[u8]) -> Option<(Object, &[u8])> {
+    let (letters, rest) = string_first(text)?;
+    let reference = BlobRef::read(letters).ok()?;
+    if let Some(rest) = rest.strip_prefix(b"],\"type\":\"dirref\",\"ver\":1}".as_slice()) {
+        return Some((Object::Dirref(reference), rest));
+    }
+    let rest = rest.strip_prefix(b"],\"type\":\"valref\",\"ver\":1}".as_slice())?;
+    let mut references = RefList::new(alloc);
+    references.push(reference).ok()?;
+    Some((Object::Valref(references), rest))
+}
+
 /// The object that comes first, and what stands behind it.
 fn object_first(alloc: Global, text: &[u8]) -> Option<(Object, &[u8])> {
     let text = text.strip_prefix(b":{\"data\":".as_slice())?;
     if let Some(inside) = text.strip_prefix(b"\"".as_slice()) {
         return value_first(alloc, inside);
     }
+    if let Some(inside) = text.strip_prefix(b"[\"".as_slice()) {
+        return reference_first(alloc, inside);
+    }
     link_first(alloc, text.strip_prefix(b"{\"target\":\"".as_slice())?)
 }
 
 /// Adds the entry that comes first to a directory, and gives what stands behind it.
-fn take_entry<'a>(
-    alloc: Global,
-    directory: &mut ObjectMap,
-    text: &'a [u8],
-) -> Option<&'a [u8]> {
+fn take_entry<'a>(alloc: Global, directory: &mut ObjectMap, text: &'a [u8]) -> Option<&'a [u8]> {
     let (name, rest) = string_first(text)?;
     std::str::from_utf8(name).ok()?;
     let name = Bytes::of(alloc, name).ok()?;
@@ -95,8 +109,18 @@ fn are_bytes(bytes: &[u8])
     let _length = bytes.len();
 }
 
+/// Whether a reference is read again.
+fn is_whole(alloc: Global, reference: &BlobRef) -> bool
+    ensures { IsTrue result → IsWhole reference.now }
+{
+    match reference.print(alloc) {
+        Ok(text) => BlobRef::read(text.as_slice()).is_ok(),
+        Err(_) => false,
+    }
+}
+
 /// Whether an object is read again and is no directory.
-fn is_flat(object: &Object) -> bool
+fn is_flat(alloc: Global, object: &Object) -> bool
     ensures { IsTrue result → IsFlat (tree_of object.now) }
 {
     match object {
@@ -108,12 +132,17 @@ fn is_flat(object: &Object) -> bool
             path.is_key();
             true
         }
-        _ => false,
+        Object::Dirref(reference) => is_whole(alloc, reference),
+        Object::Valref(references) => match references.as_slice() {
+            [reference] => is_whole(alloc, reference),
+            _ => false,
+        },
+        Object::Dir(_) => false,
     }
 }
 
 /// Whether a directory is read again, none being inside it.
-fn has_flat(directory: &ObjectMap) -> bool
+fn has_flat(alloc: Global, directory: &ObjectMap) -> bool
     ensures readable { IsTrue result → IsReadable (dir directory.now) }
     ensures shallow { IsTrue result → depth (tree_data (dir directory.now)) ≤ max_depth }
 {
@@ -121,7 +150,7 @@ fn has_flat(directory: &ObjectMap) -> bool
     let names = directory.names();
     let objects = directory.objects();
     for index in 0..names.len() {
-        if !is_flat(&objects[index]) {
+        if !is_flat(alloc, &objects[index]) {
             return false;
         }
     }
@@ -134,7 +163,7 @@ pub(crate) fn at_once(alloc: Global, text: &[u8]) -> Option<Object>
     ensures { IfSome result (λ found. Gives text.now (Ok found)) }
 {
     let directory = directory_first(alloc, text)?;
-    if !has_flat(&directory) {
+    if !has_flat(alloc, &directory) {
         return None;
     }
     let found = Object::Dir(directory);
