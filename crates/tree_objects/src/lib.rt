@@ -6,8 +6,6 @@ pub mod object;
 pub mod printing;
 pub mod reading;
 mod scanning;
-#[cfg(test)]
-mod tests;
 mod writing;
 
 pub use faults::ObjectFault;

@@ -1,9 +1,5 @@
-//! Walks over a cache that is filled with what they need, in a small store and after drawn transactions.
-ghost use Rattle.fl_digest.specs.declared.Hash.TheVariants as hash;
-ghost use Rattle.tree_rules.specs.Held.{IsRootIn};
-ghost use Rattle.tree_store.specs.Landing.{table};
-
-use crate::{Advance, Cursor};
+// Walks over a cache that is filled with what they need, in a small store and after drawn transactions.
+use crate::drawn::{key, land, value, word};
 use blob_store::BlobStore;
 use cache_node::CacheNode;
 use fl_digest::{BlobRef, Hash, RefList};
@@ -11,12 +7,12 @@ use kvs_txn::{Author, Found, Kind, Op, Path, Query, Scope, Txn};
 use lists::{Bytes, Copied};
 use plain_store::Store;
 use rand_core::SeedableRng;
-use rand_core::utils::NextWord;
 use rand_pcg::Pcg32;
 use std::alloc::Global;
 use std::test::Fail;
 use tree_objects::{Object, read};
-use tree_store::{TreeFault, apply, first};
+use tree_store::{apply, first};
+use tree_walk::{Advance, Cursor};
 
 /// A value that stands by its reference.
 const LONG: &str = "0123456789012345678901234567890123456789012345678901234567890123456789";
@@ -45,8 +41,11 @@ const OPERATIONS: [(&str, &str, &str); 20] = [
     ("mkdir", "none", ""),
 ];
 
+/// What is asked of which key, what is found, and the places whose contents are needed, in their order.
+type Walk = (Query, &'static str, &'static [u8], &'static [&'static str]);
+
 /// Walks in the small store.
-const WALKS: [(Query, &str, &[u8], &[&str]); 34] = [
+const WALKS: [Walk; 34] = [
     (Query::Get, ".", b"IsDir", &[]),
     (
         Query::List,
@@ -263,9 +262,6 @@ fn shown(alloc: Global, found: &Found) -> Result<Bytes, Fail> {
     Ok(text)
 }
 
-/// What is asked of which key, what is found, and the places whose contents are needed, in their order.
-type Walk = (Query, &'static str, &'static [u8], &'static [&'static str]);
-
 /// Whether a walk finds what it should, and needs the contents of these places.
 fn tells_so(
     alloc: Global,
@@ -292,14 +288,27 @@ fn does_so(alloc: Global, blobs: &BlobStore, root: BlobRef, walk: Walk) -> Resul
     Ok(cold && left && warm)
 }
 
+/// The key of the first of these walks that does otherwise.
+fn first_amiss(
+    alloc: Global,
+    blobs: &BlobStore,
+    root: BlobRef,
+    walks: &[Walk],
+) -> Result<Option<&'static str>, Fail> {
+    for walk in walks {
+        if !does_so(alloc, blobs, root, *walk)? {
+            return Ok(Some(walk.1));
+        }
+    }
+    Ok(None)
+}
+
 #[test]
 fn walks_need_their_contents_in_order(rt: HostRuntime) -> Result<(), Fail> {
     let alloc = rt.alloc();
     let mut blobs = BlobStore::new(alloc);
     let root = small_store(alloc, &mut blobs)?;
-    for walk in WALKS {
-        assert!(rt; does_so(alloc, &blobs, root, walk)?, "{}", walk.1);
-    }
+    assert_eq!(rt; first_amiss(alloc, &blobs, root, &WALKS)?, None);
     Ok(())
 }
 
@@ -347,30 +356,8 @@ const KEYS: [&str; 16] = [
     "a.b.c.d", "c.b.a.d", "a.c", ".",
 ];
 
-const SIZES: [usize; 6] = [0, 1, 30, 64, 65, 200];
-
-fn word(draws: &mut Pcg32, below: usize) -> usize {
-    draws.next_word() as usize % below.max(1)
-}
-
-fn key(alloc: Global, draws: &mut Pcg32) -> Result<Path, Fail> {
-    let number = word(draws, KEYS.len());
-    let text = KEYS.get(number).ok_or("no key")?;
-    Ok(Path::read(alloc, *text)?)
-}
-
-fn value(alloc: Global, draws: &mut Pcg32) -> Result<Bytes, Fail> {
-    let number = word(draws, SIZES.len());
-    let size = *SIZES.get(number).ok_or("no size")?;
-    let mut bytes = Bytes::new(alloc);
-    for _ in 0..size {
-        bytes.push((draws.next_word() % 256) as u8)?;
-    }
-    Ok(bytes)
-}
-
 fn operation(alloc: Global, draws: &mut Pcg32) -> Result<Op, Fail> {
-    let path = key(alloc, draws)?;
+    let path = key(alloc, draws, &KEYS)?;
     Ok(match word(draws, 8) {
         0 | 1 | 2 => Op::Put {
             path,
@@ -380,7 +367,7 @@ fn operation(alloc: Global, draws: &mut Pcg32) -> Result<Op, Fail> {
         4 => Op::Mkdir { path },
         _ => Op::Link {
             path,
-            target: key(alloc, draws)?,
+            target: key(alloc, draws, &KEYS)?,
         },
     })
 }
@@ -391,21 +378,6 @@ fn transaction(alloc: Global, draws: &mut Pcg32) -> Result<Txn, Fail> {
         txn.stage(operation(alloc, draws)?).ok().ok_or("full")?;
     }
     Ok(txn)
-}
-
-/// Does a transaction on the store of a root, which stays where there is no new one.
-fn land(
-    alloc: Global,
-    blobs: &mut BlobStore,
-    root: &mut BlobRef,
-    txn: &Txn,
-) -> Result<(), TreeFault>
-    requires { IsRootIn hash.Sha1 (table blobs.old) root.old }
-    ensures { IsRootIn hash.Sha1 (table blobs.new) root.new }
-{
-    let next = apply(alloc, blobs, root, txn, Scope::Other, Hash::Sha1)?;
-    *root = next;
-    Ok(())
 }
 
 /// Whether a walk from an empty cache finds what the store in memory has, and leaves nothing pinned.
@@ -465,7 +437,7 @@ fn drawn_stores_are_read_as_in_memory(rt: HostRuntime) -> Result<(), Fail> {
     let mut landed = 0u32;
     for number in 0..40u32 {
         let txn = transaction(alloc, &mut draws)?;
-        let lands = land(alloc, &mut blobs, &mut root, &txn).is_ok();
+        let lands = land(alloc, &mut blobs, &mut root, &txn, Scope::Other, Hash::Sha1).is_ok();
         assert_eq!(rt;
             lands,
             store.apply(&txn, Scope::Other).is_ok(),

@@ -1,20 +1,16 @@
 // Transactions on blobs against those on a store in memory, and the reference of a first store.
-ghost use Rattle.fl_digest.specs.declared.Hash.TheVariants as hash;
-ghost use Rattle.tree_rules.specs.Held.{IsRootIn};
-ghost use Rattle.tree_store.specs.Landing.{table};
-
-use crate::{TreeFault, apply, first};
+use crate::drawn::{key, land, value, word};
 use blob_store::BlobStore;
 use fl_digest::{BlobRef, Hash};
 use kvs_txn::{Author, Found, Kind, Listed, Op, Path, Query, Scope, Txn};
 use lists::Bytes;
 use plain_store::{ApplyFault, Store};
 use rand_core::SeedableRng;
-use rand_core::utils::NextWord;
 use rand_pcg::Pcg32;
 use std::alloc::Global;
 use std::test::Fail;
 use tree_objects::{Object, ObjectMap, read};
+use tree_store::{TreeFault, first};
 
 /// The grant of seven hosts with four cores each.
 const GRANT: &str =
@@ -49,30 +45,8 @@ const KEYS: [&str; 20] = [
     ".",
 ];
 
-const SIZES: [usize; 6] = [0, 1, 30, 64, 65, 200];
-
-fn word(draws: &mut Pcg32, below: usize) -> usize {
-    draws.next_word() as usize % below.max(1)
-}
-
-fn key(alloc: Global, draws: &mut Pcg32) -> Result<Path, Fail> {
-    let number = word(draws, KEYS.len());
-    let text = KEYS.get(number).ok_or("no key")?;
-    Ok(Path::read(alloc, *text)?)
-}
-
-fn value(alloc: Global, draws: &mut Pcg32) -> Result<Bytes, Fail> {
-    let number = word(draws, SIZES.len());
-    let size = *SIZES.get(number).ok_or("no size")?;
-    let mut bytes = Bytes::new(alloc);
-    for _ in 0..size {
-        bytes.push((draws.next_word() % 256) as u8)?;
-    }
-    Ok(bytes)
-}
-
 fn operation(alloc: Global, draws: &mut Pcg32) -> Result<Op, Fail> {
-    let path = key(alloc, draws)?;
+    let path = key(alloc, draws, &KEYS)?;
     Ok(match word(draws, 10) {
         0 | 1 | 2 => Op::Put {
             path,
@@ -86,7 +60,7 @@ fn operation(alloc: Global, draws: &mut Pcg32) -> Result<Op, Fail> {
         7 => Op::Mkdir { path },
         _ => Op::Link {
             path,
-            target: key(alloc, draws)?,
+            target: key(alloc, draws, &KEYS)?,
         },
     })
 }
@@ -101,22 +75,6 @@ fn transaction(alloc: Global, draws: &mut Pcg32) -> Result<Txn, Fail> {
         txn.stage(operation(alloc, draws)?).ok().ok_or("full")?;
     }
     Ok(txn)
-}
-
-/// Does a transaction on the store of a root, which stays where there is no new one.
-fn land(
-    alloc: Global,
-    blobs: &mut BlobStore,
-    root: &mut BlobRef,
-    txn: &Txn,
-    scope: Scope,
-) -> Result<(), TreeFault>
-    requires { IsRootIn hash.Sha256 (table blobs.old) root.old }
-    ensures { IsRootIn hash.Sha256 (table blobs.new) root.new }
-{
-    let next = apply(alloc, blobs, root, txn, scope, Hash::Sha256)?;
-    *root = next;
-    Ok(())
 }
 
 /// Whether both answers are the same.
@@ -280,7 +238,7 @@ fn drawn_transactions_do_as_in_memory(rt: HostRuntime) -> Result<(), Fail> {
             _ => Scope::Other,
         };
         let txn = transaction(alloc, &mut draws)?;
-        let tree = land(alloc, &mut blobs, &mut root, &txn, scope);
+        let tree = land(alloc, &mut blobs, &mut root, &txn, scope, Hash::Sha256);
         let plain = store.apply(&txn, scope);
         assert!(rt; are_same(&plain, &tree), "the answer of {number}");
         landed = landed.saturating_add(u32::from(tree.is_ok()));

@@ -1,7 +1,7 @@
-use crate::{Object, ObjectFault, ObjectMap, print, read};
 use fl_json::JsonFault;
 use lists::{Bytes, Copied};
 use std::test::Fail;
+use tree_objects::{Object, ObjectFault, ObjectMap, print, read};
 
 /// The directory with the value `hello` under the name `k` (Flux RFC 11).
 const HELLO: &str =
