@@ -3,8 +3,6 @@
 
 pub mod children;
 pub mod laws;
-#[cfg(test)]
-mod tests;
 pub mod ticks;
 
 pub use children::is_childless;

@@ -12,4 +12,3 @@ mod Held
 mod Staying
 mod Resting
 mod Left
-mod Tested
