@@ -406,11 +406,19 @@ fn is_taken(rt: &HostRuntime, event: &Event, depth: usize) -> Result<bool, Fail>
     }
 }
 
+/// Whether an event of this name and context may stand behind so many events of `PATH`.
+fn may_stand(rt: &HostRuntime, depth: usize, name: &str, context: &str) -> Result<bool, Fail> {
+    let event = event_of(rt, name, context)?;
+    is_taken(rt, &event, depth)
+}
+
 #[test]
 fn contexts_have_what_is_needed(rt: HostRuntime) -> Result<(), Fail> {
-    for (depth, name, context, wanted) in CONTEXTS {
-        let event = event_of(&rt, name, context)?;
-        assert_eq!(rt; is_taken(&rt, &event, depth)?, wanted, "{name} {context}");
+    for (depth, name, context, wanted) in &CONTEXTS {
+        assert!(rt;
+            may_stand(&rt, *depth, name, context)? == *wanted,
+            "{name} {context}"
+        );
     }
     Ok(())
 }

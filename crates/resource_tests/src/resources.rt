@@ -254,43 +254,77 @@ fn text_of(rt: &HostRuntime, r: &Resources) -> Result<String, Fail>
     Ok(String::from_utf8_lossy(rt.alloc(), &print(rt.alloc(), r)?)?)
 }
 
+/// Hosts, each with its cores and GPUs.
+type Hosts = &'static [(&'static str, &'static str, &'static str)];
+
+const ALL: Hosts = &[("a", "0-3", "0-1"), ("b", "0-3", ""), ("c", "0,2", "")];
+
+const SOME: Hosts = &[("c", "2", ""), ("a", "1", "0-5")];
+
+/// What stays of all without some.
+const LEFT: Hosts = &[("a", "0,2-3", ""), ("b", "0-3", ""), ("c", "0", "")];
+
+/// What stays of some without itself.
+const NONE: Hosts = &[("c", "", ""), ("a", "", "")];
+
+/// What one has without another.
+fn taken(rt: &HostRuntime, one: Hosts, other: Hosts) -> Result<Resources, Fail>
+    ensures { IfOk result IsR }
+{
+    let one = of(rt, one)?;
+    let other = of(rt, other)?;
+    Ok(minus(rt.alloc(), &one, &other)?)
+}
+
+/// Whether one without another prints as the third does.
+fn leaves(rt: &HostRuntime, one: Hosts, other: Hosts, rest: Hosts) -> Result<bool, Fail> {
+    let left = taken(rt, one, other)?;
+    let rest = of(rt, rest)?;
+    let found = text_of(rt, &left)?;
+    Ok(found.as_str() == text_of(rt, &rest)?.as_str())
+}
+
 #[test]
-fn units_are_taken_away_and_sought(rt: HostRuntime) -> Result<(), Fail> {
-    let all = of(
-        &rt,
-        &[("a", "0-3", "0-1"), ("b", "0-3", ""), ("c", "0,2", "")],
-    )?;
-    let some = of(&rt, &[("c", "2", ""), ("a", "1", "0-5")])?;
-    let left = minus(rt.alloc(), &all, &some)?;
-    let wanted = of(&rt, &[("a", "0,2-3", ""), ("b", "0-3", ""), ("c", "0", "")])?;
-    assert_eq!(rt;
-        text_of(&rt, &left)?.as_str(),
-        text_of(&rt, &wanted)?.as_str()
-    );
-    let none = minus(rt.alloc(), &some, &some)?;
-    let wanted = of(&rt, &[("c", "", ""), ("a", "", "")])?;
-    assert_eq!(rt;
-        text_of(&rt, &none)?.as_str(),
-        text_of(&rt, &wanted)?.as_str()
-    );
-    assert!(rt; within(&left, &all));
-    assert!(rt; within(&none, &left));
-    assert!(rt; within(&all, &all));
-    assert!(rt; !within(&some, &all));
-    assert!(rt; !within(&all, &left));
-    let part = of(
-        &rt,
-        &[
-            ("c", "0", ""),
-            ("x", "", ""),
-            ("a", "2", "1"),
-            ("b", "3", ""),
-        ],
-    )?;
-    assert!(rt; within(&part, &all));
-    let other = of(&rt, &[("a", "0", ""), ("x", "1", "")])?;
-    assert!(rt; !within(&other, &all));
-    let gpu = of(&rt, &[("b", "0", "0")])?;
-    assert!(rt; !within(&gpu, &all));
+fn units_are_taken_away(rt: HostRuntime) -> Result<(), Fail> {
+    assert!(rt; leaves(&rt, ALL, SOME, LEFT)?);
+    assert!(rt; leaves(&rt, SOME, SOME, NONE)?);
+    Ok(())
+}
+
+/// Whether what one has without another lies within a third.
+fn lies_still(rt: &HostRuntime, one: Hosts, other: Hosts, whole: Hosts) -> Result<bool, Fail> {
+    let left = taken(rt, one, other)?;
+    let whole = of(rt, whole)?;
+    Ok(within(&left, &whole))
+}
+
+/// Whether one lies within another.
+fn lies(rt: &HostRuntime, part: Hosts, whole: Hosts) -> Result<bool, Fail> {
+    let part = of(rt, part)?;
+    let whole = of(rt, whole)?;
+    Ok(within(&part, &whole))
+}
+
+const PART: Hosts = &[
+    ("c", "0", ""),
+    ("x", "", ""),
+    ("a", "2", "1"),
+    ("b", "3", ""),
+];
+
+const OTHER: Hosts = &[("a", "0", ""), ("x", "1", "")];
+
+const A_GPU: Hosts = &[("b", "0", "0")];
+
+#[test]
+fn units_are_sought(rt: HostRuntime) -> Result<(), Fail> {
+    assert!(rt; lies_still(&rt, ALL, SOME, ALL)?);
+    assert!(rt; lies_still(&rt, SOME, SOME, LEFT)?);
+    assert!(rt; lies(&rt, ALL, ALL)?);
+    assert!(rt; lies(&rt, PART, ALL)?);
+    assert!(rt; !lies(&rt, SOME, ALL)?);
+    assert!(rt; !lies(&rt, ALL, LEFT)?);
+    assert!(rt; !lies(&rt, OTHER, ALL)?);
+    assert!(rt; !lies(&rt, A_GPU, ALL)?);
     Ok(())
 }
