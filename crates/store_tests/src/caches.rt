@@ -1,7 +1,7 @@
 ghost use Rattle.std.specs.Prelude.{IfOk};
 ghost use Rattle.cache_node.specs.Order.{Names};
 
-use crate::{CacheNode, UNPINNED_LIMIT};
+use cache_node::{CacheNode, UNPINNED_LIMIT};
 use fl_digest::{BlobRef, Hash, RefList};
 use lists::Bytes;
 use std::alloc::{AllocError, Global};

@@ -1,4 +1,4 @@
-use crate::{Check, KeepFault, Keeper, MemKeeper, SqlKeeper, Write};
+use backing::{Check, KeepFault, Keeper, MemKeeper, SqlKeeper, Write};
 use fl_digest::{BlobRef, Hash, Root};
 use lists::{Bytes, Copied};
 use std::alloc::{AllocError, Global};

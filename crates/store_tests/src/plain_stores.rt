@@ -1,7 +1,7 @@
 // Transactions and what readers find, with answers that are known from the rules.
-use crate::{ApplyFault, Store};
 use kvs_txn::{Author, Cause, Found, Kind, Op, Path, Query, Scope, Txn};
 use lists::Bytes;
+use plain_store::{ApplyFault, Store};
 use std::alloc::Global;
 use std::test::Fail;
 

@@ -1,4 +1,4 @@
-use crate::{BlobStore, PutFault};
+use blob_store::{BlobStore, PutFault};
 use fl_digest::{BlobRef, Hash};
 use lists::Bytes;
 use std::test::Fail;
