@@ -227,17 +227,31 @@ fn ending(alloc: Global, instance: &Instance, lines: &[Line]) -> Result<Vec<u8>,
     Ok(text)
 }
 
+/// How many parts of the story happen as they are told, and what is told at the end.
+fn story_of(
+    alloc: Global,
+    instance: &mut Instance,
+    lines: &[Line],
+) -> Result<(usize, Vec<u8>), Fail>
+    requires ready { instance.old.spent ≡ false }
+    requires lines { AreLinesOf instance.old lines.now }
+{
+    let parts = told_parts(alloc, instance, lines)?;
+    let end = ending(alloc, instance, lines)?;
+    Ok((parts, end))
+}
+
+/// The same of an instance that begins.
+fn story(alloc: Global) -> Result<(usize, Vec<u8>), Fail> {
+    let (mut instance, work) = begin(alloc, WORK)?;
+    story_of(alloc, &mut instance, work.lines.as_slice())
+}
+
 #[test]
 fn actors_are_told_what_the_rules_say(rt: HostRuntime) -> Result<(), Fail> {
-    let (mut instance, work) = begin(rt.alloc(), WORK)?;
-    let lines = work.lines.as_slice();
-    let parts = told_parts(rt.alloc(), &mut instance, lines)?;
-    let end = ending(rt.alloc(), &instance, lines)?;
-    assert_eq!(rt; parts, STORY.len());
-    assert_eq!(rt;
-        end.as_slice() == b"1 unfinished, 1 not reached, ".as_slice(),
-        true
-    );
+    let (parts, end) = story(rt.alloc())?;
+    let is_ended = end.as_slice() == b"1 unfinished, 1 not reached, ".as_slice();
+    assert!(rt; parts == STORY.len() && is_ended);
     Ok(())
 }
 
@@ -263,16 +277,20 @@ fn acts(alloc: Global, instance: &mut Instance, lines: &[Line], times: u32) -> R
     Ok(text)
 }
 
+/// What happens where an actor of so many puts acts so often.
+fn acts_of(alloc: Global, count: u32, times: u32) -> Result<Vec<u8>, Fail> {
+    let source = puts(alloc, count)?;
+    let (mut instance, work) = begin(alloc, source.as_str())?;
+    acts(alloc, &mut instance, work.lines.as_slice(), times)
+}
+
 #[test]
 fn a_thousand_operations_are_staged_and_no_more(rt: HostRuntime) -> Result<(), Fail> {
-    let source = puts(rt.alloc(), 1001)?;
-    let (mut instance, work) = begin(rt.alloc(), source.as_str())?;
-    let text = acts(rt.alloc(), &mut instance, work.lines.as_slice(), 2002)?;
-    assert_eq!(rt;
-        text.as_slice()
-            .ends_with(b"0 staged, 0 issued 1000, 0 full, ".as_slice()),
-        true
-    );
+    let text = acts_of(rt.alloc(), 1001, 2002)?;
+    let is_full = text
+        .as_slice()
+        .ends_with(b"0 staged, 0 issued 1000, 0 full, ".as_slice());
+    assert!(rt; is_full);
     Ok(())
 }
 
@@ -356,14 +374,17 @@ fn seen(alloc: Global, instance: &mut Instance, lines: &[Line]) -> Result<Vec<u8
     Ok(text)
 }
 
+/// What is seen of a whole run of a workload.
+fn seen_of(alloc: Global, text: &str) -> Result<Vec<u8>, Fail> {
+    let (mut instance, work) = begin(alloc, text)?;
+    seen(alloc, &mut instance, work.lines.as_slice())
+}
+
 #[test]
 fn a_job_runs_while_time_goes_on(rt: HostRuntime) -> Result<(), Fail> {
-    let (mut instance, work) = begin(rt.alloc(), JOBS)?;
-    let text = seen(rt.alloc(), &mut instance, work.lines.as_slice())?;
-    assert_eq!(rt;
-        text.as_slice()
-            == b"0 issued 0, 0 submitted, 0 issued 1, ticked 3, ticked 5, 0 advanced, 0 issued 2, 0 ended, ".as_slice(),
-        true
-    );
+    let text = seen_of(rt.alloc(), JOBS)?;
+    let is_so = text.as_slice()
+        == b"0 issued 0, 0 submitted, 0 issued 1, ticked 3, ticked 5, 0 advanced, 0 issued 2, 0 ended, ".as_slice();
+    assert!(rt; is_so);
     Ok(())
 }

@@ -193,16 +193,26 @@ fn finish(world: World, commands: [u32; 2]) -> Outcome
 /// A run whose steps are drawn from those that can be made.
 fn drawn_run(alloc: Global, text: &str, commands: [u32; 2], seed: u64) -> Result<Outcome, Fail> {
     let mut world = begin(alloc, text)?;
-    run(&mut world, seed)?;
-    Ok(finish(world, commands))
+    match run(&mut world, seed) {
+        Ok(()) => Ok(finish(world, commands)),
+        Err(fault) => {
+            drop(world);
+            Err(fault)
+        }
+    }
 }
 
 /// A run that makes the steps which the world says, in this order.
 fn said_run(alloc: Global, how: Schedule) -> Result<Outcome, Fail> {
     let mut world = begin(alloc, WORK)?;
     world.schedule(how);
-    follow(&mut world)?;
-    Ok(finish(world, COMMANDS))
+    match follow(&mut world) {
+        Ok(()) => Ok(finish(world, COMMANDS)),
+        Err(fault) => {
+            drop(world);
+            Err(fault)
+        }
+    }
 }
 
 /// Whether runs in twenty-one drawn orders end with one reply to each command, all but the first in another order.
@@ -239,12 +249,21 @@ fn is_shown(entry: &Entry, told: &str) -> bool {
     }
 }
 
-/// Whether a run shows this of a job.
-fn shows(alloc: Global, text: &str, told: &str) -> Result<bool, Fail> {
-    let mut world = begin(alloc, text)?;
-    follow(&mut world)?;
+/// Whether a run shows this of a job, from here to its end.
+fn shows_on(world: &mut World, told: &str) -> Result<bool, Fail>
+    requires { world.old.spent ≡ false }
+{
+    follow(world)?;
     let entries = world.chronicle().as_slice();
     Ok(entries.iter().any(|entry| is_shown(entry, told)))
+}
+
+/// Whether a run of a workload shows this of a job.
+fn shows(alloc: Global, text: &str, told: &str) -> Result<bool, Fail> {
+    let mut world = begin(alloc, text)?;
+    let shown = shows_on(&mut world, told);
+    drop(world);
+    shown
 }
 
 #[test]
@@ -267,11 +286,20 @@ fn a_seed_gives_one_order(rt: HostRuntime) -> Result<(), Fail> {
 }
 
 /// Whether a world that has made no step says so, and no other.
+fn is_begun_once(world: &mut World) -> Result<bool, Fail>
+    requires { world.old.spent ≡ false }
+{
+    let before = world.start();
+    run(world, 0)?;
+    Ok(before && !world.start())
+}
+
+/// The same of a world that begins.
 fn knows_its_start(alloc: Global) -> Result<bool, Fail> {
     let mut world = begin(alloc, WORK)?;
-    let before = world.start();
-    run(&mut world, 0)?;
-    Ok(before && !world.start())
+    let known = is_begun_once(&mut world);
+    drop(world);
+    known
 }
 
 #[test]
