@@ -40,8 +40,8 @@ pub fn no_open_advance_is_left()
         → IsTarget (l ∷ []) [] target → ⊥ }
 {}
 
-/// The run of an instance without children may end where nothing is due, no advance is open, and all its brokers are
-/// told.
+/// The run of an instance without children may end where nothing is due, no advance is open, and
+/// all its brokers are told.
 pub fn runs_may_close()
     ensures { (v : CommandsValue) (jobs : List StoredJob) (inst : Instance) (log : Log)
         (l : Living) → IsTop inst log l → StandsAlone v jobs inst log
@@ -60,8 +60,8 @@ pub fn posts_keep_jobs_childless()
         → IsDuePost d post → AreChildless (jobs_after post d.scene.jobs) }
 {}
 
-/// What the manager looks at tells no child where no submission that waits tells one; and that is so from the birth on,
-/// as long as none is issued that does.
+/// What the manager looks at tells no child where no submission that waits tells one; and that is
+/// so from the birth on, as long as none is issued that does.
 pub fn submissions_tell_no_child()
     ensures desk { (v : CommandsValue) (inst : Instance) (log : Log) (jobs : List StoredJob)
         → AskNoChild v → SubmitNoChild (desk_of v inst log jobs) }
@@ -80,8 +80,9 @@ pub fn reached_advances_can_be_told()
         → target ≤ now → (row : Row) × Contains v.rows row × IsReached row now }
 {}
 
-/// How far time can go from the birth of an instance is bounded by its advances: each moves the bound by its own
-/// seconds. No other command moves it, nor one that goes or is carried out, nor a tick.
+/// How far time can go from the birth of an instance is bounded by its advances: each moves the
+/// bound by its own seconds. No other command moves it, nor one that goes or is carried out, nor a
+/// tick.
 pub fn times_stay_within()
     ensures advances { (v new : CommandsValue) (row : Row) (birth now span seconds : ℕ)
         → new.rows ≡ v.rows ++ row ∷ [] → row.ask ≡ ask.Advance seconds → row.issued ≡ now
@@ -102,8 +103,8 @@ pub fn times_stay_within()
         → birth + span < bound → All (λ target. target < bound) (targets_of v) }
 {}
 
-/// The same by the log: at the birth there is no target, and after a moment there are those of before and that of the
-/// advance which it issues.
+/// The same by the log: at the birth there is no target, and after a moment there are those of
+/// before and that of the advance which it issues.
 pub fn times_follow_the_log()
     ensures begins { (v : CommandsValue) (inst : Instance) → AgreesCommands v inst []
         → AreInTime v inst.birth inst.birth 0 }

@@ -1,4 +1,5 @@
-//! How time goes on in an instance: the next second, and what the log of the instance says of it (Flux RFC 21).
+//! How time goes on in an instance: the next second, and what the log of the instance says of it
+//! (Flux RFC 21).
 #![tactic(auto)]
 
 pub mod children;

@@ -33,8 +33,9 @@ fn next_target(rows: &[Row], now: u64) -> Option<u64>
         .min()
 }
 
-/// The second to which time goes next, where nothing is due now: none where no open advance waits for a later second. A
-/// job's command or resources may end before the least of these. This takes no memory.
+/// The second to which time goes next, where nothing is due now: none where no open advance waits
+/// for a later second. A job's command or resources may end before the least of these. This takes
+/// no memory.
 pub fn next_tick(commands: &Commands, book: &Book, now: u64) -> Option<u64>
     requires bounded { All (λ target. target < 2 ^ 64) (targets_of commands.now) }
     ensures some { IfSome result (λ second. IsNextTick (targets_of commands.now)

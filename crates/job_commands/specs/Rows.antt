@@ -53,7 +53,8 @@ AreMarkedBy v now = (rank : ℕ) → (mark_at v.marks rank).second ≤ now
 
 -- the mark of a broker, where so many submissions were issued, for one at this second
 abbrev pub mark_now : Mark → ℕ → ℕ → Mark
-mark_now mark issued now = if mark.second == now then mark else record { second = now; count = issued }
+mark_now mark issued now = if mark.second == now then mark
+    else record { second = now; count = issued }
 
 -- how many submissions were issued at a broker in this second
 abbrev pub sequence_now : CommandsValue → ℕ → ℕ → ℕ

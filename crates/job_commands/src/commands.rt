@@ -24,7 +24,8 @@ use manager_rules::{Asked, OpenList};
 use std::alloc::{AllocError, Global};
 use std::marker::Model;
 
-/// The open job commands, the jobs that labels name, and how many submissions were issued at each broker and when.
+/// The open job commands, the jobs that labels name, and how many submissions were issued at each
+/// broker and when.
 #[derive(Drop)]
 pub struct Commands {
     alloc: Global,
@@ -45,7 +46,8 @@ impl Model for Commands {
 
 /// So many brokers at which no submission was issued.
 fn unissued(alloc: Global, size: u32) -> Result<Vec<Tally>, AllocError>
-    ensures { IfOk result (λ list. list.items ≡ replicate size (record { issued = 0; mark = unmarked })) }
+    ensures { IfOk result (λ list. list.items
+        ≡ replicate size (record { issued = 0; mark = unmarked })) }
 {
     let mut list = Vec::new(alloc);
     list.resize(size as usize, UNISSUED)?;
@@ -126,7 +128,8 @@ impl Commands {
         })
     }
 
-    /// A command is issued at a broker, at this second. The sequence number of a submission begins at 0 in each (Flux RFC 19).
+    /// A command is issued at a broker, at this second. The sequence number of a submission begins
+    /// at 0 in each (Flux RFC 19).
     pub fn issue(&mut self, by: By, rank: u32, now: u64, ask: JobAsk) -> Result<(), AllocError>
         requires within { rank < length self.old.issued }
         requires few { is_submission (Some (told ask)) ≡ true
@@ -180,7 +183,8 @@ impl Commands {
         }
     }
 
-    /// The landing of this number carries out a submission that waits, and gives its job this id, which was made for it.
+    /// The landing of this number carries out a submission that waits, and gives its job this id,
+    /// which was made for it.
     pub fn submitted(&mut self, by: By, id: u64, number: u64) -> Result<(), AllocError>
         ensures agrees { OnOk result ((inst : Instance) (log : Log) (group : Group)
             (authors : List (Option Command)) (groups : List Group) (label : List ℕ) (urgency : ℕ)
@@ -201,7 +205,8 @@ impl Commands {
         Ok(())
     }
 
-    /// The landing of this number carries out a command that asks for an event. This takes no memory.
+    /// The landing of this number carries out a command that asks for an event. This takes no
+    /// memory.
     pub fn carried(&mut self, by: By, number: u64)
         ensures agrees { (inst : Instance) (log : Log) (group : Group)
             (authors : List (Option Command)) (groups : List Group) (ask : Asks)
@@ -276,7 +281,8 @@ impl Commands {
         row_of(self.rows.as_slice(), by)
     }
 
-    /// The open commands that ask for events of the jobs that their labels name, in an instance without children.
+    /// The open commands that ask for events of the jobs that their labels name, in an instance
+    /// without children.
     pub fn asked(&self) -> Result<OpenList, AllocError>
         ensures exact { IfOk result (λ list. (inst : Instance) (log : Log)
             → AgreesCommands self.now inst log → ((job : ℕ) → child_of log job ≡ None)

@@ -10,7 +10,8 @@ ghost use Rattle.kvs_model.specs.Store.{Store};
 ghost use Rattle.kvs_txn.specs.declared.txn.By.{By};
 ghost use Rattle.manager_rules.specs.Jobs.{AreJobsOf, StoredJob};
 
-/// A second, each moment that is about no job command, and the issue of a shutdown leave the commands as they are.
+/// A second, each moment that is about no job command, and the issue of a shutdown leave the
+/// commands as they are.
 pub fn other_moments_leave_commands()
     ensures ticks { (v : CommandsValue) (inst : Instance) (log : Log) (second : ℕ)
         → AgreesCommands v inst log → AgreesCommands v inst (log ++ Ticked second ∷ []) }

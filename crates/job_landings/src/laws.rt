@@ -26,9 +26,10 @@ ghost use Rattle.manager_rules.specs.declared.due.Due.{Due};
 use job_manager::what_lands_is_due;
 use kvs_core::laws::users_land_where_nothing_is_posted;
 
-/// Where a step of the service lands a post that is due in an instance without children, the post lands at one of the
-/// step's events and carries out its command there, the other events are about no job command, and each event may follow
-/// those before it in the log of the instance: what the job manager lands is due at the store on which it works.
+/// Where a step of the service lands a post that is due in an instance without children, the post
+/// lands at one of the step's events and carries out its command there, the other events are about
+/// no job command, and each event may follow those before it in the log of the instance: what the
+/// job manager lands is due at the store on which it works.
 pub fn what_is_posted_lands_as_it_is_due()
     ensures { (step : KvsStep) (old new : CoreValue) (events : List KvsEvent) (inst : Instance)
         (log : Log) (v : CommandsValue) (jobs : List StoredJob) (st : Store) (post : Post)
@@ -43,7 +44,8 @@ pub fn what_is_posted_lands_as_it_is_due()
     what_lands_is_due();
 }
 
-/// What happens in the service leaves what the manager looks at besides the jobs, as the commands give it.
+/// What happens in the service leaves what the manager looks at besides the jobs, as the commands
+/// give it.
 pub fn what_is_served_leaves_the_desk()
     ensures one { (v : CommandsValue) (inst : Instance) (log : Log) (m : ServiceMoment)
         (jobs : List StoredJob)
@@ -56,7 +58,8 @@ pub fn what_is_served_leaves_the_desk()
         → desk_of v inst (log ++ map happening events) jobs ≡ desk_of v inst log jobs }
 {}
 
-/// The command that a due post carries out is open: it submits the job of a submission, and asks for an event otherwise.
+/// The command that a due post carries out is open: it submits the job of a submission, and asks
+/// for an event otherwise.
 pub fn posts_carry_out_open_commands()
     ensures submits { (v : CommandsValue) (inst : Instance) (log : Log) (jobs : List StoredJob)
         (x : Submission) → AgreesCommands v inst log

@@ -135,7 +135,8 @@ impl Manager {
         })
     }
 
-    /// A command asks the service, which has asked nothing before. After an error the manager is spent.
+    /// A command asks the service, which has asked nothing before. After an error the manager is
+    /// spent.
     pub fn ask(
         &mut self,
         by: By,
@@ -222,7 +223,8 @@ impl Manager {
         self.place(Post::Submits(x))
     }
 
-    /// Posts an event that is due at this second, and tells whether there was one. After an error the manager is spent.
+    /// Posts an event that is due at this second, and tells whether there was one. After an error
+    /// the manager is spent.
     pub fn post<F: Fn(&Ask) -> u32>(
         &mut self,
         now: u64,
@@ -254,8 +256,8 @@ impl Manager {
         }
     }
 
-    /// Makes a step of the service, and tells what happened. The book follows a post that lands. After an error the manager
-    /// is spent.
+    /// Makes a step of the service, and tells what happened. The book follows a post that lands.
+    /// After an error the manager is spent.
     pub fn turn(&mut self, step: KvsStep) -> Result<KvsEvents, CoreFault>
         requires ready { self.old.spent ≡ false }
         requires can { can_step self.old.core step ≡ true }

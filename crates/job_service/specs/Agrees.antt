@@ -20,8 +20,8 @@ use Rattle.job_service.specs.Due.{Owes}
 use Rattle.job_service.specs.Refusals.{reply_to}
 use Rattle.job_service.specs.Value.{JobServiceValue}
 
--- the service is one of this instance: no two of its submissions have one label, each of its job commands is of one of
--- its brokers, and everyone's job is given the default priority
+-- the service is one of this instance: no two of its submissions have one label, each of its job
+-- commands is of one of its brokers, and everyone's job is given the default priority
 pub record IsOf (inst : Instance) (v : JobServiceValue) : Type 0 where
   pub valid : IsInstance inst
   pub unique : HasUniqueLabels inst
@@ -31,7 +31,8 @@ pub record IsOf (inst : Instance) (v : JobServiceValue) : Type 0 where
   pub grant : v.manager.book.grant ≡ inst.grant
 
 -- an instance with so many brokers in such a tree, with this grant, that is born at this second
-pub record IsServedBy (inst : Instance) (brokers children : ℕ) (resources : Resources) (now : ℕ) : Type 0 where
+pub record IsServedBy (inst : Instance) (brokers children : ℕ)
+    (resources : Resources) (now : ℕ) : Type 0 where
   pub valid : IsInstance inst
   pub unique : HasUniqueLabels inst
   pub ranks : (by : By) → IsSome (inst.asks by) → inst.rank by < inst.service.size
@@ -56,7 +57,8 @@ pub record AgreesJobs (v : JobServiceValue) (inst : Instance) (log : Log) : Type
   pub alone : (job : ℕ) → child_of log job ≡ None
   pub owes : Owes v.manager.posted v.found (desk_of v.commands inst log v.manager.book.jobs)
   pub labelled : AreLabelled v.commands.labels v.manager.book.jobs
-  pub refused : (r : Refused) → Contains v.refused r → IsLegalReply inst log r.by (reply_to r.fault) None
+  pub refused : (r : Refused) → Contains v.refused r
+      → IsLegalReply inst log r.by (reply_to r.fault) None
   pub untold : (by : By) → IsSome (inst.asks by) → is_issued by log ≡ false → IsUntold by log
 
 -- another submission can be issued
@@ -70,7 +72,8 @@ pub record IsAgreed (v : JobServiceValue) : Type 0 where
   pub agrees : AgreesJobs v inst log
 
 -- the job command asks this at the broker, and isn't issued yet
-pub record IsNewCommand (inst : Instance) (log : Log) (by : By) (rank : ℕ) (asked : JobAsk) : Type 0 where
+pub record IsNewCommand (inst : Instance) (log : Log)
+    (by : By) (rank : ℕ) (asked : JobAsk) : Type 0 where
   pub asks : inst.asks by ≡ Some (told asked)
   pub home : inst.rank by ≡ rank
   pub new : is_issued by log ≡ false
@@ -83,12 +86,18 @@ pub record MayIssue (v : JobServiceValue) (by : By) (rank : ℕ) (asked : JobAsk
   pub new : IsNewCommand inst log by rank asked
 
 -- the command asks this of the service, and hasn't done so yet
-pub record IsNewAsk (inst : Instance) (log : Log) (by : By) (broker : ℕ) (space : Name) (asked : KvsAsk) : Type 0 where
-  pub asks : inst.service.asks by ≡ Some (record { broker = broker; namespace = space; ask = asked })
+pub record IsNewAsk (inst : Instance) (log : Log) (by : By)
+    (broker : ℕ) (space : Name) (asked : KvsAsk) : Type 0 where
+  pub asks : inst.service.asks by ≡ Some (record {
+    broker = broker;
+    namespace = space;
+    ask = asked;
+  })
   pub new : is_asked by (service_of log) ≡ false
 
 -- so in the log of some instance
-pub record MayAsk (v : JobServiceValue) (by : By) (broker : ℕ) (space : Name) (asked : KvsAsk) : Type 0 where
+pub record MayAsk (v : JobServiceValue) (by : By) (broker : ℕ)
+    (space : Name) (asked : KvsAsk) : Type 0 where
   pub inst : Instance
   pub log : Log
   pub agrees : AgreesJobs v inst log

@@ -28,7 +28,8 @@ abbrev pub IsEventDue : CommandsValue → BookValue → ℕ → Option Due → T
 IsEventDue v book now (Some due) = IsDue (scene_now v book now) due
 IsEventDue v book now None = (due : Due) → IsDue (scene_now v book now) due → ⊥
 
--- what can be looked at: the second isn't far behind the birth, and the numbers of the commands are within their ranges
+-- what can be looked at: the second isn't far behind the birth, and the numbers of the commands are
+-- within their ranges
 pub record CanLook (v : CommandsValue) (now birth : ℕ) : Type 0 where
   pub order : birth ≤ now
   pub soon : 1000 * (now - birth) < 2 ^ 40
@@ -41,11 +42,13 @@ pub record CanLook (v : CommandsValue) (now birth : ℕ) : Type 0 where
 abbrev pub MakeNone : CommandsValue → BookValue → Type 0
 MakeNone v book = (row : Row) → Contains v.rows row → MakesNone v.labels book.jobs row
 
--- what is due of the open commands and the book: a submission that is made now or an event, or nothing where there is none
+-- what is due of the open commands and the book: a submission that is made now or an event, or
+-- nothing where there is none
 abbrev pub IsFound : CommandsValue → BookValue → ℕ → ℕ → Option Post → Type 0
 IsFound v book now birth (Some (Submits x)) = IsMade v book.jobs now birth x
 IsFound v book now birth (Some (Does due)) = IsDue (scene_now v book now) due
-IsFound v book now birth None = MakeNone v book × ((due : Due) → IsDue (scene_now v book now) due → ⊥)
+IsFound v book now birth None = MakeNone v book
+    × ((due : Due) → IsDue (scene_now v book now) due → ⊥)
 
 -- so where nothing is posted; else nothing is looked for
 abbrev pub IsFoundBeside : Option Post → CommandsValue → BookValue → ℕ → ℕ → Option Post → Type 0
@@ -57,11 +60,13 @@ abbrev pub MayBePosted : CommandsValue → BookValue → ℕ → Post → Type 0
 MayBePosted v book now (Submits x) = WasDuePost book (Submits x)
 MayBePosted v book now (Does due) = IsDue (scene_now v book now) due
 
--- what was found is posted, or an event that is due as well where it was an event; with the id of a job that is submitted
+-- what was found is posted, or an event that is due as well where it was an event; with the id of a
+-- job that is submitted
 abbrev pub PostsFound : CommandsValue → ℕ → ManagerValue → ManagerValue → Option ℕ → Post → Type 0
 PostsFound v now old new id (Submits x) = Places (Submits x) old new × (id ≡ Some x.id)
 PostsFound v now old new id (Does due) =
-    ((other : Due) × IsDue (scene_now v old.book now) other × Places (Does other) old new) × (id ≡ None)
+    ((other : Due) × IsDue (scene_now v old.book now) other
+    × Places (Does other) old new) × (id ≡ None)
 
 -- the manager has nothing to post
 abbrev pub OwesNothing : Desk → Type 0

@@ -45,7 +45,8 @@ LandsAs (Some id) by number old new = LandsSubmission by id number old new
 LandsAs None by number old new = LandsEvent by number old new
 
 -- the landing carries out a command, of which no refusal is left, or none
-abbrev pub IsLanded : Option By → Option ℕ → ℕ → CommandsValue → CommandsValue → List Refused → List Refused → Type 0
+abbrev pub IsLanded : Option By → Option ℕ → ℕ → CommandsValue
+    → CommandsValue → List Refused → List Refused → Type 0
 IsLanded (Some by) id number old new list left =
     LandsAs id by number old new × (left ≡ filter (λ r. not (is_refusal_of by r)) list)
 IsLanded None id number old new list left = (new ≡ old) × (left ≡ list)

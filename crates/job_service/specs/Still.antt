@@ -19,8 +19,8 @@ abbrev pub can_tick : JobServiceValue → Bool
 can_tick v = not (is_some v.manager.posted) && not (is_some v.found)
     && list_any (λ target. nat_lt v.second target) (targets_of v.commands)
 
--- no step of the key-value service can be made and none of its answers waits, nothing is to be posted, time doesn't go on,
--- and no job command can be told
+-- no step of the key-value service can be made and none of its answers waits, nothing is to be
+-- posted, time doesn't go on, and no job command can be told
 pub record IsStill (v : JobServiceValue) : Type 0 where
   pub core : CoreIsStill v.manager.core
   pub unfound : v.found ≡ None
@@ -33,9 +33,11 @@ unless_over where_ = if is_inactive where_ then None else Some where_
 
 -- the state of the job whose result the command asks for, where that isn't over
 abbrev pub awaited_by : Labels → List StoredJob → JobAsk → Option State
-awaited_by labels jobs (ask.ResultOf label) = option_and_then unless_over (state_in labels jobs label)
+awaited_by labels jobs (ask.ResultOf label) =
+    option_and_then unless_over (state_in labels jobs label)
 awaited_by labels jobs _ = None
 
 -- the state of the job whose result the open command waits for, if it waits for one
 abbrev pub awaited : JobServiceValue → By → Option State
-awaited v by = option_and_then (λ row. awaited_by v.commands.labels v.manager.book.jobs row.ask) (row_in v.commands by)
+awaited v by = option_and_then (λ row. awaited_by v.commands.labels v.manager.book.jobs row.ask)
+    (row_in v.commands by)

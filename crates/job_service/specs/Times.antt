@@ -36,8 +36,10 @@ HasTime v _ = Unit {0}
 pub record MayGoTo (v : JobServiceValue) (second : ℕ) : Type 0 where
   pub unposted : v.manager.posted ≡ None
   pub unfound : v.found ≡ None
-  pub next : IsNextTick (targets_of v.commands) (seconds_left v.second v.manager.book) v.second second
+  pub next : IsNextTick (targets_of v.commands)
+      (seconds_left v.second v.manager.book) v.second second
 
 -- something is posted or due, or no open advance waits for a later second
 abbrev pub IsTimeUp : JobServiceValue → Type 0
-IsTimeUp v = v.manager.posted ≡ None → v.found ≡ None → All (λ target. target ≤ v.second) (targets_of v.commands)
+IsTimeUp v = v.manager.posted ≡ None → v.found ≡ None
+    → All (λ target. target ≤ v.second) (targets_of v.commands)

@@ -5,9 +5,9 @@ use Rattle.job_manager.specs.Value.{ManagerValue}
 use Rattle.manager_rules.specs.Posts.{Post}
 use Rattle.job_service.specs.declared.refusals.Refused.{Refused}
 
--- the second of its birth and the present one, the manager with the service below it, the open job commands,
--- submissions that are refused, what is due and isn't posted, how many submissions were issued, and the seconds of all
--- advances that were issued, together
+-- the second of its birth and the present one, the manager with the service below it, the open job
+-- commands, submissions that are refused, what is due and isn't posted, how many submissions were
+-- issued, and the seconds of all advances that were issued, together
 pub record JobServiceValue : Type 0 where
   pub spent : Bool
   pub birth : ℕ

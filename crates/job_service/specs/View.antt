@@ -38,7 +38,8 @@ pub record IsFit (v : JobServiceValue) : Type 0 where
   pub named : IsNamed v.commands v.birth v.found
   pub counted : length v.manager.book.jobs + count_by is_submit v.commands.rows ≤ v.submitted
   pub bounded : v.submitted ≤ 1000
-  pub drawn : (rank : ℕ) → rank < length v.commands.issued → slice_index v.commands.issued rank ≤ v.submitted
+  pub drawn : (rank : ℕ) → rank < length v.commands.issued
+      → slice_index v.commands.issued rank ≤ v.submitted
   pub marked : AreMarkedBy v.commands v.second
   pub judged : AreJudged v.commands v.manager.book.jobs v.refused
   pub childless : AreChildless v.manager.book.jobs

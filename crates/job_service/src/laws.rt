@@ -10,8 +10,8 @@ ghost use Rattle.manager_rules.specs.Posts.{IsDuePost, Post};
 
 use manager_rules::what_is_due_stays_due;
 
-/// What is due by the log of an instance without children stays due through each further moment of the same second that
-/// leaves the jobs as they are and its command open.
+/// What is due by the log of an instance without children stays due through each further moment of
+/// the same second that leaves the jobs as they are and its command open.
 pub fn what_waits_stays_due()
     ensures { (v new : CommandsValue) (inst : Instance) (log : Log) (m : Moment)
         (jobs : List StoredJob) (post : Post) → AgreesCommands v inst log

@@ -1,4 +1,5 @@
-//! The jobs of one instance over its job manager: its job commands, their replies and its time (Flux RFC 14, 16, 21 and 25).
+//! The jobs of one instance over its job manager: its job commands, their replies and its time
+//! (Flux RFC 14, 16, 21 and 25).
 #![tactic(auto)]
 
 mod children;

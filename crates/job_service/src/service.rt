@@ -49,7 +49,8 @@ use resource_set::Resources;
 use std::alloc::{AllocError, Global};
 use std::marker::Model;
 
-/// The jobs of one instance: its job manager over the key-value service, its open job commands, and the time.
+/// The jobs of one instance: its job manager over the key-value service, its open job commands, and
+/// the time.
 #[derive(Drop)]
 pub struct JobService {
     alloc: Global,
@@ -84,8 +85,8 @@ impl Model for JobService {
 }
 
 impl JobService {
-    /// The service of an instance that is born at this second with a grant, before anything has happened. Time goes on from
-    /// there by at most 1,000,000,000 seconds.
+    /// The service of an instance that is born at this second with a grant, before anything has
+    /// happened. Time goes on from there by at most 1,000,000,000 seconds.
     pub fn new(
         alloc: Global,
         setting: Setting,
@@ -131,7 +132,8 @@ impl JobService {
         self.manager.core()
     }
 
-    /// A command asks the key-value service, which has asked it nothing before. After an error the service is spent.
+    /// A command asks the key-value service, which has asked it nothing before. After an error the
+    /// service is spent.
     pub fn ask(
         &mut self,
         by: By,
@@ -157,7 +159,8 @@ impl JobService {
         Ok(())
     }
 
-    /// Takes the key-value service's answer to a command, which its actor is then told. This takes no memory.
+    /// Takes the key-value service's answer to a command, which its actor is then told. This takes
+    /// no memory.
     pub fn take(&mut self, by: By) -> Held
         requires ready { self.old.spent ≡ false }
         requires can { can_take self.old.manager.core by ≡ true }
@@ -173,8 +176,9 @@ impl JobService {
         self.manager.take(by)
     }
 
-    /// Makes a step of the key-value service, and gives what happened. Where the post lands, its command is carried out, and
-    /// what is due next is looked for. After an error the service is spent.
+    /// Makes a step of the key-value service, and gives what happened. Where the post lands, its
+    /// command is carried out, and what is due next is looked for. After an error the service is
+    /// spent.
     pub fn turn(&mut self, step: KvsStep) -> Result<KvsEvents, CoreFault>
         requires ready { self.old.spent ≡ false }
         requires can { can_step self.old.manager.core step ≡ true }
@@ -221,8 +225,8 @@ impl JobService {
         self.found.is_some()
     }
 
-    /// Posts what was found to be due, which then waits in the key-value service to land. Where that is an event, one that is
-    /// due is looked for again. After an error the service is spent.
+    /// Posts what was found to be due, which then waits in the key-value service to land. Where
+    /// that is an event, one that is due is looked for again. After an error the service is spent.
     pub fn post(&mut self) -> Result<(), CoreFault>
         requires ready { self.old.spent ≡ false }
         requires can { is_some self.old.found ≡ true }
@@ -244,9 +248,10 @@ impl JobService {
         Ok(())
     }
 
-    /// Issues a job command at its broker. A submission is looked at once, here: where it is refused, it can be told so from
-    /// then on. Its text tells no job whose command begins an instance (Flux RFC 14), and all advances together let time go on
-    /// by no more than 1,000,000,000 seconds. After an error the service is spent.
+    /// Issues a job command at its broker. A submission is looked at once, here: where it is
+    /// refused, it can be told so from then on. Its text tells no job whose command begins an
+    /// instance (Flux RFC 14), and all advances together let time go on by no more than
+    /// 1,000,000,000 seconds. After an error the service is spent.
     pub fn issue(&mut self, by: By, rank: u32, ask: JobAsk) -> Result<(), AllocError>
         requires ready { self.old.spent ≡ false }
         requires may { MayIssue self.old by rank ask }
@@ -316,8 +321,8 @@ impl JobService {
         self.manager.is_waiting() || self.found.is_some()
     }
 
-    /// The second to which time goes next, if it goes on: nothing is posted or due, and an open advance waits for a later
-    /// second. This takes no memory.
+    /// The second to which time goes next, if it goes on: nothing is posted or due, and an open
+    /// advance waits for a later second. This takes no memory.
     pub fn next_second(&self) -> Option<u64>
         requires { self.now.spent ≡ false }
         ensures can { is_some result ≡ can_tick self.now }
@@ -371,8 +376,9 @@ impl JobService {
         awaited(&self.commands, self.manager.book(), row)
     }
 
-    /// Where nothing can go on, nothing is due by the log of the instance and none of its advances is left. Where all brokers
-    /// are told besides, a job command that is left waits for the result of a job that isn't over; shutdowns are another's.
+    /// Where nothing can go on, nothing is due by the log of the instance and none of its advances
+    /// is left. Where all brokers are told besides, a job command that is left waits for the result
+    /// of a job that isn't over; shutdowns are another's.
     pub fn still(&self)
         requires { self.now.spent ≡ false }
         ensures idle { (inst : Instance) (log : Log) → AgreesJobs self.now inst log
@@ -392,8 +398,9 @@ impl JobService {
         self.manager.core().standing();
     }
 
-    /// Whether an open job command can be told what became of it. While something is posted, no command is told that waits for
-    /// a job or an event: the post may be what carries it out. This takes no memory.
+    /// Whether an open job command can be told what became of it. While something is posted, no
+    /// command is told that waits for a job or an event: the post may be what carries it out. This
+    /// takes no memory.
     pub fn can_reply(&self, by: By) -> bool
         requires { self.now.spent ≡ false }
         ensures { result ≡ can_reply self.now by }
@@ -442,7 +449,8 @@ impl JobService {
         }
     }
 
-    /// Tells an open job command what became of it, and gives what it is told. After an error the service is spent.
+    /// Tells an open job command what became of it, and gives what it is told. After an error the
+    /// service is spent.
     pub fn reply(&mut self, by: By) -> Result<Told, AllocError>
         requires ready { self.old.spent ≡ false }
         requires can { can_reply self.old by ≡ true }

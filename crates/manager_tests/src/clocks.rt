@@ -14,8 +14,8 @@ use std::test::Fail;
 const GRANT: &str =
     "{\"version\":1,\"execution\":{\"R_lite\":[{\"rank\":\"0\",\"children\":{\"core\":\"0-1\"}}],\"nodelist\":[\"a0\"],\"starttime\":0,\"expiration\":0}}";
 
-/// The seconds of three advances that were issued at second 5, and which second comes next after another one: 0 where none
-/// does.
+/// The seconds of three advances that were issued at second 5, and which second comes next after
+/// another one: 0 where none does.
 const TICKS: [([u64; 3], u64, u64); 9] = [
     ([3, 3, 3], 5, 8),
     ([3, 3, 3], 7, 8),

@@ -58,7 +58,8 @@ fn sequence_of(commands: &mut Commands, ask: JobAsk, row: (u32, u32, u64)) -> Re
     }
 }
 
-/// Submissions: the command, the broker and the second of each, and the sequence number that it is given.
+/// Submissions: the command, the broker and the second of each, and the sequence number that it is
+/// given.
 const SUBMITTED: [((u32, u32, u64), u64); 5] = [
     ((0, 2, 10), 0),
     ((1, 2, 10), 1),

@@ -46,8 +46,8 @@ use resource_set::Resources;
 use std::alloc::{AllocError, Global};
 use std::marker::Model;
 
-/// The services of an instance: its jobs with the core below them, and the contents. Each call goes on from whatever log both
-/// agree with.
+/// The services of an instance: its jobs with the core below them, and the contents. Each call goes
+/// on from whatever log both agree with.
 #[derive(Drop)]
 pub struct Services {
     spent: bool,
@@ -80,8 +80,8 @@ fn is_content(ask: &KvsAsk) -> bool
 }
 
 impl Services {
-    /// The services of an instance of some brokers that is born at this second, before anything has happened. Its first store
-    /// has the text of the grant.
+    /// The services of an instance of some brokers that is born at this second, before anything has
+    /// happened. Its first store has the text of the grant.
     pub fn new(
         alloc: Global,
         setting: Setting,
@@ -176,8 +176,8 @@ impl Services {
         Ok(())
     }
 
-    /// A command asks, which has asked nothing before: the contents, where it asks about them, and else the core. After an
-    /// error the services are spent.
+    /// A command asks, which has asked nothing before: the contents, where it asks about them, and
+    /// else the core. After an error the services are spent.
     pub fn ask(
         &mut self,
         by: By,
@@ -211,7 +211,8 @@ impl Services {
         self.core().can(step) || self.contents.can(step)
     }
 
-    /// The first step that can be made: a delivery by sender and receiver, then a service by broker, then a landing.
+    /// The first step that can be made: a delivery by sender and receiver, then a service by
+    /// broker, then a landing.
     pub fn next(&self) -> Option<KvsStep>
         requires { self.now.spent ≡ false }
         ensures first { result ≡ slice_get (possible self.now) 0 }
@@ -254,8 +255,8 @@ impl Services {
         Ok(events)
     }
 
-    /// Makes a step: the core does where it can, and else the contents do; and tells what happened. After an error the
-    /// services are spent.
+    /// Makes a step: the core does where it can, and else the contents do; and tells what happened.
+    /// After an error the services are spent.
     pub fn turn(&mut self, step: KvsStep) -> Result<KvsEvents, CoreFault>
         requires ready { self.old.spent ≡ false }
         requires can { can_step self.old step ≡ true }
@@ -318,8 +319,8 @@ impl Services {
         }
     }
 
-    /// Issues a job command at its broker. Its text tells no job whose command begins an instance (Flux RFC 14). After an
-    /// error the services are spent.
+    /// Issues a job command at its broker. Its text tells no job whose command begins an instance
+    /// (Flux RFC 14). After an error the services are spent.
     pub fn issue(&mut self, by: By, rank: u32, ask: JobAsk) -> Result<(), AllocError>
         requires ready { self.old.spent ≡ false }
         requires may { MayIssue self.old.jobs by rank ask }
@@ -340,7 +341,8 @@ impl Services {
         Ok(())
     }
 
-    /// Tells an open job command what became of it, and gives what it is told. After an error the services are spent.
+    /// Tells an open job command what became of it, and gives what it is told. After an error the
+    /// services are spent.
     pub fn reply(&mut self, by: By) -> Result<Told, AllocError>
         requires ready { self.old.spent ≡ false }
         requires can { can_reply self.old.jobs by ≡ true }
@@ -357,7 +359,8 @@ impl Services {
         Ok(told)
     }
 
-    /// Posts what was found to be due, which then waits in the key-value service to land. After an error the services are spent.
+    /// Posts what was found to be due, which then waits in the key-value service to land. After an
+    /// error the services are spent.
     pub fn post(&mut self) -> Result<(), CoreFault>
         requires ready { self.old.spent ≡ false }
         requires can { is_some self.old.jobs.found ≡ true }
@@ -397,9 +400,9 @@ impl Services {
         Ok(())
     }
 
-    /// Where nothing can go on, each broker has heard the last landing and of each live namespace; a command waits for a
-    /// number that hasn't landed, for members of a fence that haven't come, or for the result of a job that isn't over; nothing
-    /// is due, and no advance is left.
+    /// Where nothing can go on, each broker has heard the last landing and of each live namespace;
+    /// a command waits for a number that hasn't landed, for members of a fence that haven't come,
+    /// or for the result of a job that isn't over; nothing is due, and no advance is left.
     pub fn still(&self)
         requires { self.now.spent ≡ false }
         ensures quiet { (inst : Instance) (log : Log) → AgreesServices self.now inst log
