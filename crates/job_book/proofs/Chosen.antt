@@ -1,17 +1,16 @@
 -- What is found for a job of the manager's own, where no command may be carried out.
-use Rattle.std.proofs.Common.{ℕ, List, Option, Some, None}
+use Rattle.std.proofs.Common.{Option, Some, None}
 use Rattle.std.specs.List.{AllByRecursion as Each}
 use Rattle.job_rules.proofs.Among.{among_from, each_at}
-use Rattle.std.specs.Prelude.{Contains, IfNone, IfSome}
+use Rattle.std.specs.Prelude.{Contains}
 use Rattle.manager_rules.specs.declared.asked.Asked.{Asked}
 use Rattle.manager_rules.specs.Deeds.{Deed, Validates, Adds, Removes, Loses, Depends, Prioritizes, NeverFits, Takes, Starts, Finishes, Expires, Stops, Releases, Frees, Cleans, Carries}
 use Rattle.manager_rules.specs.declared.due.Due.{Due}
-use Rattle.manager_rules.specs.Dependencies.{IsHead}
 use Rattle.manager_rules.specs.Due.{IsDue, MayCarry, MayDo}
 use Rattle.manager_rules.specs.Jobs.{StoredJob}
 use Rattle.manager_rules.specs.Scene.{Scene}
 use Rattle.job_book.specs.Actions.{Finds}
-use Rattle.job_book.specs.Choices.{Chooses, IsFirstOf}
+use Rattle.job_book.specs.Choices.{Chooses}
 use Rattle.job_book.specs.declared.action.Action.{Action}
 
 pub chosen : (s : Scene) (j : StoredJob) (found : Option Action) → Finds s j found → ((asked : Asked) → Contains s.asked asked → MayCarry j asked → ⊥) → Chooses s j found
@@ -35,11 +34,6 @@ chosen s j None finds none = at
     at Frees m = finds Frees tt m
     at Cleans m = finds Cleans tt m
     at (Carries asked) m = none asked m.0 m.1
-
--- what a look-up of the first says
-pub first_of_option : (jobs : List StoredJob) (o : Option ℕ) → IfSome o (IsHead jobs) → IfNone o ((id : ℕ) → IsHead jobs id → ⊥) → IsFirstOf jobs o
-first_of_option jobs (Some id) some none = some
-first_of_option jobs None some none = none
 
 -- where nothing is due for each of the jobs, nothing is
 pub none_due : (s : Scene) → Each (λ j. (deed : Deed) → MayDo s j deed → ⊥) s.jobs → (due : Due) → IsDue s due → ⊥

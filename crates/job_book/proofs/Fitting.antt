@@ -1,58 +1,27 @@
 -- The units that a job takes, and where it takes none.
-use Rattle.std.proofs.Common.{◌≡◌, ◌<◌, ◌≤◌, ◌⊎◌, inl, inr, ℕ, true, List, [], ◌∷◌, Option, Some, None, Ok, refl, sym, ap, ◌∙◌, subst, arith}
-use Rattle.std.specs.List.{list_all, AllByRecursion as Each}
-use Rattle.std.proofs.lemmas.Bool.{and_parts}
-use Rattle.hostlist.specs.Names.{AreHostNames, is_host_name}
-use Rattle.job_rules.specs.declared.hold.Hold.{Hold}
+use Rattle.std.proofs.Common.{◌≡◌, ◌<◌, ◌≤◌, ◌⊎◌, inl, inr, ℕ, List, Option, Some, None, Ok, sym, ap, ◌∙◌, subst, arith}
+use Rattle.hostlist.specs.Names.{AreHostNames}
 use Rattle.job_rules.specs.Fits as fits
-use Rattle.job_rules.proofs.Among.{Among, among_from, among_map}
-use Rattle.job_spec.specs.Sound.{IsCount, IsSpec}
 use Rattle.job_spec.specs.declared.spec.JobSpec.{JobSpec}
-use Rattle.std.specs.Prelude.{IfSome}
 use Rattle.resource_set.specs.Reading.{told}
 use Rattle.resource_set.specs.Units.{host_names}
 use Rattle.resource_set.specs.Valid.{IsR}
 use Rattle.resource_set.specs.Writing.{r_text}
 use Rattle.resource_set.specs.declared.node.Node.{Node}
 use Rattle.resource_set.specs.declared.node.Resources.{Resources}
+use Rattle.graph_match.proofs.Named.{names_within}
 use Rattle.graph_match.specs.Allotment.{Allotment}
 use Rattle.graph_match.specs.Answers.{AreFirstFit}
 use Rattle.manager_rules.specs.Dependencies.{IsHead}
 use Rattle.manager_rules.specs.Due.{IsFirstFit}
 use Rattle.manager_rules.specs.Jobs.{StoredJob}
 use Rattle.manager_rules.specs.Scene.{Scene}
-use Rattle.job_book.specs.Choices.{IsFirstOf, IsSeen}
+use Rattle.job_book.specs.Choices.{IsSeen}
+use Rattle.job_book.specs.Waiting.{IsFirstOf}
 use Rattle.job_book.specs.declared.decisions.Desk.{Desk}
+use Rattle.job_book.proofs.Heads.{head_none}
 
-pub spec_of : (spec : JobSpec) → IsSpec spec → fits.IsSpec spec
-spec_of spec is = record {
-  slots = is.slots;
-  cores = is.cores;
-  gpus = is.gpus;
-  nodes = λ count e. (subst (λ o. IfSome o IsCount) e is.nodes).0;
-}
-
--- ---- names
-
-name_at : (grant : List Node) → AreHostNames (host_names grant) → (n : Node) → Among n grant → is_host_name n.host ≡ true
-name_at [] h n i = absurd i
-name_at (x ∷ xs) h n i =
-    let parts = and_parts (is_host_name x.host) (list_all is_host_name (host_names xs)) h in
-    elim i [
-      | inl e ↦ ap (λ m. is_host_name m.host) (sym e) ∙ parts.0
-      | inr k ↦ name_at xs parts.1 n k
-    ]
-
-free_names : (grant : List Node) (live : List Hold) → AreHostNames (host_names grant) → (n : Node) → Among n (fits.free_of grant live) → is_host_name n.host ≡ true
-free_names grant live h n i =
-    let hit = among_map (fits.without_nodes (fits.nodes_of live)) grant n i in
-    ap (λ m. is_host_name m.host) (sym hit.2) ∙ name_at grant h hit.0 hit.1
-
-pub names_within : (grant : List Node) (live : List Hold) (nodes : List Node) → AreHostNames (host_names grant) → Each (fits.IsWithin (fits.free_of grant live)) nodes → AreHostNames (host_names nodes)
-names_within grant live [] h w = refl
-names_within grant live (x ∷ xs) h w =
-    let here : is_host_name x.host ≡ true = ap is_host_name w.0.2.host ∙ free_names grant live h w.0.0 (among_from (fits.free_of grant live) w.0.0 w.0.1) in
-    rw here (names_within grant live xs h w.1)
+-- ---- units that are taken
 
 pub taken_are_r : (g : Allotment) (spec : JobSpec) (now : ℕ) (r : Resources) → AreHostNames (host_names g.grant) → AreFirstFit g spec now r → IsR r
 taken_are_r g spec now r h fit = record { hosts = fit.free.hosts; named = names_within g.grant g.live r.nodes h fit.free.inside }
@@ -69,7 +38,7 @@ one_head jobs a b mine other = by mine.0 other.0 (mine.3 b other.0 other.1) (oth
     by p q (inr x) (inr y) = omega (arith, x.1, y.1)
 
 pub other_head : (jobs : List StoredJob) (head : Option ℕ) (id : ℕ) → IsFirstOf jobs head → (head ≡ Some id → ⊥) → IsHead jobs id → ⊥
-other_head jobs None id f differ h = f id h
+other_head jobs None id f differ h = head_none jobs f id h
 other_head jobs (Some first) id f differ h = differ (ap Some (one_head jobs first id f h))
 
 pub is_head : (jobs : List StoredJob) (head : Option ℕ) (id : ℕ) → IsFirstOf jobs head → head ≡ Some id → IsHead jobs id

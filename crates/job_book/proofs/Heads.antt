@@ -1,105 +1,28 @@
--- The first of a walk over the jobs is the head of the queue.
-use Rattle.std.proofs.Common.{◌≡◌, ℕ, ◌+◌, ◌<◌, ◌≤◌, ◌==◌, Bool, true, false, cond, ◌⊎◌, inl, inr, List, [], ◌∷◌, ◌++◌, Option, Some, None, refl, sym, ap, ◌∙◌, subst, arith}
-use Rattle.std.specs.Prelude.{if◌then◌else◌, nat_lt, option_map}
-use Rattle.std.specs.List.{cons_option, fold}
+-- The greatest of the waiting jobs is the head of the queue.
+use Rattle.std.proofs.Common.{◌≡◌, ℕ, ◌+◌, ◌<◌, ◌≤◌, ◌==◌, Bool, true, false, cond, ◌⊎◌, inl, inr, List, [], ◌∷◌, Option, Some, None, refl, sym, ap, ◌∙◌, subst, arith}
+use Rattle.std.specs.Prelude.{Contains, if◌then◌else◌, option_map}
+use Rattle.std.specs.List.{cons_option}
 use Rattle.std.specs.List.Sorted.{IsStrictlyIncreasing}
 use Rattle.std.specs.BTreeMap.{is_at}
 use Rattle.std.specs.Ordering.{nat_cmp}
-use Rattle.std.proofs.lemmas.Bool.{ltb-true, ltb-false}
 use Rattle.std.proofs.lemmas.Bool.Decides.{nat_tests}
-use Rattle.std.proofs.lemmas.List.{append_assoc, append-nil}
-use Rattle.job_rules.proofs.Among.{Among, among_append, among_left, among_right}
+use Rattle.job_rules.proofs.Among.{Among, contains_from}
 use Rattle.job_queue.specs.Queue.{priority_of}
 use Rattle.job_states.specs.Table.{is_state}
 use Rattle.job_states.specs.declared.job.State.TheVariants as state
 use Rattle.manager_rules.specs.Dependencies.{IsHead, queue_of, queued}
 use Rattle.manager_rules.specs.Jobs.{StoredJob, ids_of}
 use Rattle.graph_match.proofs.Holds.{RiseFrom, rise_of}
-use Rattle.job_book.specs.Waiting.{most_of, sooner_of, waits_with}
-use Rattle.job_book.specs.declared.waiting.First.{First}
+use Rattle.job_book.specs.Waiting.{waits_with}
 
--- what is said of the first so far
-pub record IsMost (jobs : List StoredJob) (first : First) : Type 0 where
+-- what is said of the first
+pub record IsMost (jobs : List StoredJob) (id p : ℕ) : Type 0 where
   pub j : StoredJob
   pub known : Among j jobs
-  pub named : j.id ≡ first.id
-  pub ranked : waits_with j ≡ first.priority
-  pub above : 0 < first.priority
-  pub most : (k : StoredJob) → Among k jobs → (waits_with k < first.priority) ⊎ ((waits_with k ≡ first.priority) × (first.id ≤ k.id))
-
-abbrev pub IsBest : List StoredJob → Option First → Type 0
-IsBest jobs None = (k : StoredJob) → Among k jobs → waits_with k ≡ 0
-IsBest jobs (Some first) = IsMost jobs first
-
-bounded : (jobs : List StoredJob) (first : Option First) → IsBest jobs first → (k : StoredJob) → Among k jobs → waits_with k ≤ most_of first
-bounded jobs None best k i = omega (arith, best k i)
-bounded jobs (Some first) best k i = elim (best.most k i) [
-  | inl less ↦ omega (arith, less)
-  | inr same ↦ omega (arith, same.0)
-]
-
-best_with : (jobs : List StoredJob) (j : StoredJob) (first : Option First) → ((k : StoredJob) → Among k jobs → k.id < j.id) → IsBest jobs first → IsBest (jobs ++ j ∷ []) (sooner_of first j)
-best_with jobs j first below best = at (nat_lt (most_of first) (waits_with j)) refl
-  where
-    kept : (o : Option First) → IsBest jobs o → waits_with j ≤ most_of o → IsBest (jobs ++ j ∷ []) o
-    kept None all h = λ k i. elim (among_append jobs (j ∷ []) k i) [
-      | inl old ↦ all k old
-      | inr new ↦ elim new [ inl e ↦ let low : waits_with j ≤ 0 = h in omega (arith, low, ap waits_with e) | inr none ↦ absurd none ]
-    ]
-    kept (Some f) all h = record {
-      j = all.j;
-      known = among_left jobs (j ∷ []) all.j all.known;
-      named = all.named;
-      ranked = all.ranked;
-      above = all.above;
-      most = λ k i. elim (among_append jobs (j ∷ []) k i) [
-        | inl old ↦ all.most k old
-        | inr new ↦ elim new [
-          | inl e ↦ one k e (waits_with j == f.priority) refl
-          | inr none ↦ absurd none
-        ]
-      ];
-    }
-      where
-        one : (k : StoredJob) → j ≡ k → (b : Bool) → (waits_with j == f.priority) ≡ b → (waits_with k < f.priority) ⊎ ((waits_with k ≡ f.priority) × (f.id ≤ k.id))
-        one k e true t = let same : waits_with j ≡ f.priority = grind (arith, nat_tests) in inr (sym (ap waits_with e) ∙ same, omega (arith, below all.j all.known, all.named, ap (λ x. x.id) e))
-        one k e false t = let other : waits_with j < f.priority = grind (arith, nat_tests) in inl (omega (arith, other, ap waits_with e))
-
-    at : (b : Bool) → nat_lt (most_of first) (waits_with j) ≡ b → IsBest (jobs ++ j ∷ []) (if b then Some (record { id = j.id; priority = waits_with j }) else first)
-    at true t =
-        let more : most_of first < waits_with j = ltb-true _ _ t in
-        record {
-          j = j;
-          known = among_right jobs (j ∷ []) j (inl refl);
-          named = refl;
-          ranked = refl;
-          above = omega (arith, more);
-          most = λ k i. elim (among_append jobs (j ∷ []) k i) [
-            | inl old ↦ inl (omega (arith, more, bounded jobs first best k old))
-            | inr new ↦ elim new [
-              | inl e ↦ inr (sym (ap waits_with e), omega (arith, ap (λ x. x.id) e))
-              | inr none ↦ absurd none
-            ]
-          ];
-        }
-    at false t = kept first best (ltb-false _ _ t)
-
-best_after : (seen rest : List StoredJob) (first : Option First) (n : ℕ) → ((k : StoredJob) → Among k seen → k.id < n) → RiseFrom n (ids_of rest) → IsBest seen first → IsBest (seen ++ rest) (fold sooner_of first rest)
-best_after seen [] first n below r best = subst (λ xs. IsBest xs first) (sym (append-nil seen)) best
-best_after seen (j ∷ more) first n below r best =
-    subst (λ xs. IsBest xs (fold sooner_of (sooner_of first j) more)) (append_assoc seen (j ∷ []) more)
-    (best_after (seen ++ j ∷ []) more (sooner_of first j) (j.id + 1)
-    (λ k i. elim (among_append seen (j ∷ []) k i) [
-      | inl old ↦ omega (arith, below k old, r.0)
-      | inr new ↦ elim new [ inl e ↦ omega (arith, ap (λ x. x.id) e) | inr none ↦ absurd none ]
-    ])
-    r.1
-    (best_with seen j first (λ k i. omega (arith, below k i, r.0)) best))
-
-pub best_of : (jobs : List StoredJob) → IsStrictlyIncreasing (ids_of jobs) → IsBest jobs (fold sooner_of None jobs)
-best_of jobs rising = best_after [] jobs None 0 (λ k i. absurd i) (rise_of 0 (ids_of jobs) (λ w. omega arith) rising) (λ k i. absurd i)
-
--- ---- the queue
+  pub named : j.id ≡ id
+  pub ranked : waits_with j ≡ p
+  pub above : 0 < p
+  pub most : (k : StoredJob) → Among k jobs → (waits_with k < p) ⊎ ((waits_with k ≡ p) × (id ≤ k.id))
 
 same_key : (id other : ℕ) → is_at (nat_cmp id) other ≡ (id == other)
 same_key id other = grind (arith, nat_tests)
@@ -181,11 +104,11 @@ queue_has n (x ∷ xs) j p r i w = elim i [
         let t : is_at (nat_cmp j.id) q.0 ≡ false = grind (arith, nat_tests) in
         rw t e
 
-pub head_some : (jobs : List StoredJob) (first : First) → IsStrictlyIncreasing (ids_of jobs) → IsMost jobs first → IsHead jobs first.id
-head_some jobs first rising m =
+pub head_some : (jobs : List StoredJob) (id p : ℕ) → IsStrictlyIncreasing (ids_of jobs) → IsMost jobs id p → IsHead jobs id
+head_some jobs id p rising m =
     let waits = so_waits m.j (omega (arith, m.ranked, m.above)) in
     let here = queue_has 0 jobs m.j (waits_with m.j) (rise_of 0 (ids_of jobs) (λ w. omega arith) rising) m.known waits in (
-      first.priority,
+      p,
       ap (priority_of (queue_of jobs)) (sym m.named) ∙ here ∙ ap Some m.ranked,
       m.above,
       λ other q e.
@@ -197,7 +120,7 @@ head_some jobs first rising m =
           ],
     )
 
-pub head_none : (jobs : List StoredJob) → IsBest jobs None → (id : ℕ) → IsHead jobs id → ⊥
-head_none jobs best id h =
+pub head_none : (jobs : List StoredJob) → ((k : StoredJob) → Contains jobs k → waits_with k ≡ 0) → (id : ℕ) → IsHead jobs id → ⊥
+head_none jobs none id h =
     let k = in_queue jobs id h.0 h.1 in
-    omega (arith, best k.j k.known, waits_so k.j h.0 k.waits, h.2)
+    omega (arith, none k.j (contains_from jobs k.j k.known), waits_so k.j h.0 k.waits, h.2)

@@ -1,11 +1,14 @@
 -- A book once an event that was due has landed.
 use Rattle.std.proofs.lemmas.List.{get_or_default}
-use Rattle.std.proofs.Common.{◌≡◌, ℕ, Bool, true, false, List, length, get_or, set, Option, Some, None, refl, sym, ap, ◌∙◌, subst, inl, inr}
+use Rattle.std.proofs.Common.{◌≡◌, ℕ, Bool, true, false, List, length, get_or, set, Option, Some, None, refl, sym, ap, ◌∙◌, subst, inl, inr, arith}
 use Rattle.std.specs.Prelude.{◌⊎◌, ◌<◌, ◌^◌, Contains, IfSome, if◌then◌else◌}
 use Rattle.std.specs.List.Sorted.{IsStrictlyIncreasing}
 use Rattle.std.specs.Result.{result_ok}
 use Rattle.graph_match.specs.Allotment.{Allotment}
+use Rattle.graph_match.proofs.Holds.{rise_of}
+use Rattle.graph_match.proofs.Named.{names_within}
 use Rattle.job_rules.proofs.Among.{Among, among_from, among_mapped, contains_from, distinct_rising, each_at, same_image}
+use Rattle.job_rules.proofs.Lying.{read_is}
 use Rattle.job_spec.specs.Sound.{IsSpec}
 use Rattle.job_states.specs.Changes.{change_of}
 use Rattle.job_states.specs.Table.{made}
@@ -18,6 +21,7 @@ use Rattle.resource_set.specs.declared.node.Resources.{Resources}
 use Rattle.tap.specs.declared.Ask.{Ask}
 use Rattle.manager_rules.specs.declared.asked.Asked.{Asked}
 use Rattle.manager_rules.specs.declared.due.Due.{Due}
+use Rattle.manager_rules.specs.Dependencies.{job_at}
 use Rattle.manager_rules.specs.Deeds.{Deed, Validates, Adds, Removes, Loses, Depends, Prioritizes, NeverFits, Takes, Starts, Finishes, Expires, Stops, Releases, Frees, Cleans, Carries, change_by, due_of, r_given}
 use Rattle.manager_rules.specs.Due.{MayDo}
 use Rattle.manager_rules.specs.Jobs.{StoredJob, ids_of, is_live}
@@ -27,14 +31,17 @@ use Rattle.manager_rules.specs.Sound.{HoldsInTime, holds_of}
 use Rattle.manager_rules.proofs.Allowed.{due_is_allowed}
 use Rattle.manager_rules.proofs.Landing.{with_event_ids}
 use Rattle.manager_rules.proofs.Soundness.{stays_in_time, stays_sound}
+use Rattle.job_book.specs.Active.{AreActive, is_active, left_with}
 use Rattle.job_book.specs.Contract.{WasDue, after_event}
 use Rattle.job_book.specs.Kept.{IsBook, IsRanked, allotted}
 use Rattle.job_book.specs.Landing.{CanHold, CanLand, IsNext, IsTold, given_by, given_in, held_by, held_with, holding_with, job_with}
 use Rattle.job_book.specs.Value.{BookValue, scene_of}
+use Rattle.job_book.specs.Waiting.{rank_of, waits_with}
 use Rattle.job_book.specs.declared.landing.Held.{Held}
 use Rattle.job_book.specs.declared.landing.Held.TheVariants.{AsBefore, Nothing, Given}
 use Rattle.job_book.specs.declared.landing.Next.{Next}
-use Rattle.job_book.proofs.Fitting.{names_within, spec_of}
+use Rattle.job_book.proofs.Actives.{active_after, due_active}
+use Rattle.job_book.proofs.Queues.{job_among}
 use Rattle.job_book.proofs.Stepping.{after_ranked, done_is, each_after, holds_kept, holds_less, holds_more, not_held, set_is}
 
 -- an alloc alone gives resources
@@ -153,7 +160,7 @@ module _ (book : BookValue) (g : Allotment) (is : IsBook book g) (now : ℕ) (as
     after : (next : Next) → IsNext j (due_of now j deed) next → IsBook (after_event (due_of now j deed) book) (holding_with g j.id next.held)
     after next n =
         let rising : IsStrictlyIncreasing (ids_of (with_event (due_of now j deed) book.jobs)) = subst IsStrictlyIncreasing (sym (with_event_ids (due_of now j deed) book.jobs)) is.kept.rising in
-        let spec = spec_of j.spec (each_at (λ k. IsSpec k.spec) book.jobs j is.kept.specs here) in
+        let spec = read_is j.spec (each_at (λ k. IsSpec k.spec) book.jobs j is.kept.specs here) in
         let r : (event_done (due_of now j deed) j).r ≡ held_with next.held j.r = ap (λ x. x.r) (sym (done_is j (due_of now j deed) next n)) in
         record {
           kept = record {
@@ -225,6 +232,9 @@ module _ {book : BookValue} {g : Allotment} {due : Due} {at : ℕ} {j : StoredJo
   named_so : j.id ≡ due.job
   named_so = ap (λ k. k.id) r.read ∙ r.named
 
+  pub read_job : job_at book.jobs due.job ≡ Some j
+  read_job = subst (λ n. job_at book.jobs n ≡ Some j) named_so (job_among 0 book.jobs (rise_of 0 (ids_of book.jobs) (λ w. omega arith) r.is.kept.rising) j there)
+
   pub read_land : CanLand j due
   read_land = can_land book g r.is due r.was j there named_so
 
@@ -235,5 +245,15 @@ module _ {book : BookValue} {g : Allotment} {due : Due} {at : ℕ} {j : StoredJo
     pub read_after : IsBook (after_event due book) (holding_with g due.job next.held)
     read_after = book_after book g r.is due r.was j there named_so next n
 
+    pub read_rank : waits_with (event_done due j) ≡ rank_of next.job
+    read_rank = sym (ap waits_with (done_is j due next n))
+
     pub read_jobs : set book.jobs at (job_with next (get_or book.jobs at j)) ≡ with_event due book.jobs
     read_jobs = jobs_are book g r.is due r.was at j next r.within r.named (subst (λ k. IsNext k due next) r.read n)
+
+    pub read_active : (old new : List ℕ) → AreActive book.jobs old → new ≡ left_with due.job next.job old → AreActive (with_event due book.jobs) new
+    read_active old new are left =
+        let mine = the_job book g r.is due r.was j there named_so in
+        active_after due book.jobs old new j are (λ k i e. sym mine ∙ the_job book g r.is due r.was k i e)
+        (subst (λ k. is_active k ≡ true) mine (due_active (scene_of book r.was.now r.was.asked r.was.answer) r.was.is.j r.was.is.deed r.was.is.may))
+        (left ∙ ap (λ k. left_with due.job k.job old) (done_is j due next n))

@@ -1,3 +1,4 @@
+pub mod Actives
 pub mod Ahead
 pub mod Chosen
 pub mod Fitting
@@ -6,8 +7,10 @@ pub mod Held
 pub mod Landed
 pub mod Lists
 pub mod Places
+pub mod Queues
 pub mod Rest
 pub mod Stepping
 pub mod Submitted
 pub mod Trying
 pub mod Whys
+pub mod Wakes

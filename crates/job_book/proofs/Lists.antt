@@ -1,6 +1,7 @@
 -- Searches up to a place, and lists that grow by one.
-use Rattle.std.proofs.Common.{◌≡◌, ℕ, suc, zero, ◌+◌, ◌<◌, Bool, true, false, cond, List, [], ◌∷◌, length, get_or, take, Option, Some, None, refl, ap, subst, arith}
+use Rattle.std.proofs.Common.{◌≡◌, ℕ, suc, zero, ◌+◌, ◌<◌, Bool, true, false, cond, List, [], ◌∷◌, length, get_or, take, Option, Some, None, Result, Ok, Err, refl, ap, subst, arith}
 use Rattle.std.specs.Prelude.{find}
+use Rattle.std.specs.Result.{is_err, is_ok}
 use Rattle.std.specs.List.{AllByRecursion as Each}
 
 module _ {A : Type 0} where
@@ -37,3 +38,7 @@ module _ {A : Type 0} where
 pub none_of : {A : Type 0} (o : Option A) → ((x : A) → o ≡ Some x → ⊥) → o ≡ None
 none_of None f = refl
 none_of (Some x) f = absurd (f x refl)
+
+pub is_ok_then : {A E : Type 0} (r : Result A E) → is_err r ≡ false → is_ok r ≡ true
+is_ok_then (Ok x) h = refl
+is_ok_then (Err x) h = absurd (cc)

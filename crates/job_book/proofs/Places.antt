@@ -23,16 +23,17 @@ ids_rise jobs r i j d h w = elim (cases_lt i j) [
   | inr above ↦ let same : i ≡ j = omega (arith, above, h) in subst (λ k. (get_or jobs i d).id ≤ (get_or jobs k d).id) same (omega arith)
 ]
 
-pub each_before : (P : StoredJob → Type 0) (at : ℕ) (jobs : List StoredJob) → at ≤ length jobs → ((k : ℕ) (d : StoredJob) → k < at → P (get_or jobs k d)) → Each P (take at jobs)
-each_before P zero jobs h f = tt
-each_before P (suc at) [] h f = tt
-each_before P (suc at) (x ∷ xs) h f = (f 0 x (omega arith), each_before P at xs (omega (arith, h)) (λ k d w. f (suc k) d (omega (arith, w))))
+module _ {A : Type 0} where
+  pub each_before : (P : A → Type 0) (at : ℕ) (jobs : List A) → at ≤ length jobs → ((k : ℕ) (d : A) → k < at → P (get_or jobs k d)) → Each P (take at jobs)
+  each_before P zero jobs h f = tt
+  each_before P (suc at) [] h f = tt
+  each_before P (suc at) (x ∷ xs) h f = (f 0 x (omega arith), each_before P at xs (omega (arith, h)) (λ k d w. f (suc k) d (omega (arith, w))))
 
-pub each_after : (P : StoredJob → Type 0) (at : ℕ) (jobs : List StoredJob) → ((k : ℕ) (d : StoredJob) → at ≤ k → k < length jobs → P (get_or jobs k d)) → Each P (drop at jobs)
-each_after P zero [] f = tt
-each_after P zero (x ∷ xs) f = (f 0 x (omega arith) (omega arith), each_after P zero xs (λ k d h w. f (suc k) d (omega arith) (omega (arith, w))))
-each_after P (suc at) [] f = tt
-each_after P (suc at) (x ∷ xs) f = each_after P at xs (λ k d h w. f (suc k) d (omega (arith, h)) (omega (arith, w)))
+  pub each_after : (P : A → Type 0) (at : ℕ) (jobs : List A) → ((k : ℕ) (d : A) → at ≤ k → k < length jobs → P (get_or jobs k d)) → Each P (drop at jobs)
+  each_after P zero [] f = tt
+  each_after P zero (x ∷ xs) f = (f 0 x (omega arith) (omega arith), each_after P zero xs (λ k d h w. f (suc k) d (omega arith) (omega (arith, w))))
+  each_after P (suc at) [] f = tt
+  each_after P (suc at) (x ∷ xs) f = each_after P at xs (λ k d h w. f (suc k) d (omega (arith, h)) (omega (arith, w)))
 
 -- the job at the place of an id, or none
 pub found_at : (jobs : List StoredJob) (id at : ℕ) (d : StoredJob) → Each (λ j. j.id < id) (take at jobs) → at < length jobs → (get_or jobs at d).id ≡ id → job_at jobs id ≡ Some (get_or jobs at d)

@@ -1,16 +1,10 @@
 -- Why a job doesn't run.
-use Rattle.std.proofs.Common.{◌≡◌, ◌≢◌, ℕ, ◌==◌, Bool, true, false, cond, not, List, [], ◌∷◌, map, Option, Some, None, refl, sym, ap, ◌∙◌, subst, inl, inr}
+use Rattle.std.proofs.Common.{◌≡◌, ◌≢◌, ℕ, ◌==◌, Bool, true, false, cond, List, [], ◌∷◌, Option, Some, None, refl, sym, ap, ◌∙◌, subst, inl, inr}
 use Rattle.std.specs.Prelude.{Contains, IfOk, IsSome, Result, Ok, Err}
 use Rattle.std.proofs.lemmas.Bool.{eq-eqb, eqb-true}
-use Rattle.job_rules.proofs.Among.{Among, among_append, among_filter, among_flat, among_flattened, among_from, among_left, among_map, among_mapped, among_right, contains_from}
-use Rattle.job_rules.specs.Fits as fits
-use Rattle.job_rules.specs.Fits.{CanFit, IsGrant, NeverFits, first_fit, free_of, left_on, nodes_of, without_nodes}
-use Rattle.job_rules.specs.declared.hold.Hold.{Hold}
-use Rattle.job_rules.proofs.Sets.{free_is, none_exactly}
-use Rattle.job_spec.specs.declared.spec.JobSpec.{JobSpec}
+use Rattle.job_rules.proofs.Among.{Among, among_from, contains_from}
 use Rattle.job_states.specs.Table.{is_state}
 use Rattle.job_states.specs.declared.job.State.TheVariants as state
-use Rattle.resource_set.specs.Units.{LiesIn, ResourceUnit, core_of, gpu_of, units_of, units_of_node}
 use Rattle.resource_set.specs.declared.node.Node.{Node}
 use Rattle.manager_rules.specs.Dependencies.{job_at}
 use Rattle.manager_rules.specs.declared.why.Why.{Why}
@@ -19,37 +13,6 @@ use Rattle.manager_rules.specs.Jobs.{StoredJob, ids_of}
 use Rattle.manager_rules.specs.Whys.{IsSaidOf, IsWhy}
 use Rattle.job_book.specs.Kept.{IsRanked}
 use Rattle.job_book.specs.Waiting.{waits_with}
-
--- ---- free units are units of the grant
-
-node_lies : (taken : List Node) (g : Node) (unit : ResourceUnit) → Among unit (units_of_node (without_nodes taken g)) → Among unit (units_of_node g)
-node_lies taken g unit i = elim (among_append (map (core_of g) (left_on (λ n. n.cores) taken g)) (map (gpu_of g) (left_on (λ n. n.gpus) taken g)) unit i) [
-  | inl c ↦
-      let hit = among_map (core_of g) (left_on (λ n. n.cores) taken g) unit c in
-      among_left (map (core_of g) g.cores) (map (gpu_of g) g.gpus) unit (subst (λ u. Among u (map (core_of g) g.cores)) hit.2 (among_mapped (core_of g) g.cores hit.0 (among_filter (λ id. not (fits.has_unit (λ n. n.cores) taken g.host id)) g.cores hit.0 hit.1).0))
-  | inr u ↦
-      let hit = among_map (gpu_of g) (left_on (λ n. n.gpus) taken g) unit u in
-      among_right (map (core_of g) g.cores) (map (gpu_of g) g.gpus) unit (subst (λ u. Among u (map (gpu_of g) g.gpus)) hit.2 (among_mapped (gpu_of g) g.gpus hit.0 (among_filter (λ id. not (fits.has_unit (λ n. n.gpus) taken g.host id)) g.gpus hit.0 hit.1).0))
-]
-
-free_lies : (grant taken : List Node) → LiesIn (map (without_nodes taken) grant) grant
-free_lies grant taken unit c =
-    let hit = among_flat units_of_node (map (without_nodes taken) grant) unit (among_from (units_of (map (without_nodes taken) grant)) unit c) in
-    let from = among_map (without_nodes taken) grant hit.0 hit.1 in
-    let here : Among unit (units_of_node (without_nodes taken from.0)) = subst (λ n. Among unit (units_of_node n)) (sym from.2) hit.2 in
-    contains_from (units_of grant) unit (among_flattened units_of_node grant from.0 unit from.1 (node_lies taken from.0 unit here))
-
--- what never fits doesn't fit now
-never_now : (spec : JobSpec) (grant : List Node) (live : List Hold) → NeverFits spec grant → CanFit spec grant (free_of grant live) → ⊥
-never_now spec grant live never can = never (record {
-  nodes = can.nodes;
-  set = can.set;
-  inside = λ unit c. free_lies grant (nodes_of live) unit (can.inside unit c);
-  satisfied = can.satisfied;
-})
-
-pub never_first : (spec : JobSpec) (grant : List Node) (live : List Hold) → fits.IsSpec spec → IsGrant grant → NeverFits spec grant → first_fit spec grant (free_of grant live) ≡ None
-never_first spec grant live is g never = (none_exactly spec grant (free_of grant live) is (free_is grant (nodes_of live) g)).1 (never_now spec grant live never)
 
 -- ---- the queue
 

@@ -7,20 +7,15 @@ use Rattle.resource_set.specs.Units.{host_names}
 use Rattle.resource_set.specs.Writing.{r_text}
 use Rattle.resource_set.specs.declared.node.Resources.{Resources}
 use Rattle.manager_rules.specs.Deeds.{Deed}
-use Rattle.manager_rules.specs.Dependencies.{IsHead}
 use Rattle.manager_rules.specs.Due.{MayDo}
 use Rattle.manager_rules.specs.Jobs.{StoredJob, ids_of}
 use Rattle.manager_rules.specs.Scene.{Scene}
 use Rattle.manager_rules.specs.Sound.{holds_of}
 use Rattle.job_book.specs.Actions.{deed_of}
+use Rattle.job_book.specs.Waiting.{IsFirstOf}
 use Rattle.job_book.specs.declared.action.Action.{Action}
 use Rattle.job_book.specs.declared.action.Action.TheVariants.{Take}
 use Rattle.job_book.specs.declared.decisions.Desk.{Desk}
-
--- the first in the queue, if one is
-abbrev pub IsFirstOf : List StoredJob → Option ℕ → Type 0
-IsFirstOf jobs None = (id : ℕ) → IsHead jobs id → ⊥
-IsFirstOf jobs (Some id) = IsHead jobs id
 
 -- the jobs' ids rise, the first in the queue is known, and the grant's hosts have names
 pub record IsDesk (desk : Desk) : Type 0 where

@@ -1,19 +1,25 @@
--- The first of the waiting jobs, found by a walk in order of id.
-use Rattle.std.specs.Prelude.{ℕ, Option, Some, None, nat_lt, unwrap_or, if◌then◌else◌}
+-- The queue: each job with the priority with which it waits for resources.
+use Rattle.std.specs.Prelude.{◌≡◌, ℕ, List, Option, Some, None, Contains, option_map, unwrap_or, if◌then◌else◌}
+use Rattle.job_queue.specs.Queue.{priority_of}
 use Rattle.job_states.specs.Table.{is_state}
+use Rattle.job_states.specs.declared.job.Job.{Job}
 use Rattle.job_states.specs.declared.job.State.TheVariants as state
+use Rattle.manager_rules.specs.Dependencies.{IsHead, job_at}
 use Rattle.manager_rules.specs.Jobs.{StoredJob}
-use Rattle.job_book.specs.declared.waiting.First.{First}
 
 -- the priority with which a job waits, or 0
+abbrev pub rank_of : Job → ℕ
+rank_of job = if is_state job.state state.Sched then unwrap_or job.priority 0 else 0
+
 abbrev pub waits_with : StoredJob → ℕ
-waits_with j = if is_state j.job.state state.Sched then unwrap_or j.job.priority 0 else 0
+waits_with j = rank_of j.job
 
-abbrev pub most_of : Option First → ℕ
-most_of None = 0
-most_of (Some first) = first.priority
+-- each job stands there with its own
+abbrev pub IsQueueOf : List StoredJob → List (ℕ × ℕ) → Type 0
+IsQueueOf jobs queue =
+    (id : ℕ) → priority_of queue id ≡ option_map waits_with (job_at jobs id)
 
--- the first so far, once a job of a greater id is seen
-abbrev pub sooner_of : Option First → StoredJob → Option First
-sooner_of first j = if nat_lt (most_of first) (waits_with j)
-    then Some (record { id = j.id; priority = waits_with j }) else first
+-- the first in the queue, if a job waits with a priority above 0
+abbrev pub IsFirstOf : List StoredJob → Option ℕ → Type 0
+IsFirstOf jobs None = (j : StoredJob) → Contains jobs j → waits_with j ≡ 0
+IsFirstOf jobs (Some id) = IsHead jobs id

@@ -2,7 +2,6 @@ ghost use Rattle.std.specs.Prelude.{◌≡◌, [], ℕ, All, Contains, IfNone, I
 ghost use Rattle.std.specs.Option.{option_copied};
 ghost use Rattle.std.specs.Fn.{FnReturnsAt};
 ghost use Rattle.job_spec.specs.Sound.{IsSpec};
-ghost use Rattle.job_rules.specs.Fits.{HasIdSets};
 ghost use Rattle.resource_set.specs.Valid.{IsR};
 ghost use Rattle.tap.specs.Priorities.{AnswersOnce};
 ghost use Rattle.manager_rules.specs.Dependencies.{job_at};
@@ -14,20 +13,23 @@ ghost use Rattle.job_book.specs.Contract.{BeginsAsOne, Finds, Gains, IsFirstBirt
 ghost use Rattle.job_book.specs.Contract.{KnowsNeeds, NoBirth, WasDue, after_event, r_at, seconds_left};
 
 use crate::action::due;
+use crate::active::{enter, leave, place_of_active};
 use crate::decisions::{Desk, choice};
 use crate::landing::{change_at, hold, next_of};
 use crate::reasons::reason;
 use crate::row::{Row, find, place_in, place_of};
 use crate::seconds::{first_bearing, next_of_rows};
-use crate::waiting::head;
+use crate::waiting::rank;
+use crate::waking::wake_of;
 use event_log::Event;
 use graph_match::Graph;
+use job_queue::Queue;
 use job_spec::JobSpec;
 use job_states::{Job, ReplayFault, begin};
 use job_texts::needs_of;
 use lists::Copied;
 use manager_rules::{Due, JobList, OpenList, Why};
-use resource_set::{Node, Resources};
+use resource_set::Resources;
 use std::alloc::{AllocError, Global};
 use std::marker::Model;
 use tap::{Ask, Tap};
@@ -40,6 +42,10 @@ pub struct Book {
     graph: Graph,
     /// By rising ids.
     rows: Vec<Row>,
+    /// Each job with the priority with which it waits for resources, which is 0 where it doesn't.
+    queue: Queue,
+    /// The ids of the jobs that aren't over, rising.
+    active: Vec<u64>,
 }
 
 impl Model for Book {
@@ -47,27 +53,14 @@ impl Model for Book {
 
     ghost Value = { BookValue };
 
+    ghost use Rattle.job_book.specs.Active.{AreActive};
     ghost use Rattle.job_book.specs.Kept.{IsBook};
+    ghost use Rattle.job_book.specs.Waiting.{IsQueueOf};
 
     ghost view = { λ b. record { grant = b.grant; jobs = b.rows.items } };
 
-    ghost invariant = { λ b. IsBook (record { grant = b.grant; jobs = b.rows.items }) b.graph };
-}
-
-/// The hosts of a grant have sets of cores and GPUs.
-fn have_sets(nodes: &[Node])
-    ensures { All HasIdSets nodes.now }
-{
-    for node in nodes {
-        has_sets(node);
-    }
-}
-
-fn has_sets(node: &Node)
-    ensures { HasIdSets node.now }
-{
-    let _ = node.cores.count();
-    let _ = node.gpus.count();
+    ghost invariant = { λ b. IsBook (record { grant = b.grant; jobs = b.rows.items }) b.graph
+        × IsQueueOf b.rows.items b.queue.0 × AreActive b.rows.items b.active.items };
 }
 
 impl Book {
@@ -76,11 +69,14 @@ impl Book {
         requires { IsR grant.now }
         ensures { IfOk result (λ b. b ≡ record { grant = grant.now; jobs = [] }) }
     {
-        have_sets(grant.nodes.as_slice());
+        let graph = Graph::new(alloc, grant)?;
+        graph.keeps();
         Ok(Book {
             grant: grant.copy()?,
-            graph: Graph::new(alloc, grant)?,
+            graph,
             rows: Vec::new(alloc),
+            queue: Queue::new(alloc),
+            active: Vec::new(alloc),
         })
     }
 
@@ -96,7 +92,13 @@ impl Book {
     {
         let row = new_row(*self.rows.allocator(), id, spec, event)?;
         let at = place_of(&self.rows, id);
-        self.rows.insert(at, row)?;
+        self.rows.reserve(1)?;
+        self.active.reserve(1)?;
+        self.queue.put(id, 0)?;
+        if self.rows.insert(at, row).is_err() {
+            unreachable!();
+        }
+        enter(&mut self.active, id);
         Ok(())
     }
 
@@ -118,13 +120,17 @@ impl Book {
             second: now,
             graph: &self.graph,
             rows: &self.rows,
-            head: head(&self.rows),
+            head: self.queue.head(),
             asked: asked.as_slice(),
         };
-        for row in desk.rows {
+        let mut near = 0;
+        for index in 0..self.active.len() {
+            let at = place_of_active(desk.rows, &self.active, index, near);
+            let row = &desk.rows[at];
             if let Some(action) = choice(alloc, &desk, row, tap)? {
                 return Ok(Some(due(alloc, now, row, &action)?));
             }
+            near = at + 1;
         }
         Ok(None)
     }
@@ -139,6 +145,8 @@ impl Book {
         let at = place_in(&self.rows, due.job);
         let next = next_of(*self.rows.allocator(), &self.rows[at], due)?;
         hold(&mut self.graph, due.job, &next.held)?;
+        self.queue.set_priority(due.job, rank(&next.job));
+        leave(&mut self.active, due.job, &next.job);
         change_at(&mut self.rows, at, next);
         Ok(())
     }
@@ -148,9 +156,15 @@ impl Book {
     pub fn why(&self, job: u64, now: u64) -> Result<Why, AllocError>
         ensures { IfOk result (IsWhy self.now.grant.nodes self.now.jobs job) }
     {
-        let alloc = *self.rows.allocator();
-        match find(&self.rows, job) {
-            Some(row) => reason(alloc, &self.graph, &self.rows, row, now),
+        let desk = Desk {
+            second: now,
+            graph: &self.graph,
+            rows: &self.rows,
+            head: self.queue.head(),
+            asked: &[],
+        };
+        match find(desk.rows, job) {
+            Some(row) => reason(*self.rows.allocator(), &desk, row),
             None => Ok(Why::NoJob),
         }
     }
@@ -161,7 +175,7 @@ impl Book {
         ensures some { IfSome result (IsFirstBirth self.now asked.now) }
         ensures none { IfNone result (NoBirth self.now asked.now) }
     {
-        first_bearing(&self.rows, asked.as_slice())
+        first_bearing(&self.rows, &self.active, asked.as_slice())
     }
 
     /// The next second, behind this one, at which a running job's command ends or its resources do.
@@ -169,7 +183,7 @@ impl Book {
         ensures some { IfSome result (IsLeast (seconds_left now self.now)) }
         ensures none { IfNone result (seconds_left now self.now ≡ []) }
     {
-        next_of_rows(&self.rows, now)
+        next_of_rows(&self.rows, &self.active, now)
     }
 
     /// What the log of a job says of it.
@@ -211,8 +225,9 @@ fn new_row(alloc: Global, id: u64, spec: JobSpec, event: &Event) -> Result<Row, 
     match begin(alloc, event) {
         Ok(job) => Ok(Row {
             id,
-            spec,
             needs,
+            wake: wake_of(&job, &spec, None, &None),
+            spec,
             job,
             start: None,
             r: None,

@@ -2,7 +2,7 @@
 ghost use Rattle.std.specs.Prelude.{◌≡◌, ◌↔◌, All, IfOk, IsTrue, Some};
 ghost use Rattle.std.specs.Fn.{FnReturnsAt};
 ghost use Rattle.resource_set.specs.Valid.{IsR};
-ghost use Rattle.job_rules.specs.Fits.{NeverFits};
+ghost use Rattle.job_rules.specs.Fits.{CanFit, NeverFits, free_of};
 ghost use Rattle.job_spec.specs.Sound.{IsSpec};
 ghost use Rattle.job_states.specs.declared.job.State.TheVariants as state;
 ghost use Rattle.manager_rules.specs.Scene.{IsAsked, Scene, priority_of};
@@ -17,6 +17,7 @@ use crate::dependencies::of_depend;
 use crate::priorities::priority;
 use crate::row::Row;
 use crate::states::{of_cleanup, of_run};
+use crate::waking::sleeps;
 use graph_match::{Fit, Graph};
 use job_states::State;
 use lists::Bytes;
@@ -52,7 +53,7 @@ fn goes_first(head: Option<u64>, id: u64) -> bool
     head == Some(id)
 }
 
-/// The resources of a job that goes first and fits, if they are free.
+/// The resources of a job that goes first, where they are free.
 fn first_fit(
     alloc: Global,
     desk: &Desk<'_>,
@@ -62,22 +63,26 @@ fn first_fit(
     requires spec { IsSpec row.now.spec }
     requires waits { row.now.job.state ≡ state.Sched }
     requires fits { NeverFits row.now.spec desk.now.graph.now.grant → ⊥ }
+    requires room { CanFit row.now.spec desk.now.graph.now.grant
+        (free_of desk.now.graph.now.grant desk.now.graph.now.live) }
     requires first { desk.now.head ≡ Some row.now.id }
     ensures found { IfOk result (λ found. (s : Scene) → IsSeen desk.now s
-        → row.now.job.priority ≡ Some (priority_of s row.now) → Finds s row.now found) }
+        → Finds s row.now found) }
     ensures told { IfOk result AreTold }
 {
+    desk.graph.keeps();
     match desk.graph.fit(&row.spec, desk.second)? {
         Fit::Units(r) => {
             let found = take(alloc, r)?;
             Ok(found)
         }
-        Fit::Busy(_) => Ok(None),
-        Fit::Never => Ok(None),
+        Fit::Busy(_) => unreachable!(),
+        Fit::Never => unreachable!(),
     }
 }
 
-/// What is due for a job that waits for resources with the priority that is defined for it.
+/// What is due for a job that waits for resources with the priority that is defined for it. Where the
+/// first one has no room, the jobs in its way aren't asked for.
 fn of_ranked(
     alloc: Global,
     desk: &Desk<'_>,
@@ -93,7 +98,8 @@ fn of_ranked(
     if desk.graph.never(&row.spec) {
         return Ok(Some(Action::NeverFits));
     }
-    if goes_first(desk.head, row.id) {
+    desk.graph.keeps();
+    if goes_first(desk.head, row.id) && desk.graph.has_room(&row.spec) {
         return first_fit(alloc, desk, row);
     }
     Ok(None)
@@ -149,7 +155,7 @@ fn own<F: Fn(&Ask) -> u32>(
     }
 }
 
-/// What is due for a job: a command first.
+/// What is due for a job: a command first. Most jobs that run are passed by at a glance.
 pub fn choice<'a, F: Fn(&Ask) -> u32>(
     alloc: Global,
     desk: &Desk<'a>,
@@ -165,6 +171,9 @@ pub fn choice<'a, F: Fn(&Ask) -> u32>(
         → SaysAs (FnReturnsAt F.Fn tap.now) s.answer → Chooses s row.now found) }
     ensures told { IfOk result AreTold }
 {
+    if sleeps(row, desk.second, desk.asked) {
+        return Ok(None);
+    }
     if let Some(asked) = carried(row, desk.asked) {
         return Ok(Some(Action::Carry(asked)));
     }

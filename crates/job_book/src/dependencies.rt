@@ -56,7 +56,7 @@ fn still_open(alloc: Global, row: &Row) -> Result<Needs, AllocError>
 }
 
 /// Whether a job is at its end.
-fn is_over(job: &Job) -> bool
+pub fn is_over(job: &Job) -> bool
     ensures { result ≡ is_inactive job.now }
 {
     job.state == State::Inactive

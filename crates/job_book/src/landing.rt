@@ -9,6 +9,7 @@ ghost use Rattle.job_book.specs.Landing.{CanHold, CanLand, IsNext, IsTold};
 ghost use Rattle.job_book.specs.Landing.{held_by, holding_with, job_with};
 
 use crate::row::Row;
+use crate::waking::wake_of;
 use event_log::Event;
 use graph_match::Graph;
 use job_states::{Job, ReplayFault, step};
@@ -33,32 +34,12 @@ pub struct Next {
     pub held: Held,
 }
 
-/// A copy of what a log says of a job.
-fn copy_of(job: &Job) -> Result<Job, AllocError>
-    ensures { IfOk result (λ twin. twin ≡ job.now) }
-{
-    Ok(Job {
-        state: job.state,
-        userid: job.userid,
-        urgency: job.urgency,
-        priority: job.priority,
-        status: job.status,
-        severe: job.severe,
-        allocated: job.allocated,
-        started: job.started,
-        released: job.released,
-        freed: job.freed,
-        added: job.added.copy()?,
-        removed: job.removed.copy()?,
-    })
-}
-
 /// The job after an event that may stand.
 fn job_after(alloc: Global, job: &Job, event: &Event) -> Result<Job, AllocError>
     requires { (next : JobNow) × (stepped 0 job.now event.now ≡ Ok next) }
     ensures { IfOk result (λ next. stepped 0 job.now event.now ≡ Ok next) }
 {
-    let mut next = copy_of(job)?;
+    let mut next = job.copy()?;
     match step(alloc, &mut next, event, 0) {
         Ok(()) => Ok(next),
         Err(ReplayFault::NoMemory) => Err(AllocError),
@@ -152,6 +133,7 @@ fn change(row: &mut Row, next: Next)
         Held::Nothing => row.r = None,
         Held::Given(r) => row.r = Some(r),
     }
+    row.wake = wake_of(&row.job, &row.spec, row.start, &row.r);
 }
 
 /// The same of the job at a place.

@@ -3,6 +3,7 @@
 #![tactic(auto)]
 
 mod action;
+mod active;
 pub mod book;
 mod commands;
 mod decisions;
@@ -14,6 +15,7 @@ mod row;
 mod seconds;
 mod states;
 mod waiting;
+mod waking;
 
 pub use book::Book;
 pub use manager_rules::{Asked, Due, JobList, OpenList, Why};

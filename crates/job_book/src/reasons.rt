@@ -1,15 +1,15 @@
 // Why a job doesn't run.
 ghost use Rattle.std.specs.Prelude.{◌≡◌, List, Contains, IfOk};
-ghost use Rattle.std.specs.List.Sorted.{IsStrictlyIncreasing};
 ghost use Rattle.job_rules.specs.Fits.{IsGrant};
 ghost use Rattle.job_spec.specs.Sound.{IsSpec};
-ghost use Rattle.manager_rules.specs.Jobs.{StoredJob, ids_of};
+ghost use Rattle.manager_rules.specs.Jobs.{StoredJob};
 ghost use Rattle.manager_rules.specs.Sound.{holds_of};
 ghost use Rattle.manager_rules.specs.Whys.{IsFirst, IsSaidOf};
 ghost use Rattle.job_book.specs.Kept.{IsRanked};
+ghost use Rattle.job_book.specs.Waiting.{IsFirstOf};
 
+use crate::decisions::Desk;
 use crate::row::Row;
-use crate::waiting::head;
 use graph_match::{Fit, Graph};
 use job_states::State;
 use manager_rules::{JobList, Why};
@@ -31,20 +31,15 @@ fn of_first(alloc: Global, graph: &Graph, row: &Row, now: u64) -> Result<Why, Al
 }
 
 /// Why a job of these doesn't run.
-pub fn reason(
-    alloc: Global,
-    graph: &Graph,
-    rows: &[Row],
-    row: &Row,
-    now: u64,
-) -> Result<Why, AllocError>
-    requires rising { IsStrictlyIncreasing (ids_of rows.now) }
-    requires known { Contains rows.now row.now }
+pub fn reason(alloc: Global, desk: &Desk<'_>, row: &Row) -> Result<Why, AllocError>
+    requires first { IsFirstOf desk.now.rows.now desk.now.head }
+    requires known { Contains desk.now.rows.now row.now }
     requires ranked { IsRanked row.now }
     requires spec { IsSpec row.now.spec }
-    requires grant { IsGrant graph.now.grant }
-    requires live { graph.now.live ≡ holds_of rows.now }
-    ensures { IfOk result (IsSaidOf graph.now.grant rows.now row.now) }
+    requires grant { IsGrant desk.now.graph.now.grant }
+    requires live { desk.now.graph.now.live ≡ holds_of desk.now.rows.now }
+    ensures { IfOk result
+        (IsSaidOf desk.now.graph.now.grant desk.now.rows.now row.now) }
 {
     if row.job.state != State::Sched {
         return Ok(Why::NotWaiting(row.job.state));
@@ -52,11 +47,11 @@ pub fn reason(
     if row.job.priority == Some(0) {
         return Ok(Why::Held);
     }
-    let Some(first) = head(rows) else {
+    let Some(first) = desk.head else {
         unreachable!();
     };
     if first != row.id {
         return Ok(Why::Behind(first));
     }
-    of_first(alloc, graph, row, now)
+    of_first(alloc, desk.graph, row, desk.second)
 }

@@ -12,6 +12,8 @@ use std::marker::Model;
 
 /// A job with its jobspec, its dependencies, what its log says of it, the second of its start, and
 /// its resources while it is live.
+///
+/// Contracts see the job.
 #[derive(Drop)]
 pub struct Row {
     pub id: u64,
@@ -20,10 +22,13 @@ pub struct Row {
     pub job: Job,
     pub start: Option<u64>,
     pub r: Option<Resources>,
+    /// Before this second nothing is due for it, unless a command or a child is its.
+    pub wake: u64,
 }
 
 impl Model for Row {
     ghost use Rattle.manager_rules.specs.Jobs.{StoredJob};
+    ghost use Rattle.job_book.specs.Waking.{Sleeps};
 
     ghost Value = { StoredJob };
 
@@ -35,6 +40,15 @@ impl Model for Row {
       start = row.start;
       r = row.r;
     } };
+
+    ghost invariant = { λ row. Sleeps (record {
+      id = row.id;
+      spec = row.spec;
+      needs = row.needs;
+      job = row.job;
+      start = row.start;
+      r = row.r;
+    }) row.wake };
 }
 
 /// Whether a job's id is lower.

@@ -4,8 +4,12 @@ ghost use Rattle.std.specs.Option.{option_map_or, option_to_list};
 ghost use Rattle.shells.specs.Endings.{ending_of};
 ghost use Rattle.manager_rules.specs.Scene.{has_child as has_child_in, is_child_of};
 ghost use Rattle.manager_rules.specs.Times.{command_seconds, expiry_seconds, seconds_of};
+ghost use Rattle.manager_rules.specs.Jobs.{ids_of};
+ghost use Rattle.std.specs.List.Sorted.{IsStrictlyIncreasing};
+ghost use Rattle.job_book.specs.Active.{AreActive};
 ghost use Rattle.job_book.specs.Seconds.{IsSoonest, begins_child as begins_child_at, is_bearing, sooner_of};
 
+use crate::active::place_of_active;
 use crate::row::Row;
 use job_spec::JobSpec;
 use job_states::State;
@@ -59,13 +63,19 @@ fn bears(row: &Row, asked: &[Asked]) -> bool
 }
 
 /// The first job whose child is to be born.
-pub fn first_bearing(rows: &[Row], asked: &[Asked]) -> Option<u64>
+pub fn first_bearing(rows: &[Row], active: &[u64], asked: &[Asked]) -> Option<u64>
+    requires rising { IsStrictlyIncreasing (ids_of rows.now) }
+    requires active { AreActive rows.now active.now }
     ensures { result ≡ option_map (λ j. j.id) (find (is_bearing asked.now) rows.now) }
 {
-    for row in rows {
+    let mut near = 0;
+    for index in 0..active.len() {
+        let at = place_of_active(rows, active, index, near);
+        let row = &rows[at];
         if bears(row, asked) {
             return Some(row.id);
         }
+        near = at + 1;
     }
     None
 }
@@ -123,13 +133,18 @@ fn sooner_with(now: u64, next: Option<u64>, row: &Row) -> Option<u64>
 }
 
 /// The next second at which a job's command ends or its resources do.
-pub fn next_of_rows(rows: &[Row], now: u64) -> Option<u64>
+pub fn next_of_rows(rows: &[Row], active: &[u64], now: u64) -> Option<u64>
+    requires rising { IsStrictlyIncreasing (ids_of rows.now) }
+    requires active { AreActive rows.now active.now }
     ensures { IsSoonest
         (filter (λ second. nat_lt now second) (flat_map seconds_of rows.now)) result }
 {
     let mut next = None;
-    for row in rows {
-        next = sooner_with(now, next, row);
+    let mut near = 0;
+    for index in 0..active.len() {
+        let at = place_of_active(rows, active, index, near);
+        next = sooner_with(now, next, &rows[at]);
+        near = at + 1;
     }
     next
 }

@@ -6,6 +6,6 @@ use Rattle.job_book.proofs.commands.can_carry.Goals as goal
 
 pub returns-then-job-row-3 : goal.returns-then-job-row-3
 returns-then-job-row-3 c =
-    let same = c.can_urge.ensures c.in-Urgency.urgency ∙ ap (λ j. may_stand (change.Urge c.in-Urgency.urgency) j.job) c.row.view_is in
+    let same = c.can_urge.ensures ∙ ap (λ j. may_stand (change.Urge c.in-Urgency.urgency) j.job) c.row.view_is in
     let named : c.in-Urgency.job ≡ c.args.row.now.id = search rules in
     rw c.in-Urgency.is (λ t. (named, subst IsTrue same t), λ m. subst IsTrue (sym same) m.1)

@@ -2,8 +2,7 @@ use Rattle.std.proofs.Common.{◌≡◌, None, inl, inr, subst}
 use Rattle.graph_match.specs.Answers.{Answers, IsBlocked}
 use Rattle.job_rules.specs.Fits.{AreBlockers, NeverFits, first_fit, free_of}
 use Rattle.manager_rules.specs.Sound.{holds_of}
-use Rattle.job_book.proofs.Fitting.{spec_of}
-use Rattle.job_book.proofs.Whys.{never_first}
+use Rattle.job_rules.proofs.Lying.{never_first, read_is}
 use Rattle.job_book.proofs.reasons.of_first.Goals as goal
 
 pub returns-in-Busy : goal.returns-in-Busy
@@ -22,6 +21,6 @@ returns c = λ jobs first live.
     let spec = c.args.row.now.spec in
     let never : NeverFits spec graph.grant = subst (λ j. NeverFits j.spec graph.grant) c.row.view_is (subst (Answers graph c.row.inside.spec c.args.now) c.in-Never.is c.in_ok-fit.ensures) in (
       first,
-      never_first spec graph.grant (holds_of jobs) (spec_of spec c.requires.spec) c.requires.grant never,
+      never_first spec graph.grant (holds_of jobs) (read_is spec c.requires.spec) c.requires.grant never,
       inl (never, c.new.ensures),
     )

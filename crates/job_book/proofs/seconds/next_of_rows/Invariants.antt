@@ -1,8 +1,9 @@
 use Rattle.std.proofs.Common.{take}
 use Rattle.std.specs.Prelude.{filter, flat_map, nat_lt}
 use Rattle.manager_rules.specs.Times.{seconds_of}
+use Rattle.job_book.specs.Active.{active_of}
 use Rattle.job_book.specs.Seconds.{IsSoonest}
 use Rattle.job_book.proofs.seconds.next_of_rows.Given as goal
 
-abbrev pub invariant-loop-row : goal.invariant-loop-row
-invariant-loop-row l = IsSoonest (filter (λ second. nat_lt l.now second) (flat_map seconds_of (take l.row-index l.rows))) l.next
+abbrev pub invariant-loop-index : goal.invariant-loop-index
+invariant-loop-index l = IsSoonest (filter (λ second. nat_lt l.now second) (flat_map seconds_of (take l.index (active_of l.rows)))) l.next

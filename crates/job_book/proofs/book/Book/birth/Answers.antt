@@ -11,7 +11,7 @@ found : (c : After-first_bearing) → c.first_bearing.result ≡ option_map (λ 
 found c = c.first_bearing.ensures ∙ ap₂ (λ a js. option_map (λ j. j.id) (find (is_bearing a) js)) c.as_slice.ensures (c.deref.ensures.value ∙ ap (λ v. v.jobs) c.self.view_is)
 
 pub returns-clause-some : goal.returns-clause-some
-returns-clause-some c = some_birth c.args.self.now c.args.asked.now c.first_bearing.result (subst (λ v. IsStrictlyIncreasing (ids_of v.jobs)) c.self.view_is c.self.invariant.kept.rising) (found c)
+returns-clause-some c = some_birth c.args.self.now c.args.asked.now c.first_bearing.result (subst (λ v. IsStrictlyIncreasing (ids_of v.jobs)) c.self.view_is c.self.invariant.0.kept.rising) (found c)
 
 pub returns-clause-none : goal.returns-clause-none
 returns-clause-none c = none_birth c.args.self.now c.args.asked.now c.first_bearing.result (found c)

@@ -1,26 +1,29 @@
-use Rattle.std.proofs.Common.{refl, sym, ap, ◌∙◌, subst, arith}
+use Rattle.std.proofs.Common.{◌≡◌, ◌<◌, ◌≤◌, get_or, length, refl, sym, ap, ◌∙◌, subst, arith}
 use Rattle.std.specs.Prelude.{Contains}
 use Rattle.std.specs.List.{AllByRecursion as Each}
 use Rattle.std.specs.List.Sorted.{IsStrictlyIncreasing}
 use Rattle.std.proofs.lemmas.List.{take_all}
 use Rattle.hostlist.specs.Names.{AreHostNames}
 use Rattle.resource_set.specs.Units.{host_names}
-use Rattle.manager_rules.specs.Deeds.{Deed}
+use Rattle.manager_rules.specs.Deeds.{Deed, due_of}
 use Rattle.manager_rules.specs.Due.{MayDo}
 use Rattle.manager_rules.specs.Jobs.{ids_of}
 use Rattle.job_book.specs.Actions.{deed_of}
-use Rattle.job_book.specs.Choices.{Chooses, IsFirstOf}
+use Rattle.job_book.specs.Active.{active_of}
+use Rattle.job_book.specs.Choices.{Chooses}
+use Rattle.job_book.specs.Waiting.{IsFirstOf}
 use Rattle.job_book.specs.Kept.{allotted}
 use Rattle.job_book.specs.Value.{scene_of}
-use Rattle.job_book.proofs.Chosen.{first_of_option, none_due}
-use Rattle.job_book.proofs.Lists.{each_next, none_of}
+use Rattle.job_book.proofs.Actives.{active_length, none_active_due}
+use Rattle.job_book.proofs.Lists.{each_next}
+use Rattle.job_book.proofs.Queues.{first_of}
 use Rattle.job_book.proofs.book.Book.due.Goals as goal
 
 pub choice-requires-clause-desk : goal.choice-requires-clause-desk
 choice-requires-clause-desk g c = record {
-  rising = subst (λ js. IsStrictlyIncreasing (ids_of js)) (sym c.deref.ensures.value) c.self.invariant.kept.rising;
-  head = subst (λ js. IsFirstOf js c.head.result) (c.deref-2.ensures.value ∙ sym c.deref.ensures.value) (first_of_option c.deref-2.result.now c.head.result c.head.ensures.some c.head.ensures.none);
-  named = subst (λ a. AreHostNames (host_names a.grant)) (sym c.self.invariant.graph) c.self.invariant.kept.grant.named;
+  rising = subst (λ js. IsStrictlyIncreasing (ids_of js)) (sym c.deref.ensures.value) c.self.invariant.0.kept.rising;
+  head = subst (λ js. IsFirstOf js c.head.result) (sym c.deref.ensures.value) (first_of c.self.inside.rows.items c.self.inside.queue.0 c.self.invariant.0.kept.rising c.self.invariant.1 c.head.result c.head.ensures.first c.head.ensures.none);
+  named = subst (λ a. AreHostNames (host_names a.grant)) (sym c.self.invariant.0.graph) c.self.invariant.0.kept.grant.named;
 }
 
 pub returns-in-Some : goal.returns-in-Some
@@ -31,31 +34,36 @@ returns-in-Some g c = λ answer says.
       second = refl;
       jobs = sym jobs;
       asked = sym c.as_slice.ensures;
-      graph = c.self.invariant.graph ∙ ap allotted c.self.view_is;
+      graph = c.self.invariant.0.graph ∙ ap allotted c.self.view_is;
     }) says in
     record {
-      j = c.row-item.result;
-      known = subst (λ js. Contains js c.row-item.result) jobs (c.loop-row.row-index, c.loop-row-test.true, sym c.row-item.is);
+      j = c.index-desk-at.result;
+      known = subst (λ js. Contains js c.index-desk-at.result) jobs (c.place_of_active-at.result, c.place_of_active-at.ensures.within, sym c.index-desk-at.is);
       deed = deed_of c.in-Some.action;
-      may = subst (Chooses s c.row-item.result) c.in-Some.is chosen;
-      is = c.in_ok-due.ensures;
+      may = subst (Chooses s c.index-desk-at.result) c.in-Some.is (subst (λ j. Chooses s j c.in_ok-action.field-0) (sym c.index-desk-at.is) chosen);
+      is = subst (λ j. c.in_ok-due.field-0 ≡ due_of c.args.now j (deed_of c.in-Some.action)) (sym c.index-desk-at.is) c.in_ok-due.ensures;
     }
 
-pub loop-row-preserved : goal.loop-row-preserved
-loop-row-preserved g c = λ answer says.
+pub loop-index-preserved : goal.loop-index-preserved
+loop-index-preserved g c = λ answer says.
     let s = scene_of c.args.self.now c.args.now c.args.asked.now answer in
     let jobs = c.deref.ensures.value ∙ ap (λ v. v.jobs) c.self.view_is in
+    let job = c.index-desk-at.result in
     let chosen = c.in_ok-action.ensures.found s (record {
       second = refl;
       jobs = sym jobs;
       asked = sym c.as_slice.ensures;
-      graph = c.self.invariant.graph ∙ ap allotted c.self.view_is;
+      graph = c.self.invariant.0.graph ∙ ap allotted c.self.view_is;
     }) says in
-    each_next (λ j. (deed : Deed) → MayDo s j deed → ⊥) c.deref.result.now c.loop-row.row-index c.row-item.result (c.loop-row.invariant answer says) c.loop-row-test.true c.row-item.is
-    (subst (Chooses s c.row-item.result) (none_of c.in_ok-action.field-0 c.in_default.not-Some) chosen)
+    let within : c.loop-index.index < length c.self.inside.active.items = omega (arith, c.loop-index-test.true, c.len-index-end.ensures) in
+    let short : c.loop-index.index < length (active_of c.args.self.now.jobs) = subst (λ n. c.loop-index.index < n) (active_length c.self.inside.rows.items c.self.inside.active.items c.self.invariant.2 ∙ ap (λ v. length (active_of v.jobs)) c.self.view_is) within in
+    each_next (λ j. (deed : Deed) → MayDo s j deed → ⊥) (active_of c.args.self.now.jobs) c.loop-index.index job (c.loop-index.invariant answer says) short
+    (c.index-desk-at.is ∙ c.place_of_active-at.ensures.job job ∙ ap (λ js. get_or (active_of js) c.loop-index.index job) jobs)
+    (subst (Chooses s job) c.in_default.is (subst (λ j. Chooses s j c.in_ok-action.field-0) (sym c.index-desk-at.is) chosen))
 
 pub returns : goal.returns
 returns g c = λ answer says due is.
     let s = scene_of c.args.self.now c.args.now c.args.asked.now answer in
-    let jobs = c.deref.ensures.value ∙ ap (λ v. v.jobs) c.self.view_is in
-    none_due s (subst (Each (λ j. (deed : Deed) → MayDo s j deed → ⊥)) (take_all c.loop-row.row-index c.deref.result.now (omega arith) ∙ jobs) (c.loop-row.invariant answer says)) due is
+    let past : length c.self.inside.active.items ≤ c.loop-index.index = omega (arith, c.loop-index-test.false, c.len-index-end.ensures) in
+    let all : length (active_of s.jobs) ≤ c.loop-index.index = subst (λ n. n ≤ c.loop-index.index) (active_length c.self.inside.rows.items c.self.inside.active.items c.self.invariant.2 ∙ ap (λ v. length (active_of v.jobs)) c.self.view_is) past in
+    none_active_due s (subst (Each (λ j. (deed : Deed) → MayDo s j deed → ⊥)) (take_all c.loop-index.index (active_of s.jobs) all) (c.loop-index.invariant answer says)) due is

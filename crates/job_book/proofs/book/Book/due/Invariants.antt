@@ -4,11 +4,12 @@ use Rattle.std.specs.Fn.{FnReturnsAt}
 use Rattle.tap.specs.declared.Ask.{Ask}
 use Rattle.manager_rules.specs.Deeds.{Deed}
 use Rattle.manager_rules.specs.Due.{MayDo}
+use Rattle.job_book.specs.Active.{active_of}
 use Rattle.job_book.specs.Contract.{SaysAs}
 use Rattle.job_book.specs.Value.{scene_of}
 use Rattle.job_book.proofs.book.Book.due.Given as goal
 
 -- nothing is due for the jobs so far
-abbrev pub invariant-loop-row : goal.invariant-loop-row
-invariant-loop-row g l = (answer : Ask → ℕ) → SaysAs (FnReturnsAt g.F.Fn l.initial.tap) answer
-    → Each (λ j. (deed : Deed) → MayDo (scene_of l.initial.self l.initial.now l.initial.asked answer) j deed → ⊥) (take l.row-index l.row-items)
+abbrev pub invariant-loop-index : goal.invariant-loop-index
+invariant-loop-index g l = (answer : Ask → ℕ) → SaysAs (FnReturnsAt g.F.Fn l.initial.tap) answer
+    → Each (λ j. (deed : Deed) → MayDo (scene_of l.initial.self l.initial.now l.initial.asked answer) j deed → ⊥) (take l.index (active_of l.initial.self.jobs))

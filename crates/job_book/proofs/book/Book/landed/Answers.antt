@@ -1,13 +1,17 @@
 use Rattle.std.proofs.Common.{◌≡◌, ◌<◌, length, get_or, sym, ap, ◌∙◌, subst}
+use Rattle.std.specs.Prelude.{is_some, option_map}
+use Rattle.job_book.specs.Active.{AreActive}
 use Rattle.job_book.specs.Contract.{WasDue, after_event}
 use Rattle.job_book.specs.Kept.{IsBook}
-use Rattle.job_book.proofs.Landed.{IsRead, read_after, read_hold, read_jobs, read_land}
+use Rattle.job_book.specs.Waiting.{IsQueueOf, waits_with}
+use Rattle.job_book.proofs.Landed.{IsRead, read_active, read_after, read_hold, read_job, read_jobs, read_land, read_rank}
+use Rattle.job_book.proofs.Queues.{queue_after}
 use Rattle.job_book.proofs.book.Book.landed.Goals.{After-index, After-next_of, After-change_at}
 use Rattle.job_book.proofs.book.Book.landed.Goals as goal
 
 read : (c : After-index) → IsRead (record { grant = c.self.inside.grant; jobs = c.self.inside.rows.items }) c.self.inside.graph c.args.due.now c.place_in-at.result c.index.result.now
 read c = record {
-  is = c.self.invariant;
+  is = c.self.invariant.0;
   was = subst (λ v. WasDue v c.args.due.now) (sym c.self.view_is) c.requires;
   within = subst (λ js. c.place_in-at.result < length js) c.deref.ensures.value c.place_in-at.ensures.within;
   named = subst (λ js. (get_or js c.place_in-at.result c.index.result.now).id ≡ c.args.due.now.job) c.deref.ensures.value (c.place_in-at.ensures.named c.index.result.now);
@@ -23,8 +27,18 @@ hold-requires c = read_hold (read (goal.at.hold-requires c).After-index) c.in_ok
 pub invariant_of-self-2 : goal.invariant_of-self-2
 invariant_of-self-2 c =
     let r = read (goal.at.invariant_of-self-2 c).After-index in
-    subst (λ js. IsBook (record { grant = c.self.inside.grant; jobs = js }) c.hold.new.graph) (sym (c.change_at.ensures c.index.result.now ∙ read_jobs r c.in_ok-next.next c.in_ok-next.ensures))
-    (subst (IsBook (after_event c.args.due.now (record { grant = c.self.inside.grant; jobs = c.self.inside.rows.items }))) (sym c.in_ok-hold.ensures.held) (read_after r c.in_ok-next.next c.in_ok-next.ensures))
+    let rows = c.self.inside.rows.items in
+    let next = c.in_ok-next.next in
+    let jobs = c.change_at.ensures c.index.result.now ∙ read_jobs r next c.in_ok-next.ensures in
+    let there = c.self.invariant.1 c.args.due.now.job ∙ ap (option_map waits_with) (read_job r) in
+    let changes = c.set_priority.ensures.changed (c.set_priority.ensures.found ∙ ap is_some there) in (
+      subst (λ js. IsBook (record { grant = c.self.inside.grant; jobs = js }) c.hold.new.graph) (sym jobs)
+          (subst (IsBook (after_event c.args.due.now (record { grant = c.self.inside.grant; jobs = rows }))) (sym c.in_ok-hold.ensures.held) (read_after r next c.in_ok-next.ensures)),
+      subst (λ js. IsQueueOf js c.set_priority.new.self.0) (sym jobs)
+          (queue_after c.args.due.now rows c.self.inside.queue.0 c.set_priority.new.self.0 c.index.result.now c.rank.result c.self.invariant.1 (read_job r) (read_rank r next c.in_ok-next.ensures ∙ sym c.rank.ensures) changes),
+      subst (λ js. AreActive js c.leave.new.active.items) (sym jobs)
+          (read_active r next c.in_ok-next.ensures c.self.inside.active.items c.leave.new.active.items c.self.invariant.2 c.leave.ensures),
+    )
 
 pub returns-clause-done : goal.returns-clause-done
 returns-clause-done c =

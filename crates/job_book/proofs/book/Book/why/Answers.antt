@@ -5,7 +5,9 @@ use Rattle.job_spec.specs.Sound.{IsSpec}
 use Rattle.manager_rules.specs.Dependencies.{job_at}
 use Rattle.manager_rules.specs.Whys.{IsSaidOf, IsWhy}
 use Rattle.job_book.specs.Kept.{IsRanked}
+use Rattle.job_book.specs.Waiting.{IsFirstOf}
 use Rattle.job_book.proofs.Held.{each_found}
+use Rattle.job_book.proofs.Queues.{first_of}
 use Rattle.job_book.proofs.Whys.{found_job, no_job, said_ok}
 use Rattle.job_book.proofs.book.Book.why.Goals.{In-Some}
 use Rattle.job_book.proofs.book.Book.why.Goals as goal
@@ -13,22 +15,27 @@ use Rattle.job_book.proofs.book.Book.why.Goals as goal
 found : (c : In-Some) → job_at c.self.inside.rows.items c.args.job ≡ Some c.in-Some.row.now
 found c = subst (λ js. job_at js c.args.job ≡ Some c.in-Some.row.now) c.deref.ensures.value (sym c.find.ensures ∙ ap (option_map (λ row. row.now)) c.in-Some.is)
 
+pub reason-requires-clause-first : goal.reason-requires-clause-first
+reason-requires-clause-first c =
+    subst (λ js. IsFirstOf js c.head.result) (sym c.deref.ensures.value)
+    (first_of c.self.inside.rows.items c.self.inside.queue.0 c.self.invariant.0.kept.rising c.self.invariant.1 c.head.result c.head.ensures.first c.head.ensures.none)
+
 pub reason-requires-clause-known : goal.reason-requires-clause-known
 reason-requires-clause-known c =
     let rows = c.self.inside.rows.items in
-    subst (λ js. Contains js c.in-Some.row.now) (sym c.deref-in-Some.ensures.value) (contains_from rows c.in-Some.row.now (found_job rows c.args.job c.in-Some.row.now (found (goal.at.reason-requires-clause-known c).In-Some)).0)
+    subst (λ js. Contains js c.in-Some.row.now) (sym c.deref.ensures.value) (contains_from rows c.in-Some.row.now (found_job rows c.args.job c.in-Some.row.now (found (goal.at.reason-requires-clause-known c).In-Some)).0)
 
 pub reason-requires-clause-ranked : goal.reason-requires-clause-ranked
-reason-requires-clause-ranked c = each_found IsRanked c.self.inside.rows.items c.self.invariant.ranked c.args.job c.in-Some.row.now (found (goal.at.reason-requires-clause-ranked c).In-Some)
+reason-requires-clause-ranked c = each_found IsRanked c.self.inside.rows.items c.self.invariant.0.ranked c.args.job c.in-Some.row.now (found (goal.at.reason-requires-clause-ranked c).In-Some)
 
 pub reason-requires-clause-spec : goal.reason-requires-clause-spec
-reason-requires-clause-spec c = each_found (λ j. IsSpec j.spec) c.self.inside.rows.items c.self.invariant.kept.specs c.args.job c.in-Some.row.now (found (goal.at.reason-requires-clause-spec c).In-Some)
+reason-requires-clause-spec c = each_found (λ j. IsSpec j.spec) c.self.inside.rows.items c.self.invariant.0.kept.specs c.args.job c.in-Some.row.now (found (goal.at.reason-requires-clause-spec c).In-Some)
 
 pub returns-in-Some : goal.returns-in-Some
 returns-in-Some c =
     let rows = c.self.inside.rows.items in
     let grant = c.self.inside.grant.nodes in
-    let said : IfOk c.reason.result (IsSaidOf grant rows c.in-Some.row.now) = subst (λ a. IfOk c.reason.result (IsSaidOf a.grant rows c.in-Some.row.now)) c.self.invariant.graph (subst (λ js. IfOk c.reason.result (IsSaidOf c.self.inside.graph.grant js c.in-Some.row.now)) c.deref-in-Some.ensures.value c.reason.ensures) in
+    let said : IfOk c.reason.result (IsSaidOf grant rows c.in-Some.row.now) = subst (λ a. IfOk c.reason.result (IsSaidOf a.grant rows c.in-Some.row.now)) c.self.invariant.0.graph (subst (λ js. IfOk c.reason.result (IsSaidOf c.self.inside.graph.grant js c.in-Some.row.now)) c.deref.ensures.value c.reason.ensures) in
     subst (λ v. IfOk c.reason.result (IsWhy v.grant.nodes v.jobs c.args.job)) c.self.view_is (said_ok grant rows c.in-Some.row.now c.args.job (found (goal.at.returns-in-Some c).In-Some) c.reason.result said)
 
 pub returns-in-None : goal.returns-in-None
