@@ -6,9 +6,9 @@ mod Families
 mod Ahead
 mod Tallies
 mod Lining
-mod Childless
 mod Waiting
 mod Given
+mod Childless
 mod Results
 mod News
 mod Serving

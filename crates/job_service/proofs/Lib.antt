@@ -1,12 +1,14 @@
 mod Facts
 mod Owing
 mod Calls
+mod Bearing
 mod Counting
 mod Judging
 mod Landed
 mod Outgoing
 mod Issuing
 mod Turning
+mod Born
 mod Ticking
 mod Held
 mod Staying

@@ -13,7 +13,6 @@ mod service;
 mod tests;
 mod time;
 
-pub use children::asks_no_child;
 pub use laws::what_waits_stays_due;
 pub use refusals::Refused;
 pub use service::JobService;
