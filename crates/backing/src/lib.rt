@@ -5,8 +5,6 @@
 mod keeper;
 mod memory;
 mod sql;
-#[cfg(test)]
-mod tests;
 
 use fl_digest::{BlobRef, Root};
 pub use keeper::{KeepFault, Keeper};

@@ -6,16 +6,18 @@ use crate::Check;
 use crate::keeper::{KeepFault, Keeper};
 use fl_digest::{BlobRef, Root};
 use lists::Bytes;
+use sqlite::types::ValueRef;
 use sqlite::{Connection, Error, ErrorCode, File, FileStore, Row, params};
 use std::alloc::{AllocError, Global};
 use std::marker::Model;
 
 type Database = Connection<FileStore<File>>;
 
-const TABLES: &str =
-    "CREATE TABLE IF NOT EXISTS blob (reference BLOB PRIMARY KEY, bytes BLOB NOT NULL) STRICT; \
-CREATE TABLE IF NOT EXISTS mark (place INTEGER PRIMARY KEY CHECK (place = 1), reference BLOB NOT NULL, \
-number INTEGER NOT NULL, second INTEGER NOT NULL) STRICT";
+const BLOBS: &str =
+    "CREATE TABLE IF NOT EXISTS blob (reference BLOB PRIMARY KEY, bytes BLOB NOT NULL) STRICT";
+
+const MARKS: &str = "CREATE TABLE IF NOT EXISTS mark (place INTEGER PRIMARY KEY CHECK (place = 1), \
+reference BLOB NOT NULL, number INTEGER NOT NULL, second INTEGER NOT NULL) STRICT";
 
 /// A keeper over a file of SQLite: one table of blobs, and one of the last check. It tells nothing, and counts each refusal
 /// but want of memory as a fault. That a file holds what was written is trusted.
@@ -39,27 +41,58 @@ impl Model for SqlKeeper {
     } };
 }
 
-// The calls of SQLite stand in functions without clauses, so that no proof carries the state of a database.
+// Each call of SQLite stands in a function of its own without clauses, so that no proof carries the state of a database,
+// and each call's types are gone through once.
 
-/// The file with its two tables.
-fn open(rt: &HostRuntime, path: &str) -> Result<Database, Error> {
-    let mut database = Connection::open(rt, path)?;
-    database.execute_batch(TABLES)?;
-    Ok(database)
+/// Runs a statement that gives no rows.
+fn run(database: &mut Database, sql: &str, values: &[ValueRef<'_>]) -> Result<(), Error> {
+    database.execute(sql, values)?;
+    Ok(())
 }
 
-/// The bytes under the name of a reference, if there are any.
-fn blob(database: &mut Database, name: &[u8]) -> Result<Option<Vec<u8>>, Error> {
-    match database.query_row("SELECT bytes FROM blob WHERE reference = ?1", params![name]) {
-        Ok(row) => Ok(Some(row.get(0)?)),
+/// The first row of a query, if there is one.
+fn row_of(
+    database: &mut Database,
+    sql: &str,
+    values: &[ValueRef<'_>],
+) -> Result<Option<Row>, Error> {
+    match database.query_row(sql, values) {
+        Ok(row) => Ok(Some(row)),
         Err(Error::QueryReturnedNoRows) => Ok(None),
         Err(error) => Err(error),
     }
 }
 
+fn add_tables(database: &mut Database) -> Result<(), Error> {
+    run(database, BLOBS, &[])?;
+    run(database, MARKS, &[])
+}
+
+/// The file with its two tables.
+fn open(rt: &HostRuntime, path: &str) -> Result<Database, Error> {
+    let mut database = Connection::open(rt, path)?;
+    add_tables(&mut database)?;
+    Ok(database)
+}
+
+/// The bytes under the name of a reference, if there are any.
+fn blob(database: &mut Database, name: &[u8]) -> Result<Option<Vec<u8>>, Error> {
+    match row_of(
+        database,
+        "SELECT bytes FROM blob WHERE reference = ?1",
+        params![name],
+    )? {
+        Some(row) => Ok(Some(row.get(0)?)),
+        None => Ok(None),
+    }
+}
+
 fn add_blob(database: &mut Database, name: &[u8], bytes: &[u8]) -> Result<(), Error> {
-    database.execute("INSERT INTO blob VALUES (?1, ?2)", params![name, bytes])?;
-    Ok(())
+    run(
+        database,
+        "INSERT INTO blob VALUES (?1, ?2)",
+        params![name, bytes],
+    )
 }
 
 /// Puts the check in the place of the one before, in one statement. A number of 2^63 or more has no place in a table.
@@ -67,11 +100,11 @@ fn set_check(database: &mut Database, name: &[u8], check: Check) -> Result<(), E
     let too_big = Error::SqliteFailure(ErrorCode::TooBig);
     let number = i64::try_from(check.root.number).map_err(|_| too_big)?;
     let second = i64::try_from(check.second).map_err(|_| too_big)?;
-    database.execute(
+    run(
+        database,
         "INSERT OR REPLACE INTO mark VALUES (1, ?1, ?2, ?3)",
         params![name, number, second],
-    )?;
-    Ok(())
+    )
 }
 
 /// The check of a row, or that the table is spoilt.
@@ -90,10 +123,9 @@ fn check_of(row: &Row) -> Result<Check, Error> {
 }
 
 fn last_check(database: &mut Database) -> Result<Option<Check>, Error> {
-    match database.query_row("SELECT reference, number, second FROM mark", &[]) {
-        Ok(row) => Ok(Some(check_of(&row)?)),
-        Err(Error::QueryReturnedNoRows) => Ok(None),
-        Err(error) => Err(error),
+    match row_of(database, "SELECT reference, number, second FROM mark", &[])? {
+        Some(row) => Ok(Some(check_of(&row)?)),
+        None => Ok(None),
     }
 }
 

@@ -5,9 +5,6 @@ ghost use Rattle.std.specs.Prelude.{◌≡◌, ◌↔◌, [], None, IfErr, OnOk,
 ghost use Rattle.std.specs.Option.{option_map};
 ghost use Rattle.blob_store.specs.Blobs.{blob_at, stored, handed_back, lent, IsClash, HasOther, StandOnce};
 
-#[cfg(test)]
-mod tests;
-
 use fl_digest::BlobRef;
 use indexmap::IndexMap;
 use lists::Bytes;

@@ -9,8 +9,6 @@ ghost use Rattle.cache_node.specs.Order.{Names, is_pinned, unpinned_bytes, fille
 ghost use Rattle.cache_node.specs.Cache.{HasDropped, IsSound, empty_cache, dirty_at, held_at, clean_at, any_at, stored, refused, acknowledged, with_clean, with_pin, without_pin};
 
 mod content;
-#[cfg(test)]
-mod tests;
 mod use_order;
 
 pub use content::Held;

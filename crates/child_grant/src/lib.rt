@@ -1,9 +1,6 @@
 //! The resources of a child instance: those of the job that starts it, at ranks from 0 on (Flux RFC 20).
 #![tactic(auto)]
 
-#[cfg(test)]
-mod tests;
-
 ghost use Rattle.std.specs.Prelude.{◌≡◌, IfOk};
 ghost use Rattle.resource_set.specs.Units.{units_of};
 ghost use Rattle.resource_set.specs.Valid.{IsR};

@@ -5,8 +5,6 @@ pub mod laws;
 mod rows;
 mod service;
 mod serving;
-#[cfg(test)]
-mod tests;
 
 pub use rows::{ContentAsk, Row, Stage};
 pub use service::ContentService;

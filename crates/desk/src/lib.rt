@@ -8,6 +8,3 @@ mod machine;
 pub use held::{Finished, Held};
 pub use lanes::work;
 pub use machine::Machine;
-
-#[cfg(test)]
-mod tests;

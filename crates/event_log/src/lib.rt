@@ -3,8 +3,6 @@
 
 pub mod event;
 pub mod reading;
-#[cfg(test)]
-mod tests;
 pub mod writing;
 
 pub use event::{Event, LogFault};

@@ -6,8 +6,6 @@ pub mod fields;
 pub mod laws;
 pub mod numbers;
 pub mod reading;
-#[cfg(test)]
-mod tests;
 
 pub use faults::JsonFault;
 pub use fields::{field, list, number, word};

@@ -7,8 +7,6 @@ pub mod generator;
 pub mod laws;
 pub mod printer;
 pub mod reader;
-#[cfg(test)]
-mod tests;
 
 pub use faults::FluidFault;
 pub use forms::Form;

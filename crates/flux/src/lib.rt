@@ -6,8 +6,6 @@ mod ending;
 mod notices;
 mod playing;
 mod reading;
-#[cfg(test)]
-mod tests;
 
 pub use call::{Fault, Run, flux};
 pub use ending::{closing_notice, command_words, exit_status, run_without_memory};

@@ -108,14 +108,26 @@ fn run(alloc: Global, options: Options, work: Workload) -> Result<Played, CoreFa
     ensures valid { OnOk result (IsInstance (instance_of (setup_of options work))) }
 {
     let mut world = begun(alloc, options, work)?;
-    make_steps(&mut world)?;
+    // a fault lets go of the world by a call: in place it is some six minutes of proof
+    match make_steps(&mut world) {
+        Ok(()) => (),
+        Err(fault) => {
+            drop(world);
+            return Err(fault);
+        }
+    }
     world.quiet();
     world.steps();
-    let text = output(alloc, options, world.work(), world.chronicle())?;
-    Ok(Played {
-        text,
-        ended: world.finish(),
-    })
+    match output(alloc, options, world.work(), world.chronicle()) {
+        Ok(text) => Ok(Played {
+            text,
+            ended: world.finish(),
+        }),
+        Err(fault) => {
+            drop(world);
+            Err(fault.into())
+        }
+    }
 }
 
 /// Runs a workload to its end. Its jobs stay sound, and their logs only grow.

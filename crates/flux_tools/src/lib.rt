@@ -4,8 +4,6 @@
 
 pub mod faults;
 mod lines;
-#[cfg(test)]
-mod tests;
 pub mod tools;
 
 pub use faults::ToolFault;

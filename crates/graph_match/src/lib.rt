@@ -9,8 +9,6 @@ pub mod pool;
 pub mod racks;
 pub mod rooms;
 pub mod spot;
-#[cfg(test)]
-mod tests;
 
 pub use fit::{Fit, JobList};
 pub use graph::Graph;

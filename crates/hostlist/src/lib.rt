@@ -7,8 +7,6 @@ pub mod names;
 mod parts;
 mod printing;
 mod reading;
-#[cfg(test)]
-mod tests;
 
 pub use faults::HostFault;
 pub use list::HostList;

@@ -6,8 +6,6 @@ pub mod printer;
 pub mod ranges;
 pub mod reader;
 pub mod set;
-#[cfg(test)]
-mod tests;
 
 pub use faults::IdFault;
 pub use ranges::IdRange;

@@ -5,8 +5,6 @@ mod actors;
 mod floors;
 mod jobs;
 mod seats;
-#[cfg(test)]
-mod tests;
 mod unfinished;
 
 pub use actors::Instance;

@@ -12,8 +12,6 @@ mod reasons;
 mod row;
 mod seconds;
 mod states;
-#[cfg(test)]
-mod tests;
 mod waiting;
 
 pub use book::Book;

@@ -2,8 +2,6 @@
 #![tactic(auto)]
 
 pub mod laws;
-#[cfg(test)]
-mod tests;
 pub mod ticks;
 
 pub use laws::{

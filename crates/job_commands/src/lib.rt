@@ -8,8 +8,6 @@ mod labels;
 pub mod laws;
 pub mod row;
 pub mod tally;
-#[cfg(test)]
-mod tests;
 
 pub use ask::{JobAsk, Key, Named, NamedList};
 pub use child::Child;

@@ -3,8 +3,6 @@
 
 pub mod laws;
 pub mod number;
-#[cfg(test)]
-mod tests;
 
 pub use laws::{
     posts_carry_out_open_commands, what_is_posted_lands_as_it_is_due,

@@ -3,4 +3,3 @@ mod Landing
 mod Due
 mod Following
 mod Steps
-mod Tested

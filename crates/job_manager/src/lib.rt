@@ -6,8 +6,6 @@ pub mod keys;
 pub mod laws;
 pub mod manager;
 pub mod post;
-#[cfg(test)]
-mod tests;
 mod txns;
 
 pub use keys::{log_path, r_path, spec_path};

@@ -6,8 +6,6 @@ pub mod laws;
 mod open_table;
 pub mod queue;
 mod ranks;
-#[cfg(test)]
-mod tests;
 
 pub use dependencies::{Open, Outcome, Scheme, Settled};
 pub use queue::Queue;

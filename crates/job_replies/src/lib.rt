@@ -5,8 +5,6 @@ mod jobs;
 pub mod laws;
 pub mod ready;
 pub mod telling;
-#[cfg(test)]
-mod tests;
 
 pub use laws::what_is_told_is_legal;
 pub use ready::is_ready;

@@ -14,4 +14,3 @@ mod Held
 mod Staying
 mod Resting
 mod Left
-mod Tested

@@ -8,7 +8,6 @@ pub mod Due
 pub mod Judged
 pub mod Posted
 pub mod Landed
-pub mod Tested
 pub mod View
 pub mod Times
 pub mod Still

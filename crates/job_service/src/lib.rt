@@ -9,8 +9,6 @@ mod posting;
 mod refusals;
 mod rest;
 mod service;
-#[cfg(test)]
-mod tests;
 mod time;
 
 pub use laws::what_waits_stays_due;

@@ -8,8 +8,6 @@ mod limits;
 pub mod reading;
 mod resources;
 pub mod spec;
-#[cfg(test)]
-mod tests;
 mod works;
 
 pub use faults::{Place, SpecFault};

@@ -6,8 +6,6 @@ pub mod job;
 pub mod laws;
 pub mod replaying;
 mod table;
-#[cfg(test)]
-mod tests;
 
 pub use job::{Change, DependList, Job, ReplayFault, State};
 pub use laws::{a_refusal_stays, beginnings_of_logs_replay, one_event_more_is_one_step};

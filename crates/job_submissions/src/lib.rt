@@ -6,8 +6,6 @@ pub mod events;
 pub mod faults;
 pub mod laws;
 pub mod posting;
-#[cfg(test)]
-mod tests;
 
 pub use events::submit_event;
 pub use faults::{Fault, fault_of};

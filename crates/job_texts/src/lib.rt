@@ -3,8 +3,6 @@
 #![tactic(auto)]
 
 mod needs;
-#[cfg(test)]
-mod tests;
 mod texts;
 
 pub use needs::needs_of;

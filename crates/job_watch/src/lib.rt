@@ -2,8 +2,6 @@
 #![tactic(auto)]
 
 mod show;
-#[cfg(test)]
-mod tests;
 mod watcher;
 
 pub use show::Show;

@@ -4,8 +4,6 @@
 mod contents;
 mod node;
 mod offers;
-#[cfg(test)]
-mod tests;
 mod wants;
 
 pub use contents::{Answer, Contents, Delivery, Load, Loaded, Stored};

@@ -3,8 +3,6 @@
 #![tactic(auto)]
 
 mod rows;
-#[cfg(test)]
-mod tests;
 
 pub use rows::{
     Joiner, Kind, Row, Stage, Work, awaited, carry, dismiss, entry, falling, first_held,

@@ -343,6 +343,13 @@ fn vacant() -> Stage
     }
 }
 
+/// Puts a request at another stage. It drops the old one by a call, which costs each proof above less than an assignment.
+fn set_stage(row: &mut Row, stage: Stage)
+    ensures { row.new ≡ with_stage stage row.old }
+{
+    drop(replace(&mut row.stage, stage));
+}
+
 /// Puts a request at another stage, and gives the stage where it was.
 pub fn restage(rows: &mut Vec<Row>, i: usize, stage: Stage) -> Stage
     requires { i < length rows.old.items }
@@ -358,8 +365,7 @@ pub fn put_stage(rows: &mut Vec<Row>, i: usize, stage: Stage)
     requires { i < length rows.old.items }
     ensures { IsPut rows.old.items rows.new.items i stage }
 {
-    let row = &mut rows[i];
-    row.stage = stage;
+    set_stage(&mut rows[i], stage);
 }
 
 /// Puts a request that has come to rank 0 at another stage, and gives the transaction that it commits.
@@ -458,7 +464,7 @@ pub fn carry(rows: &mut Vec<Row>, fanout: u32, from: u32, to: u32)
             let row = &mut rows[i];
             let home = row.broker;
             let stage = replace(&mut row.stage, vacant());
-            row.stage = onward(stage, fanout, to, home);
+            set_stage(row, onward(stage, fanout, to, home));
         }
         None => unreachable!(),
     }
@@ -540,7 +546,7 @@ pub fn give(
 {
     let row = &mut rows[i];
     let stage = replace(&mut row.stage, vacant());
-    row.stage = answer(stage, known, ended, store)?;
+    set_stage(row, answer(stage, known, ended, store)?);
     Ok(())
 }
 
@@ -581,7 +587,7 @@ fn settle_row(row: &mut Row, groups: &GroupList, space: usize, number: u64)
 {
     if is_author(groups, row.by) {
         let stage = replace(&mut row.stage, vacant());
-        row.stage = landed(stage, space, number);
+        set_stage(row, landed(stage, space, number));
     }
 }
 
@@ -600,7 +606,8 @@ fn refuse_row(row: &mut Row, fanout: u32, authors: &ListOf<By>, refusal: Refusal
     ensures { IsRefusedRow fanout authors.now refusal row.old row.new }
 {
     if is_among(authors, row.by) {
-        row.stage = falling(fanout, 0, row.broker, KvsAnswer::Refused(refusal));
+        let stage = falling(fanout, 0, row.broker, KvsAnswer::Refused(refusal));
+        set_stage(row, stage);
     }
 }
 
@@ -666,7 +673,7 @@ pub fn send_back(rows: &mut Vec<Row>, i: usize, fanout: u32, space: usize)
     let row = &mut rows[i];
     let home = row.broker;
     let stage = replace(&mut row.stage, vacant());
-    row.stage = sent_back(stage, fanout, home, space);
+    set_stage(row, sent_back(stage, fanout, home, space));
 }
 
 /// Tells the command of a request that waits to land in the namespace of a place in the table that it is gone.
@@ -675,7 +682,8 @@ fn dismiss_row(row: &mut Row, fanout: u32, space: usize)
     ensures { IsDismissedRow fanout space row.old row.new }
 {
     if is_joined_in(&row.stage, space) {
-        row.stage = falling(fanout, 0, row.broker, KvsAnswer::NoNamespace);
+        let stage = falling(fanout, 0, row.broker, KvsAnswer::NoNamespace);
+        set_stage(row, stage);
     }
 }
 

@@ -1,14 +1,14 @@
 // A store, on which transactions take effect whole or not at all.
-ghost use Rattle.std.specs.Prelude.{◌≡◌, ◌∷◌, [], Ok, Err, IfOk, OnOk, OnErr, IfErr};
-ghost use Rattle.kvs_model.specs.Store.{IsStore, empty_store};
+ghost use Rattle.std.specs.Prelude.{◌≡◌, ◌∷◌, [], Ok, Err, Some, IfOk, OnOk, OnErr, IfErr, codes};
+ghost use Rattle.kvs_model.specs.Store.{IsStore, Directory, empty_store};
 ghost use Rattle.kvs_model.specs.History.{first_store};
 ghost use Rattle.kvs_model.specs.Operation.{effect};
 ghost use Rattle.kvs_model.specs.Walk.{walk};
-ghost use Rattle.plain_store.specs.Held.{store_of, undone};
+ghost use Rattle.plain_store.specs.Held.{store_of, undone, written};
 ghost use Rattle.plain_store.specs.Effects.{IsRefusalOf, Answers};
 
 use crate::operations::operate;
-use crate::slots::{Item, Table, joined};
+use crate::slots::{Item, Table};
 use crate::walks::look;
 use kvs_txn::{Found, Path, Query, Refusal, Scope, Txn};
 use lists::{Bytes, Copied};
@@ -84,18 +84,42 @@ fn rooted(alloc: Global) -> Result<Table, AllocError>
     Ok(table)
 }
 
+/// Puts a directory of one component.
+fn add_directory(alloc: Global, table: &mut Table, name: &[u8]) -> Result<(), AllocError>
+    ensures { OnOk result (store_of table.new.slots.entries
+        ≡ written (store_of table.old.slots.entries) (name.now ∷ []) (Some Directory)) }
+{
+    let key = key_of_name(alloc, name)?;
+    table.set(key.as_slice(), Some(Item::Directory))
+}
+
+/// Where the grant's text stands.
+fn grant_place(alloc: Global) -> Result<Vec<Bytes>, AllocError>
+    ensures { IfOk result (λ place. place.items ≡ codes "resource" ∷ codes "R" ∷ []) }
+{
+    let mut place = key_of_name(alloc, b"resource")?;
+    place.push(Bytes::of(alloc, b"R")?)?;
+    Ok(place)
+}
+
+/// Makes the first store of `primary` in a table with the root alone.
+fn fill(alloc: Global, table: &mut Table, grant: &Bytes) -> Result<(), AllocError>
+    requires { store_of table.old.slots.entries ≡ empty_store }
+    ensures { OnOk result (store_of table.new.slots.entries ≡ first_store grant.now) }
+{
+    add_directory(alloc, table, b"job")?;
+    add_directory(alloc, table, b"resource")?;
+    let place = grant_place(alloc)?;
+    table.set(place.as_slice(), Some(Item::Value(grant.copy()?)))?;
+    Ok(())
+}
+
 /// A table with the first store of `primary`.
 fn granted(alloc: Global, grant: &Bytes) -> Result<Table, AllocError>
     ensures { IfOk result (λ table. store_of table.slots.entries ≡ first_store grant.now) }
 {
     let mut table = rooted(alloc)?;
-    let job = key_of_name(alloc, b"job")?;
-    table.set(job.as_slice(), Some(Item::Directory))?;
-    let resource = key_of_name(alloc, b"resource")?;
-    table.set(resource.as_slice(), Some(Item::Directory))?;
-    let name = key_of_name(alloc, b"R")?;
-    let text = joined(alloc, resource.as_slice(), name.as_slice())?;
-    table.set(text.as_slice(), Some(Item::Value(grant.copy()?)))?;
+    fill(alloc, &mut table, grant)?;
     Ok(table)
 }
 

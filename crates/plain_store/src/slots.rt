@@ -1,6 +1,6 @@
 // What stands at each path, with a log by which all changes since the last landing can be undone without memory.
 ghost use Rattle.std.specs.Prelude.{◌≡◌, ◌++◌, [], nat_le, length, map, filter, is_none, OnOk, IfOk, IsTrue, IsSome, Some, None, option_map};
-ghost use Rattle.std.specs.Option.{option_copied};
+ghost use Rattle.std.specs.Option.{option_copied, option_to_list};
 ghost use Rattle.kvs_model.specs.Store.{Path as Places, node_at, names_in, without, is_within, child_name, kind_of};
 ghost use Rattle.kvs_model.specs.Operation.{is_directory, is_link, most_names};
 ghost use Rattle.plain_store.specs.Counted.{AreCounts, AreCountable, from_on, stand_together};
@@ -170,6 +170,21 @@ fn line_of(path: &[Bytes], key: &[Bytes], slot: &Option<Item>) -> Result<Option<
     }
 }
 
+/// Adds the line of a slot to the listing of a directory.
+fn add_line(
+    names: &mut NameList,
+    path: &[Bytes],
+    key: &[Bytes],
+    slot: &Option<Item>,
+) -> Result<(), AllocError>
+    ensures { OnOk result (names.new ≡ names.old ++ option_to_list (listing path.now key.now slot.now)) }
+{
+    match line_of(path, key, slot)? {
+        Some(line) => names.push(line),
+        None => Ok(()),
+    }
+}
+
 impl Table {
     /// The table of a new namespace, in which nothing stands.
     pub fn new(alloc: Global) -> Table
@@ -188,14 +203,13 @@ impl Table {
         ensures { IfOk result (λ names. names ≡ names_in (store_of self.now.slots.entries) path.now) }
     {
         let alloc = *self.log.allocator();
+        let start = copy_of(alloc, path)?;
         let mut names = ListOf::new(alloc);
-        for (key, slot) in slots_from(&self.slots, copy_of(alloc, path)?) {
+        for (key, slot) in slots_from(&self.slots, start) {
             if !is_inside(path, key.as_slice()) {
                 break;
             }
-            if let Some(line) = line_of(path, key.as_slice(), slot)? {
-                names.push(line)?;
-            }
+            add_line(&mut names, path, key.as_slice(), slot)?;
         }
         Ok(names)
     }

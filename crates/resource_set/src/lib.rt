@@ -9,8 +9,6 @@ pub mod node;
 pub mod placing;
 pub mod printing;
 pub mod reading;
-#[cfg(test)]
-mod tests;
 pub mod units;
 
 pub use faults::{RFault, RKey};

@@ -1,5 +1,5 @@
 // Printing an R.
-ghost use Rattle.std.specs.Prelude.{◌≡◌, ◌<◌, ◌≤◌, ◌∷◌, [], IfOk, OnOk, Ok, map, length, All, slice_set, slice_index_or};
+ghost use Rattle.std.specs.Prelude.{◌≡◌, ◌<◌, ◌≤◌, ◌∷◌, ◌++◌, [], IfOk, OnOk, Ok, map, length, All, slice_set, slice_index_or};
 ghost use Rattle.std.specs.List.{AllByRecursion};
 ghost use Rattle.std.specs.Str.{IsUtf8};
 ghost use Rattle.serde_json.specs.Data.{string, depth};
@@ -118,6 +118,20 @@ fn group_value(alloc: Global, group: &Group) -> Result<Value, AllocError>
     json!(in alloc; {"children": children, "rank": rank})
 }
 
+/// Adds a group to entries that stand as JSON values.
+fn push_group(alloc: Global, values: &mut Vec<Value>, group: &Group) -> Result<(), AllocError>
+    requires ranks { All (λ rank. rank < 65536) group.now.ranks }
+    requires cores { IsUtf8 group.now.cores }
+    requires gpus { IsUtf8 group.now.gpus }
+    ensures value { OnOk result (map view values.new.items
+        ≡ map view values.old.items ++ group_data group.now (list_of group.now.ranks) ∷ []) }
+    ensures spelled { OnOk result (IsSpelled (list_of group.now.ranks)) }
+{
+    let value = group_value(alloc, group)?;
+    values.push(value)?;
+    Ok(())
+}
+
 /// The entries of hosts as a JSON value.
 fn entries_value(alloc: Global, nodes: &[Node]) -> Result<Value, AllocError>
     requires { AreHosts nodes.now }
@@ -127,7 +141,7 @@ fn entries_value(alloc: Global, nodes: &[Node]) -> Result<Value, AllocError>
     let groups = groups_of(alloc, nodes)?;
     let mut values = Vec::new(alloc);
     for group in groups.as_slice() {
-        values.push(group_value(alloc, group)?)?;
+        push_group(alloc, &mut values, group)?;
     }
     Ok(Value::Array(values))
 }

@@ -13,6 +13,3 @@ pub use feed::{Feed, FeedName};
 pub use herald::Herald;
 pub use pass::{Looked, Note, Pass, Seen};
 pub use rule::Load;
-
-#[cfg(test)]
-mod tests;

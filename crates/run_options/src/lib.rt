@@ -9,8 +9,6 @@ ghost use Rattle.run_options.specs.Given.{AreWithin, IsWithin, nothing};
 ghost use Rattle.run_options.specs.Words.{options_of, with_words};
 
 mod given;
-#[cfg(test)]
-mod tests;
 
 use fl_digest::Hash;
 use given::{Given, wants_value};

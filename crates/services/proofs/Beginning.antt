@@ -1,15 +1,12 @@
 -- An instance without job commands, at its birth.
-use Rattle.std.proofs.Common.{ℕ, Option, None, refl, true≢false, sym, arith}
+use Rattle.std.proofs.Common.{ℕ, None, refl, true≢false, sym, arith}
 use Rattle.answers.specs.Jobs.{default_priority}
 use Rattle.fl_digest.specs.declared.Hash.{Hash}
 use Rattle.instance_rules.specs.Log.{Instance}
 use Rattle.job_rules.specs.Fits.{IsGrant}
-use Rattle.kvs_rules.specs.Namespaces.{Request}
-use Rattle.kvs_txn.specs.declared.txn.By.{By}
 use Rattle.resource_set.specs.Writing.{r_text}
 use Rattle.resource_set.specs.declared.node.Resources.{Resources}
 use Rattle.services.specs.Agrees.{IsGiven}
-use Rattle.services.specs.Tested.{asking}
 
 module _ (size fanout : ℕ) (hash : Hash) (grant : Resources) (birth : ℕ) where
   abbrev pub plain : Instance
@@ -22,9 +19,8 @@ module _ (size fanout : ℕ) (hash : Hash) (grant : Resources) (birth : ℕ) whe
     rank = λ by. 0;
   }
 
-  -- whatever is asked of its service
-  pub asked_given : IsGrant grant.nodes → (asks : By → Option Request) → IsGiven (asking plain asks) size fanout hash grant birth
-  asked_given sets asks = record {
+  pub plain_given : IsGrant grant.nodes → IsGiven plain size fanout hash grant birth
+  plain_given sets = record {
     served = record {
       valid = record {
         answers = λ ask. (omega arith, omega arith);
@@ -43,6 +39,3 @@ module _ (size fanout : ℕ) (hash : Hash) (grant : Resources) (birth : ℕ) whe
     };
     hash = refl;
   }
-
-  pub plain_given : IsGrant grant.nodes → IsGiven plain size fanout hash grant birth
-  plain_given sets = asked_given sets (λ by. None)

@@ -7,4 +7,3 @@ mod Staying
 mod Turning
 mod Walking
 pub mod Waiting
-pub mod Tested

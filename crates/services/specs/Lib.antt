@@ -6,4 +6,3 @@ pub mod Asks
 pub mod Makes
 pub mod View
 pub mod Walk
-pub mod Tested

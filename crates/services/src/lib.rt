@@ -3,7 +3,5 @@
 #![tactic(auto)]
 
 mod services;
-#[cfg(test)]
-mod tests;
 
 pub use services::Services;

@@ -3,8 +3,6 @@
 
 pub mod commands;
 pub mod ends;
-#[cfg(test)]
-mod tests;
 
 pub use commands::ending;
 pub use ends::Ending;

@@ -6,8 +6,6 @@ ghost use Rattle.std.specs.Fn.{FnReturnsAt};
 ghost use Rattle.tap.specs.Priorities.{AnswersOnce, IsPriority};
 
 mod check;
-#[cfg(test)]
-mod tests;
 
 pub use check::Check;
 use std::marker::Model;

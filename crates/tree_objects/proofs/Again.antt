@@ -1,6 +1,6 @@
 -- What is printed is read again as the same object.
 use Rattle.std.proofs.Common.{◌≡◌, ◌≢◌, ◌≤◌, ◌+◌, ◌*◌, ℕ, lit<, List, [], ◌∷◌, map, length, refl, sym, ap, ap₂, ◌∙◌, subst, arith, codes, Some}
-use Rattle.std.specs.Prelude.{IsTrue, slice_index, Result, Ok, Err, IfOk}
+use Rattle.std.specs.Prelude.{IsTrue, slice_index, Result, Ok}
 use Rattle.std.specs.List.{AllByRecursion}
 use Rattle.std.specs.Ordering.{is_lt}
 use Rattle.std.specs.FinMap.Entries as finite
@@ -11,13 +11,11 @@ use Rattle.fl_digest.specs.declared.BlobRef.{BlobRef}
 use Rattle.fl_digest.specs.Reference.{reference_text, IsWhole}
 use Rattle.fl_digest.proofs.References.{reference_text_once, whole_text}
 use Rattle.fl_json.specs.Valid.{IsValid, AreValid, HaveValid, IsBefore}
-use Rattle.fl_json.specs.Reading.{reading}
 use Rattle.kvs_txn.specs.Keys.{components, IsKey}
 use Rattle.kvs_txn.specs.Words.{path_text}
 use Rattle.kvs_txn.proofs.Components.{read_again}
 use Rattle.kvs_model.specs.Store.{Path, Name}
-use Rattle.serde_json.specs.Data.{Data, string, array, object, Items, no_items, item, Members, no_members, member, depth}
-use Rattle.serde_json.specs.Read.{max_depth}
+use Rattle.serde_json.specs.Data.{Data, string, array, object, Items, no_items, item, Members, no_members, member}
 use Rattle.serde_json.specs.View.{items_of}
 use Rattle.tree_rules.specs.Objects.{Tree, val, valref, dir, dirref, symlink, Entries, no_entries, entry, listed, framed, references_data, target_data, tree_data, entries_data}
 use Rattle.tree_rules.specs.Names.{name_cmp}
@@ -85,13 +83,6 @@ mutual
   entries_valid (entry name tree es) s h =
       let parts = and_parts (finite.below_all name_cmp name (listed es)) (finite.is_sorted name_cmp (listed es)) s in
       (before name es parts.0, written_valid tree h.0, entries_valid es parts.1 h.1)
-
--- the text of an object that is read again
-pub text_again : {T E : Type 0} (items : T → List ℕ) (r : Result T E) (d : Data) (tree : Tree) → d ≡ tree_data tree
-    → IfOk r (λ t. IsValid d → depth d ≤ max_depth → reading (items t) ≡ Ok d)
-    → IfOk r (λ t. IsReadable tree → depth (tree_data tree) ≤ max_depth → reading (items t) ≡ Ok (tree_data tree))
-text_again items (Ok t) d tree is h = λ readable flat. h (subst IsValid (sym is) (written_valid tree readable)) (subst (λ (x : Data). depth x ≤ max_depth) (sym is) flat) ∙ ap Ok is
-text_again items (Err e) d tree is h = tt
 
 -- ---- a value tells one object
 

@@ -1,15 +1,12 @@
 -- Names and objects at the same places, as entries.
-use Rattle.std.proofs.Common.{◌≡◌, ℕ, zero, suc, ◌<◌, Bool, true, false, List, [], ◌∷◌, ◌++◌, length, get_or, take, refl, sym, ap, ap₂, ◌∙◌, subst, arith, Ordering, Less, Equal, Greater, nat_cmp}
+use Rattle.std.proofs.Common.{◌≡◌, ℕ, zero, suc, ◌<◌, Bool, true, false, List, [], ◌∷◌, ◌++◌, length, get_or, refl, sym, ap, subst, arith, Ordering, Less, Equal, Greater}
 use Rattle.std.specs.Prelude.{IsTrue, ◌&&◌}
-use Rattle.std.specs.Ordering.{is_lt, ordering_reverse}
-use Rattle.std.specs.Cmp.Lexicographic.{slice_cmp}
+use Rattle.std.specs.Ordering.{is_lt}
 use Rattle.std.specs.FinMap.Entries as finite
 use Rattle.std.specs.List.{AllByRecursion}
 use Rattle.std.specs.Str.{IsUtf8}
-use Rattle.std.proofs.lemmas.Cmp.{nat_list_cmp_total}
-use Rattle.serde_json.specs.Data.{Members, no_members, member, put}
 use Rattle.kvs_model.specs.Store.{Name}
-use Rattle.tree_rules.specs.Objects.{Tree, Entries, no_entries, entry, listed, entries_of, tree_data, entries_data}
+use Rattle.tree_rules.specs.Objects.{Tree, Entries, no_entries, entry, listed, entries_of}
 use Rattle.tree_objects.specs.Directories.{names_of, tree_size, entries_size, with_last, IsDirectory}
 use Rattle.tree_rules.specs.Names.{name_cmp}
 use Rattle.tree_objects.specs.Level.{tree_of, paired}
@@ -33,29 +30,6 @@ pub less_is : (o : Ordering) → IsTrue (is_lt o) → o ≡ Less
 less_is Less h = refl
 less_is Equal h = absurd (cc)
 less_is Greater h = absurd (cc)
-
--- a name that is below all is below the one at a place
-below_at : (n : Name) (names : List Name) (objects : List Object) → length names ≡ length objects → IsTrue (finite.below_all name_cmp n (listed (paired names objects)))
-    → (i : ℕ) (m : Name) → i < length names → m ≡ get_or names i m → slice_cmp nat_cmp n m ≡ Less
-below_at n [] objects e h i m w is = absurd (omega arith)
-below_at n (k ∷ ks) [] e h i m w is = absurd (omega arith)
-below_at n (k ∷ ks) (o ∷ os) e h zero m w is =
-    let less : slice_cmp nat_cmp n k ≡ Less = less_is (slice_cmp nat_cmp n k) (and_parts (is_lt (slice_cmp nat_cmp n k)) (finite.below_all name_cmp n (listed (paired ks os))) h).0 in
-    ap (slice_cmp nat_cmp n) is ∙ less
-below_at n (k ∷ ks) (o ∷ os) e h (suc i) m w is = below_at n ks os (omega arith) (and_parts (is_lt (slice_cmp nat_cmp n k)) (finite.below_all name_cmp n (listed (paired ks os))) h).1 i m (omega arith) is
-
--- the entry at a place goes behind those before it
-pub put_next : (names : List Name) (objects : List Object) → length names ≡ length objects → IsTrue (finite.is_sorted name_cmp (listed (paired names objects)))
-    → (i : ℕ) (m : Name) (o : Object) → i < length names → m ≡ get_or names i m → o ≡ get_or objects i o
-    → put m (tree_data (tree_of o)) (entries_data (entries_of (take i (listed (paired names objects))))) ≡ entries_data (entries_of (take (suc i) (listed (paired names objects))))
-put_next [] objects e h i m o w is it = absurd (omega arith)
-put_next (n ∷ ns) [] e h i m o w is it = absurd (omega arith)
-put_next (n ∷ ns) (p ∷ ps) e h zero m o w is it = ap₂ (λ (k : Name) (q : Object). member k (tree_data (tree_of q)) no_members) is it
-put_next (n ∷ ns) (p ∷ ps) e h (suc i) m o w is it =
-    let parts = and_parts (finite.below_all name_cmp n (listed (paired ns ps))) (finite.is_sorted name_cmp (listed (paired ns ps))) h in
-    let less : slice_cmp nat_cmp n m ≡ Less = below_at n ns ps (omega arith) parts.0 i m (omega arith) is in
-    let above : slice_cmp nat_cmp m n ≡ Greater = nat_list_cmp_total.antisymm m n ∙ ap ordering_reverse less in
-    rw above (ap (λ (ms : Members). member n (tree_data (tree_of p)) ms) (put_next ns ps (omega arith) parts.1 i m o (omega arith) is it))
 
 -- the object at a place is smaller than its directory
 pub smaller : (names : List Name) (objects : List Object) → length names ≡ length objects → (i : ℕ) (o : Object) → i < length names → o ≡ get_or objects i o

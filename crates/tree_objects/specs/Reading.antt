@@ -11,9 +11,9 @@ use Rattle.fl_digest.specs.Reference.{reference_text, IsReferenceText, IsWhole}
 use Rattle.fl_json.specs.Reading.{as_natural, reading}
 use Rattle.kvs_model.specs.Store.{Path}
 use Rattle.kvs_txn.specs.Keys.{components, IsKey}
-use Rattle.serde_json.specs.Data.{Data, string, array, object, Items, no_items, item, Members, no_members, member}
+use Rattle.serde_json.specs.Data.{Data, string, array, object, Items, no_items, item, Members, no_members, member, depth}
 use Rattle.serde_json.specs.Find.{get, as_str}
-use Rattle.tree_rules.specs.Objects.{Tree, val, valref, dir, dirref, symlink, Entries, no_entries, entry, listed}
+use Rattle.tree_rules.specs.Objects.{Tree, val, valref, dir, dirref, symlink, Entries, no_entries, entry, listed, tree_data}
 use Rattle.tree_rules.specs.Names.{name_cmp}
 use Rattle.tree_objects.specs.Level.{tree_of}
 use Rattle.tree_objects.specs.declared.faults.ObjectFault.{ObjectFault}
@@ -138,6 +138,11 @@ abbrev mutual
   pub HaveTextNames : Entries → Type 0
   HaveTextNames no_entries = ⊤
   HaveTextNames (entry name tree es) = IsUtf8 name × HasTextNames tree × HaveTextNames es
+
+-- an object that is read again, and is no directory
+pub record IsFlat (tree : Tree) : Type 0 where
+  pub readable : IsReadable tree
+  pub shallow : depth (tree_data tree) ≤ 2
 
 -- ---- in the making
 

@@ -5,8 +5,8 @@ pub mod faults;
 pub mod object;
 pub mod printing;
 pub mod reading;
-#[cfg(test)]
-mod tests;
+mod scanning;
+mod writing;
 
 pub use faults::ObjectFault;
 pub use object::{Object, ObjectMap};

@@ -7,6 +7,7 @@ ghost use Rattle.fl_json.specs.Valid.{IsValid, HaveValid};
 
 use crate::faults::ObjectFault;
 use crate::object::{Object, ObjectMap};
+use crate::scanning::at_once;
 use base64::DecodeAllocError;
 use base64::engine::general_purpose::STANDARD;
 use fl_digest::{BlobRef, RefList};
@@ -277,6 +278,9 @@ fn entries_in(alloc: Global, members: &Map<String, Value>) -> Result<ObjectMap, 
 pub fn read(alloc: Global, text: &[u8]) -> Result<Object, ObjectFault>
     ensures { Gives text.now result }
 {
+    if let Some(found) = at_once(alloc, text) {
+        return Ok(found);
+    }
     match fl_json::read(alloc, text) {
         Ok(value) => object_in(alloc, &value),
         Err(JsonFault::NoMemory) => Err(ObjectFault::NoMemory),

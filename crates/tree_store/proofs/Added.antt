@@ -1,5 +1,5 @@
 -- What adding blobs, one after another, leaves.
-use Rattle.std.proofs.Common.{◌≡◌, ℕ, zero, suc, List, [], ◌∷◌, ◌++◌, Option, Some, None, refl, sym, ap, ◌∙◌, subst, arith, append_assoc, append-nil}
+use Rattle.std.proofs.Common.{◌≡◌, ℕ, zero, suc, List, [], ◌∷◌, ◌++◌, Some, refl, sym, ap, ◌∙◌, subst, arith, append_assoc, append-nil}
 use Rattle.std.specs.Prelude.{Contains, Result, Ok, Err, OnOk, OnErr}
 use Rattle.std.specs.List.{AllByRecursion}
 use Rattle.fl_digest.specs.declared.BlobRef.{BlobRef}
@@ -7,7 +7,7 @@ use Rattle.fl_digest.specs.declared.Hash.{Hash}
 use Rattle.fl_digest.specs.Reference.{reference_of}
 use Rattle.blob_store.specs.Blobs.{blob_at}
 use Rattle.tree_rules.specs.Held.{Keeps}
-use Rattle.tree_store.specs.Fresh.{Blobs, AreNew, IsClashOf, AddsSome, HasAll, ClashesIn}
+use Rattle.tree_store.specs.Fresh.{Blobs, IsClashOf, AddsSome, HasAll, ClashesIn}
 use Rattle.tree_rules.specs.Objects.{Entries, dir, tree_text}
 use Rattle.tree_store.specs.Landing.{table}
 use Rattle.tree_store.specs.Shown.{entries_text, all_shortened}

@@ -1,15 +1,13 @@
 -- Blobs that are added behind those of a store.
-use Rattle.std.proofs.Common.{◌≡◌, ℕ, Bool, true, false, cond, List, [], ◌∷◌, ◌++◌, Option, Some, None, refl, sym, ap, ◌∙◌, subst, append_assoc, append-nil}
-use Rattle.std.specs.Prelude.{⊤}
+use Rattle.std.proofs.Common.{◌≡◌, ℕ, true, false, cond, List, [], ◌∷◌, ◌++◌, Option, Some, None, refl, sym, ap, ◌∙◌, subst, append_assoc, append-nil}
 use Rattle.std.specs.Option.{option_map_or}
-use Rattle.std.specs.Str.{bytes_eq}
 use Rattle.std.proofs.lemmas.Slice.Eq.{bytes_eq-Decides}
 use Rattle.fl_digest.specs.declared.BlobRef.{BlobRef}
 use Rattle.fl_digest.specs.declared.Digest.{Digest}
 use Rattle.fl_digest.specs.declared.Digest.TheVariants as digest
 use Rattle.fl_digest.specs.Reference.{same_digest, same_reference}
 use Rattle.blob_store.specs.Blobs.{blob_at, stored}
-use Rattle.tree_store.specs.Fresh.{Blobs, AreNew, IsPart}
+use Rattle.tree_store.specs.Fresh.{Blobs, AreNew}
 
 -- the first of two that is there
 abbrev pub either : Option (List ℕ) → Option (List ℕ) → Option (List ℕ)

@@ -1,17 +1,17 @@
 -- The text and the long values that the last open directory brings are blobs of the store.
-use Rattle.std.proofs.Common.{◌≡◌, ℕ, zero, suc, Bool, true, false, cond, List, [], ◌∷◌, ◌++◌, Option, Some, None, refl, sym, ap, ◌∙◌, subst, inl, inr, true≢false, arith, Ordering, Less, Equal, Greater}
-use Rattle.std.specs.Prelude.{IsTrue, IsSome, Contains, ◌⊎◌}
+use Rattle.std.proofs.Common.{◌≡◌, ℕ, zero, suc, Bool, true, false, cond, List, [], ◌∷◌, ◌++◌, Option, Some, refl, sym, ap, ◌∙◌, subst, inl, inr, arith, Less, Greater}
+use Rattle.std.specs.Prelude.{IsTrue, Contains}
 use Rattle.std.specs.FinMap.Entries as finite
 use Rattle.std.specs.Ordering.{is_lt, is_eq, eq_by_cmp, ordering_reverse}
 use Rattle.std.proofs.lemmas.Cmp.{nat_list_cmp_total}
 use Rattle.std.proofs.lemmas.List.Elements.{Contains-append_cases}
 use Rattle.fl_digest.specs.declared.Hash.{Hash}
-use Rattle.kvs_model.specs.Store.{Name, Path, Value, Store, node_at, path_cmp}
-use Rattle.tree_rules.specs.Held.{Table, Keeps}
+use Rattle.kvs_model.specs.Store.{Name, Path, Value, Store, node_at}
+use Rattle.tree_rules.specs.Held.{Table}
 use Rattle.tree_rules.specs.Names.{name_cmp}
 use Rattle.tree_rules.specs.Objects.{Tree, val, valref, dir, dirref, symlink, Entries, no_entries, entry, listed}
 use Rattle.tree_rules.specs.Texts.{is_long, blobs}
-use Rattle.tree_rules.proofs.Blobs.{text_there, value_there}
+use Rattle.tree_rules.proofs.Blobs.{value_there}
 use Rattle.tree_rules.proofs.Objects.{and_parts, less_of}
 use Rattle.tree_store.specs.Shown.{Directories, opened_at, Stands, Shows, long_values}
 use Rattle.tree_store.proofs.Opening.{name_from_test, name_self}

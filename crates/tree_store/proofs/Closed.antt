@@ -1,34 +1,33 @@
 -- One turn of the writing: what is left, what is added, and what clashes.
-use Rattle.std.proofs.Common.{◌≡◌, ◌≢◌, ℕ, zero, suc, ◌+◌, ◌<◌, Bool, true, false, cond, T, List, [], ◌∷◌, ◌++◌, length, Option, Some, None, refl, sym, ap, ◌∙◌, subst, inl, inr, true≢false, arith, length-append, append-nil, Ordering, Less}
-use Rattle.std.specs.Prelude.{IsSome, IsTrue, IfSome, Contains, ◌⊎◌, is_some as is_there}
+use Rattle.std.proofs.Common.{◌≡◌, ℕ, zero, suc, ◌+◌, ◌<◌, true, false, cond, T, List, [], ◌∷◌, ◌++◌, length, Option, Some, None, refl, sym, ap, ◌∙◌, subst, inl, inr, true≢false, arith, length-append, Less}
+use Rattle.std.specs.Prelude.{IsSome, IsTrue, Contains, is_some as is_there}
 use Rattle.std.specs.FinMap.Entries as finite
 use Rattle.std.specs.List.{AllByRecursion}
 use Rattle.std.specs.Option.{option_map_or}
-use Rattle.std.specs.Ordering.{eq_by_cmp, is_lt}
+use Rattle.std.specs.Ordering.{eq_by_cmp}
 use Rattle.fl_digest.specs.declared.BlobRef.{BlobRef}
 use Rattle.fl_digest.specs.declared.Hash.{Hash}
 use Rattle.fl_digest.specs.Reference.{reference_of}
 use Rattle.blob_store.specs.Blobs.{blob_at}
-use Rattle.kvs_model.specs.Store.{Name, Path, Directory, Store, root, path_cmp, node_at}
+use Rattle.kvs_model.specs.Store.{Name, Path, Directory, Store, root, path_cmp}
 use Rattle.kvs_model.proofs.Paths.{path_self, path_total}
-use Rattle.tree_rules.specs.Held.{Table, Keeps, IsRootOf, IsClash}
+use Rattle.tree_rules.specs.Held.{Table, IsRootOf}
 use Rattle.tree_rules.specs.Names.{name_cmp}
 use Rattle.tree_rules.specs.Objects.{Tree, Entries, dirref, listed}
-use Rattle.tree_rules.specs.Texts.{blobs, directory_text}
+use Rattle.tree_rules.specs.Texts.{blobs}
 use Rattle.tree_rules.proofs.Blobs.{text_there}
 use Rattle.tree_rules.proofs.Objects.{less_of}
-use Rattle.tree_store.specs.Fresh.{Blobs, AddsSome, HasAll, IsClashOf, ClashesIn}
+use Rattle.tree_store.specs.Fresh.{Blobs, AddsSome, HasAll, ClashesIn}
 use Rattle.tree_store.specs.Landing.{table, IsClashIn}
 use Rattle.tree_store.specs.Shown.{Directories, opened_at, above, put_in, with_object, Shows, IsBefore, long_values, entries_text, strings_of}
 use Rattle.tree_store.specs.declared.faults.TreeFault.{TreeFault}
 use Rattle.tree_store.specs.declared.faults.TreeFault.TheVariants.{NoMemory, Refused, Clash}
-use Rattle.tree_store.proofs.Added.{adds_more, adds_of, adds_keep, held_each, first_one, behind_one}
+use Rattle.tree_store.proofs.Added.{adds_more, adds_of, adds_keep, held_each}
 use Rattle.tree_store.proofs.Adding.{at_append}
 use Rattle.tree_store.proofs.Brought.{value_brought}
 use Rattle.tree_store.proofs.Entered.{found_named}
 use Rattle.tree_store.proofs.Landed.{found_only}
-use Rattle.tree_store.proofs.Opening.{is_some, some_same}
-use Rattle.tree_store.proofs.Replacing.{some_of}
+use Rattle.tree_store.proofs.Opening.{is_some}
 use Rattle.tree_store.proofs.Storable.{IsNamed}
 use Rattle.tree_store.proofs.Turns.{AreLeft, closed_step}
 use Rattle.tree_store.proofs.Writing.{last_text, at_last}

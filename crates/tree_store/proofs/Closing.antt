@@ -8,15 +8,15 @@ use Rattle.std.proofs.lemmas.Cmp.{nat_list_cmp_total}
 use Rattle.fl_digest.specs.declared.Hash.{Hash}
 use Rattle.fl_digest.specs.declared.BlobRef.{BlobRef}
 use Rattle.fl_digest.specs.Reference.{reference_of}
-use Rattle.kvs_model.specs.Store.{Name, Path, Node, Value, Directory, Link, Store, node_at}
+use Rattle.kvs_model.specs.Store.{Name, Path, Node, Value, Store}
 use Rattle.tree_rules.specs.Held.{Table}
 use Rattle.tree_rules.specs.Names.{name_cmp}
-use Rattle.tree_rules.specs.Objects.{Tree, val, valref, dir, dirref, symlink, Entries, no_entries, entry, entries_of, listed, tree_text}
-use Rattle.tree_rules.specs.Texts.{is_long, object_of, objects, objects_in, stored_at, directory_text, directory_reference, text_of}
+use Rattle.tree_rules.specs.Objects.{Tree, val, valref, dir, dirref, symlink, Entries, no_entries, entry, listed, tree_text}
+use Rattle.tree_rules.specs.Texts.{is_long, object_of, objects, objects_in, stored_at, directory_text, text_of}
 use Rattle.tree_rules.proofs.Below.{names_rise}
 use Rattle.tree_rules.proofs.Objects.{stored_under}
 use Rattle.tree_objects.proofs.Pairs.{entries_of_listed}
-use Rattle.tree_store.specs.Shown.{Directories, opened_at, Stands, Shows, IsLongValue, IsClosed, shortened, all_shortened}
+use Rattle.tree_store.specs.Shown.{Directories, opened_at, Stands, Shows, shortened, all_shortened}
 
 abbrev Row : Type 0
 Row = Name × Tree

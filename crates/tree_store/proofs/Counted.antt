@@ -1,6 +1,6 @@
 -- An open directory has as many names as that of the store.
-use Rattle.std.proofs.Common.{◌≡◌, ℕ, zero, suc, Bool, true, false, cond, T, List, [], ◌∷◌, ◌++◌, map, length, Option, Some, None, option_map, is_none, refl, sym, ap, ◌∙◌, subst, true≢false}
-use Rattle.std.specs.Prelude.{IsSome, IsTrue, nat_le, ◌&&◌}
+use Rattle.std.proofs.Common.{◌≡◌, suc, Bool, true, false, cond, T, List, [], ◌∷◌, ◌++◌, map, length, Option, Some, None, option_map, is_none, refl, sym, ap, ◌∙◌, subst, true≢false}
+use Rattle.std.specs.Prelude.{IsTrue, nat_le, ◌&&◌}
 use Rattle.std.specs.FinMap.Entries as finite
 use Rattle.std.specs.FinMap.{nat_cmp-IsAntisymmetric, slice_cmp-IsAntisymmetric}
 use Rattle.std.specs.List.{cons_option}
@@ -14,13 +14,13 @@ use Rattle.kvs_model.specs.Store as stores
 use Rattle.tree_rules.specs.Held.{Table}
 use Rattle.tree_rules.specs.Names.{name_cmp}
 use Rattle.tree_rules.specs.Objects.{Tree, Entries, listed}
-use Rattle.tree_rules.specs.Texts.{object_of, objects, objects_in, stored_at}
+use Rattle.tree_rules.specs.Texts.{object_of, objects, objects_in}
 use Rattle.tree_rules.proofs.Below.{names_rise}
 use Rattle.tree_rules.proofs.Objects.{stored_under}
 use Rattle.tree_objects.specs.Directories.{names_of}
 use Rattle.tree_store.specs.Shown.{Directories, opened_at, Shows}
 use Rattle.tree_store.proofs.Found.{none_told, child_none}
-use Rattle.tree_store.proofs.Opening.{name_self, not_both}
+use Rattle.tree_store.proofs.Opening.{name_self}
 
 abbrev Rows : Type 0
 Rows = List (Name × Tree)

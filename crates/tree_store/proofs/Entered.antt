@@ -1,5 +1,5 @@
 -- A closed directory is opened.
-use Rattle.std.proofs.Common.{◌≡◌, ◌≢◌, ℕ, Bool, true, false, cond, List, [], ◌∷◌, ◌++◌, length, Option, Some, None, refl, sym, ap, ◌∙◌, subst, inl, inr, true≢false, arith}
+use Rattle.std.proofs.Common.{◌≡◌, ℕ, true, false, cond, List, [], ◌∷◌, ◌++◌, Option, Some, None, refl, sym, ap, ◌∙◌, subst, inl, inr, true≢false, arith}
 use Rattle.std.specs.Prelude.{IsSome, IfSome, option_and_then, Result, Ok, Err, is_some as is_there}
 use Rattle.std.specs.FinMap.Entries as finite
 use Rattle.std.specs.List.{AllByRecursion}
@@ -8,14 +8,13 @@ use Rattle.std.specs.Str.{IsUtf8}
 use Rattle.fl_digest.specs.declared.BlobRef.{BlobRef}
 use Rattle.fl_digest.specs.declared.Hash.{Hash}
 use Rattle.fl_json.specs.Reading.{reading}
-use Rattle.kvs_txn.specs.Keys.{IsComponent}
-use Rattle.kvs_model.specs.Store.{Name, Path, Node, Value, Directory, Link, Store, root, node_at, path_cmp}
+use Rattle.kvs_model.specs.Store.{Name, Path, Node, Store, root, node_at, path_cmp}
 use Rattle.kvs_model.specs.Operation.{is_directory}
 use Rattle.kvs_model.proofs.Paths.{within_self, path_from_test}
 use Rattle.blob_store.specs.Blobs.{blob_at}
 use Rattle.tree_rules.specs.Held.{Table, IsRootOf}
 use Rattle.tree_rules.specs.Names.{name_cmp}
-use Rattle.tree_rules.specs.Objects.{Tree, val, valref, dir, dirref, symlink, Entries, no_entries, entries_of, listed}
+use Rattle.tree_rules.specs.Objects.{Tree, val, valref, dir, dirref, symlink, Entries, no_entries, listed}
 use Rattle.tree_rules.specs.Texts.{directory_text}
 use Rattle.tree_rules.proofs.Blobs.{text_there}
 use Rattle.tree_objects.specs.Level.{tree_of}
@@ -26,7 +25,7 @@ use Rattle.tree_objects.specs.declared.faults.ObjectFault.{ObjectFault}
 use Rattle.tree_objects.specs.declared.faults.ObjectFault.TheVariants.{NoMemory, NotJson, BadVersion, BadType, BadData}
 use Rattle.tree_store.specs.Fresh.{Blobs}
 use Rattle.tree_store.specs.Landing.{table}
-use Rattle.tree_store.specs.Shown.{Directories, opened_at, above, object_in, object_at, closed_reference, closed_at, entries_at, Stands, Shows, IsClosed, IsDirectoryOf, OpensAbove, with_object, with_open}
+use Rattle.tree_store.specs.Shown.{Directories, opened_at, above, object_at, closed_reference, closed_at, entries_at, Stands, Shows, IsClosed, IsDirectoryOf, OpensAbove, with_open}
 use Rattle.tree_store.proofs.Found.{is_dir, object_parts, stands_at, directory_told}
 use Rattle.tree_store.proofs.Opening.{above_child, is_some, not_both, some_same, listed_again, path_dec, IsOpened, shows_more}
 use Rattle.tree_store.proofs.Readable.{IsOnly, gives_only, directory_readable, stored_reading, last_component}

@@ -1,15 +1,14 @@
 -- What the open directories tell of the place at a path.
-use Rattle.std.proofs.Common.{◌≡◌, ◌≢◌, ℕ, ◌+◌, ◌<◌, ◌==◌, Bool, true, false, cond, List, [], ◌∷◌, ◌++◌, length, Option, Some, None, is_none, refl, sym, ap, ◌∙◌, subst, inl, inr, true≢false, arith}
-use Rattle.std.specs.Prelude.{IsSome, option_and_then, option_map, not, is_some as is_there}
+use Rattle.std.proofs.Common.{◌≡◌, ◌≢◌, ℕ, ◌<◌, ◌==◌, Bool, true, false, [], ◌∷◌, ◌++◌, length, Option, Some, None, is_none, refl, sym, ap, ◌∙◌, subst, inl, inr, true≢false, arith}
+use Rattle.std.specs.Prelude.{option_and_then, option_map, not, is_some as is_there}
 use Rattle.std.specs.FinMap.Entries as finite
 use Rattle.fl_digest.specs.declared.Hash.{Hash}
-use Rattle.fl_digest.specs.declared.BlobRef.{BlobRef}
-use Rattle.kvs_model.specs.Store.{Name, Path, Node, Value, Directory, Link, Store, IsStore, root, node_at}
+use Rattle.kvs_model.specs.Store.{Name, Path, Node, Directory, Store, IsStore, node_at}
 use Rattle.kvs_model.specs.Operation.{is_directory}
 use Rattle.tree_rules.specs.Held.{Table}
 use Rattle.tree_rules.specs.Names.{name_cmp}
 use Rattle.tree_rules.specs.Objects.{Tree, val, valref, dir, dirref, symlink, Entries, listed}
-use Rattle.tree_store.specs.Shown.{Directories, opened_at, above, object_in, object_at, closed_reference, closed_at, Stands, Shows, OpensAbove, link_target}
+use Rattle.tree_store.specs.Shown.{Directories, opened_at, above, object_in, object_at, Stands, Shows, OpensAbove, link_target}
 use Rattle.tree_store.proofs.Opening.{above_child, is_some, not_both}
 use Rattle.tree_store.proofs.Making.{parent_open}
 use Rattle.tree_store.proofs.Turns.{split_end}

@@ -1,19 +1,17 @@
 -- The first store of a grant is shown.
-use Rattle.std.proofs.Common.{◌≡◌, ℕ, ◌<◌, ◌==◌, Bool, false, cond, List, [], ◌∷◌, ◌++◌, codes, Option, Some, None, refl, sym, ap, ◌∙◌, subst, arith, lit<, rules}
-use Rattle.std.specs.Prelude.{IsSome}
+use Rattle.std.proofs.Common.{◌≡◌, ℕ, ◌<◌, ◌==◌, false, cond, List, [], ◌∷◌, codes, Some, refl, ap, ◌∙◌, subst, lit<, rules}
 use Rattle.std.specs.List.{All}
 use Rattle.std.proofs.lemmas.List.Elements.{All-from_recursion}
 use Rattle.std.proofs.lemmas.Str.{IsUtf8-from_ascii}
 use Rattle.fl_digest.specs.declared.Hash.{Hash}
 use Rattle.kvs_txn.specs.Keys.{IsComponent}
 use Rattle.kvs_model.specs.History.{first_store}
-use Rattle.kvs_model.specs.Store.{Path, Value, Directory, Store, node_at, with_node, is_within, empty_store}
+use Rattle.kvs_model.specs.Store.{Path, Value, Directory, Store, node_at, with_node, empty_store}
 use Rattle.kvs_model.proofs.Histories.{IsStore-first_store}
 use Rattle.kvs_model.proofs.Paths.{node_at-with_node}
 use Rattle.tree_rules.specs.Held.{Table, IsStorable}
 use Rattle.tree_rules.specs.Objects.{val, no_entries}
 use Rattle.tree_store.specs.Shown.{Directories, opened_at, Shows, with_object, closed_within, with_open}
-use Rattle.tree_store.proofs.Opening.{is_some}
 use Rattle.tree_store.proofs.Replacing.{some_of, IsOutside}
 use Rattle.tree_store.proofs.Steps.{path_apart, not_whole, shows_put, open_opened}
 use Rattle.tree_store.proofs.Outside.{none_open}

@@ -1,5 +1,5 @@
 -- A table that has all at the root and below holds the store.
-use Rattle.std.proofs.Common.{◌≡◌, ℕ, zero, suc, Bool, true, false, cond, T, List, [], ◌∷◌, ◌++◌, Option, Some, None, refl, sym, ap, ◌∙◌, subst, arith, inl, inr, Ordering, Less, Equal, Greater}
+use Rattle.std.proofs.Common.{◌≡◌, ℕ, zero, suc, Bool, true, false, cond, List, [], ◌∷◌, Option, Some, None, refl, sym, ap, ◌∙◌, subst, arith, inl, inr, Less, Greater}
 use Rattle.std.specs.Prelude.{IsTrue, Contains, filter, filter_map, ◌⊎◌}
 use Rattle.std.specs.List.{cons_option}
 use Rattle.std.specs.FinMap.Entries as finite
@@ -11,7 +11,7 @@ use Rattle.fl_digest.specs.Reference.{reference_of}
 use Rattle.kvs_model.specs.Store.{Path, Node, Value, Directory, Link, Store, IsStore, root, path_cmp, node_at}
 use Rattle.kvs_model.proofs.Paths.{path_total, path_self}
 use Rattle.tree_rules.specs.Held.{Table, Holds, IsRootOf, IsStorable}
-use Rattle.tree_rules.specs.Texts.{is_long, directory_text, directory_of, bytes_of, directory_texts, values, blobs}
+use Rattle.tree_rules.specs.Texts.{is_long, directory_text, directory_of, bytes_of, directory_texts, values}
 use Rattle.tree_rules.proofs.Blobs.{from_map}
 use Rattle.tree_rules.proofs.Objects.{and_parts, less_of}
 use Rattle.tree_store.specs.Shown.{HasBelow}

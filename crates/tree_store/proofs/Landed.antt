@@ -1,5 +1,5 @@
 -- What stands in a table before and after blobs are added.
-use Rattle.std.proofs.Common.{◌≡◌, ℕ, Bool, true, false, cond, true≢false, List, [], ◌∷◌, ◌++◌, Option, Some, None, refl, sym, ap, ◌∙◌, subst, append-nil, inl, inr}
+use Rattle.std.proofs.Common.{◌≡◌, ℕ, true, false, cond, true≢false, List, [], ◌∷◌, ◌++◌, Option, Some, None, refl, sym, ap, ◌∙◌, subst, append-nil, inl, inr}
 use Rattle.std.specs.Prelude.{Contains, Result, Ok, Err, IsErrAnd, ◌⊎◌}
 use Rattle.std.specs.List.{AllByRecursion}
 use Rattle.std.proofs.lemmas.Slice.Eq.{bytes_eq-Decides}
@@ -11,12 +11,12 @@ use Rattle.fl_digest.specs.Reference.{reference_of, same_digest, same_reference}
 use Rattle.kvs_txn.specs.declared.answers.Refusal.{Refusal}
 use Rattle.kvs_model.specs.Store.{Store}
 use Rattle.blob_store.specs.Blobs.{blob_at}
-use Rattle.tree_rules.specs.Held.{Adds, Keeps, IsRootOf, IsRootIn}
+use Rattle.tree_rules.specs.Held.{Adds, Keeps, IsRootOf}
 use Rattle.tree_rules.specs.Texts.{blobs}
 use Rattle.tree_store.specs.Fresh.{Blobs, AddsSome, IsPart}
 use Rattle.tree_store.specs.Landing.{table, AddsAtMost, Leaves}
 use Rattle.tree_store.specs.declared.faults.TreeFault.{TreeFault}
-use Rattle.tree_store.specs.declared.faults.TreeFault.TheVariants.{NoMemory, Refused, Clash}
+use Rattle.tree_store.specs.declared.faults.TreeFault.TheVariants.{NoMemory}
 use Rattle.tree_store.proofs.Adding.{either, at_append}
 
 pub none_added : (h : Hash) (before : Blobs) (wanted : Result Store Refusal) → AddsAtMost h before before wanted
@@ -97,27 +97,3 @@ wants_memory h before after wanted fault adds is = subst (λ (f : TreeFault). Le
 pub leaves_part : (h : Hash) (st : Store) (before more after : Blobs) (result : Result BlobRef TreeFault) → AddsSome h (blobs h st) [] more → IsPart before more after → IsErrAnd result (λ fault. fault ≡ NoMemory) → Leaves h before after (Ok st) result
 leaves_part h st before more after (Ok root) adds part want = absurd want
 leaves_part h st before more after (Err fault) adds part want = wants_memory h before after (Ok st) fault (adds_part h st before more after (all_added h st more adds) part) want
-
--- ---- a root stays one
-
-root_kept : (h : Hash) (before after : Blobs) (root : BlobRef) (st : Store) → Keeps (table before) (table after) → IsRootOf h (table before) root st → IsRootIn h (table after) root
-root_kept h before after root st keeps is = (st, record { store = is.store; storable = is.storable; reference = is.reference; held = λ bytes c. keeps (reference_of h bytes) bytes (is.held bytes c) })
-
-same_keeps : (before after : Blobs) → after ≡ before → Keeps (table before) (table after)
-same_keeps before after same = subst (λ (xs : Blobs). Keeps (table before) (table xs)) (sym same) (λ reference bytes e. e)
-
-most_keeps : (h : Hash) (before after : Blobs) (wanted : Result Store Refusal) → AddsAtMost h before after wanted → Keeps (table before) (table after)
-most_keeps h before after (Ok st) adds = adds.0.kept
-most_keeps h before after (Err refusal) same = same_keeps before after same
-
-fault_keeps : (h : Hash) (before after : Blobs) (wanted : Result Store Refusal) (fault : TreeFault) → Leaves h before after wanted (Err fault) → Keeps (table before) (table after)
-fault_keeps h before after wanted NoMemory leaves = most_keeps h before after wanted leaves
-fault_keeps h before after wanted (Refused refusal) leaves = same_keeps before after leaves.1
-fault_keeps h before after wanted (Clash reference kept offered) leaves = same_keeps before after leaves.3
-
--- after a fault the old root is one still
-pub old_root : (h : Hash) (before after : Blobs) (wanted : Result Store Refusal) (fault : TreeFault) (root : BlobRef) (st : Store) → Leaves h before after wanted (Err fault) → IsRootOf h (table before) root st → IsRootIn h (table after) root
-old_root h before after wanted fault root st leaves is = root_kept h before after root st (fault_keeps h before after wanted fault leaves) is
-
-pub new_root : (h : Hash) (before after : Blobs) (wanted : Result Store Refusal) (root : BlobRef) → Leaves h before after wanted (Ok root) → IsRootIn h (table after) root
-new_root h before after wanted root leaves = (leaves.0, leaves.2)

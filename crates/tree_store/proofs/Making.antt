@@ -1,18 +1,16 @@
 -- What the open directories show after a node is put, or taken away, at a path above which all directories are open.
-use Rattle.std.proofs.Common.{◌≡◌, ◌≢◌, ℕ, ◌+◌, ◌<◌, Bool, true, false, cond, List, [], ◌∷◌, ◌++◌, length, take, get_or, Option, Some, None, refl, sym, ap, ◌∙◌, subst, inl, inr, true≢false, arith, length-append}
-use Rattle.std.specs.Prelude.{IsSome, ◌⊎◌}
-use Rattle.std.specs.FinMap.Entries as finite
-use Rattle.std.specs.Ordering.{eq_by_cmp}
-use Rattle.std.proofs.lemmas.List.{take_at, take_more}
+use Rattle.std.proofs.Common.{◌≡◌, false, cond, [], ◌∷◌, ◌++◌, length, take, Some, refl, sym, ap, ◌∙◌, subst, inl, inr, arith, length-append}
+use Rattle.std.specs.Prelude.{IsSome}
+use Rattle.std.proofs.lemmas.List.{take_at}
 use Rattle.fl_digest.specs.declared.Hash.{Hash}
-use Rattle.kvs_model.specs.Store.{Name, Path, Node, Value, Directory, Link, Store, IsStore, path_cmp, node_at, with_node, without, is_within}
+use Rattle.kvs_model.specs.Store.{Name, Path, Node, Directory, Store, IsStore, node_at, with_node, without}
 use Rattle.kvs_model.specs.Operation.{with_places_above, placed, is_directory}
 use Rattle.kvs_model.proofs.Paths.{node_at-with_places_above, is_above}
 use Rattle.kvs_model.proofs.Paths as paths
 use Rattle.tree_rules.specs.Held.{Table, IsStorable, IsStorableNode}
-use Rattle.tree_rules.specs.Objects.{Tree, val, valref, dir, dirref, symlink, Entries, no_entries}
+use Rattle.tree_rules.specs.Objects.{Tree, val, valref, dir, dirref, symlink, no_entries}
 use Rattle.tree_store.specs.Shown.{Directories, opened_at, Stands, Shows, OpensAbove, IsNodeOf, with_object, without_object, closed_within, with_open}
-use Rattle.tree_store.proofs.Opening.{path_dec, is_some, longer}
+use Rattle.tree_store.proofs.Opening.{path_dec, is_some}
 use Rattle.tree_store.proofs.Replacing.{some_of}
 use Rattle.tree_store.proofs.Steps.{shows_put, shows_cut, shows_made, open_opened}
 use Rattle.tree_store.proofs.Storable.{IsNamed}

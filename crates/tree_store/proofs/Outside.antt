@@ -1,20 +1,18 @@
 -- What a change at a path leaves outside of it.
-use Rattle.std.proofs.Common.{◌≡◌, ◌≢◌, ℕ, Bool, true, false, cond, not, List, [], ◌∷◌, ◌++◌, Option, Some, None, refl, sym, ap, ◌∙◌, subst, inl, inr, true≢false}
-use Rattle.std.specs.Prelude.{IsSome, ◌⊎◌}
-use Rattle.std.specs.List.{AllByRecursion}
+use Rattle.std.proofs.Common.{◌≡◌, ◌≢◌, true, false, cond, not, [], ◌∷◌, ◌++◌, Option, Some, None, refl, sym, ap, ◌∙◌, subst, inl, inr, true≢false}
+use Rattle.std.specs.Prelude.{IsSome}
 use Rattle.std.specs.Ordering.{eq_by_cmp}
-use Rattle.kvs_txn.specs.Keys.{IsComponent}
-use Rattle.kvs_model.specs.Store.{Name, Path, Node, Value, Directory, Link, Store, IsStore, root, path_cmp, node_at, with_node, without, is_within}
+use Rattle.kvs_model.specs.Store.{Name, Path, Node, Directory, Store, IsStore, root, path_cmp, node_at, with_node, without, is_within}
 use Rattle.kvs_model.specs.Operation.{with_places_above, placed, is_directory}
 use Rattle.kvs_model.proofs.Paths.{node_at-with_node, node_at-without, sorted-with_node, path_self, within_self}
 use Rattle.kvs_model.proofs.Sound.{IsStore-placed, IsStore-without}
 use Rattle.tree_rules.specs.Held.{IsStorable, IsStorableNode}
 use Rattle.tree_rules.specs.Objects.{Entries}
 use Rattle.tree_store.specs.Shown.{Directories, opened_at}
-use Rattle.tree_store.proofs.Opening.{path_dec, same_parent, longer, is_some, not_both}
+use Rattle.tree_store.proofs.Opening.{path_dec, same_parent, longer, is_some}
 use Rattle.tree_store.proofs.Replacing.{IsOutside, open_within}
 use Rattle.tree_store.proofs.Steps.{path_apart, not_whole}
-use Rattle.tree_store.proofs.Storable.{IsNamed, IsGood, put_good, filter_good, placed_good}
+use Rattle.tree_store.proofs.Storable.{IsNamed, put_good, filter_good, placed_good}
 
 placed_store : (st : Store) → IsStore st → (p : Path) (n : Name) (node : Node) → IsStore (placed st (p ++ n ∷ []) node)
 placed_store st is [] n node = IsStore-placed st is n [] node

@@ -1,10 +1,9 @@
 -- What is shown after directories are made on the way to a path, and a node is put there.
-use Rattle.std.proofs.Common.{◌≡◌, ◌≢◌, ℕ, zero, suc, ◌+◌, ◌-◌, ◌<◌, ◌≤◌, Bool, true, false, cond, List, [], ◌∷◌, ◌++◌, length, take, drop, get_or, Option, Some, None, refl, sym, ap, ◌∙◌, subst, inl, inr, true≢false, arith, length-take}
-use Rattle.std.specs.Prelude.{IsSome, ◌⊎◌}
-use Rattle.std.specs.List.{AllByRecursion}
+use Rattle.std.proofs.Common.{◌≡◌, ℕ, zero, suc, ◌+◌, ◌-◌, ◌<◌, ◌≤◌, true, false, cond, [], ◌∷◌, ◌++◌, length, take, get_or, Option, Some, None, refl, sym, ap, ◌∙◌, subst, inl, inr, true≢false, arith, length-take}
+use Rattle.std.specs.Prelude.{IsSome}
 use Rattle.fl_digest.specs.declared.Hash.{Hash}
 use Rattle.kvs_model.specs.Operation.{with_places_above, placed, is_directory}
-use Rattle.kvs_model.specs.Store.{Name, Path, Node, Value, Directory, Link, Store, IsStore, node_at, with_node, without, path_cmp, is_within}
+use Rattle.kvs_model.specs.Store.{Name, Path, Node, Value, Directory, Link, Store, IsStore, node_at, with_node, without}
 use Rattle.kvs_model.proofs.Paths as paths
 use Rattle.kvs_model.proofs.Paths.{node_at-with_node, node_at-with_places_above, path_self, is_above, above_not_within, within_self}
 use Rattle.plain_store.proofs.Placing.{upto, upto_none, upto_more, upto_all, same_directory, placed_bare}

@@ -1,5 +1,5 @@
 -- The text of a store's directory is read again as its objects.
-use Rattle.std.proofs.Common.{◌≡◌, ◌≢◌, ℕ, zero, suc, ◌<◌, ◌≤◌, lit<, lit≤, max, Bool, true, false, cond, List, [], ◌∷◌, ◌++◌, Option, Some, None, option_map, refl, sym, ap, ◌∙◌, subst, arith}
+use Rattle.std.proofs.Common.{◌≡◌, ℕ, zero, suc, ◌<◌, ◌≤◌, lit<, lit≤, true, false, cond, List, [], ◌∷◌, ◌++◌, Some, None, option_map, refl, sym, ap, ◌∙◌, subst, arith}
 use Rattle.std.specs.Prelude.{IsTrue, Ok, Err, Result, slice_index, ⊤}
 use Rattle.std.specs.FinMap.Entries as finite
 use Rattle.std.specs.List.{All, AllByRecursion, cons_option}
@@ -13,10 +13,9 @@ use Rattle.fl_json.specs.declared.faults.JsonFault.{JsonFault}
 use Rattle.kvs_txn.specs.Keys.{IsComponent}
 use Rattle.kvs_model.specs.Store.{Name, Path, Node, Value, Directory, Link, Store, IsStore, child_name}
 use Rattle.serde_json.specs.Data.{Data, depth, members_depth}
-use Rattle.serde_json.specs.Read.{max_depth}
 use Rattle.tree_rules.specs.Held.{IsStorable, IsStorableNode}
 use Rattle.tree_rules.specs.Names.{name_cmp}
-use Rattle.tree_rules.specs.Objects.{Tree, val, valref, dir, dirref, symlink, Entries, no_entries, entry, entries_of, listed, tree_data, entries_data, tree_text}
+use Rattle.tree_rules.specs.Objects.{Tree, val, valref, dir, Entries, entries_of, listed, tree_data, entries_data}
 use Rattle.tree_rules.specs.Texts.{is_long, object_of, objects, objects_in, directory_text, text_of}
 use Rattle.tree_rules.proofs.Below.{names_rise}
 use Rattle.tree_rules.proofs.Objects.{child_is}

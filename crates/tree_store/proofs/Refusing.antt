@@ -1,6 +1,5 @@
 -- Why an operation is refused.
-use Rattle.std.proofs.Common.{◌≡◌, ℕ, ◌+◌, ◌<◌, ◌≤◌, Bool, true, false, cond, List, [], ◌∷◌, ◌++◌, length, take, drop, get_or, Option, Some, None, is_none, nat_le, nat_lt, refl, sym, ap, ap₂, ◌∙◌, subst, true≢false, arith, append-nil}
-use Rattle.std.specs.Prelude.{◌&&◌, ◌||◌, IsSome}
+use Rattle.std.proofs.Common.{◌≡◌, ℕ, Bool, true, false, cond, List, [], ◌∷◌, ◌++◌, length, Option, Some, None, nat_lt, refl, ap, ◌∙◌, true≢false, append-nil}
 use Rattle.fl_digest.specs.declared.BlobRef.{BlobRef}
 use Rattle.fl_digest.specs.declared.Hash.{Hash}
 use Rattle.kvs_txn.specs.declared.answers.Cause.{Cause}
@@ -10,12 +9,11 @@ use Rattle.kvs_txn.specs.declared.txn.Author.TheVariants as author
 use Rattle.kvs_txn.specs.declared.txn.Scope.{Scope}
 use Rattle.kvs_txn.specs.declared.txn.Op.{Op}
 use Rattle.kvs_txn.specs.declared.txn.Op.TheVariants as op
-use Rattle.kvs_model.specs.Operation.{appended, is_reserved, first_cause, refusals, enters_full_from, overfills_value, is_directory, is_link, most_names, most_bytes}
-use Rattle.kvs_model.specs.Store.{Path, Node, Value, Directory, Link, Store, node_at, names_in}
+use Rattle.kvs_model.specs.Operation.{appended, is_reserved, first_cause, refusals, enters_full_from, overfills_value, is_directory, is_link, most_bytes}
+use Rattle.kvs_model.specs.Store.{Path, Node, Value, Directory, Link, Store, node_at}
 use Rattle.tree_rules.specs.Held.{Table}
 use Rattle.tree_rules.specs.Objects.{val, valref}
-use Rattle.tree_store.specs.Shown.{Directories, opened_at, Stands, Shows, IsLongValue, OpensAbove, too_long, append_cause}
-use Rattle.tree_store.proofs.Walked.{take_less}
+use Rattle.tree_store.specs.Shown.{Directories, Stands, too_long, append_cause}
 
 -- ---- an append to a value
 

@@ -1,11 +1,10 @@
 -- The root alone is open: that of a store which a table holds, and that of the store without names.
-use Rattle.std.proofs.Common.{◌≡◌, ◌≢◌, ℕ, Bool, true, false, cond, List, [], ◌∷◌, ◌++◌, Option, Some, None, refl, sym, ap, ◌∙◌, subst, inl, inr}
-use Rattle.std.specs.Prelude.{IsSome, ◌⊎◌}
+use Rattle.std.proofs.Common.{◌≡◌, ◌≢◌, cond, [], ◌∷◌, ◌++◌, Some, None, refl, sym, ap, ◌∙◌, subst, inl, inr}
+use Rattle.std.specs.Prelude.{IsSome}
 use Rattle.std.specs.FinMap.Entries as finite
-use Rattle.std.specs.Ordering.{eq_by_cmp}
 use Rattle.fl_digest.specs.declared.Hash.{Hash}
 use Rattle.fl_digest.specs.declared.BlobRef.{BlobRef}
-use Rattle.kvs_model.specs.Store.{Name, Path, Node, Directory, Store, root, node_at, path_cmp, empty_store}
+use Rattle.kvs_model.specs.Store.{Name, Path, Directory, Store, root, node_at, empty_store}
 use Rattle.kvs_model.proofs.Sound.{IsStore-empty_store}
 use Rattle.tree_rules.specs.Held.{Table, IsRootOf}
 use Rattle.tree_rules.specs.Names.{name_cmp}
@@ -13,7 +12,7 @@ use Rattle.tree_rules.specs.Objects.{Entries, no_entries, listed}
 use Rattle.tree_rules.specs.Texts.{objects, objects_in, stored_at, directory_text}
 use Rattle.tree_rules.proofs.Blobs.{text_there, value_there}
 use Rattle.tree_rules.proofs.Objects.{stored_under}
-use Rattle.tree_store.specs.Shown.{Directories, opened_at, entries_at, Stands, Shows, HasBelow}
+use Rattle.tree_store.specs.Shown.{opened_at, entries_at, Stands, Shows, HasBelow}
 use Rattle.tree_store.proofs.Opening.{path_dec, longer, is_some, some_same, not_both, listed_again, has_further, stored_stands}
 use Rattle.tree_store.proofs.Steps.{path_apart}
 

@@ -1,21 +1,13 @@
 -- What an operation leaves can be told by texts again.
-use Rattle.std.proofs.Common.{◌≡◌, ℕ, zero, suc, ◌<◌, Bool, true, false, cond, List, [], ◌∷◌, ◌++◌, map, Option, Some, None, refl, sym, ap, ◌∙◌, subst, Less, Equal, Greater}
-use Rattle.std.specs.Prelude.{Result, Ok, Err, fold, not}
-use Rattle.std.specs.Option.{ok_or}
-use Rattle.std.specs.List.{All, AllByRecursion}
+use Rattle.std.proofs.Common.{◌≡◌, ℕ, zero, suc, Bool, true, false, cond, List, [], ◌∷◌, ◌++◌, map, Option, Some, None, refl, subst, Less, Equal, Greater}
+use Rattle.std.specs.Prelude.{fold, not}
+use Rattle.std.specs.List.{AllByRecursion}
 use Rattle.std.specs.Ordering.{eq_by_cmp}
 use Rattle.std.specs.FinMap.Entries as finite
-use Rattle.std.proofs.lemmas.List.Elements.{All-append}
 use Rattle.kvs_txn.specs.Keys.{IsComponent, IsKey}
-use Rattle.kvs_txn.specs.declared.answers.Cause.{Cause}
-use Rattle.kvs_txn.specs.declared.answers.Cause.TheVariants as cause
-use Rattle.kvs_txn.specs.declared.txn.Author.{Author}
-use Rattle.kvs_txn.specs.declared.txn.Scope.{Scope}
-use Rattle.kvs_txn.specs.declared.txn.Op.{Op}
-use Rattle.kvs_txn.specs.declared.txn.Op.TheVariants as op
 use Rattle.kvs_model.specs.Store.{Name, Path, Node, Value, Directory, Link, Store, path_cmp, node_at, with_node, without, is_within}
-use Rattle.kvs_model.specs.Walk.{Stop, go_on, stop_from, stop, behind_inner_link, past_inner_link, at_end, follow, resolved}
-use Rattle.kvs_model.specs.Operation.{places_above, with_places_above, placed, appended, is_directory, changed, key_of, first_cause, refusals, unless_refused, effect_at, effect_from_key, op_effect}
+use Rattle.kvs_model.specs.Walk.{Stop, go_on, stop_from, stop, behind_inner_link, past_inner_link, at_end, follow}
+use Rattle.kvs_model.specs.Operation.{places_above, with_places_above, placed}
 use Rattle.tree_rules.specs.Held.{IsStorable, IsStorableNode}
 
 abbrev pub IsNamed : Path → Type 0

@@ -1,5 +1,5 @@
 -- One turn of the writing: the last open directory is closed, or the root is.
-use Rattle.std.proofs.Common.{◌≡◌, ◌≢◌, ℕ, cond, List, [], ◌∷◌, ◌++◌, Option, Some, None, refl, sym, ap, ◌∙◌, subst, inl, inr, Ordering, Less, Equal, Greater}
+use Rattle.std.proofs.Common.{◌≡◌, ℕ, cond, List, [], ◌∷◌, ◌++◌, Option, Some, refl, sym, ap, subst, inl, inr, Less, Equal, Greater}
 use Rattle.std.specs.Prelude.{IsSome, IsTrue, Contains, ◌⊎◌}
 use Rattle.std.specs.FinMap.Entries as finite
 use Rattle.fl_digest.specs.declared.Hash.{Hash}

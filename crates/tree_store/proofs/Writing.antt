@@ -1,24 +1,23 @@
 -- The last open directory is closed: its blobs are there, and it stands by its reference.
-use Rattle.std.proofs.Common.{◌≡◌, ◌≢◌, ℕ, Bool, true, false, cond, List, [], ◌∷◌, ◌++◌, Option, Some, None, refl, sym, ap, ap₂, ◌∙◌, subst, inl, inr, true≢false, append_assoc, append-nil, arith, Ordering, Less, Equal, Greater}
-use Rattle.std.specs.Prelude.{IsSome, IsTrue, Contains, ◌⊎◌}
+use Rattle.std.proofs.Common.{◌≡◌, ◌≢◌, ℕ, true, false, cond, List, [], ◌∷◌, ◌++◌, Option, Some, None, refl, sym, ap, ◌∙◌, subst, append_assoc, append-nil, arith, Ordering, Less, Equal, Greater}
+use Rattle.std.specs.Prelude.{IsSome, IsTrue, Contains}
 use Rattle.std.specs.FinMap.Entries as finite
 use Rattle.std.specs.Ordering.{eq_by_cmp, ordering_then}
 use Rattle.std.specs.Cmp.{tied_itself}
 use Rattle.std.proofs.lemmas.Cmp.{nat_list_cmp_total}
 use Rattle.std.proofs.lemmas.List.Elements.{Contains-append_left, Contains-append_right}
 use Rattle.fl_digest.specs.declared.Hash.{Hash}
-use Rattle.fl_digest.specs.declared.BlobRef.{BlobRef}
 use Rattle.fl_digest.specs.Reference.{reference_of}
-use Rattle.kvs_model.specs.Store.{Name, Path, Node, Value, Directory, Link, Store, IsStore, root, node_at, path_cmp, is_within}
+use Rattle.kvs_model.specs.Store.{Name, Path, Node, Value, Directory, Link, Store, IsStore, node_at, path_cmp, is_within}
 use Rattle.kvs_model.proofs.Paths.{path_total, path_self, within_self, within_longer}
 use Rattle.tree_rules.specs.Held.{Table, Keeps}
 use Rattle.tree_rules.specs.Names.{name_cmp}
 use Rattle.tree_rules.specs.Objects.{Tree, val, valref, dir, dirref, symlink, Entries, no_entries, entry, listed}
 use Rattle.tree_rules.specs.Texts.{is_long, directory_text}
-use Rattle.tree_store.specs.Shown.{Directories, opened_at, Stands, Shows, IsLongValue, IsClosed, HasBlob, HasBelow, with_object, all_shortened, long_values, entries_text}
+use Rattle.tree_store.specs.Shown.{Directories, opened_at, Stands, Shows, HasBlob, HasBelow, with_object, all_shortened, long_values, entries_text}
 use Rattle.tree_store.proofs.Opening.{longer, is_some, not_both, name_self}
 use Rattle.tree_store.proofs.Closing.{closed_entries, closed_text}
-use Rattle.tree_store.proofs.Replacing.{within_rest, IsReplaced, IsOutside, shows_replaced}
+use Rattle.tree_store.proofs.Replacing.{within_rest, shows_replaced}
 use Rattle.tree_store.proofs.Steps.{path_apart, not_parent, not_whole, up_with, object_with, opened-put, find_with}
 
 -- ---- a table that has more

@@ -13,8 +13,6 @@ pub mod faults;
 mod fresh;
 mod opened;
 mod operations;
-#[cfg(test)]
-mod tests;
 mod walks;
 
 use blob_store::BlobStore;

@@ -9,8 +9,6 @@ ghost use Rattle.tree_walk.specs.Walks.{Reads, GoesOn, Tells, without_pins, with
 
 mod ends;
 mod legs;
-#[cfg(test)]
-mod tests;
 mod texts;
 
 use cache_node::CacheNode;

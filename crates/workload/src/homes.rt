@@ -61,6 +61,7 @@ pub fn said_by(
 {
     let command = command(alloc, work, verb, line, tail)?;
     if !is_in_place(&work.actors, by, &command) {
+        drop(command);
         return Err(LineFault::BadCommand { line });
     }
     Ok(command)

@@ -7,8 +7,6 @@ ghost use Rattle.workload_generator.specs.Texts.{actor_lines, generated};
 
 mod drawn;
 mod lines;
-#[cfg(test)]
-mod tests;
 
 pub use drawn::{Drawn, Kind};
 use lines::{add_actor, add_command};

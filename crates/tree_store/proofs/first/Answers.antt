@@ -1,5 +1,4 @@
-use Rattle.std.proofs.Common.{◌≡◌, Option, List, ℕ, option_map, sym, subst}
-use Rattle.fl_digest.specs.declared.Hash.{Hash}
+use Rattle.std.proofs.Common.{option_map, sym, subst}
 use Rattle.kvs_model.specs.History.{first_store}
 use Rattle.kvs_model.specs.Store.{empty_store}
 use Rattle.tree_store.specs.Landing.{table, opening}

@@ -20,17 +20,17 @@ calm_order : (size fanout : ℕ) (hash : Hash) (shuffle : Option ℕ) (journal :
 calm_order size fanout hash None journal calm = refl
 calm_order size fanout hash (Some seed) journal calm = cc
 
-pub returns-clause-run : goal.returns-clause-run
-returns-clause-run c =
+pub returns-in-Ok-output-clause-run : goal.returns-in-Ok-output-clause-run
+returns-in-Ok-output-clause-run c =
     let w = c.make_steps.new.world in
     let o = c.args.options in
-    let set : w.set ≡ setup_of o c.args.work = c.in_ok-make_steps.ensures.set ∙ c.in_ok-world.ensures.set in
+    let set : w.set ≡ setup_of o c.args.work = c.in-Ok.ensures.set ∙ c.in_ok-world.ensures.set in
     let told : c.finish.result.chronicle ≡ w.chronicle = c.finish.ensures.chronicle in
     let legal : IsLegal w.set w.chronicle = c.chronicle.ensures.legal in
-    let whole : IsWhole w.set w.chronicle = c.quiet.ensures.whole (c.quiet.ensures.value ∙ c.in_ok-make_steps.ensures.closed) in
-    let closes : MayClose (family_of w.set w.chronicle) [] = c.quiet.ensures.closes (c.quiet.ensures.value ∙ c.in_ok-make_steps.ensures.closed) in
+    let whole : IsWhole w.set w.chronicle = c.quiet.ensures.whole (c.quiet.ensures.value ∙ c.in-Ok.ensures.closed) in
+    let closes : MayClose (family_of w.set w.chronicle) [] = c.quiet.ensures.closes (c.quiet.ensures.value ∙ c.in-Ok.ensures.closed) in
     let settled : IsTrue (is_settled o) → IsSettled (setup_of o c.args.work) c.finish.result.chronicle = λ calm.
-    let there : IsSettled w.set w.chronicle = c.in_ok-make_steps.ensures.settled (c.in_ok-world.ensures.order ∙ calm_order o.size o.fanout o.hash o.shuffle o.journal calm) in
+    let there : IsSettled w.set w.chronicle = c.in-Ok.ensures.settled (c.in_ok-world.ensures.order ∙ calm_order o.size o.fanout o.hash o.shuffle o.journal calm) in
     subst (λ s. IsSettled s c.finish.result.chronicle) set (subst (IsSettled w.set) (sym told) there) in
     record {
       legal = subst (λ s. IsLegal s c.finish.result.chronicle) set (subst (IsLegal w.set) (sym told) legal);
@@ -39,6 +39,6 @@ returns-clause-run c =
       closes = subst (λ s. MayClose (family_of s c.finish.result.chronicle) []) set (subst (λ x. MayClose (family_of w.set x) []) (sym told) closes);
       at_rest = λ calm. settled calm;
       rests = λ calm. family_settled (setup_of o c.args.work) c.finish.result.chronicle (settled calm);
-      printed = c.in_ok-text.ensures
+      printed = c.in-Ok-output.ensures
           ∙ ap₂ (λ work chronicle. output_text o.journal (setup_of o work) chronicle) (c.work.ensures ∙ ap (λ s. s.work) set) (c.chronicle.ensures.value ∙ sym told);
     }

@@ -17,7 +17,7 @@ returns c =
     let rows = c.args.rows.now.items in
     let back = c.sent_back.ensures in
     let same : (d : Row) → row ≡ get_or rows c.args.i d = λ d. c.index_mut-row.ensures.value ∙ get_or_default rows c.args.i row d c.requires.within in
-    record {
+    rw c.set_stage.ensures record {
       asked = back.0;
       stage = c.sent_back.result;
       was = λ d. ap (λ r. r.stage) (sym (same d)) ∙ sym c.replace-stage.ensures.value ∙ back.1;

@@ -1,14 +1,8 @@
-use Rattle.std.proofs.Common.{length, ◌-◌, ◌≡◌, ◌<◌, ◌∷◌, ◌++◌, [], ℕ, List, IfOk, OnOk, option_map, Some, None, if◌then◌else◌, ◌+◌, ◌*◌, ◌≤◌}
-use Rattle.std.specs.List.{AllByRecursion}
+use Rattle.std.proofs.Common.{length, ◌-◌, ◌≤◌}
 use Rattle.fl_digest.specs.declared.Hash.{Hash}
-use Rattle.kvs_model.specs.Operation.{is_reserved, key_of, op_effect, with_places_above, placed, appended, changed, enters_full_from, first_cause, refusals}
-use Rattle.kvs_model.specs.Store.{Path as Place, Node, Store, Directory, is_within, node_at, with_node}
-use Rattle.kvs_txn.specs.Keys.{IsComponent}
-use Rattle.tree_objects.specs.Level.{tree_of}
-use Rattle.tree_rules.specs.Held.{Table, IsStorableNode}
-use Rattle.tree_store.specs.Landing.{table}
-use Rattle.tree_store.specs.Shown.{Directories, Stands, Shows, IsShown, OpensAbove, Gives, IsNodeOf, IsInDirectory, HasBlob, too_long, append_cause}
-use Rattle.fl_digest.specs.Reference.{reference_of}
+use Rattle.kvs_model.specs.Store.{Store}
+use Rattle.tree_rules.specs.Held.{Table}
+use Rattle.tree_store.specs.Shown.{Shows, OpensAbove}
 use Rattle.plain_store.proofs.Placing.{upto}
 use Rattle.tree_store.proofs.operations.make_places.Given as goal
 

@@ -1,13 +1,9 @@
-use Rattle.std.proofs.Common.{rules, ◌≡◌, ◌≤◌, ◌<◌, ◌++◌, ℕ, length, take, drop, None, IfOk, IfSome, OnOk, IsSome, option_map, ◌+◌, ◌-◌, ◌*◌, ◌/◌, ◌%◌, Bool, true, false, nat_eq, nat_lt, List, [], ◌∷◌, slice_index_or, slice_set, bit_and, bit_or, Fits, w8, w32, w64, Bor, MutBor, refl, sym, ap, ap₂, ◌∙◌, subst, arith, cond, true≢false}
-use Rattle.fl_digest.specs.declared.Hash.{Hash}
-use Rattle.kvs_model.specs.Store.{Store, Path as Place, node_at, Directory}
-use Rattle.kvs_model.specs.Walk.{stop, past_inner_link, most_links}
-use Rattle.tree_store.specs.Landing.{table}
-use Rattle.tree_store.specs.Shown.{opened_at, followed, Shows, OpensAbove, Directories, link_target}
-use Rattle.std.specs.Prelude.{Option, IsTrue}
+use Rattle.std.proofs.Common.{◌≡◌, take, IsSome, true, false, sym, ◌∙◌, arith}
+use Rattle.kvs_model.specs.Store.{node_at}
+use Rattle.tree_store.specs.Shown.{opened_at}
 use Rattle.kvs_model.specs.Operation.{is_directory}
 use Rattle.plain_store.proofs.Walking.{stop_more, stop_here, stop_end}
-use Rattle.tree_store.proofs.Walked.{opens_upto, opens_path, next_at, next_none}
+use Rattle.tree_store.proofs.Walked.{opens_upto}
 use borrow.Author.Count.{below_more}
 use Rattle.tree_store.proofs.walks.passed.Goals as goal
 

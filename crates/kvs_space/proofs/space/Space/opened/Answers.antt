@@ -1,5 +1,6 @@
-use Rattle.std.proofs.Common.{rules, ◌≡◌, [], replicate, set, ap, sym, subst, ◌∙◌}
+use Rattle.std.proofs.Common.{rules, ◌≡◌, [], ◌∷◌, ◌++◌, replicate, set, ap, ap₂, sym, subst, ◌∙◌}
 use Rattle.std.specs.Prelude.{slice_index}
+use Rattle.std.proofs.lemmas.List.{replicate-append-replicate}
 use Rattle.kvs_model.specs.Store.{empty_store}
 use Rattle.kvs_space.specs.Links.{IsAnnouncedBut}
 use Rattle.kvs_space.proofs.Opening.{first-but, known-once, opened-space}
@@ -28,3 +29,13 @@ returns-clause-sound c = λ grant.
     c.requires.other c.requires.size c.new-2.ensures.items c.new-3.ensures
     (c.in_ok-hear.ensures.heard ∙ ap (λ ks. set ks 0 1) (i.known ∙ ap (λ n. replicate n 0) b))
     (i.stores ∙ ap (λ n. replicate n empty_store) b) c.in_ok-hear.ensures.announced
+
+pub loop-broker-preserved : goal.loop-broker-preserved
+loop-broker-preserved c =
+    let i = c.loop-broker.invariant in
+    let n = c.loop-broker.broker in
+    record {
+      known = c.in_ok-push.ensures.items ∙ ap (λ l. l ++ 0 ∷ []) i.known ∙ replicate-append-replicate n 1 0;
+      stores = c.in_ok-push-2.ensures.items ∙ ap₂ (λ l s. l ++ s ∷ []) i.stores c.in_ok-empty.ensures ∙ replicate-append-replicate n 1 empty_store;
+      links = c.in_ok-push-3.ensures.items ∙ ap₂ (λ l k. l ++ k ∷ []) i.links c.new.ensures ∙ replicate-append-replicate n 1 [];
+    }

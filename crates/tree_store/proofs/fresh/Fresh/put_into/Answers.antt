@@ -1,16 +1,5 @@
-use Rattle.std.proofs.Common.{rules, ◌≡◌, ◌<◌, ◌++◌, ◌∷◌, [], Some, None, IfOk, IfErr, OnOk, OnErr, length, option_copied, ℕ, ◌+◌, ◌-◌, ◌*◌, ◌≤◌, ◌/◌, ◌%◌, Bool, true, false, nat_eq, nat_lt, List, slice_index_or, slice_set, bit_and, bit_or, Fits, w8, w32, w64, Bor, MutBor, refl, sym, ap, ap₂, ◌∙◌, subst, arith, cond, true≢false, get_or, Ok, Err, append_assoc, append-nil}
-use Rattle.blob_store.specs.Blobs.{blob_at}
-use Rattle.fl_digest.specs.Reference.{reference_of}
-use Rattle.kvs_model.specs.Store.{Store}
-use Rattle.tree_rules.specs.Held.{IsRootOf}
-use Rattle.tree_objects.specs.Directories.{names_of}
-use Rattle.tree_objects.specs.Level.{tree_of}
-use Rattle.tree_rules.specs.Objects.{valref, Tree, Entries, val, dir, listed, entries_of}
-use Rattle.tree_rules.specs.Texts.{blobs, is_long}
-use Rattle.tree_store.specs.Fresh.{AreNew, AddsSome, HasAll, ClashesIn, IsClashOf, IsPart, HasLongAt, Blobs}
-use Rattle.tree_store.specs.Landing.{table, IsClashIn}
-use Rattle.tree_store.specs.Shown.{Shows, all_shortened, long_values, shortened_at, long_values_at, entries_text, strings_of}
-use Rattle.std.specs.Prelude.{Option, Contains, IsTrue}
+use Rattle.std.proofs.Common.{rules, ◌≡◌, ◌++◌, ◌∷◌, [], ℕ, List, sym, ap, ◌∙◌, subst, append_assoc, append-nil}
+use Rattle.tree_store.specs.Fresh.{AreNew, Blobs}
 use Rattle.fl_digest.specs.declared.BlobRef.{BlobRef}
 use Rattle.tree_store.proofs.Adding.{stored_new}
 use Rattle.tree_store.proofs.fresh.Fresh.put_into.Goals as goal

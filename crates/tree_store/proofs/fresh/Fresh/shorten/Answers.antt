@@ -1,16 +1,11 @@
-use Rattle.std.proofs.Common.{rules, ◌≡◌, ◌<◌, ◌++◌, ◌∷◌, [], Some, None, IfOk, IfErr, OnOk, OnErr, length, option_copied, ℕ, ◌+◌, ◌-◌, ◌*◌, ◌≤◌, ◌/◌, ◌%◌, Bool, true, false, nat_eq, nat_lt, List, slice_index_or, slice_set, bit_and, bit_or, Fits, w8, w32, w64, Bor, MutBor, refl, sym, ap, ap₂, ◌∙◌, subst, arith, cond, true≢false, get_or, Ok, Err, add-one}
+use Rattle.std.proofs.Common.{rules, ◌≡◌, ◌++◌, Some, length, ℕ, List, refl, sym, ap, ◌∙◌, subst, arith, add-one}
 use Rattle.blob_store.specs.Blobs.{blob_at}
 use Rattle.fl_digest.specs.Reference.{reference_of}
-use Rattle.kvs_model.specs.Store.{Store}
-use Rattle.tree_rules.specs.Held.{IsRootOf}
 use Rattle.tree_objects.specs.Directories.{names_of}
-use Rattle.tree_objects.specs.Level.{tree_of}
-use Rattle.tree_rules.specs.Objects.{valref, Tree, Entries, val, dir, listed, entries_of}
-use Rattle.tree_rules.specs.Texts.{blobs, is_long}
-use Rattle.tree_store.specs.Fresh.{AreNew, AddsSome, HasAll, ClashesIn, IsClashOf, IsPart, HasLongAt, Blobs}
-use Rattle.tree_store.specs.Landing.{table, IsClashIn}
-use Rattle.tree_store.specs.Shown.{Shows, all_shortened, long_values, shortened_at, long_values_at, entries_text, strings_of}
-use Rattle.std.specs.Prelude.{Option, Contains, IsTrue}
+use Rattle.tree_rules.specs.Objects.{Entries}
+use Rattle.tree_store.specs.Fresh.{HasAll, ClashesIn, HasLongAt, Blobs}
+use Rattle.tree_store.specs.Shown.{long_values, shortened_at, long_values_at}
+use Rattle.std.specs.Prelude.{Contains}
 use borrow.Author.Count.{below_more}
 use Rattle.tree_store.proofs.Shortening.{first_shortened, first_more, first_all, names_first, values_first, of_all, all_held}
 use Rattle.tree_store.proofs.Added.{adds_none, adds_more, adds_of, clashes_of, held_still}

@@ -1,20 +1,12 @@
-use Rattle.std.proofs.Common.{rules, ◌≡◌, ◌<◌, ◌++◌, ◌∷◌, [], Some, None, IfOk, IfErr, OnOk, OnErr, length, option_copied, ℕ, ◌+◌, ◌-◌, ◌*◌, ◌≤◌, ◌/◌, ◌%◌, Bool, true, false, nat_eq, nat_lt, List, slice_index_or, slice_set, bit_and, bit_or, Fits, w8, w32, w64, Bor, MutBor, refl, sym, ap, ap₂, ◌∙◌, subst, arith, cond, true≢false, get_or, Ok, Err}
-use Rattle.blob_store.specs.Blobs.{blob_at}
-use Rattle.fl_digest.specs.Reference.{reference_of}
-use Rattle.kvs_model.specs.Store.{Store}
-use Rattle.tree_rules.specs.Held.{IsRootOf}
+use Rattle.std.proofs.Common.{rules, ◌≡◌, ◌++◌, ◌∷◌, [], Some, ℕ, true, false, List, sym, ap, ◌∙◌, subst, get_or}
 use Rattle.tree_objects.specs.Directories.{names_of}
-use Rattle.tree_objects.specs.Level.{tree_of, paired}
-use Rattle.tree_rules.specs.Objects.{valref, Tree, Entries, val, dir, listed, entries_of}
-use Rattle.tree_rules.specs.Texts.{blobs, is_long}
-use Rattle.tree_store.specs.Fresh.{AreNew, AddsSome, HasAll, ClashesIn, IsClashOf, IsPart, HasLongAt, Blobs}
-use Rattle.tree_store.specs.Landing.{table, IsClashIn}
-use Rattle.tree_store.specs.Shown.{Shows, all_shortened, long_values, shortened_at, long_values_at, entries_text, strings_of, shortened}
-use Rattle.std.specs.Prelude.{Option, Contains, IsTrue}
+use Rattle.tree_objects.specs.Level.{tree_of}
+use Rattle.tree_rules.specs.Objects.{Entries, val, entries_of}
+use Rattle.tree_rules.specs.Texts.{is_long}
+use Rattle.tree_store.specs.Fresh.{AddsSome, HasAll, ClashesIn}
+use Rattle.tree_store.specs.Shown.{long_values_at}
 use Rattle.tree_objects.specs.declared.object.Object.{Object}
-use Rattle.tree_objects.specs.declared.object.Object.TheVariants.{Val, Valref, Dir, Dirref, Symlink}
-use Rattle.tree_store.proofs.Shortening.{first_shortened, first_more, first_all, names_first, values_first, of_all, all_held, tree_at, place_is, stays_at, values_at, value_at, short_at, short_same, long_same, put_at, text_at, short_of, long_of, other_same, other_none, name_is, one_of_all}
-use Rattle.tree_store.proofs.Added.{adds_none, adds_more, adds_of, clashes_of, held_still, one_held, first_one, held_each}
+use Rattle.tree_store.proofs.Shortening.{tree_at, place_is, stays_at, values_at, value_at, short_at, short_same, long_same, put_at, short_of, long_of, other_same, other_none, name_is, one_of_all}
 use Rattle.tree_store.specs.declared.faults.TreeFault.{TreeFault}
 use Rattle.tree_store.specs.declared.faults.TreeFault.TheVariants.{NoMemory}
 use Rattle.tree_objects.proofs.Pairs.{entries_of_listed}

@@ -1,25 +1,18 @@
-use Rattle.std.proofs.Common.{rules, ◌≡◌, ◌<◌, ◌++◌, ◌∷◌, [], Some, None, IfOk, IfErr, OnOk, OnErr, length, option_copied, ℕ, ◌+◌, ◌-◌, ◌*◌, ◌≤◌, ◌/◌, ◌%◌, Bool, true, false, nat_eq, nat_lt, List, slice_index_or, slice_set, bit_and, bit_or, Fits, w8, w32, w64, Bor, MutBor, refl, sym, ap, ap₂, ◌∙◌, subst, arith, cond, true≢false, get_or, Ok, Err}
-use Rattle.blob_store.specs.Blobs.{blob_at}
+use Rattle.std.proofs.Common.{rules, ◌≡◌, ◌++◌, Some, sym, ap, ◌∙◌, subst}
 use Rattle.fl_digest.specs.Reference.{reference_of}
-use Rattle.kvs_model.specs.Store.{Store, Path}
-use Rattle.tree_rules.specs.Held.{IsRootOf}
-use Rattle.tree_objects.specs.Directories.{names_of}
-use Rattle.tree_objects.specs.Level.{tree_of}
-use Rattle.tree_rules.specs.Objects.{valref, Tree, Entries, val, dir, dirref, listed, entries_of, tree_text}
-use Rattle.tree_rules.specs.Texts.{blobs, is_long}
-use Rattle.tree_store.specs.Fresh.{AreNew, AddsSome, HasAll, ClashesIn, IsClashOf, IsPart, HasLongAt, Blobs}
+use Rattle.kvs_model.specs.Store.{Path}
+use Rattle.tree_rules.specs.Objects.{Entries, dirref}
+use Rattle.tree_rules.specs.Texts.{blobs}
+use Rattle.tree_store.specs.Fresh.{Blobs}
 use Rattle.tree_store.specs.Landing.{table, IsClashIn}
-use Rattle.tree_store.specs.Shown.{Shows, all_shortened, long_values, shortened_at, long_values_at, entries_text, strings_of, Directories, above, with_object}
-use Rattle.std.specs.Prelude.{Option, Contains, IsTrue, IfSome}
-use Rattle.std.proofs.lemmas.Result.{on_ok_weaker, IfErr-weaker}
-use Rattle.tree_store.specs.declared.faults.TreeFault.{TreeFault}
-use Rattle.tree_store.specs.declared.faults.TreeFault.TheVariants.{NoMemory}
+use Rattle.tree_store.specs.Shown.{entries_text, strings_of, Directories, above, with_object}
+use Rattle.std.specs.Prelude.{IfSome}
 use Rattle.std.specs.Str.{IsUtf8}
 use Rattle.fl_digest.specs.declared.BlobRef.{BlobRef}
 use Rattle.tree_store.proofs.Entered.{text_above}
 use Rattle.tree_store.proofs.Turns.{AreLeft}
 use Rattle.tree_store.proofs.Added.{clashes_of}
-use Rattle.tree_store.proofs.Closed.{last_named, fewer_left, all_within, turn_left, turn_adds, clash_in, last_root}
+use Rattle.tree_store.proofs.Closed.{last_named, fewer_left, all_within, turn_left, turn_adds, clash_in}
 use Rattle.tree_store.proofs.fresh.Fresh.write.Goals as goal
 
 pub returns-in_err-reference-clause-clash : goal.returns-in_err-reference-clause-clash

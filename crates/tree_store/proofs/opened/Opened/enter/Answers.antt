@@ -1,22 +1,12 @@
-use Rattle.std.proofs.Common.{rules, ◌≡◌, ◌<◌, ◌++◌, [], ◌∷◌, length, nat_le, is_none, Some, IfOk, OnOk, IfSome, IfNone, IsSome, IsTrue, option_map, option_copied, ℕ, ◌+◌, ◌-◌, ◌*◌, ◌≤◌, ◌/◌, ◌%◌, Bool, true, false, nat_eq, nat_lt, List, slice_index_or, slice_set, bit_and, bit_or, Fits, w8, w32, w64, Bor, MutBor, refl, sym, ap, ap₂, ◌∙◌, subst, arith, cond, true≢false}
-use Rattle.std.specs.Str.{IsUtf8}
-use Rattle.fl_digest.specs.declared.Hash.{Hash}
-use Rattle.kvs_model.specs.History.{first_store}
-use Rattle.kvs_model.specs.Operation.{is_directory, most_names}
-use Rattle.kvs_model.specs.Store.{Path as Place, Store, Directory, root, node_at, names_in, empty_store, path_cmp, is_within}
-use Rattle.tree_objects.specs.Level.{tree_of}
-use Rattle.tree_rules.specs.Held.{Table, IsRootOf, IsRootIn}
-use Rattle.tree_rules.specs.Objects.{no_entries, Tree, Entries, dir, listed}
+use Rattle.std.proofs.Common.{◌≡◌, IsSome, false, sym, ap, ◌∙◌}
+use Rattle.kvs_model.specs.Operation.{is_directory}
+use Rattle.kvs_model.specs.Store.{Directory}
 use Rattle.tree_store.specs.Landing.{table}
-use Rattle.std.specs.List.{All, AllByRecursion}
-use Rattle.tree_store.specs.Shown.{opened_at, above, object_at, entries_at, IsDirectoryOf, closed_at, IsBefore, IsOfDirectory, Shows, IsShown, OpensAbove, link_target, with_object, without_object, closed_within, with_open, Directories, keyed}
-use Rattle.std.specs.Prelude.{None, Option, is_some as is_there}
-use Rattle.tree_objects.specs.declared.object.Object.{Object}
-use Rattle.tree_store.proofs.Keyed.{find_keyed, put_keyed, Rows}
-use Rattle.fl_digest.specs.declared.BlobRef.{BlobRef}
+use Rattle.tree_store.specs.Shown.{opened_at, entries_at, Directories}
+use Rattle.std.specs.Prelude.{is_some as is_there}
+use Rattle.tree_store.proofs.Keyed.{find_keyed}
 use Rattle.tree_store.proofs.Entered.{closed_parts, closed_stands, closed_directory, enter_shows, enter_opens, enter_keeps, found_named, text_above, not_closed, none_there}
 use Rattle.tree_store.proofs.opened.Opened.enter.Goals as goal
-use Rattle.std.specs.FinMap.Entries as finite
 
 pub returns-then-contains_key-clause-is : goal.returns-then-contains_key-clause-is
 returns-then-contains_key-clause-is c = λ h st shows opens.

@@ -1,0 +1,301 @@
+use fl_digest::Hash;
+use run_options::{Options, read_options};
+use std::test::Fail;
+
+/// The options that stand where no word says else.
+const DEFAULT: Options = Options {
+    size: 4,
+    fanout: 2,
+    hash: Hash::Sha1,
+    shuffle: None,
+    journal: false,
+};
+
+/// Words, and the options that they spell.
+struct Case {
+    words: &'static [&'static str],
+    options: Option<Options>,
+}
+
+const CASES: [Case; 58] = [
+    Case {
+        words: &[],
+        options: Some(DEFAULT),
+    },
+    Case {
+        words: &["--size", "1"],
+        options: Some(Options { size: 1, ..DEFAULT }),
+    },
+    Case {
+        words: &["--size", "32"],
+        options: Some(Options {
+            size: 32,
+            ..DEFAULT
+        }),
+    },
+    Case {
+        words: &["--size", "0"],
+        options: None,
+    },
+    Case {
+        words: &["--size", "33"],
+        options: None,
+    },
+    Case {
+        words: &["--size=7"],
+        options: Some(Options { size: 7, ..DEFAULT }),
+    },
+    Case {
+        words: &["--size="],
+        options: None,
+    },
+    Case {
+        words: &["--size"],
+        options: None,
+    },
+    Case {
+        words: &["--size", ""],
+        options: None,
+    },
+    Case {
+        words: &["--size", "00000000000000000032"],
+        options: Some(Options {
+            size: 32,
+            ..DEFAULT
+        }),
+    },
+    Case {
+        words: &["--size", "000000000000000000032"],
+        options: None,
+    },
+    Case {
+        words: &["--size", "+4"],
+        options: None,
+    },
+    Case {
+        words: &["--size", "-4"],
+        options: None,
+    },
+    Case {
+        words: &["--size", " 4"],
+        options: None,
+    },
+    Case {
+        words: &["--size", "4x"],
+        options: None,
+    },
+    Case {
+        words: &["--size", "18446744073709551617"],
+        options: None,
+    },
+    Case {
+        words: &["--size", "4294967300"],
+        options: None,
+    },
+    Case {
+        words: &["--size", "4", "--size", "4"],
+        options: None,
+    },
+    Case {
+        words: &["--size=4", "--size", "5"],
+        options: None,
+    },
+    Case {
+        words: &["--size", "--journal"],
+        options: None,
+    },
+    Case {
+        words: &["--fanout", "1"],
+        options: Some(Options {
+            fanout: 1,
+            ..DEFAULT
+        }),
+    },
+    Case {
+        words: &["--fanout=32"],
+        options: Some(Options {
+            fanout: 32,
+            ..DEFAULT
+        }),
+    },
+    Case {
+        words: &["--fanout=0"],
+        options: None,
+    },
+    Case {
+        words: &["--fanout", "33"],
+        options: None,
+    },
+    Case {
+        words: &["--fanout", "2", "--fanout=2"],
+        options: None,
+    },
+    Case {
+        words: &["--hash", "sha1"],
+        options: Some(DEFAULT),
+    },
+    Case {
+        words: &["--hash=sha256"],
+        options: Some(Options {
+            hash: Hash::Sha256,
+            ..DEFAULT
+        }),
+    },
+    Case {
+        words: &["--hash", "SHA1"],
+        options: None,
+    },
+    Case {
+        words: &["--hash", ""],
+        options: None,
+    },
+    Case {
+        words: &["--hash=sha1=x"],
+        options: None,
+    },
+    Case {
+        words: &["--hash", "sha1", "--hash", "sha1"],
+        options: None,
+    },
+    Case {
+        words: &["--shuffle", "0"],
+        options: Some(Options {
+            shuffle: Some(0),
+            ..DEFAULT
+        }),
+    },
+    Case {
+        words: &["--shuffle=18446744073709551615"],
+        options: Some(Options {
+            shuffle: Some(18446744073709551615),
+            ..DEFAULT
+        }),
+    },
+    Case {
+        words: &["--shuffle", "18446744073709551616"],
+        options: None,
+    },
+    Case {
+        words: &["--shuffle="],
+        options: None,
+    },
+    Case {
+        words: &["--shuffle"],
+        options: None,
+    },
+    Case {
+        words: &["--shuffle", "x"],
+        options: None,
+    },
+    Case {
+        words: &["--shuffle", "3", "--shuffle=3"],
+        options: None,
+    },
+    Case {
+        words: &["--shuffle", "3", "--journal", "--size=7"],
+        options: Some(Options {
+            size: 7,
+            shuffle: Some(3),
+            journal: true,
+            ..DEFAULT
+        }),
+    },
+    Case {
+        words: &["--journal"],
+        options: Some(Options {
+            journal: true,
+            ..DEFAULT
+        }),
+    },
+    Case {
+        words: &["--journal", "--journal"],
+        options: None,
+    },
+    Case {
+        words: &["--journal="],
+        options: None,
+    },
+    Case {
+        words: &["--journal=true"],
+        options: None,
+    },
+    Case {
+        words: &["--journal", "true"],
+        options: None,
+    },
+    Case {
+        words: &["--journal", "--hash=sha256", "--fanout", "3", "--size=5"],
+        options: Some(Options {
+            size: 5,
+            fanout: 3,
+            hash: Hash::Sha256,
+            shuffle: None,
+            journal: true,
+        }),
+    },
+    Case {
+        words: &["--"],
+        options: None,
+    },
+    Case {
+        words: &["--", "--size", "4"],
+        options: None,
+    },
+    Case {
+        words: &["--journal", "--"],
+        options: None,
+    },
+    Case {
+        words: &["--help"],
+        options: None,
+    },
+    Case {
+        words: &["-h"],
+        options: None,
+    },
+    Case {
+        words: &["-s", "4"],
+        options: None,
+    },
+    Case {
+        words: &["--siz", "4"],
+        options: None,
+    },
+    Case {
+        words: &["size", "4"],
+        options: None,
+    },
+    Case {
+        words: &["--SIZE", "4"],
+        options: None,
+    },
+    Case {
+        words: &["--workers", "1"],
+        options: None,
+    },
+    Case {
+        words: &["help"],
+        options: None,
+    },
+    Case {
+        words: &[""],
+        options: None,
+    },
+    Case {
+        words: &["=4"],
+        options: None,
+    },
+];
+
+#[test]
+fn words_and_their_options(rt: HostRuntime) -> Result<(), Fail> {
+    let alloc = rt.alloc();
+    for case in &CASES {
+        let mut words = Vec::new(alloc);
+        for word in case.words {
+            words.push(String::from_str(alloc, word)?)?;
+        }
+        assert!(rt; read_options(&words) == case.options, "{:?}", case.words);
+    }
+    Ok(())
+}

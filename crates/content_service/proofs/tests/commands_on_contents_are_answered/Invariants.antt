@@ -1,5 +1,0 @@
-use Rattle.std.proofs.Common.{◌≡◌, false}
-use Rattle.content_service.proofs.tests.commands_on_contents_are_answered.Given as goal
-
-abbrev pub invariant-commands : goal.invariant-commands
-invariant-commands g l = record { ready : l.service.spent ≡ false; size : l.service.size ≡ 4 }

@@ -1,0 +1,5 @@
+//! Tests of `flux`: workloads with their options, and what the program says of them.
+#![tactic(auto)]
+
+#[cfg(test)]
+mod runs;

@@ -1,0 +1,11 @@
+use Rattle.std.proofs.Common.{[], refl}
+use Rattle.fl_digest.specs.declared.Hash.TheVariants as hash
+use Rattle.answers.specs.Chronicle.{Setup}
+use Rattle.resource_set.specs.Writing.{r_text}
+use Rattle.instance_tests.proofs.stories.begin.Goals as goal
+
+pub returns-clause-lines : goal.returns-clause-lines
+returns-clause-lines c =
+    let grant = c.resources.result.now in
+    let set : Setup = record { size = 2; fanout = 2; hash = hash.Sha1; grant = r_text grant; resources = grant; birth = 0; work = c.in_ok-work.work } in
+    (set, [], c.in_ok-instance.ensures.agrees set refl refl refl refl refl refl refl, refl)

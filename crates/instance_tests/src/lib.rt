@@ -1,0 +1,5 @@
+//! Tests of `instance`: stories of its actors.
+#![tactic(auto)]
+
+#[cfg(test)]
+mod stories;

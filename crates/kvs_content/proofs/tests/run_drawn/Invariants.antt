@@ -1,7 +1,0 @@
-use Rattle.std.proofs.Common.{◌≡◌}
-use Rattle.kvs_content.specs.Sound.{IsSoundContent}
-use Rattle.kvs_content.specs.Value.{size_of}
-use Rattle.kvs_content.proofs.tests.run_drawn.Given as goal
-
-abbrev pub invariant-loop-act : goal.invariant-loop-act
-invariant-loop-act l = record { sound : IsSoundContent l.contents; size : size_of l.contents ≡ 7 }

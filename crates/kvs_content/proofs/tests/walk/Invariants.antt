@@ -1,7 +1,0 @@
-use Rattle.std.proofs.Common.{◌≡◌}
-use Rattle.kvs_content.specs.Sound.{IsSoundContent}
-use Rattle.kvs_content.specs.Value.{size_of}
-use Rattle.kvs_content.proofs.tests.walk.Given as goal
-
-abbrev pub invariant-loop-act : goal.invariant-loop-act
-invariant-loop-act g l = record { sound : IsSoundContent l.contents; size : size_of l.contents ≡ 7 }

@@ -1,0 +1,2 @@
+mod Submitted
+mod Issued

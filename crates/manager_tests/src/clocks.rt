@@ -1,0 +1,80 @@
+//! Next seconds of small tables of commands.
+ghost use Rattle.std.specs.Prelude.{◌<◌, ◌^◌, All, IfSome, IsTrue, filter_map};
+ghost use Rattle.job_clock.specs.Targets.{target_in as target_of};
+
+use job_book::Book;
+use job_clock::{is_childless, next_tick};
+use job_commands::{Commands, JobAsk, Row};
+use kvs_txn::By;
+use std::alloc::{AllocError, Global};
+use std::test::Fail;
+
+/// A grant of one host of two cores, without an end.
+const GRANT: &str =
+    "{\"version\":1,\"execution\":{\"R_lite\":[{\"rank\":\"0\",\"children\":{\"core\":\"0-1\"}}],\"nodelist\":[\"a0\"],\"starttime\":0,\"expiration\":0}}";
+
+/// The seconds of three advances that were issued at second 5, and which second comes next after another one: 0 where none
+/// does.
+const TICKS: [([u64; 3], u64, u64); 9] = [
+    ([3, 3, 3], 5, 8),
+    ([3, 3, 3], 7, 8),
+    ([3, 3, 3], 8, 0),
+    ([3, 3, 3], 9, 0),
+    ([0, 0, 0], 5, 0),
+    ([9, 1, 4], 5, 6),
+    ([9, 1, 4], 6, 9),
+    ([9, 1, 4], 9, 14),
+    ([0, 0, 18446744073709551610], 5, 18446744073709551615),
+];
+
+/// Whether the second that a command waits for fits.
+fn fits(row: &Row) -> bool
+    ensures { IsTrue result → IfSome (target_of row.now) (λ target. target < 2 ^ 64) }
+{
+    match &row.ask {
+        JobAsk::Advance { seconds } => row.issued.checked_add(*seconds).is_some(),
+        _ => true,
+    }
+}
+
+/// Whether all seconds that commands wait for fit.
+fn all_fit(rows: &[Row]) -> bool
+    ensures { IsTrue result → All (λ target. target < 2 ^ 64) (filter_map target_of rows.now) }
+{
+    rows.iter().all(|row| fits(row))
+}
+
+/// Three advances, a listing before them, and no jobs.
+fn advances(alloc: Global, seconds: [u64; 3]) -> Result<Commands, AllocError> {
+    let mut commands = Commands::new(alloc, 1)?;
+    let [first, second, third] = seconds;
+    commands.issue(by(0), 0, 5, JobAsk::Jobs)?;
+    commands.issue(by(1), 0, 5, JobAsk::Advance { seconds: first })?;
+    commands.issue(by(2), 0, 5, JobAsk::Advance { seconds: second })?;
+    commands.issue(by(3), 0, 5, JobAsk::Advance { seconds: third })?;
+    Ok(commands)
+}
+
+fn by(command: u32) -> By {
+    By { actor: 7, command }
+}
+
+/// The next second, where no job runs.
+fn next(alloc: Global, seconds: [u64; 3], now: u64) -> Result<Option<u64>, Fail> {
+    let commands = advances(alloc, seconds)?;
+    if !all_fit(commands.rows()) {
+        return Err("too late a second".into());
+    }
+    let grant = resource_set::read(alloc, GRANT.as_bytes())?;
+    let book = Book::new(alloc, &grant)?;
+    Ok(next_tick(&commands, &book, now))
+}
+
+#[test]
+fn time_goes_to_the_next_target(rt: HostRuntime) -> Result<(), Fail> {
+    for (seconds, now, wanted) in TICKS {
+        let told = next(rt.alloc(), seconds, now)?;
+        assert_eq!(rt; told.unwrap_or(0), wanted, "after {now}");
+    }
+    Ok(())
+}

@@ -1,0 +1,45 @@
+-- An instance without job commands, at its birth.
+use Rattle.std.proofs.Common.{ℕ, Option, None, refl, true≢false, sym, arith}
+use Rattle.answers.specs.Jobs.{default_priority}
+use Rattle.fl_digest.specs.declared.Hash.{Hash}
+use Rattle.instance_rules.specs.Log.{Instance}
+use Rattle.job_rules.specs.Fits.{IsGrant}
+use Rattle.kvs_rules.specs.Namespaces.{Request}
+use Rattle.kvs_txn.specs.declared.txn.By.{By}
+use Rattle.resource_set.specs.Writing.{r_text}
+use Rattle.resource_set.specs.declared.node.Resources.{Resources}
+use Rattle.services.specs.Agrees.{IsGiven}
+use Rattle.service_tests.specs.Open.{asking}
+
+module _ (size fanout : ℕ) (hash : Hash) (grant : Resources) (birth : ℕ) where
+  abbrev pub plain : Instance
+  plain = record {
+    service = record { size = size; fanout = fanout; hash = hash; grant = r_text grant; asks = λ by. None };
+    birth = birth;
+    grant = grant;
+    answer = default_priority;
+    asks = λ by. None;
+    rank = λ by. 0;
+  }
+
+  -- whatever is asked of its service
+  pub asked_given : IsGrant grant.nodes → (asks : By → Option Request) → IsGiven (asking plain asks) size fanout hash grant birth
+  asked_given sets asks = record {
+    served = record {
+      valid = record {
+        answers = λ ask. (omega arith, omega arith);
+        grant = sets;
+        text = refl;
+        apart = λ by some. absurd (true≢false (sym some));
+        asks = λ by ask e. cc;
+      };
+      unique = λ a b label urgency other needs named text more ea eb. cc;
+      ranks = λ by some. absurd (true≢false (sym some));
+      answer = refl;
+      birth = refl;
+      grant = refl;
+      size = refl;
+      fanout = refl;
+    };
+    hash = refl;
+  }

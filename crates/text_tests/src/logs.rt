@@ -1,0 +1,183 @@
+use event_log::{LogFault, line, read};
+use fl_json::JsonFault;
+use lists::Copied;
+use std::test::Fail;
+
+/// The log of a job from its submission to its end.
+const LOG: &str =
+    "{\"context\":{\"flags\":0,\"urgency\":16,\"userid\":0,\"version\":1},\"name\":\"submit\",\"timestamp\":0}\n{\"name\":\"validate\",\"timestamp\":0}\n{\"name\":\"depend\",\"timestamp\":0}\n{\"context\":{\"priority\":16},\"name\":\"priority\",\"timestamp\":0}\n{\"name\":\"alloc\",\"timestamp\":0}\n{\"name\":\"start\",\"timestamp\":0}\n{\"context\":{\"status\":0},\"name\":\"finish\",\"timestamp\":10}\n{\"context\":{\"final\":true,\"ranks\":\"0\"},\"name\":\"release\",\"timestamp\":10}\n{\"name\":\"free\",\"timestamp\":10}\n{\"name\":\"clean\",\"timestamp\":10}\n";
+
+/// Texts and the canonical logs that they tell; a fault is told by words.
+const TEXTS: [(&str, &str); 33] = [
+    (LOG, LOG),
+    ("", ""),
+    ("\n", "line 1: not JSON"),
+    (
+        "{\"timestamp\":1,\"name\":\"a\"}",
+        "the last line has no newline",
+    ),
+    ("{\"timestamp\":1,\"name\":\"a\"}\n\n", "line 2: not JSON"),
+    ("{\"timestamp\":1}", "line 1: the field is missing"),
+    (
+        "{\"name\":\"a\",\"timestamp\":1}\nx\n{\"name\":\"a\"",
+        "line 2: not JSON",
+    ),
+    (
+        " { \"timestamp\" : 3600.0 , \"name\" : \"a\" }\t\r\n",
+        "{\"name\":\"a\",\"timestamp\":3600}\n",
+    ),
+    (
+        "{\"timestamp\":1.5,\"nam\n",
+        "line 1: no whole number of 64 bits at byte 13",
+    ),
+    (
+        "{\"timestamp\":1e3,\"name\":\"a\"}\n",
+        "line 1: no whole number of 64 bits at byte 13",
+    ),
+    (
+        "{\"timestamp\":-0,\"name\":\"a\"}\n",
+        "line 1: no whole number of 64 bits at byte 13",
+    ),
+    ("{\"timestamp\":01,\"name\":\"a\"}\n", "line 1: not JSON"),
+    (
+        "{\"timestamp\":-1,\"name\":\"a\"}\n",
+        "line 1: the value is of another kind",
+    ),
+    (
+        "{\"timestamp\":-1}\n",
+        "line 1: the value is of another kind",
+    ),
+    (
+        "{\"timestamp\":-9223372036854775808,\"name\":\"a\"}\n",
+        "line 1: the value is of another kind",
+    ),
+    (
+        "{\"timestamp\":18446744073709551615,\"name\":\"a\"}\n",
+        "{\"name\":\"a\",\"timestamp\":18446744073709551615}\n",
+    ),
+    (
+        "{\"timestamp\":18446744073709551616,\"name\":\"a\"}\n",
+        "line 1: no whole number of 64 bits at byte 13",
+    ),
+    (
+        "{\"timestamp\":\"1\",\"name\":\"a\"}\n",
+        "line 1: the value is of another kind",
+    ),
+    ("{\"name\":\"a\"}\n", "line 1: the field is missing"),
+    ("{\"timestamp\":1}\n", "line 1: the field is missing"),
+    (
+        "{\"timestamp\":1,\"name\":\"\"}\n",
+        "line 1: the value is of another kind",
+    ),
+    (
+        "{\"timestamp\":1,\"name\":5}\n",
+        "line 1: the value is of another kind",
+    ),
+    (
+        "{\"timestamp\":1,\"name\":\"a\",\"context\":null}\n",
+        "line 1: the value is of another kind",
+    ),
+    (
+        "{\"timestamp\":1,\"name\":\"a\",\"context\":[]}\n",
+        "line 1: the value is of another kind",
+    ),
+    (
+        "{\"timestamp\":1,\"name\":\"a\",\"context\":{}}\n",
+        "{\"context\":{},\"name\":\"a\",\"timestamp\":1}\n",
+    ),
+    (
+        "{\"timestamp\":1,\"name\":\"a\",\"other\":1}\n",
+        "line 1: the value is of another kind",
+    ),
+    ("{\"other\":1}\n", "line 1: the field is missing"),
+    ("[]\n", "line 1: the value is of another kind"),
+    ("5\n", "line 1: the value is of another kind"),
+    (
+        "{\"timestamp\":1,\"timestamp\":2,\"name\":\"a\"}\n",
+        "{\"name\":\"a\",\"timestamp\":2}\n",
+    ),
+    (
+        "{\"timestamp\":1,\"name\":\"\\ud800\"}\n",
+        "line 1: not JSON",
+    ),
+    (
+        "{\"timestamp\":1,\"name\":\"\\u0007\\n\\\"\\\\/\u{1f600}\u{7f}\"}\n",
+        "{\"name\":\"\\u0007\\n\\\"\\\\/\u{1f600}\u{7f}\",\"timestamp\":1}\n",
+    ),
+    (
+        "{\"context\":{\"b\":[{}],\"a\":1.0},\"timestamp\":1,\"name\":\"a\"}\n",
+        "{\"context\":{\"a\":1,\"b\":[{}]},\"name\":\"a\",\"timestamp\":1}\n",
+    ),
+];
+
+/// What a text tells: the lines of copies of its events, or the fault.
+fn told(rt: &HostRuntime, text: &[u8]) -> Result<Vec<u8>, Fail> {
+    let events = match read(rt.alloc(), text) {
+        Ok(events) => events,
+        Err(LogFault::NoMemory) => return Err(LogFault::NoMemory.into()),
+        Err(fault) => {
+            return Ok(Vec::from_slice(rt.alloc(), format!(in rt.alloc(); "{fault}")?.as_bytes())?);
+        }
+    };
+    let mut lines = Vec::new(rt.alloc());
+    for event in events.iter() {
+        lines.extend_from_slice(&line(rt.alloc(), &event.copy()?)?)?;
+    }
+    Ok(lines)
+}
+
+/// Arrays in one another, as the context of an event.
+fn nest(rt: &HostRuntime, depth: usize) -> Result<String, Fail> {
+    let mut text = String::from_str(rt.alloc(), "{\"context\":{\"a\":")?;
+    for _ in 0..depth {
+        text.push('[')?;
+    }
+    for _ in 0..depth {
+        text.push(']')?;
+    }
+    text.push_str("},\"name\":\"a\",\"timestamp\":1}\n")?;
+    Ok(text)
+}
+
+/// Whether a text tells this.
+fn tells(rt: &HostRuntime, given: &str, wanted: &str) -> Result<bool, Fail> {
+    let found = told(rt, given.as_bytes())?;
+    Ok(found.as_slice() == wanted.as_bytes())
+}
+
+#[test]
+fn logs_are_read_and_written_as_the_rule_says(rt: HostRuntime) -> Result<(), Fail> {
+    for (given, wanted) in TEXTS {
+        assert!(rt; tells(&rt, given, wanted)?, "{given}");
+    }
+    Ok(())
+}
+
+/// Whether a context with so many arrays in one another is written again as it is read.
+fn is_kept(rt: &HostRuntime, depth: usize) -> Result<bool, Fail> {
+    let text = nest(rt, depth)?;
+    tells(rt, text.as_str(), text.as_str())
+}
+
+/// Whether the first line of a text is no JSON.
+fn is_refused(rt: &HostRuntime, text: &[u8]) -> bool {
+    let fault = LogFault::BadLine {
+        line: 1,
+        fault: JsonFault::NotJson,
+    };
+    read(rt.alloc(), text).err() == Some(fault)
+}
+
+/// Whether a context with so many arrays in one another is refused.
+fn is_too_deep(rt: &HostRuntime, depth: usize) -> Result<bool, Fail> {
+    let text = nest(rt, depth)?;
+    Ok(is_refused(rt, text.as_bytes()))
+}
+
+#[test]
+fn logs_that_are_no_json_are_refused(rt: HostRuntime) -> Result<(), Fail> {
+    assert!(rt; is_kept(&rt, 125)?);
+    assert!(rt; is_too_deep(&rt, 126)?);
+    assert!(rt; is_refused(&rt, b"{\"timestamp\":1,\"name\":\"\xff\"}\n"));
+    Ok(())
+}

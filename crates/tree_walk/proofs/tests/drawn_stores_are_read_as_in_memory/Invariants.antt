@@ -1,7 +1,0 @@
-use Rattle.fl_digest.specs.declared.Hash.TheVariants as hash
-use Rattle.tree_rules.specs.Held.{IsRootIn}
-use Rattle.tree_store.specs.Landing.{table}
-use Rattle.tree_walk.proofs.tests.drawn_stores_are_read_as_in_memory.Given as goal
-
-abbrev pub invariant-loop-number : goal.invariant-loop-number
-invariant-loop-number g l = IsRootIn hash.Sha1 (table l.blobs) l.root
