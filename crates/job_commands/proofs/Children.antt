@@ -1,6 +1,6 @@
 -- The children of jobs are those of the log.
-use Rattle.std.proofs.Common.{◌≡◌, ◌≢◌, ℕ, ◌<◌, ◌==◌, ◌&&◌, ◌||◌, ◌⊎◌, inl, inr, List, [], ◌∷◌, ◌++◌, length, get_or, map, Bool, true, false, cond, Option, Some, None, Contains, refl, sym, ap, ◌∙◌, subst, true≢false}
-use Rattle.std.specs.Prelude.{not, unwrap_or, is_some, option_map}
+use Rattle.std.proofs.Common.{◌≡◌, ◌≢◌, ℕ, ◌<◌, ◌==◌, ◌&&◌, ◌||◌, inl, inr, List, [], ◌∷◌, ◌++◌, length, map, Bool, true, false, cond, Option, Some, None, Contains, refl, sym, ap, ◌∙◌, subst, true≢false}
+use Rattle.std.specs.Prelude.{not, unwrap_or, is_some}
 use Rattle.std.specs.List.{list_any}
 use Rattle.std.specs.Option.{option_map_or}
 use Rattle.std.proofs.lemmas.Bool.{and_parts, cond-false, cond-true, eq-eqb, eqb-true, false_from_ne_true, ne_eqb}
@@ -11,7 +11,7 @@ use Rattle.instance_rules.specs.Log.{Born, Gone, Log, Moment, child_of, child_to
 use Rattle.manager_rules.specs.Scene.{has_child, has_living_child, has_shut_child, is_child_of, is_living, is_shut}
 use Rattle.manager_rules.specs.declared.asked.Asked.{Asked}
 use Rattle.manager_rules.specs.declared.asked.Asked.TheVariants as asked
-use Rattle.job_commands.specs.Children.{AreChildrenOf, AreEnded, LeavesChildren, all_children, asked_child, born_child, ended, is_living_of}
+use Rattle.job_commands.specs.Children.{AreChildrenOf, AreEnded, LeavesChildren, all_children, born_child, ended, is_living_of}
 use Rattle.job_commands.specs.declared.child.Child.{Child}
 
 abbrev child : ℕ → Bool → Bool → Child

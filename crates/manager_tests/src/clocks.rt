@@ -3,7 +3,7 @@ ghost use Rattle.std.specs.Prelude.{◌<◌, ◌^◌, All, IfSome, IsTrue, filte
 ghost use Rattle.job_clock.specs.Targets.{target_in as target_of};
 
 use job_book::Book;
-use job_clock::{is_childless, next_tick};
+use job_clock::next_tick;
 use job_commands::{Commands, JobAsk, Row};
 use kvs_txn::By;
 use std::alloc::{AllocError, Global};

@@ -12,7 +12,7 @@ use answers::Reply;
 use fl_digest::Hash;
 use job_book::Book;
 use job_commands::{JobAsk, Named, NamedList};
-use job_service::{JobService, asks_no_child};
+use job_service::JobService;
 use job_spec::Scheme;
 use job_states::State;
 use kvs_core::Setting;

@@ -2,7 +2,7 @@ use Rattle.std.proofs.Common.{◌≡◌, Contains, [], refl, sym, subst}
 use Rattle.std.proofs.lemmas.List.Elements.{Contains-push}
 use Rattle.job_rules.proofs.Among.{among_from}
 use Rattle.job_commands.specs.Children.{born_child}
-use Rattle.job_commands.proofs.tests.a_child_is_born_and_goes.Goals as goal
+use Rattle.manager_tests.proofs.commands.a_child_is_born_and_goes.Goals as goal
 
 pub born-requires : goal.born-requires
 born-requires g c = record { first = λ k known same. among_from [] k (subst (λ l. Contains l k) c.in_ok-commands.ensures.childless known) }
