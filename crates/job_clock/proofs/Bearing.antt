@@ -1,36 +1,22 @@
 -- Jobs whose commands begin no instance.
-use Rattle.std.proofs.Common.{◌≡◌, ℕ, inl, inr, List, [], ◌∷◌, ◌++◌, Bool, true, false, cond, map, Option, Some, None, refl, sym, ap, ◌∙◌, subst, true≢false}
-use Rattle.std.specs.Prelude.{◌&&◌, ◌==◌, codes, option_map}
+use Rattle.std.proofs.Common.{ℕ, List, [], ◌∷◌, Bool, true, false, cond, Option, Some}
+use Rattle.std.specs.Prelude.{◌==◌}
 use Rattle.std.specs.List.{AllByRecursion as Each}
-use Rattle.std.specs.Str.{bytes_eq}
 use Rattle.job_book.proofs.Places.{each_with}
 use Rattle.job_rules.proofs.Among.{all_at, all_from, among_from, contains_from, each_at, each_from}
 use Rattle.job_states.specs.Changes.{change_of}
 use Rattle.job_states.specs.declared.job.Change.{Change}
 use Rattle.job_states.specs.declared.job.Change.TheVariants as change
-use Rattle.shells.specs.Endings.{after, ending_of, ending_of_words, seconds_of}
-use Rattle.shells.specs.declared.ends.Ending.TheVariants as ending
-use Rattle.job_spec.specs.declared.spec.JobSpec.{JobSpec}
-use Rattle.kvs_txn.specs.declared.txn.By.{By}
 use Rattle.manager_rules.specs.Jobs.{StoredJob}
-use Rattle.manager_rules.specs.Posts.{Desk, Does, IsDuePost, Post, Submission, Submit, Submits, begun_with, event_done, job_of, jobs_after, with_event}
+use Rattle.manager_rules.specs.Posts.{Desk, Does, IsDuePost, Post, Submission, Submits, begun_with, event_done, job_of, jobs_after, with_event}
 use Rattle.manager_rules.specs.Scene.{Scene}
 use Rattle.manager_rules.specs.Times.{IsBirthDue}
 use Rattle.manager_rules.specs.declared.due.Due.{Due}
-use Rattle.instance_rules.specs.Log as rules
-use Rattle.instance_rules.specs.Log.{Instance, Log, Moment, Named, is_decided}
-use Rattle.job_commands.proofs.Logs.{decided_kept}
+use Rattle.instance_rules.specs.Log.{Instance, Log}
 use Rattle.job_commands.proofs.Desks.{submits_true}
-use Rattle.job_commands.specs.Agrees.{AgreesCommands, RowAgrees, StageAgrees}
-use Rattle.job_commands.specs.Asks.{named_of, told}
-use Rattle.job_commands.specs.Desks.{desk_of, needs_of, submit_at, submit_by, submits_of}
+use Rattle.job_commands.specs.Agrees.{AgreesCommands}
+use Rattle.job_commands.specs.Desks.{desk_of, submits_of}
 use Rattle.job_commands.specs.Rows.{CommandsValue}
-use Rattle.job_commands.specs.declared.ask.JobAsk.{JobAsk}
-use Rattle.job_commands.specs.declared.ask.JobAsk.TheVariants as ask
-use Rattle.job_commands.specs.declared.row.Row.{Row}
-use Rattle.job_commands.specs.declared.row.Stage.{Stage}
-use Rattle.job_commands.specs.declared.row.Stage.TheVariants as stage
-use Rattle.job_clock.proofs.Targets.{from_kept, was_open}
 use Rattle.job_clock.specs.Children.{AreChildless, IsChildless, SubmitNoChild, SubmitsNoChild, TellsNoChild}
 
 -- ---- births
