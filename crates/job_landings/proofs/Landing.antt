@@ -22,7 +22,7 @@ use Rattle.kvs_model.specs.History.{landed_on}
 use Rattle.kvs_model.specs.Operation.{effect}
 use Rattle.kvs_model.specs.Store.{Name, Store}
 use Rattle.kvs_rules.proofs.Logs.{legal_parts}
-use Rattle.kvs_rules.proofs.Sequences.{each_joined, latest_push}
+use Rattle.kvs_rules.proofs.Sequences.{each_joined}
 use Rattle.kvs_rules.specs.Answers.{IsLegalAfter, IsLegalLog}
 use Rattle.kvs_rules.specs.Landings.{IsAdvance, IsLegalLanding, IsManagers, IsUser, IsUsers}
 use Rattle.kvs_rules.specs.Log as service
