@@ -1,13 +1,13 @@
 -- Which births and ends are due by the log, and the grants of children.
-use Rattle.std.proofs.Common.{◌≡◌, ℕ, ◌≤◌, ◌==◌, ◌||◌, ◌&&◌, ◌⊎◌, inl, inr, List, [], ◌∷◌, Bool, true, false, cond, Option, Some, None, Contains, refl, sym, ap, ◌∙◌, subst, true≢false}
-use Rattle.std.specs.Prelude.{IfNone, IfSome, IsSome, IsTrue, find, is_some, not, option_and_then}
+use Rattle.std.proofs.Common.{◌≡◌, ℕ, ◌==◌, ◌||◌, ◌⊎◌, inl, inr, List, [], ◌∷◌, Bool, true, false, cond, Option, Some, None, Contains, refl, sym, ap, ◌∙◌, subst, true≢false}
+use Rattle.std.specs.Prelude.{IfNone, IfSome, IsSome, IsTrue, is_some, not, option_and_then}
 use Rattle.std.specs.List.{AllByRecursion as Each}
 use Rattle.std.specs.Option.{option_map_or}
 use Rattle.std.specs.List.Sorted.{IsStrictlyIncreasing}
 use Rattle.std.proofs.lemmas.Bool.{and_from, and_parts, eq-eqb, false_from_ne_true, or_left, or_right}
 use Rattle.instance_rules.specs.Desks.{IsDeskOf}
 use Rattle.instance_rules.specs.Legal.{IsLegalMoment, OfDesk}
-use Rattle.instance_rules.specs.Log.{Born, Gone, Instance, Log, child_of, service_of}
+use Rattle.instance_rules.specs.Log.{Born, Gone, Instance, Log, service_of}
 use Rattle.job_book.proofs.Whys.{found_job}
 use Rattle.job_book.specs.Contract.{BirthIn, IsFirstBirth as IsFirstIn, NoBirth as NoneIn, r_at}
 use Rattle.job_clock.proofs.Bearing.{no_births}
@@ -44,6 +44,7 @@ use Rattle.resource_set.specs.declared.node.Resources.{Resources}
 use Rattle.job_service.specs.Agrees.{AgreesJobs}
 use Rattle.job_service.specs.Children.{IsBearing, IsFirstBirth, IsGrantedBy, NoBirth, is_end_due, is_ending, may_end}
 use Rattle.job_service.specs.Value.{JobServiceValue}
+use Rattle.job_service.proofs.Running.{running_is_live}
 
 -- ---- jobs by id
 
@@ -244,6 +245,12 @@ none_held_by m managed job none j c same =
     let one = jobs_are_one (newest_of m.core) s.jobs m.book.jobs s.are managed.jobs in
     let sound = subst (IsSound m.book.grant.nodes) one s.sound in
     none_held m.book.jobs managed.jobs.rising (each_from (λ k. is_live k.job ≡ true → IsSome k.r) m.book.jobs (λ k i. (each_at (IsServed m.book.grant.nodes) m.book.jobs k sound.served i).has)) job none j c same
+
+-- a job whose child is to be born holds its resources
+pub bearing_holds : (v : JobServiceValue) → IsManaged v.manager → (job : ℕ) → IsBearing v.commands v.manager.book (Some job) → r_at v.manager.book.jobs job ≡ None → ⊥
+bearing_holds v m job h none =
+    let b = h.0 in
+    true≢false (sym (running_is_live (newest_of v.manager.core) v.manager.book.jobs m.jobs b.j b.known b.runs) ∙ none_held_by v.manager m job none b.j b.known b.named)
 
 -- the first birth, from what the book finds
 pub bearing_of : (v : CommandsValue) (book : BookValue) (list : List Asked) (o : Option ℕ) → list ≡ all_children v.children → IfSome o (IsFirstIn book list) → IfNone o (NoneIn book list) → IsBearing v book o

@@ -1,18 +1,18 @@
 -- A job service when a child is born, and when one goes.
-use Rattle.std.proofs.Common.{◌≡◌, ◌≢◌, ℕ, ◌+◌, ◌-◌, ◌*◌, ◌^◌, ◌<◌, ◌≤◌, ◌==◌, inl, inr, List, [], ◌∷◌, ◌++◌, length, map, Bool, true, false, cond, Option, Some, None, Contains, count_by, refl, sym, ap, ◌∙◌, subst, true≢false}
+use Rattle.std.proofs.Common.{◌≡◌, ◌≢◌, ℕ, ◌-◌, ◌*◌, ◌^◌, ◌<◌, ◌≤◌, ◌==◌, inl, inr, List, [], ◌∷◌, ◌++◌, length, Bool, true, false, Option, Some, None, Contains, refl, sym, ap, ◌∙◌, subst, true≢false}
 use Rattle.std.specs.Prelude.{◌&&◌, is_some, not}
 use Rattle.std.specs.Option.{option_map_or}
 use Rattle.std.specs.List.{AllByRecursion as Each}
 use Rattle.std.proofs.lemmas.Bool.{and_parts, cases_eq, cond-false, eq-eqb, eqb-true, ne_eqb, not-true}
-use Rattle.instance_rules.specs.Log.{Born, Gone, Instance, Log, Moment, child_of, child_told, now_of, service_of}
+use Rattle.instance_rules.specs.Log.{Born, Gone, Instance, Log, Moment, child_of, service_of}
 use Rattle.job_clock.proofs.Times.{in_time_as}
-use Rattle.job_clock.specs.Targets.{AreInTime, target_in, targets_of}
+use Rattle.job_clock.specs.Targets.{AreInTime}
 use Rattle.job_book.specs.Value.{BookValue}
 use Rattle.job_commands.proofs.Children.{had_told, living_any, shut_told}
 use Rattle.job_commands.proofs.Desks.{children_stand, living_alone}
 use Rattle.job_commands.specs.Agrees.{AgreesCommands}
 use Rattle.job_commands.specs.Children.{all_children, asked_child, is_living_of}
-use Rattle.job_commands.specs.Desks.{asked_of, desk_of}
+use Rattle.job_commands.specs.Desks.{asked_of}
 use Rattle.job_commands.specs.Rows.{CommandsValue}
 use Rattle.job_commands.specs.declared.child.Child.{Child}
 use Rattle.job_manager.specs.Managed.{IsManaged}
@@ -25,8 +25,7 @@ use Rattle.kvs_rules.specs.Namespaces.{newest_store, primary}
 use Rattle.manager_rules.specs.Due.{IsEnding}
 use Rattle.manager_rules.specs.Jobs.{StoredJob}
 use Rattle.manager_rules.specs.Posts.{Does, Post, Submits}
-use Rattle.manager_rules.specs.Scene.{has_child, has_living_child, has_shut_child, is_child_of}
-use Rattle.manager_rules.specs.Times.{IsBirthDue}
+use Rattle.manager_rules.specs.Scene.{has_living_child, has_shut_child, is_child_of}
 use Rattle.job_service.specs.Agrees.{AgreesJobs}
 use Rattle.job_service.specs.Children.{IsBearing, may_end}
 use Rattle.job_service.specs.Due.{IsFoundBeside, LeavesChildOf, LeavesOpen}

@@ -1,5 +1,5 @@
 -- A job service when a command is issued, and when one is told what became of it.
-use Rattle.std.proofs.Common.{◌≡◌, ◌≢◌, ℕ, ◌+◌, ◌-◌, ◌*◌, ◌^◌, ◌<◌, ◌≤◌, inl, inr, List, [], ◌∷◌, ◌++◌, length, map, Bool, true, false, cond, ◌&&◌, Option, Some, None, IsSome, Contains, count_by, refl, sym, ap, ◌∙◌, subst, arith, true≢false}
+use Rattle.std.proofs.Common.{◌≡◌, ◌≢◌, ℕ, ◌+◌, ◌-◌, ◌*◌, ◌^◌, ◌<◌, ◌≤◌, inl, List, [], ◌∷◌, ◌++◌, length, map, Bool, true, false, cond, ◌&&◌, Option, Some, None, IsSome, Contains, count_by, refl, sym, ap, ◌∙◌, subst, arith, true≢false}
 use Rattle.std.specs.Prelude.{◌==◌, filter, is_some, not, slice_index}
 use Rattle.std.specs.List.{AllByRecursion as Each}
 use Rattle.std.specs.Option.{option_map_or}
@@ -15,7 +15,7 @@ use Rattle.job_clock.specs.Targets.{AreInTime}
 use Rattle.job_service.specs.Times.{HasTime, seconds_asked}
 use Rattle.job_commands.proofs.Desks.{there_and_back}
 use Rattle.job_commands.proofs.Logs.{differs}
-use Rattle.job_commands.proofs.Tables.{found, from_forgotten, not_found, to_forgotten}
+use Rattle.job_commands.proofs.Tables.{found, not_found, to_forgotten}
 use Rattle.job_commands.specs.Agrees.{AgreesCommands, StageAgrees}
 use Rattle.job_commands.specs.Asks.{named_of, told}
 use Rattle.job_commands.specs.Desks.{asked_of, desk_of}
@@ -30,7 +30,7 @@ use Rattle.job_landings.proofs.Open.{event_open, submit_open}
 use Rattle.job_manager.specs.Managed.{IsManaged}
 use Rattle.job_manager.specs.Posts.{command_of}
 use Rattle.job_replies.specs.Told.{MayTell}
-use Rattle.job_rules.proofs.Among.{among_append, among_from, among_left, contains_from}
+use Rattle.job_rules.proofs.Among.{among_from, among_left, contains_from}
 use Rattle.job_spec.specs.declared.spec.Depend.{Depend}
 use Rattle.job_submissions.specs.Faults.{Lacks, LacksSome}
 use Rattle.job_submissions.specs.Made.{AreLabelled}

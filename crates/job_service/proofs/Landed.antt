@@ -1,5 +1,5 @@
 -- A step of the service at which a post lands.
-use Rattle.std.proofs.Common.{◌≡◌, ℕ, zero, suc, take, get_or, ◌+◌, ◌-◌, ◌*◌, ◌^◌, ◌<◌, ◌≤◌, inl, inr, List, [], ◌∷◌, ◌++◌, length, map, Bool, true, false, cond, ◌||◌, Option, Some, None, IsSome, Contains, count_by, refl, sym, ap, ◌∙◌, subst, arith, append_assoc}
+use Rattle.std.proofs.Common.{◌≡◌, ℕ, zero, suc, take, get_or, ◌+◌, ◌-◌, ◌*◌, ◌^◌, ◌<◌, ◌≤◌, inl, inr, List, [], ◌∷◌, ◌++◌, length, map, Bool, true, false, cond, ◌||◌, Option, Some, None, IsSome, count_by, refl, sym, ap, ◌∙◌, subst, arith, append_assoc}
 use Rattle.std.specs.Prelude.{find, flat_map, option_and_then, slice_get, slice_index}
 use Rattle.std.specs.List.{AllByRecursion as Each, list_any}
 use Rattle.std.specs.Option.{option_map_or}
@@ -11,13 +11,10 @@ use Rattle.job_clock.proofs.Times.{carried_in_time}
 use Rattle.job_clock.specs.Children.{AreChildless, SubmitsNoChild}
 use Rattle.job_clock.specs.Targets.{AreInTime}
 use Rattle.job_commands.proofs.Landings.{now_begun}
-use Rattle.job_commands.proofs.Tables.{carried_at, carried_past, from_carried}
 use Rattle.job_commands.specs.Desks.{desk_of}
 use Rattle.job_commands.specs.Moments.{landing as lands_at}
 use Rattle.job_commands.specs.Agrees.{IsIdOf}
-use Rattle.job_commands.specs.Rows.{AreCarried, CommandsValue, carried, is_of, is_submit}
-use Rattle.job_commands.specs.declared.row.Row.{Row}
-use Rattle.job_commands.specs.declared.row.Stage.TheVariants as stage
+use Rattle.job_commands.specs.Rows.{CommandsValue, is_submit}
 use Rattle.job_landings.proofs.Landing.{service_all}
 use Rattle.job_landings.proofs.Open.{event_open, submit_open}
 use Rattle.job_landings.specs.Landings.{Carries, CarriesFor, LandsPost, happening, lands_post, number_in, number_of_post}

@@ -1,5 +1,5 @@
 -- What is due by the log of an instance stays due while its command is open.
-use Rattle.std.proofs.Common.{◌≡◌, ℕ, inl, inr, List, [], ◌∷◌, ◌++◌, Bool, true, false, cond, ◌&&◌, ◌==◌, Option, Some, None, Contains, refl, sym, ap, ◌∙◌, subst, count_by, arith}
+use Rattle.std.proofs.Common.{◌≡◌, ℕ, inl, inr, List, [], ◌∷◌, ◌++◌, Bool, true, false, cond, ◌&&◌, ◌==◌, Some, None, Contains, refl, sym, ap, ◌∙◌, subst, count_by, arith}
 use Rattle.std.specs.Prelude.{filter_map, not, unwrap_or}
 use Rattle.std.specs.Option.{option_map_or}
 use Rattle.kvs_rules.proofs.Sequences.{latest_push}

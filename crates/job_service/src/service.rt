@@ -359,6 +359,7 @@ impl JobService {
             → AgreesJobs self.now inst log → IsGrantedBy inst log job r)) }
         ensures none { IfOk result (λ grant. grant ≡ None → (j : StoredJob)
             → Contains self.now.manager.book.jobs j → j.id ≡ job → is_live j.job ≡ false) }
+        ensures bears { IfOk result (λ grant. self.now.bearing ≡ Some job → IsSome grant) }
     {
         self.manager.keeps();
         self.manager.core().standing();

@@ -1,4 +1,4 @@
-use Rattle.std.proofs.Common.{◌≡◌, ◌∙◌, ◌++◌, ◌∷◌, ◌<◌, ◌^◌, [], Some, false, true, length, map, sym, ap, subst}
+use Rattle.std.proofs.Common.{◌≡◌, ◌∙◌, ◌++◌, ◌∷◌, ◌<◌, ◌^◌, [], Some, false, length, sym, ap, subst}
 use Rattle.std.specs.List.{AllByRecursion as Each}
 use Rattle.std.specs.Prelude.{option_map}
 use Rattle.instance_rules.specs.Log.{Born, service_of}
@@ -9,7 +9,7 @@ use Rattle.kvs_core.specs.Agrees.{Agrees}
 use Rattle.kvs_core.specs.Posted.{newest_of}
 use Rattle.kvs_rules.specs.Namespaces.{newest_store, primary}
 use Rattle.job_service.specs.Agrees.{AgreesJobs}
-use Rattle.job_service.specs.Children.{IsBearing, may_end}
+use Rattle.job_service.specs.Children.{IsBearing}
 use Rattle.job_service.specs.View.{value_of}
 use Rattle.job_service.proofs.Bearing.{born_legal}
 use Rattle.job_service.proofs.Born.{born_agrees, first_child}

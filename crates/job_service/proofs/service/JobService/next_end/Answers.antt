@@ -1,4 +1,4 @@
-use Rattle.std.proofs.Common.{◌≡◌, ◌∙◌, Some, sym, ap, subst, Contains}
+use Rattle.std.proofs.Common.{◌≡◌, Some, sym, subst, Contains}
 use Rattle.instance_rules.specs.Log.{service_of}
 use Rattle.kvs_core.specs.Agrees.{Agrees}
 use Rattle.kvs_core.specs.Posted.{newest_of}

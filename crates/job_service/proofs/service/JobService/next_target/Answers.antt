@@ -1,4 +1,4 @@
-use Rattle.std.proofs.Common.{◌≡◌, ◌∙◌, ◌<◌, ◌≤◌, ◌+◌, sym, ap, subst, Contains}
+use Rattle.std.proofs.Common.{◌∙◌, ◌<◌, ◌≤◌, ◌+◌, sym, ap, subst, Contains}
 use Rattle.std.specs.Prelude.{IfSome}
 use Rattle.instance_rules.specs.Family.{HasTarget}
 use Rattle.job_service.specs.Agrees.{AgreesJobs}
