@@ -30,8 +30,6 @@ use Rattle.services.specs.Agrees.{AgreesServices}
 use Rattle.services.specs.Steps.{IsStill, can_step, can_take}
 use Rattle.services.specs.Value.{ServicesValue}
 use Rattle.services.proofs.Waiting.{open_asks, taken_waits}
-use Rattle.workload.specs.declared.work.Command.{Command}
-use Rattle.workload.specs.declared.work.Command.TheVariants as command
 use Rattle.workload.specs.declared.work.Line.{Line}
 use Rattle.workload.specs.declared.work.Workload.{Workload}
 use Rattle.answers.specs.declared.chronicle.Entry.{Entry}
@@ -40,7 +38,7 @@ use Rattle.answers.specs.declared.chronicle.Reply.{Reply}
 use Rattle.answers.specs.declared.chronicle.Reply.TheVariants as reply
 use Rattle.answers.specs.Chronicle.{top, is_issued, issues_of, replies_to, answer_of}
 use Rattle.answers.specs.Commands.{ask_at, broker_of, command_at, subject_at}
-use Rattle.answers.specs.Jobs.{HasNoAdvance, instance_of, job_ask_at, job_ask_of, living_of, log_in}
+use Rattle.answers.specs.Jobs.{HasNoAdvance, instance_of, job_ask_at, living_of, log_in}
 use Rattle.answers.specs.Services.{setting_of, log_of, moment_of, moments_after}
 use Rattle.answers.specs.Whole.{HasComeToRest}
 use Rattle.answers.proofs.JobLogs.{asks_no_service}

@@ -1,5 +1,5 @@
 -- When an instance rests and may close, and how time goes on in it.
-use Rattle.std.proofs.Common.{◌≡◌, ℕ, List, [], ◌∷◌, ◌++◌, false, Option, None, refl, sym, ap, ◌∙◌, subst}
+use Rattle.std.proofs.Common.{◌≡◌, ℕ, List, [], ◌∷◌, ◌++◌, false, None, refl, sym, ap, ◌∙◌, subst}
 use Rattle.std.specs.List.{AllByRecursion as Each}
 use Rattle.kvs_rules.specs.Quiet.{AreAllTold}
 use Rattle.kvs_rules.specs.Sequence.{EachAfter}
@@ -17,7 +17,7 @@ use Rattle.answers.specs.Legal.{IsLegalEntry, RestsAtIssue}
 use Rattle.answers.specs.Runs.{ComesInTime}
 use Rattle.answers.specs.Services.{log_of, setting_of}
 use Rattle.answers.specs.Stretches.{IsStretch}
-use Rattle.answers.specs.Whole.{HasComeToRest, HasToldAll, IsClosingEntry, has_ended}
+use Rattle.answers.specs.Whole.{HasComeToRest, IsClosingEntry, has_ended}
 use Rattle.workload.specs.declared.work.Workload.{Workload}
 use Rattle.instance.proofs.Logs.{log_closed, served_log}
 

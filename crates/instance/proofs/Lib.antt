@@ -14,6 +14,7 @@ mod News
 mod Serving
 mod Posting
 mod Pushing
+mod Bearing
 mod Commanding
 mod Replying
 mod Issuing
