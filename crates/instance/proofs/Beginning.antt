@@ -12,6 +12,7 @@ use Rattle.workload.specs.declared.work.Actor.{Actor}
 use Rattle.workload.specs.declared.work.Line.{Line}
 use Rattle.workload.specs.declared.work.Workload.{Workload}
 use Rattle.workload.specs.Laws.{IsBuilt, IsWithin, KeepsTallies}
+use Rattle.workload.specs.Limits.{most_seconds}
 use Rattle.workload.specs.Tallies.{seconds_in, submits_in}
 use Rattle.answers.specs.Chronicle.{Setup}
 use Rattle.answers.specs.Commands.{broker_of, namespace_at, staged_at}
@@ -68,12 +69,12 @@ abbrev pub begun : List Seat → ServicesValue → InstanceValue
 begun seats services = record { spent = false; seats = seats; services = services }
 
 -- nothing is issued, and all lines are ahead
-first_tallied : (size : ℕ) (work : Workload) (seats : List Seat) (services : ServicesValue) → IsWithin size work → AreFirstSeats work seats → (services.jobs.submitted ≡ 0) × (services.jobs.span ≡ 0) → IsTallied (begun seats services) work.lines
-first_tallied size work seats services within first start =
+first_tallied : (size : ℕ) (work : Workload) (seats : List Seat) (services : ServicesValue) → IsWithin size work → KeepsTallies work.lines → AreFirstSeats work seats → (services.jobs.submitted ≡ 0) × (services.jobs.span ≡ 0) → IsTallied (begun seats services) work.lines
+first_tallied size work seats services within few first start =
     let ahead = first_ahead size work seats within first in
     record {
       submits = ap₂ (λ n ls. n + submits_in ls) start.0 ahead ∙ plain (submits_in work.lines);
-      seconds = ap₂ (λ n ls. n + seconds_in ls) start.1 ahead ∙ plain (seconds_in work.lines);
+      seconds = subst (λ n. n ≤ most_seconds) (sym (ap₂ (λ n ls. n + seconds_in ls) start.1 ahead ∙ plain (seconds_in work.lines))) few.seconds;
     }
   where
     plain : (n : ℕ) → 0 + n ≡ n
@@ -85,7 +86,7 @@ begin_agrees set services seats within known few start agrees first = record {
   within = within;
   known = known;
   few = few;
-  tallied = first_tallied set.size set.work seats services within first start;
+  tallied = first_tallied set.size set.work seats services within few first start;
   legal = tt;
   early = tt;
   seated = first.seated;

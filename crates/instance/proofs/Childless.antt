@@ -1,22 +1,22 @@
--- A submission whose text begins no instance tells no job whose command does.
-use Rattle.std.proofs.Common.{◌≡◌, ℕ, List, [], ◌∷◌, Bool, true, false, ◌&&◌, Option, Some, None, cond, codes, refl, sym, ap, ◌∙◌, subst, true≢false}
-use Rattle.std.specs.Prelude.{IfSome}
+-- No command of a workload that is read submits a job whose command begins an instance.
+use Rattle.std.proofs.Common.{◌≡◌, ℕ, List, [], ◌∷◌, Bool, true, false, ◌&&◌, Option, Some, None, All, cond, codes, refl, sym, ap, ◌∙◌, subst, true≢false}
 use Rattle.std.specs.Str.{bytes_eq}
-use Rattle.std.specs.Option.{option_map, option_map_or}
+use Rattle.std.specs.Option.{option_map_or}
 use Rattle.std.specs.Result.{result_ok}
 use Rattle.job_spec.specs.declared.spec.JobSpec.{JobSpec}
 use Rattle.shells.specs.declared.ends.Ending.TheVariants as ending
 use Rattle.shells.specs.Endings.{after, ending_of, ending_of_words, seconds_of}
-use Rattle.job_clock.specs.Children.{AsksNoChild, IsChildless, TellsNoChild}
-use Rattle.job_commands.specs.Asks.{told}
-use Rattle.job_commands.specs.declared.ask.JobAsk.{JobAsk}
-use Rattle.job_commands.specs.declared.ask.JobAsk.TheVariants as ask
+use Rattle.job_clock.specs.Children.{IsChildless, SubmitsNoChild, TellsNoChild}
+use Rattle.kvs_txn.specs.declared.txn.By.{By}
 use Rattle.instance_rules.specs.Log as rules
-use Rattle.answers.specs.Jobs.{job_ask_of}
+use Rattle.answers.specs.Chronicle.{Setup}
+use Rattle.answers.specs.Jobs.{instance_of, job_ask_at, job_ask_of}
 use Rattle.workload.specs.declared.work.Command.{Command}
 use Rattle.workload.specs.declared.work.Command.TheVariants as command
+use Rattle.workload.specs.declared.work.Workload.{Workload}
 use Rattle.workload.specs.Laws.{IsBuilt}
 use Rattle.workload.specs.Submits.{begins_instance, is_child}
+use Rattle.instance.proofs.Given.{asked_in, line_at}
 
 -- a command ends with its instance whenever it starts, or never
 after_alike : (s t : ℕ) (seconds : Option ℕ) → is_child (after s seconds) ≡ is_child (after t seconds)
@@ -55,30 +55,30 @@ unfolding begins_instance
 tells_none text none spec reads =
     childless spec (sym (ap (λ r. option_map_or (λ x. is_child (ending_of x 0)) (result_ok r) false) reads) ∙ none)
 
-same_text : (x y : rules.JobAsk) → ◌≡◌ {A = Option rules.JobAsk} (Some x) (Some y) → x ≡ y
-same_text x y e = cc
+module _ (label : List ℕ) (urgency : ℕ) (needs : List rules.Named) (text : List ℕ) where
+  -- what a submission that is built tells
+  tells : (c : Command) → IsBuilt c → job_ask_of c ≡ Some (rules.Submit label urgency needs text) → TellsNoChild text
+  tells (command.Submit other number depends spec) b same =
+      let is : text ≡ spec = cc in
+      subst TellsNoChild (sym is) (tells_none spec b.1)
+  tells (command.Cancel other) b same = cc
+  tells (command.Raise other kind severity note) b same = cc
+  tells (command.Urgency other number) b same = cc
+  tells (command.StateOf other) b same = cc
+  tells (command.Info other shown) b same = cc
+  tells command.Jobs b same = cc
+  tells (command.Why other) b same = cc
+  tells (command.ResultOf other) b same = cc
+  tells (command.Advance seconds) b same = cc
+  tells command.Shutdown b same = absurd b
+  tells _ b same = cc
 
--- what a submission that is built asks
-asks_none : (c : Command) → IsBuilt c → (asked : JobAsk) → Some (told asked) ≡ job_ask_of c → AsksNoChild asked
-asks_none c built (ask.Submit label urgency needs text) e = submits c built e
-  where
-    submits : (c : Command) → IsBuilt c → Some (told (ask.Submit label urgency needs text)) ≡ job_ask_of c → TellsNoChild text
-    submits (command.Submit other number depends spec) b same =
-        let is : text ≡ spec = cc in
-        subst TellsNoChild (sym is) (tells_none spec b.1)
-    submits (command.Cancel other) b same = cc
-    submits (command.Raise other kind severity note) b same = cc
-    submits (command.Urgency other number) b same = cc
-    submits (command.StateOf other) b same = cc
-    submits (command.Info other shown) b same = cc
-    submits command.Jobs b same = cc
-    submits (command.Why other) b same = cc
-    submits (command.ResultOf other) b same = cc
-    submits (command.Advance seconds) b same = cc
-    submits command.Shutdown b same = absurd b
-    submits _ b same = cc
-asks_none c built _ e = tt
+  -- and one of a workload whose commands are
+  tells_at : (work : Workload) → All (λ l. IsBuilt l.command) work.lines → (by : By) → job_ask_at work by ≡ Some (rules.Submit label urgency needs text) → TellsNoChild text
+  tells_at work built by e =
+      let asked = asked_in work by (rules.Submit label urgency needs text) e in
+      let sound = line_at (λ l. IsBuilt l.command) work.lines asked.line.place asked.line.line built asked.line.there in
+      tells asked.command (subst IsBuilt asked.line.is sound) asked.asks
 
-pub asks_no_child : (c : Command) → IsBuilt c → (asked : Option JobAsk) → option_map told asked ≡ job_ask_of c → IfSome asked AsksNoChild
-asks_no_child c built None e = tt
-asks_no_child c built (Some asked) e = asks_none c built asked e
+pub submits_no_child : (set : Setup) → All (λ l. IsBuilt l.command) set.work.lines → SubmitsNoChild (instance_of set)
+submits_no_child set built by label urgency needs text e = tells_at label urgency needs text set.work built by e

@@ -16,20 +16,20 @@ use Rattle.kvs_model.specs.Store.{Name}
 use Rattle.kvs_rules.specs.declared.events.KvsStep.{KvsStep}
 use Rattle.kvs_rules.specs.Quiet.{IsQuiet, IsShortFence}
 use Rattle.manager_rules.specs.Times.{IsIdle}
-use Rattle.instance_rules.specs.Family.{IsLeftResult, IsTarget, Living}
+use Rattle.instance_rules.specs.Family.{HasTarget, IsLeftResult, Living}
 use Rattle.instance_rules.specs.Legal.{OfDesk}
 use Rattle.instance_rules.specs.Log as rules
 use Rattle.instance_rules.specs.Log.{Instance, Log as InstanceLog, service_of}
-use Rattle.job_clock.specs.Standing.{IsTop}
+use Rattle.job_clock.specs.Children.{SubmitsNoChild}
+use Rattle.job_clock.specs.Standing.{IsLiving}
 use Rattle.job_service.specs.Replies.{can_reply}
 use Rattle.job_service.specs.Still.{awaited}
 use Rattle.job_states.specs.declared.job.State.{State}
 use Rattle.kvs_core.specs.Agrees.{Agrees}
 use Rattle.services.specs.Agrees.{AgreesServices}
 use Rattle.services.specs.Steps.{IsStill, can_step, can_take}
+use Rattle.services.specs.Value.{ServicesValue}
 use Rattle.services.proofs.Waiting.{open_asks, taken_waits}
-use Rattle.workload.specs.declared.work.Command.{Command}
-use Rattle.workload.specs.declared.work.Command.TheVariants as command
 use Rattle.workload.specs.declared.work.Line.{Line}
 use Rattle.workload.specs.declared.work.Workload.{Workload}
 use Rattle.answers.specs.declared.chronicle.Entry.{Entry}
@@ -38,7 +38,7 @@ use Rattle.answers.specs.declared.chronicle.Reply.{Reply}
 use Rattle.answers.specs.declared.chronicle.Reply.TheVariants as reply
 use Rattle.answers.specs.Chronicle.{top, is_issued, issues_of, replies_to, answer_of}
 use Rattle.answers.specs.Commands.{ask_at, broker_of, command_at, subject_at}
-use Rattle.answers.specs.Jobs.{HasNoAdvance, instance_of, job_ask_at, job_ask_of, living_of, log_in}
+use Rattle.answers.specs.Jobs.{HasNoAdvance, instance_of, job_ask_at, living_of, log_in}
 use Rattle.answers.specs.Services.{setting_of, log_of, moment_of, moments_after}
 use Rattle.answers.specs.Whole.{HasComeToRest}
 use Rattle.answers.proofs.JobLogs.{asks_no_service}
@@ -55,7 +55,8 @@ use Rattle.instance.specs.Steps.{IsOver, can_post, can_tick, has_answer}
 use Rattle.instance.specs.Value.{InstanceValue}
 use Rattle.instance.proofs.Owning.{Own, DoesAgree}
 use Rattle.instance.proofs.Given.{no_shutdown}
-use Rattle.instance.proofs.Families.{has_rest, is_top, no_advance_left}
+use Rattle.instance.proofs.Childless.{submits_no_child}
+use Rattle.instance.proofs.Families.{has_rest, is_living, no_advance_left}
 use Rattle.instance.proofs.Listing.{any_counted, none_counted}
 use Rattle.instance.proofs.Logs.{log_issued, log_open, served_log}
 use Rattle.instance.proofs.Leaving.{IsStuck, IsDone, IsLeft, IsServedCause, IsStuckResult, IsShortAsk, IsAboveAsk, asks_so, fence_command, wait_command, free_finished, free_unserved, in_fence, left_asks, numbers_of, seat_told, seated, states_of, unseated}
@@ -512,12 +513,17 @@ pub record CanDoNothing (v : InstanceValue) : Type 0 where
   pub posts : can_post v ≡ false
   pub ticks : can_tick v ≡ false
 
+-- no child is to be born where no command submits a job that begins an instance
+abbrev pub IsUnborn : ServicesValue → Type 0
+IsUnborn services = (i : Instance) (l : InstanceLog) → AgreesServices services i l → SubmitsNoChild i → services.jobs.bearing ≡ None
+
 -- there the services are still
-pub still_so : (v : Own) → DoesAgree v → CanDoNothing v.instance → IsStill v.instance.services
-still_so v h rest = record {
+pub still_so : (v : Own) → DoesAgree v → IsUnborn v.instance.services → CanDoNothing v.instance → IsStill v.instance.services
+still_so v h childless rest = record {
   steps = rest.steps;
   answers = none_taken v h rest.answers;
   unfound = nothing_found v.instance.services.jobs.found rest.posts;
+  unborn = childless (instance_of v.set) (log_in v.set.work v.chronicle) h.agrees (submits_no_child v.set h.known);
   late = rest.ticks;
   untold = none_told v h rest.answers;
 }
@@ -531,13 +537,14 @@ pub record IsStillSo (v : Own) : Type 0 where
   pub quiet : (i : Instance) (l : InstanceLog) → AgreesServices v.instance.services i l → IsStill v.instance.services → IsQuiet i.service (service_of l)
   pub heard : (i : Instance) (l : InstanceLog) → AgreesServices v.instance.services i l → IsStill v.instance.services → (broker : ℕ) (space : Name) → broker < i.service.size → is_live (service_of l) space ≡ true → IsSome (heard (service_of l) broker space)
   pub idle : (i : Instance) (l : InstanceLog) → AgreesServices v.instance.services i l → IsStill v.instance.services → OfDesk i l IsIdle
-  pub advanced : (i : Instance) (l : InstanceLog) (living : Living) → AgreesServices v.instance.services i l → IsStill v.instance.services → IsTop i l living → (target : ℕ) → IsTarget (living ∷ []) [] target → ⊥
+  pub advanced : (i : Instance) (l : InstanceLog) (living : Living) → AgreesServices v.instance.services i l → IsStill v.instance.services → IsLiving i l living → (target : ℕ) → HasTarget living target → ⊥
+  pub childless : IsUnborn v.instance.services
   pub left : (i : Instance) (l : InstanceLog) → AgreesServices v.instance.services i l → IsStill v.instance.services → (by : By) → IsSome (i.asks by) → i.asks by ≢ Some rules.Shutdown → rules.IsOpen by l → IsSome (awaited v.instance.services.jobs by)
-  pub results : (i : Instance) (l : InstanceLog) (living : Living) → AgreesServices v.instance.services i l → IsTop i l living → (by : By) (where_ : State) → awaited v.instance.services.jobs by ≡ Some where_ → IsLeftResult living by where_
+  pub results : (i : Instance) (l : InstanceLog) (living : Living) → AgreesServices v.instance.services i l → IsLiving i l living → (by : By) (where_ : State) → awaited v.instance.services.jobs by ≡ Some where_ → IsLeftResult living by where_
 
 module _ (v : Own) (h : DoesAgree v) (rest : CanDoNothing v.instance) (promise : IsStillSo v) where
   still_here : IsStill v.instance.services
-  still_here = still_so v h rest
+  still_here = still_so v h promise.childless rest
 
   pub quiet_so : IsQuiet (setting_of v.set) (log_of v.set.work top v.chronicle)
   quiet_so = subst (IsQuiet (setting_of v.set)) (served_log v.set.work v.chronicle) (promise.quiet (instance_of v.set) (log_in v.set.work v.chronicle) h.agrees still_here)
@@ -565,5 +572,5 @@ module _ (v : Own) (h : DoesAgree v) (rest : CanDoNothing v.instance) (promise :
       on (Some where_) e some = record {
         where_ = where_;
         awaits = e;
-        left = promise.results (instance_of v.set) (log_in v.set.work v.chronicle) (living_of v.set v.chronicle) h.agrees (is_top v.set v.chronicle) by where_ e;
+        left = promise.results (instance_of v.set) (log_in v.set.work v.chronicle) (living_of v.set v.chronicle) h.agrees (is_living v.set v.chronicle) by where_ e;
       }

@@ -1,32 +1,31 @@
 -- When an instance rests and may close, and how time goes on in it.
-use Rattle.std.proofs.Common.{◌≡◌, ℕ, inl, List, [], ◌∷◌, ◌++◌, false, Option, None, refl, sym, ap, ◌∙◌, subst, arith}
-use Rattle.std.specs.Prelude.{Contains}
+use Rattle.std.proofs.Common.{◌≡◌, ℕ, List, [], ◌∷◌, ◌++◌, false, None, refl, sym, ap, ◌∙◌, subst}
 use Rattle.std.specs.List.{AllByRecursion as Each}
 use Rattle.kvs_rules.specs.Quiet.{AreAllTold}
 use Rattle.kvs_rules.specs.Sequence.{EachAfter}
 use Rattle.manager_rules.specs.Times.{IsIdle}
-use Rattle.instance_rules.specs.Family.{HasTarget, IsTarget, Living, MayTick}
+use Rattle.instance_rules.specs.Family.{HasTarget, Living, MayTick}
 use Rattle.instance_rules.specs.Legal.{IsLegalMoment, OfDesk}
 use Rattle.instance_rules.specs.Log.{Log, Ticked, now_of, service_of}
-use Rattle.job_clock.specs.Standing.{IsTop}
+use Rattle.job_clock.specs.Standing.{IsLiving, IsTop}
 use Rattle.answers.specs.declared.chronicle.Entry.{Entry}
 use Rattle.answers.specs.declared.chronicle.Entry.TheVariants as entry
 use Rattle.answers.specs.declared.steps.Step.TheVariants as step
 use Rattle.answers.specs.Chronicle.{Setup, top}
 use Rattle.answers.specs.Jobs.{HasNoAdvance, instance_of, living_of, log_in}
 use Rattle.answers.specs.Legal.{IsLegalEntry, RestsAtIssue}
-use Rattle.answers.specs.Runs.{ComesInTime, family_of}
+use Rattle.answers.specs.Runs.{ComesInTime}
 use Rattle.answers.specs.Services.{log_of, setting_of}
 use Rattle.answers.specs.Stretches.{IsStretch}
-use Rattle.answers.specs.Whole.{HasComeToRest, HasToldAll, IsClosingEntry, has_ended}
+use Rattle.answers.specs.Whole.{HasComeToRest, IsClosingEntry, has_ended}
 use Rattle.workload.specs.declared.work.Workload.{Workload}
 use Rattle.instance.proofs.Logs.{log_closed, served_log}
 
 pub is_top : (set : Setup) (c : List Entry) → IsTop (instance_of set) (log_in set.work c) (living_of set c)
 is_top set c = record { is = refl; logged = refl; from = refl }
 
-pub lives : (set : Setup) (c : List Entry) → Contains (family_of set c) (living_of set c)
-lives set c = (0, omega arith, refl)
+pub is_living : (set : Setup) (c : List Entry) → IsLiving (instance_of set) (log_in set.work c) (living_of set c)
+is_living set c = record { is = refl; logged = refl }
 
 -- ---- at rest
 
@@ -35,9 +34,9 @@ has_rest set c told idle = record { told = subst (AreAllTold (setting_of set)) (
 
 -- ---- the end
 
--- where no advance waits in any top instance of the log, none waits
-pub no_advance_left : (set : Setup) (c : List Entry) → ((l : Living) → IsTop (instance_of set) (log_in set.work c) l → (target : ℕ) → IsTarget (l ∷ []) [] target → ⊥) → HasNoAdvance set c
-no_advance_left set c none target waits = none (living_of set c) (is_top set c) target (inl (living_of set c, lives set c, waits))
+-- where no advance waits in any living instance of the log, none waits
+pub no_advance_left : (set : Setup) (c : List Entry) → ((l : Living) → IsLiving (instance_of set) (log_in set.work c) l → (target : ℕ) → HasTarget l target → ⊥) → HasNoAdvance set c
+no_advance_left set c none target waits = none (living_of set c) (is_living set c) target waits
 
 -- a chronicle with the same log stands as far
 module _ (set : Setup) (c own : List Entry) (same : log_in set.work c ≡ log_in set.work own) where

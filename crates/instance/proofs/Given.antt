@@ -93,7 +93,7 @@ asked_in work by ask e = on (command_at work by) refl e
     on None is h = cc
     on (Some c) is h = record { command = c; asks = h; line = line_of work.lines by.actor by.command c is }
 
-line_at : (P : Line → Type 0) (lines : List Line) (k : ℕ) (line : Line) → All P lines → slice_get lines k ≡ Some line → P line
+pub line_at : (P : Line → Type 0) (lines : List Line) (k : ℕ) (line : Line) → All P lines → slice_get lines k ≡ Some line → P line
 line_at P lines k line h e = subst P (get_or_from_slice_get lines k line line e) (h k line (slice_get_within lines k line e))
 
 -- ---- the ranges

@@ -25,7 +25,6 @@ use Rattle.job_commands.specs.Asks.{told}
 use Rattle.job_commands.specs.declared.ask.JobAsk.{JobAsk}
 use Rattle.job_commands.specs.declared.ask.JobAsk.TheVariants as ask_of_jobs
 use Rattle.instance_rules.specs.Desks.{is_submission}
-use Rattle.job_clock.specs.Children.{AsksNoChild}
 use Rattle.job_service.specs.Agrees.{HasRoom, IsNewCommand, MayIssue}
 use Rattle.job_service.specs.Times.{HasTime, KeepsCounts, jobs_asked, seconds_asked}
 use Rattle.job_service.specs.Value.{JobServiceValue}
@@ -63,7 +62,6 @@ use Rattle.instance.proofs.Pushing.{actor_other, asked_push, answered_push}
 use Rattle.instance.proofs.Replying.{same_self, seat_stands}
 use Rattle.instance.proofs.Going.{unended}
 use Rattle.instance.proofs.Ahead.{MovesOn}
-use Rattle.instance.proofs.Childless.{asks_no_child}
 use Rattle.instance.proofs.Tallies.{room_for, tallied_job, tallied_other, time_for}
 use Rattle.instance.proofs.Logs.{job_asks_nothing, job_issued, log_grown, log_unissued, other_issued, served_log}
 
@@ -298,9 +296,6 @@ module _ (v : Own) (h : DoesAgree v) (a : ℕ) (seat : Seat) (is : IsIssuing v a
           on None same = tt
           on (Some x) same = time_kept v.instance.services.jobs middle.jobs keeps.counts.span x
               (time_for v.instance v.set.work.lines h.tallied h.few a seat is.sits is.below (λ l. mine.1.placed.here l is.below) d x (sym jeq ∙ ap (option_map told) same))
-
-      pub childless_so : IfSome job AsksNoChild
-      childless_so = asks_no_child cmd (known_next d) job jeq
 
       legal_issue : IsLegalEntry v.set v.chronicle e
       legal_issue = record {

@@ -6,14 +6,15 @@ mod Families
 mod Ahead
 mod Tallies
 mod Lining
-mod Childless
 mod Waiting
 mod Given
+mod Childless
 mod Results
 mod News
 mod Serving
 mod Posting
 mod Pushing
+mod Bearing
 mod Commanding
 mod Replying
 mod Issuing

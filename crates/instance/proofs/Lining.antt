@@ -1,9 +1,10 @@
 -- What was issued and what is ahead, where nothing is issued: they depend on no more of the seats than their next lines.
-use Rattle.std.proofs.Common.{◌≡◌, ℕ, ◌+◌, List, Option, refl, ap₂, ◌∙◌}
+use Rattle.std.proofs.Common.{◌≡◌, ℕ, ◌+◌, ◌≤◌, List, Option, refl, sym, subst, ap₂, ◌∙◌}
 use Rattle.std.specs.Prelude.{slice_get}
 use Rattle.std.specs.Option.{option_map}
 use Rattle.job_service.specs.Times.{KeepsCounts}
 use Rattle.workload.specs.declared.work.Line.{Line}
+use Rattle.workload.specs.Limits.{most_seconds}
 use Rattle.workload.specs.Tallies.{seconds_in, submits_in}
 use Rattle.instance.specs.declared.seats.Seat.{Seat}
 use Rattle.instance.specs.Agrees.{IsTallied}
@@ -25,5 +26,5 @@ same_lines seats a = refl
 pub tallied_on : (old new : InstanceValue) (lines : List Line) → KeepsCounts old.services.jobs new.services.jobs → HaveSameLines old.seats new.seats → IsTallied old lines → IsTallied new lines
 tallied_on old new lines kept same h = record {
   submits = ap₂ (λ n ls. n + submits_in ls) kept.submitted (same_ahead old.seats new.seats lines same) ∙ h.submits;
-  seconds = ap₂ (λ n ls. n + seconds_in ls) kept.span (same_ahead old.seats new.seats lines same) ∙ h.seconds;
+  seconds = subst (λ n. n ≤ most_seconds) (sym (ap₂ (λ n ls. n + seconds_in ls) kept.span (same_ahead old.seats new.seats lines same))) h.seconds;
 }

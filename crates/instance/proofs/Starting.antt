@@ -7,7 +7,6 @@ use Rattle.kvs_rules.specs.declared.events.KvsAsk.{KvsAsk}
 use Rattle.kvs_rules.specs.Log.{is_asked}
 use Rattle.instance_rules.specs.Desks.{is_submission}
 use Rattle.instance_rules.specs.Log.{Instance, Log, Served, service_of}
-use Rattle.job_clock.specs.Children.{AsksNoChild}
 use Rattle.job_commands.specs.Asks.{told}
 use Rattle.job_commands.specs.declared.ask.JobAsk.{JobAsk}
 use Rattle.job_service.specs.Agrees.{HasRoom, MayIssue}
@@ -27,7 +26,7 @@ use Rattle.instance.specs.Agrees.{AgreesOwn, AreLinesOf, command_of}
 use Rattle.instance.specs.Seats.{IsTheAsk, moment_asked, ops_after, seat_floor, space_after, waiting_after}
 use Rattle.instance.specs.Steps.{can_issue}
 use Rattle.instance.specs.Value.{InstanceValue}
-use Rattle.instance.proofs.Issuing.{IsIssuing, asked_now, begun_seat, childless_so, issue_asks, issued_small, issuer, issuer_broker, issuing_at, known_next, may_ask, may_issue, new_command, next_small, room_so, time_so}
+use Rattle.instance.proofs.Issuing.{IsIssuing, asked_now, begun_seat, issue_asks, issued_small, issuer, issuer_broker, issuing_at, known_next, may_ask, may_issue, new_command, next_small, room_so, time_so}
 use Rattle.instance.proofs.Owning.{Own, DoesAgree, own_of}
 
 -- the actor's command and its seat once that has begun
@@ -119,6 +118,3 @@ module _ (w : InstanceValue) (lines : List Line) (a : ℕ) (seat : Seat) (s : Is
 
         pub start_time : IfSome job (HasTime middle.jobs)
         start_time = time_so v s.agrees a seat s.is d asked asked_so job job_so middle keeps
-
-        pub start_childless : IfSome job AsksNoChild
-        start_childless = childless_so v s.agrees a seat s.is d asked asked_so job job_so

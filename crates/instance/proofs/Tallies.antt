@@ -93,19 +93,7 @@ one_job (ask.Why label) h = absurd (true≢false (sym h))
 one_job (ask.ResultOf label) h = absurd (true≢false (sym h))
 one_job (ask.Advance seconds) h = absurd (true≢false (sym h))
 
--- ---- at the beginning, and where nothing is issued
-
-pub tallied_first : (v : InstanceValue) (lines : List Line) → v.services.jobs.submitted ≡ 0 → v.services.jobs.span ≡ 0 → lines_ahead v.seats lines ≡ lines → IsTallied v lines
-tallied_first v lines none still all = record {
-  submits = let same = ap submits_in all in omega arith;
-  seconds = let same = ap seconds_in all in omega arith;
-}
-
-pub tallied_kept : (old new : InstanceValue) (lines : List Line) → KeepsCounts old.services.jobs new.services.jobs → lines_ahead new.seats lines ≡ lines_ahead old.seats lines → IsTallied old lines → IsTallied new lines
-tallied_kept old new lines keeps same h = record {
-  submits = let ahead = ap submits_in same in let counted = keeps.submitted in let tallied = h.submits in omega arith;
-  seconds = let ahead = ap seconds_in same in let counted = keeps.span in let tallied = h.seconds in omega arith;
-}
+-- ---- where nothing is issued
 
 -- the seats of which one has seen further have the same lines ahead
 pub raised_ahead : (seats : List Seat) (to : ℕ) (floors : Floors) (lines : List Line) → lines_ahead (raised seats to floors) lines ≡ lines_ahead seats lines
@@ -144,7 +132,7 @@ module _ (v : InstanceValue) (lines : List Line) (h : IsTallied v lines) (few : 
       less = issue_ahead v.seats lines a seat behind moves (λ line. seconds_of line.command) d
 
       on : (a : JobAsk) → seconds_of cmd ≡ seconds_asked a → HasTime v.services.jobs a
-      on (ask.Advance seconds) is = let one = less in let tallied = h.seconds in let most = few.seconds in omega arith
+      on (ask.Advance seconds) is = let one = less in let tallied = h.seconds in omega arith
       on (ask.Submit label urgency needs text) is = tt
       on (ask.Cancel label) is = tt
       on (ask.Raise label kind severity note) is = tt

@@ -10,6 +10,7 @@ use Rattle.services.specs.Agrees.{AgreesServices}
 use Rattle.workload.specs.declared.work.Command.TheVariants as command
 use Rattle.workload.specs.declared.work.Line.{Line}
 use Rattle.workload.specs.Laws.{IsBuilt, IsWithin, KeepsTallies}
+use Rattle.workload.specs.Limits.{most_seconds}
 use Rattle.workload.specs.Tallies.{seconds_in, submits_in}
 use Rattle.answers.specs.declared.chronicle.Entry.{Entry}
 use Rattle.answers.specs.Chronicle.{Setup, top, issues_of, is_issued, replies_to}
@@ -101,11 +102,12 @@ is_ahead seats at = option_map_or (λ seat. nat_le seat.next at.0) (slice_get se
 abbrev pub lines_ahead : List Seat → List Line → List Line
 lines_ahead seats lines = map (λ at. at.1) (filter (is_ahead seats) (enumerate_from 0 lines))
 
--- what was issued and what is ahead submit as many jobs as all lines, and let as many seconds pass
+-- what was issued and what is ahead submit as many jobs as all lines, and the seconds by which time
+-- has gone on or may go on leave room for those that the lines ahead let pass
 pub record IsTallied (v : InstanceValue) (lines : List Line) : Type 0 where
   pub submits : v.services.jobs.submitted + submits_in (lines_ahead v.seats lines)
       ≡ submits_in lines
-  pub seconds : v.services.jobs.span + seconds_in (lines_ahead v.seats lines) ≡ seconds_in lines
+  pub seconds : v.services.jobs.span + seconds_in (lines_ahead v.seats lines) ≤ most_seconds
 
 -- an instance stands where this chronicle of its own leaves it, of a run that is given this and has
 -- not ended; the chronicle has 0 for the number of the instance

@@ -6,6 +6,7 @@ pub mod Jobs
 pub mod Steps
 pub mod Order
 pub mod Agrees
+pub mod Family
 pub mod Closings
 pub mod First
 pub mod Makes

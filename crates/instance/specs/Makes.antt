@@ -1,16 +1,19 @@
 -- What a step of an instance makes.
-use Rattle.std.specs.Prelude.{◌≡◌, List, [], ◌∷◌, ◌++◌}
+use Rattle.std.specs.Prelude.{◌≡◌, ℕ, Bool, List, [], ◌∷◌, ◌++◌}
 use Rattle.std.specs.List.{AllByRecursion as Each}
 use Rattle.kvs_rules.specs.Sequence.{EachAfter}
 use Rattle.workload.specs.declared.work.Line.{Line}
 use Rattle.answers.specs.declared.chronicle.Entry.{Entry}
 use Rattle.answers.specs.declared.chronicle.Entry.TheVariants as entry
 use Rattle.answers.specs.declared.steps.Step.{Step}
-use Rattle.answers.specs.Chronicle.{Setup}
+use Rattle.answers.specs.declared.steps.Step.TheVariants as step
+use Rattle.resource_set.specs.declared.node.Resources.{Resources}
+use Rattle.answers.specs.Chronicle.{Setup, top}
 use Rattle.answers.specs.Legal.{IsLegalEntry, RestsAtIssue}
 use Rattle.answers.specs.Stretches.{IsStretch}
 use Rattle.answers.specs.Whole.{HasComeToRest, IsClosingEntry, IsWhole}
 use Rattle.instance.specs.Agrees.{AgreesOwn}
+use Rattle.instance.specs.Family.{LeavesTime}
 use Rattle.instance.specs.Steps.{IsIssue}
 use Rattle.instance.specs.Value.{InstanceValue}
 
@@ -33,6 +36,24 @@ Makes old s new entries = (set : Setup) (own : List Entry)
 abbrev pub MakesOf : List Line → InstanceValue → Step → InstanceValue → List Entry → Type 0
 MakesOf lines old s new entries = (set : Setup) (own : List Entry)
     → AgreesOwn old set own → set.work.lines ≡ lines → Follows set own s new entries
+
+-- the birth of the child of a job follows every chronicle that agrees, with whatever the run tells
+-- of the child
+abbrev pub Bears : InstanceValue → ℕ → InstanceValue → Type 0
+Bears old job new = (set : Setup) (own : List Entry) → AgreesOwn old set own
+    → (child : ℕ) (label : List ℕ) (second : ℕ) (grant : Resources)
+    → Follows set own (step.Birth top job) new (entry.Born child top job label second grant ∷ [])
+
+-- so does the end of the child of a job
+abbrev pub LetsGo : InstanceValue → ℕ → Bool → InstanceValue → Type 0
+LetsGo old job shut new = (set : Setup) (own : List Entry) → AgreesOwn old set own
+    → (child : ℕ) → Follows set own (step.End child) new (entry.Gone child top job shut ∷ [])
+
+-- and a tick to this second, where it leaves time for the lines ahead
+abbrev pub PassesTo : InstanceValue → ℕ → InstanceValue → Type 0
+PassesTo old second new = (set : Setup) (own : List Entry) → AgreesOwn old set own
+    → LeavesTime old set.work.lines second
+    → Follows set own step.Tick new (entry.Ticked second ∷ [])
 
 -- closing replies and the end follow the chronicle, and make it whole
 pub record Ends (set : Setup) (own left : List Entry) : Type 0 where

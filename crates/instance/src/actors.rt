@@ -26,6 +26,7 @@ ghost use Rattle.instance.specs.Replies.{IsGiven};
 ghost use Rattle.instance.specs.Seats.{has_come, is_telling};
 ghost use Rattle.instance.specs.Steps.{IsAtRest, IsOver, can_answer, can_issue, can_post, can_tick};
 
+mod family;
 mod walk;
 
 use crate::floors::Floors;

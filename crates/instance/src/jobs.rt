@@ -4,7 +4,6 @@ ghost use Rattle.answers.specs.Jobs.{job_ask_of, key_by, named_by};
 ghost use Rattle.instance_rules.specs.Desks.{is_submission};
 ghost use Rattle.instance_rules.specs.Log as rules;
 ghost use Rattle.instance_rules.specs.Log.{Instance, Log};
-ghost use Rattle.job_clock.specs.Children.{AsksNoChild};
 ghost use Rattle.job_commands.specs.Asks.{key_of, named_of, told};
 ghost use Rattle.job_service.specs.Agrees.{HasRoom, IsNewCommand, MayIssue};
 ghost use Rattle.job_service.specs.Times.{HasTime};
@@ -140,7 +139,6 @@ pub fn order(
     requires room { IfSome asked (λ ask. is_submission (Some (told ask)) ≡ true
         → HasRoom services.old.jobs) }
     requires time { IfSome asked (HasTime services.old.jobs) }
-    requires childless { IfSome asked AsksNoChild }
     ensures ready { OnOk result (services.new.spent ≡ false) }
     ensures counts { OnOk result (CountsIn asked services.old services.new) }
     ensures agrees { OnOk result ((inst : Instance) (log : Log)

@@ -9,8 +9,8 @@ use crate::row::Row;
 use job_states::{Change, Job, State, can_stand};
 use manager_rules::Asked;
 
-/// Whether an exception of this severity may be raised: one of severity 0 ends the job, which it does
-/// once.
+/// Whether an exception of this severity may be raised: one of severity 0 ends the job, which it
+/// does once.
 fn can_except(job: &Job, severity: u32) -> bool
     ensures { IsTrue result ↔ (IsTrue (may_stand (change.Except severity) job.now)
         × (severity ≡ 0 → job.now.state ≢ state.Cleanup)) }

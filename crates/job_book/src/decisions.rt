@@ -81,8 +81,8 @@ fn first_fit(
     }
 }
 
-/// What is due for a job that waits for resources with the priority that is defined for it. Where the
-/// first one has no room, the jobs in its way aren't asked for.
+/// What is due for a job that waits for resources with the priority that is defined for it. Where
+/// the first one has no room, the jobs in its way aren't asked for.
 fn of_ranked(
     alloc: Global,
     desk: &Desk<'_>,

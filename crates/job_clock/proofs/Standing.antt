@@ -1,4 +1,4 @@
--- What an instance without children may do where nothing is due in it.
+-- What an instance may do where nothing is due in it.
 use Rattle.std.proofs.Common.{◌≡◌, ℕ, ◌≤◌, ◌⊎◌, inl, inr, List, [], ◌∷◌, ◌++◌, Some, None, Contains, refl, sym, ap, ap₂, ◌∙◌, subst, arith}
 use Rattle.std.specs.Prelude.{filter, flat_map, nat_lt}
 use Rattle.std.proofs.lemmas.Bool.{ltb-true}
@@ -19,7 +19,7 @@ use Rattle.job_commands.specs.Agrees.{AgreesCommands}
 use Rattle.job_commands.specs.Desks.{desk_of}
 use Rattle.job_commands.specs.Rows.{CommandsValue}
 use Rattle.job_clock.proofs.Targets.{target_known, target_open}
-use Rattle.job_clock.specs.Standing.{IsTop, StandsAlone}
+use Rattle.job_clock.specs.Standing.{IsLiving, IsTop, PassesNone, StandsWith}
 use Rattle.job_clock.specs.Targets.{IsNextTick, targets_of}
 
 -- ---- what the manager looks at
@@ -27,7 +27,7 @@ use Rattle.job_clock.specs.Targets.{IsNextTick, targets_of}
 same_some : {A : Type 0} (a b : A) → Some a ≡ Some b → a ≡ b
 same_some a b e = cc
 
-module _ (v : CommandsValue) (jobs : List StoredJob) (inst : Instance) (log : Log) (h : StandsAlone v jobs inst log) where
+module _ (v : CommandsValue) (jobs : List StoredJob) (inst : Instance) (log : Log) (h : StandsWith v jobs inst log) where
   abbrev desk : Desk
   desk = desk_of v inst log jobs
 
@@ -35,13 +35,13 @@ module _ (v : CommandsValue) (jobs : List StoredJob) (inst : Instance) (log : Lo
   ends = seconds_ahead desk.scene
 
   desk_there : IsDeskOf inst log h.store desk
-  desk_there = desk_is v inst log h.commands h.store jobs h.are h.childless
+  desk_there = desk_is v inst log h.commands h.store jobs h.are
 
   pub of_desk : (P : Desk → Type 0) → P desk → OfDesk inst log P
   of_desk P p = (h.store, h.standing, (desk, desk_there, p))
 
   -- the jobs of any such desk are these
-  jobs_same : (st : Store) (other : Desk) → newest_store inst.service (service_of log) primary ≡ Some st → IsDeskOf inst log st other → other.scene.jobs ≡ jobs
+  pub jobs_same : (st : Store) (other : Desk) → newest_store inst.service (service_of log) primary ≡ Some st → IsDeskOf inst log st other → other.scene.jobs ≡ jobs
   jobs_same st other standing is =
       let one : st ≡ h.store = same_some st h.store (sym standing ∙ h.standing) in
       jobs_are_one h.store other.scene.jobs jobs (subst (λ s. AreJobsOf s other.scene.jobs) one is.jobs) h.are
@@ -53,16 +53,22 @@ module _ (v : CommandsValue) (jobs : List StoredJob) (inst : Instance) (log : Lo
   pub end_known : (second : ℕ) → OfDesk inst log (λ d. Contains (seconds_ahead d.scene) second) → Contains ends second
   end_known second o = subst (λ l. Contains l second) (ends_same o.0 o.2.0 o.1 o.2.1) o.2.2
 
+  pub end_there : (second : ℕ) → Contains ends second → OfDesk inst log (λ d. Contains (seconds_ahead d.scene) second)
+  end_there second c = of_desk (λ d. Contains (seconds_ahead d.scene) second) c
+
+  pub pass_legal : (second : ℕ) → IsIdle desk → PassesNone ends (now_of inst log) second → IsLegalMoment inst log (Ticked second)
+  pass_legal second idle passes = (passes.above, of_desk _ (idle, passes.before))
+
+  pub passes_next : (second : ℕ) → IsNextTick (targets_of v) ends (now_of inst log) second → PassesNone ends (now_of inst log) second
+  passes_next second next = record {
+    above = next.above;
+    before = all_from (λ other. second ≤ other) ends (λ other i.
+        let both = among_filter (λ t. nat_lt (now_of inst log) t) (flat_map seconds_of jobs) other i in
+        next.least other (contains_from (targets_of v ++ ends) other (among_right (targets_of v) ends other i)) (ltb-true (now_of inst log) other both.1));
+  }
+
   pub tick_legal : (second : ℕ) → IsIdle desk → IsNextTick (targets_of v) ends (now_of inst log) second → IsLegalMoment inst log (Ticked second)
-  tick_legal second idle next = (
-    next.above,
-    of_desk _ (
-      idle,
-      all_from (λ other. second ≤ other) ends (λ other i.
-          let both = among_filter (λ t. nat_lt (now_of inst log) t) (flat_map seconds_of jobs) other i in
-          next.least other (contains_from (targets_of v ++ ends) other (among_right (targets_of v) ends other i)) (ltb-true (now_of inst log) other both.1)),
-    ),
-  )
+  tick_legal second idle next = pass_legal second idle (passes_next second next)
 
 -- ---- the family that it is alone
 
@@ -79,12 +85,15 @@ no_end : (l other : Living) → l.from ≡ None → Contains (l ∷ []) other �
 no_end l other top c e = nothing (e.parent.number, e.job) (sym top ∙ ap (λ x. x.from) (alone l other c) ∙ e.from)
 
 module _ (v : CommandsValue) (l : Living) (h : AgreesCommands v l.inst l.log) where
-  pub target_there : (target : ℕ) → Contains (targets_of v) target → IsTarget (l ∷ []) [] target
-  target_there target c =
+  pub has_there : (target : ℕ) → Contains (targets_of v) target → HasTarget l target
+  has_there target c =
       let o = target_open v l.inst l.log h target c in
-      inl (l, itself l, record { by = o.by; seconds = o.seconds; asks = o.asks; waits = o.waits; is = o.is })
+      record { by = o.by; seconds = o.seconds; asks = o.asks; waits = o.waits; is = o.is }
 
-  has_known : (target : ℕ) → HasTarget l target → Contains (targets_of v) target
+  pub target_there : (target : ℕ) → Contains (targets_of v) target → IsTarget (l ∷ []) [] target
+  target_there target c = inl (l, itself l, has_there target c)
+
+  pub has_known : (target : ℕ) → HasTarget l target → Contains (targets_of v) target
   has_known target t = target_known v l.inst l.log h target (record { by = t.by; seconds = t.seconds; asks = t.asks; waits = t.waits; is = t.is })
 
   pub target_here : (target : ℕ) → IsTarget (l ∷ []) [] target → Contains (targets_of v) target
@@ -94,7 +103,7 @@ module _ (v : CommandsValue) (l : Living) (h : AgreesCommands v l.inst l.log) wh
   pub none_open : targets_of v ≡ [] → (target : ℕ) → IsTarget (l ∷ []) [] target → ⊥
   none_open none target t = among_from [] target (subst (λ ts. Contains ts target) none (target_here target t))
 
-module _ (v : CommandsValue) (jobs : List StoredJob) (l : Living) (top : l.from ≡ None) (h : StandsAlone v jobs l.inst l.log) where
+module _ (v : CommandsValue) (jobs : List StoredJob) (l : Living) (top : l.from ≡ None) (h : StandsWith v jobs l.inst l.log) where
   family_idle : IsIdle (desk_of v l.inst l.log jobs) → IsFamilyIdle (l ∷ [])
   family_idle idle = record {
     idle = λ other c. subst (λ x. OfLiving x IsIdle) (alone l other c) (of_desk v jobs l.inst l.log h IsIdle idle);
@@ -136,9 +145,19 @@ module _ (v : CommandsValue) (jobs : List StoredJob) (l : Living) (top : l.from 
     advanced = none_open v l h.commands none;
   }
 
--- ---- at the log of a top
+-- ---- at the log of an instance that lives
 
-module _ (l : Living) (inst : Instance) (log : Log) (top : IsTop inst log l) where
+module _ (l : Living) (inst : Instance) (log : Log) (living : IsLiving inst log l) where
   -- what holds of its own instance and log holds of these
-  pub at_top : (P : Instance → Log → Type 0) → P l.inst l.log → P inst log
-  at_top P p = subst (P inst) top.logged (subst (λ i. P i l.log) top.is p)
+  pub at_living : (P : Instance → Log → Type 0) → P l.inst l.log → P inst log
+  at_living P p = subst (P inst) living.logged (subst (λ i. P i l.log) living.is p)
+
+  -- and the other way round
+  pub from_living : (P : Instance → Log → Type 0) → P inst log → P l.inst l.log
+  from_living P p = subst (λ i. P i l.log) (sym living.is) (subst (P inst) (sym living.logged) p)
+
+pub top_lives : (l : Living) (inst : Instance) (log : Log) → IsTop inst log l → IsLiving inst log l
+top_lives l inst log top = record { is = top.is; logged = top.logged }
+
+pub at_top : (l : Living) (inst : Instance) (log : Log) → IsTop inst log l → (P : Instance → Log → Type 0) → P l.inst l.log → P inst log
+at_top l inst log top P p = at_living l inst log (top_lives l inst log top) P p

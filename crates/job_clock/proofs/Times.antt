@@ -1,6 +1,6 @@
 -- How far time can go from a birth, as commands come and go.
-use Rattle.std.proofs.Common.{◌≡◌, ℕ, ◌+◌, ◌<◌, ◌≤◌, ◌⊎◌, inl, inr, List, [], ◌∷◌, ◌++◌, length, get_or, Bool, true, false, cond, true≢false, Some, None, Contains, sym, ap, ◌∙◌, subst, arith}
-use Rattle.std.specs.Prelude.{All, filter}
+use Rattle.std.proofs.Common.{◌≡◌, ℕ, ◌+◌, ◌-◌, ◌<◌, ◌≤◌, ◌⊎◌, inl, inr, List, [], ◌∷◌, ◌++◌, length, get_or, Bool, true, false, cond, true≢false, Some, None, Contains, sym, ap, ◌∙◌, subst, arith}
+use Rattle.std.specs.Prelude.{All, filter, max}
 use Rattle.std.proofs.lemmas.List.Elements.{Contains-get_or}
 use Rattle.job_rules.proofs.Among.{Among, all_at, all_from, among_append, among_filter, among_from, among_left, contains_from}
 use Rattle.kvs_txn.specs.declared.txn.By.{By}
@@ -38,6 +38,13 @@ in_time_at v ends birth now second span next h =
     let low : second ≤ next.target = next.least next.target (contains_from (targets_of v ++ ends) next.target (among_left (targets_of v) ends next.target known)) next.unreached in
     let top : next.target ≤ birth + span = all_at (λ t. t ≤ birth + span) (targets_of v) next.target h.targets known in
     record { present = omega (arith, low, top); targets = h.targets }
+
+pub in_time_later : (v : CommandsValue) (birth now second span : ℕ) → now ≤ second → AreInTime v birth now span → AreInTime v birth second (max span (second - birth))
+in_time_later v birth now second span on h = record {
+  present = omega arith;
+  targets = all_from (λ target. target ≤ birth + max span (second - birth)) (targets_of v) (λ target i.
+      (let low : target ≤ birth + span = all_at (λ t. t ≤ birth + span) (targets_of v) target h.targets i in omega (arith, low)));
+}
 
 pub in_time_below : (v : CommandsValue) (birth now span bound : ℕ) → AreInTime v birth now span → birth + span < bound → All (λ target. target < bound) (targets_of v)
 in_time_below v birth now span bound h below = all_from (λ target. target < bound) (targets_of v) (λ target i.

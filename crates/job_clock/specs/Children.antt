@@ -1,18 +1,13 @@
 -- Jobs whose commands begin no instance.
-use Rattle.std.specs.Prelude.{◌≡◌, ℕ, List, Ok, Some, All, Contains}
+use Rattle.std.specs.Prelude.{◌≡◌, ℕ, List, Ok, Some, All}
 use Rattle.job_spec.specs.declared.spec.JobSpec.{JobSpec}
 use Rattle.job_spec.specs.Specs.{spec_reading}
 use Rattle.shells.specs.Endings.{ending_of}
 use Rattle.shells.specs.declared.ends.Ending.TheVariants as ending
 use Rattle.kvs_txn.specs.declared.txn.By.{By}
-use Rattle.instance_rules.specs.Log.{Instance, Issued, Moment, Named, Submit}
+use Rattle.instance_rules.specs.Log.{Instance, Named, Submit}
 use Rattle.manager_rules.specs.Jobs.{StoredJob}
 use Rattle.manager_rules.specs.Posts.{Desk}
-use Rattle.job_commands.specs.Rows.{CommandsValue}
-use Rattle.job_commands.specs.declared.ask.JobAsk.{JobAsk}
-use Rattle.job_commands.specs.declared.ask.JobAsk.TheVariants as ask
-use Rattle.job_commands.specs.declared.row.Row.{Row}
-use Rattle.job_commands.specs.declared.row.Stage.TheVariants as stage
 
 -- whenever it starts, its command is no child's
 abbrev pub IsChildless : JobSpec → Type 0
@@ -25,19 +20,11 @@ AreChildless jobs = All (λ j. IsChildless j.spec) jobs
 abbrev pub TellsNoChild : List ℕ → Type 0
 TellsNoChild text = (spec : JobSpec) → spec_reading text ≡ Ok spec → IsChildless spec
 
-abbrev pub AsksNoChild : JobAsk → Type 0
-AsksNoChild (ask.Submit label urgency needs text) = TellsNoChild text
-AsksNoChild _ = Unit {0}
+-- no command of the instance submits one
+abbrev pub SubmitsNoChild : Instance → Type 0
+SubmitsNoChild inst = (by : By) (label : List ℕ) (urgency : ℕ) (needs : List Named) (text : List ℕ)
+    → inst.asks by ≡ Some (Submit label urgency needs text) → TellsNoChild text
 
--- no submission that waits tells one
-abbrev pub AskNoChild : CommandsValue → Type 0
-AskNoChild v = (row : Row) → Contains v.rows row → row.stage ≡ stage.Waits → AsksNoChild row.ask
-
--- nor does one that the manager looks at
+-- no submission that the manager looks at tells one
 abbrev pub SubmitNoChild : Desk → Type 0
 SubmitNoChild d = All (λ x. TellsNoChild x.text) d.submits
-
--- nor does one that is issued at this moment
-abbrev pub IssuesNoChild : Instance → Moment → Type 0
-IssuesNoChild inst m = (by : By) (label : List ℕ) (urgency : ℕ) (needs : List Named) (text : List ℕ)
-    → m ≡ Issued by → inst.asks by ≡ Some (Submit label urgency needs text) → TellsNoChild text

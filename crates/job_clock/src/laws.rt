@@ -1,10 +1,10 @@
 //! What follows from the words of the contracts.
-ghost use Rattle.std.specs.Prelude.{◌≡◌, ◌<◌, ◌≤◌, ◌+◌, ◌++◌, ◌∷◌, ◌⊎◌, ℕ, List, [], Bool, None, Some, All, Contains, filter};
-ghost use Rattle.instance_rules.specs.Family.{IsTarget, Living, MayClose, MayTick};
+ghost use Rattle.std.specs.Prelude.{◌≡◌, ◌↔◌, ◌<◌, ◌≤◌, ◌+◌, ◌-◌, ◌++◌, ◌∷◌, ◌⊎◌, ℕ, List, [], Bool, None, Some, All, Contains, filter, max};
+ghost use Rattle.instance_rules.specs.Family.{HasTarget, IsTarget, Living, MayClose, MayTick, OfLiving};
 ghost use Rattle.instance_rules.specs.Legal.{IsLegalMoment};
 ghost use Rattle.instance_rules.specs.Log.{Advance, Instance, Issued, Log, Moment, Ticked, now_of, service_of};
-ghost use Rattle.job_clock.specs.Children.{AreChildless, AskNoChild, IssuesNoChild, SubmitNoChild};
-ghost use Rattle.job_clock.specs.Standing.{IsTop, StandsAlone};
+ghost use Rattle.job_clock.specs.Children.{AreChildless, SubmitNoChild, SubmitsNoChild};
+ghost use Rattle.job_clock.specs.Standing.{IsLiving, IsTop, PassesNone, StandsWith};
 ghost use Rattle.job_clock.specs.Targets.{AreInTime, IsNewTarget, IsNextTick, IsReached, target_in, targets_of};
 ghost use Rattle.job_commands.specs.Agrees.{AgreesCommands};
 ghost use Rattle.job_commands.specs.Desks.{desk_of};
@@ -18,19 +18,40 @@ ghost use Rattle.manager_rules.specs.Posts.{Desk, IsDuePost, Post, jobs_after};
 ghost use Rattle.manager_rules.specs.Scene.{Scene};
 ghost use Rattle.manager_rules.specs.Times.{IsBirthDue, IsIdle, seconds_ahead};
 
-/// Where nothing is due in an instance without children, time may go to the next second.
+/// Where nothing is due in an instance, time may go to a later second, if none of its running jobs'
+/// commands or resources end before; and so in a family of instances that it is alone, if it is the
+/// next second.
 pub fn ticks_may_be_made()
+    ensures passes { (v : CommandsValue) (jobs : List StoredJob) (inst : Instance) (log : Log)
+        (second : ℕ) → StandsWith v jobs inst log → IsIdle (desk_of v inst log jobs)
+        → PassesNone (seconds_ahead (desk_of v inst log jobs).scene) (now_of inst log) second
+        → IsLegalMoment inst log (Ticked second) }
     ensures legal { (v : CommandsValue) (jobs : List StoredJob) (inst : Instance) (log : Log)
-        (second : ℕ) → StandsAlone v jobs inst log → IsIdle (desk_of v inst log jobs)
+        (second : ℕ) → StandsWith v jobs inst log → IsIdle (desk_of v inst log jobs)
         → IsNextTick (targets_of v) (seconds_ahead (desk_of v inst log jobs).scene)
         (now_of inst log) second
         → IsLegalMoment inst log (Ticked second) }
     ensures may { (v : CommandsValue) (jobs : List StoredJob) (inst : Instance) (log : Log)
-        (l : Living) (second : ℕ) → IsTop inst log l → StandsAlone v jobs inst log
+        (l : Living) (second : ℕ) → IsTop inst log l → StandsWith v jobs inst log
         → IsIdle (desk_of v inst log jobs)
         → IsNextTick (targets_of v) (seconds_ahead (desk_of v inst log jobs).scene)
         (now_of inst log) second
         → MayTick (l ∷ []) (now_of inst log) [] second }
+{}
+
+/// What an instance that lives among others has to do with their time: its open advances, the
+/// seconds at which commands or resources of its jobs end, and whether anything is due in it.
+pub fn living_instances_have_these_seconds()
+    ensures targets { (v : CommandsValue) (inst : Instance) (log : Log) (l : Living) (target : ℕ)
+        → IsLiving inst log l → AgreesCommands v inst log
+        → HasTarget l target ↔ Contains (targets_of v) target }
+    ensures ends { (v : CommandsValue) (jobs : List StoredJob) (inst : Instance) (log : Log)
+        (l : Living) (second : ℕ) → IsLiving inst log l → StandsWith v jobs inst log
+        → OfLiving l (λ desk. Contains (seconds_ahead desk.scene) second)
+        ↔ Contains (seconds_ahead (desk_of v inst log jobs).scene) second }
+    ensures idle { (v : CommandsValue) (jobs : List StoredJob) (inst : Instance) (log : Log)
+        (l : Living) → IsLiving inst log l → StandsWith v jobs inst log
+        → IsIdle (desk_of v inst log jobs) → OfLiving l IsIdle }
 {}
 
 /// Where the rows have no target, no advance is open.
@@ -40,11 +61,11 @@ pub fn no_open_advance_is_left()
         → IsTarget (l ∷ []) [] target → ⊥ }
 {}
 
-/// The run of an instance without children may end where nothing is due, no advance is open, and
+/// The run of an instance that lives alone may end where nothing is due, no advance is open, and
 /// all its brokers are told.
 pub fn runs_may_close()
     ensures { (v : CommandsValue) (jobs : List StoredJob) (inst : Instance) (log : Log)
-        (l : Living) → IsTop inst log l → StandsAlone v jobs inst log
+        (l : Living) → IsTop inst log l → StandsWith v jobs inst log
         → IsIdle (desk_of v inst log jobs) → targets_of v ≡ []
         → AreAllTold inst.service (service_of log) → MayClose (l ∷ []) [] }
 {}
@@ -60,16 +81,11 @@ pub fn posts_keep_jobs_childless()
         → IsDuePost d post → AreChildless (jobs_after post d.scene.jobs) }
 {}
 
-/// What the manager looks at tells no child where no submission that waits tells one; and that is
-/// so from the birth on, as long as none is issued that does.
+/// What the manager looks at tells no child where no command of the instance submits one.
 pub fn submissions_tell_no_child()
-    ensures desk { (v : CommandsValue) (inst : Instance) (log : Log) (jobs : List StoredJob)
-        → AskNoChild v → SubmitNoChild (desk_of v inst log jobs) }
-    ensures begins { (v : CommandsValue) (inst : Instance) → AgreesCommands v inst []
-        → AskNoChild v }
-    ensures moments { (v new : CommandsValue) (inst : Instance) (log : Log) (m : Moment)
-        → AgreesCommands v inst log → AgreesCommands new inst (log ++ m ∷ []) → AskNoChild v
-        → IssuesNoChild inst m → AskNoChild new }
+    ensures { (v : CommandsValue) (inst : Instance) (log : Log) (jobs : List StoredJob)
+        → AgreesCommands v inst log → SubmitsNoChild inst
+        → SubmitNoChild (desk_of v inst log jobs) }
 {}
 
 /// An advance whose target is reached can be told so.
@@ -99,6 +115,8 @@ pub fn times_stay_within()
     ensures ticks { (v : CommandsValue) (ends : List ℕ) (birth now second span : ℕ)
         → IsNextTick (targets_of v) ends now second → AreInTime v birth now span
         → AreInTime v birth second span }
+    ensures later { (v : CommandsValue) (birth now second span : ℕ) → now ≤ second
+        → AreInTime v birth now span → AreInTime v birth second (max span (second - birth)) }
     ensures bounds { (v : CommandsValue) (birth now span bound : ℕ) → AreInTime v birth now span
         → birth + span < bound → All (λ target. target < bound) (targets_of v) }
 {}

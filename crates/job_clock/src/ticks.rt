@@ -21,8 +21,8 @@ fn target_in(row: &Row) -> Option<u64>
     }
 }
 
-/// The least second ahead that an open advance waits for.
-fn next_target(rows: &[Row], now: u64) -> Option<u64>
+/// The least second ahead that a row's advance waits for.
+fn next_of_rows(rows: &[Row], now: u64) -> Option<u64>
     requires { All (λ row. IfSome (target_in row) (λ target. target < 2 ^ 64)) rows.now }
     ensures { IsSoonest
         (filter (λ target. nat_lt now target) (filter_map target_in rows.now)) result }
@@ -31,6 +31,14 @@ fn next_target(rows: &[Row], now: u64) -> Option<u64>
         .filter_map(|row| target_in(row))
         .filter(|target| now < *target)
         .min()
+}
+
+/// The least second ahead that an open advance waits for. This takes no memory.
+pub fn next_target(commands: &Commands, now: u64) -> Option<u64>
+    requires { All (λ target. target < 2 ^ 64) (targets_of commands.now) }
+    ensures { IsSoonest (filter (λ target. nat_lt now target) (targets_of commands.now)) result }
+{
+    next_of_rows(commands.rows(), now)
 }
 
 /// The second to which time goes next, where nothing is due now: none where no open advance waits
@@ -42,7 +50,7 @@ pub fn next_tick(commands: &Commands, book: &Book, now: u64) -> Option<u64>
         (seconds_left now book.now) now second) }
     ensures none { IfNone result (All (λ target. target ≤ now) (targets_of commands.now)) }
 {
-    let target = next_target(commands.rows(), now)?;
+    let target = next_target(commands, now)?;
     match book.next_second(now) {
         Some(second) => Some(target.min(second)),
         None => Some(target),

@@ -1,8 +1,10 @@
 -- What the manager looks at is what the open commands and the labels give.
 use Rattle.std.proofs.Common.{◌≡◌, ℕ, zero, suc, ◌<◌, ◌||◌, ◌&&◌, ◌⊎◌, inl, inr, List, [], ◌∷◌, length, Bool, true, false, cond, Option, Some, None, Contains, map, refl, sym, ap, ap₂, ◌∙◌, subst, true≢false, count_by, arith}
 use Rattle.std.specs.Prelude.{All, filter_map, option_map, option_and_then, slice_index}
-use Rattle.std.specs.List.{cons_option}
-use Rattle.job_rules.proofs.Among.{Among, all_from, among_from, contains_from}
+use Rattle.std.specs.List.{cons_option, list_any}
+use Rattle.std.proofs.lemmas.Bool.{and_parts, false_from_ne_true}
+use Rattle.std.proofs.lemmas.List.Folds.{list_any-append}
+use Rattle.job_rules.proofs.Among.{Among, all_from, among_append, among_from, among_left, among_map, among_mapped, among_right, any_from, contains_from}
 use Rattle.job_spec.specs.declared.spec.Depend.{Depend}
 use Rattle.kvs_model.specs.Store.{Store}
 use Rattle.kvs_rules.specs.Log.{same_command}
@@ -12,17 +14,19 @@ use Rattle.manager_rules.specs.declared.asked.Asked.{Asked}
 use Rattle.manager_rules.specs.declared.asked.Asked.TheVariants as asked
 use Rattle.manager_rules.specs.Jobs.{AreJobsOf, StoredJob}
 use Rattle.manager_rules.specs.Posts as posts
-use Rattle.manager_rules.specs.Scene.{IsAsked}
+use Rattle.manager_rules.specs.Scene.{IsAsked, has_child, has_living_child, is_child_of, is_living}
 use Rattle.instance_rules.specs.Desks.{AreNamed, IsDeskOf, StandsAsked, StandsSubmitted, is_submission, submits_at}
 use Rattle.instance_rules.specs.Log as rules
 use Rattle.instance_rules.specs.Log.{Instance, IsInstance, IsOpen, IsPending, JobAsk as Asks, Log, Served, Issued, Replied, Ticked, Born, Gone, Named as NamedJob, Submit, before_issue, child_of, is_decided, is_issued, now_of, seconds_from, seconds_open, ticked}
 use Rattle.job_commands.specs.Agrees.{AgreesCommands, RowAgrees, StageAgrees}
 use Rattle.job_commands.specs.Asks.{named_of, told}
+use Rattle.job_commands.specs.Children.{all_children, asked_child}
 use Rattle.job_commands.specs.Desks.{asked_at, asked_by, asked_in, asked_of, desk_of, needs_of, submit_at, submit_by, submits_of}
 use Rattle.job_commands.specs.Rows.{CommandsValue, Labels, is_submit, is_waiting, job_at}
 use Rattle.job_commands.specs.declared.ask.JobAsk.{JobAsk}
 use Rattle.job_commands.specs.declared.ask.JobAsk.TheVariants as ask
 use Rattle.job_commands.specs.declared.ask.Named.{Named}
+use Rattle.job_commands.specs.declared.child.Child.{Child}
 use Rattle.job_commands.specs.declared.row.Row.{Row}
 use Rattle.job_commands.specs.declared.row.Stage.{Stage}
 use Rattle.job_commands.specs.declared.row.Stage.TheVariants as stage
@@ -54,6 +58,41 @@ mapped f (Some x) y e = (x, refl, cc)
 
 nothing : {A : Type 0} (x : A) → (let o : Option A = None in o) ≡ Some x → ⊥
 nothing x e = cc
+
+-- ---- the children alone
+
+not_asked : (labels : Labels) (by : By) (x : JobAsk) (job : ℕ) (living shut : Bool) → asked_by labels by x ≡ Some (asked.Child job living shut) → ⊥
+not_asked labels by (ask.Cancel label) job living shut e = let m = mapped (asked.Cancel by) (job_at label labels) (asked.Child job living shut) e in let wrong = m.2 in cc
+not_asked labels by (ask.Raise label kind severity note) job living shut e = let m = mapped (λ j. asked.Raise by j kind severity note) (job_at label labels) (asked.Child job living shut) e in let wrong = m.2 in cc
+not_asked labels by (ask.Urge label urgency) job living shut e = let m = mapped (λ j. asked.Urgency by j urgency) (job_at label labels) (asked.Child job living shut) e in let wrong = m.2 in cc
+not_asked labels by _ job living shut e = cc
+
+not_asked_at : (labels : Labels) (by : By) (x : JobAsk) (s : Stage) (job : ℕ) (living shut : Bool) → asked_at labels by x s ≡ Some (asked.Child job living shut) → ⊥
+not_asked_at labels by x stage.Waits job living shut e = not_asked labels by x job living shut e
+not_asked_at labels by x (stage.Landed number) job living shut e = cc
+
+-- what is true of children alone is true of the same of them, whatever commands are open
+pub any_of_children : (v : CommandsValue) (id : ℕ) (p : Asked → Bool) → ((a : Asked) → p a ≡ true → is_child_of id a ≡ true) → list_any p (asked_of v) ≡ list_any p (all_children v.children)
+any_of_children v id p only =
+    list_any-append p of_rows (all_children v.children) ∙ ap (λ b. b || list_any p (all_children v.children)) (false_from_ne_true (list_any p of_rows) none)
+  where
+    of_rows : List Asked
+    of_rows = filter_map (asked_in v.labels) v.rows
+
+    no_child : (a : Asked) → Among a of_rows → is_child_of id a ≡ true → ⊥
+    no_child (asked.Child job living shut) i t = let k = from_kept (asked_in v.labels) v.rows (asked.Child job living shut) i in not_asked_at v.labels k.0.by k.0.ask k.0.stage job living shut k.2
+    no_child (asked.Cancel by job) i t = cc
+    no_child (asked.Raise by job kind severity note) i t = cc
+    no_child (asked.Urgency by job urgency) i t = cc
+
+    none : list_any p of_rows ≡ true → ⊥
+    none t = let f = any_from p of_rows t in no_child f.0 f.1 (only f.0 f.2)
+
+pub children_alone : (v : CommandsValue) (id : ℕ) → has_child (asked_of v) id ≡ has_child (all_children v.children) id
+children_alone v id = any_of_children v id (is_child_of id) (λ a t. t)
+
+pub living_alone : (v : CommandsValue) (id : ℕ) → has_living_child (asked_of v) id ≡ has_living_child (all_children v.children) id
+living_alone v id = any_of_children v id (λ a. is_child_of id a && is_living a) (λ a t. (and_parts (is_child_of id a) (is_living a) t).0)
 
 -- ---- time
 
@@ -155,11 +194,25 @@ module _ (v : CommandsValue) (inst : Instance) (log : Log) (h : AgreesCommands v
       subst (StandsAsked inst log) m.2 (record { label = label; asks = e; pending = pending row r t; names = (h.labels label m.0).0 m.1 })
   asked_stands row r stage.Waits t _ e a is = cc
 
-  pub asked_true : (a : Asked) → Contains (asked_of v) a → StandsAsked inst log a
-  asked_true a c =
-      let k = from_kept (asked_in v.labels) v.rows a (among_from (asked_of v) a c) in
+  abbrev of_rows : List Asked
+  of_rows = filter_map (asked_in v.labels) v.rows
+
+  row_asked : (a : Asked) → Among a of_rows → StandsAsked inst log a
+  row_asked a i =
+      let k = from_kept (asked_in v.labels) v.rows a i in
       let r = h.rows k.0 (contains_from v.rows k.0 k.1) in
       asked_stands k.0 r k.0.stage r.staged k.0.ask r.asks a k.2
+
+  child_asked : (a : Asked) → Among a (all_children v.children) → StandsAsked inst log a
+  child_asked a i =
+      let m = among_map asked_child v.children a i in
+      subst (StandsAsked inst log) m.2 ((h.children m.0.job m.0.living m.0.shut).0 (contains_from v.children m.0 m.1))
+
+  pub asked_true : (a : Asked) → Contains (asked_of v) a → StandsAsked inst log a
+  asked_true a c = elim (among_append of_rows (all_children v.children) a (among_from (asked_of v) a c)) [
+    | inl i ↦ row_asked a i
+    | inr i ↦ child_asked a i
+  ]
 
   -- a command that is undecided waits
   stage_waits : (row : Row) (s : Stage) → StageAgrees log row.by row.ask s → is_decided row.by log ≡ false → s ≡ stage.Waits
@@ -190,19 +243,26 @@ module _ (v : CommandsValue) (inst : Instance) (log : Log) (h : AgreesCommands v
 
   asked_at_it : (by : By) (x : Asks) (w : Waiting by x) (a : Asked) → asked_by v.labels w.row.by w.row.ask ≡ Some a → Contains (asked_of v) a
   asked_at_it by x w a e =
-      contains_from (asked_of v) a (to_kept (asked_in v.labels) v.rows w.row a (among_from v.rows w.row w.known) (ap (asked_at v.labels w.row.by w.row.ask) w.stands ∙ e))
+      contains_from (asked_of v) a (among_left of_rows (all_children v.children) a (to_kept (asked_in v.labels) v.rows w.row a (among_from v.rows w.row w.known) (ap (asked_at v.labels w.row.by w.row.ask) w.stands ∙ e)))
 
-  pub asked_there : ((job : ℕ) → child_of log job ≡ None) → (a : Asked) → StandsAsked inst log a → Contains (asked_of v) a
-  asked_there none (asked.Cancel by job) s =
+  pub asked_there : (a : Asked) → StandsAsked inst log a → Contains (asked_of v) a
+  asked_there (asked.Cancel by job) s =
       let w = waiting by (ask.Cancel s.label) s.asks s.pending in
       asked_at_it by _ w _ (asked_cancel v.labels w.row.by w.row.ask s.label job w.asks ((h.labels s.label job).1 s.names) ∙ ap (λ b. Some (asked.Cancel b job)) w.named)
-  asked_there none (asked.Raise by job kind severity note) s =
+  asked_there (asked.Raise by job kind severity note) s =
       let w = waiting by (ask.Raise s.label kind severity note) s.asks s.pending in
       asked_at_it by _ w _ (asked_raise v.labels w.row.by w.row.ask s.label kind severity note job w.asks ((h.labels s.label job).1 s.names) ∙ ap (λ b. Some (asked.Raise b job kind severity note)) w.named)
-  asked_there none (asked.Urgency by job urgency) s =
+  asked_there (asked.Urgency by job urgency) s =
       let w = waiting by (ask.Urge s.label urgency) s.asks s.pending in
       asked_at_it by _ w _ (asked_urge v.labels w.row.by w.row.ask s.label urgency job w.asks ((h.labels s.label job).1 s.names) ∙ ap (λ b. Some (asked.Urgency b job urgency)) w.named)
-  asked_there none (asked.Child job living shut) s = absurd (nothing (living, shut) (sym (none job) ∙ s))
+  asked_there (asked.Child job living shut) s =
+      let c : Child = record { job = job; living = living; shut = shut } in
+      contains_from (asked_of v) (asked.Child job living shut)
+      (among_right of_rows (all_children v.children) (asked_child c) (among_mapped asked_child v.children c (among_from v.children c ((h.children job living shut).1 s))))
+
+  -- what is asked of the children of a job is what the log tells
+  pub children_stand : (job : ℕ) (living shut : Bool) → (Contains (asked_of v) (asked.Child job living shut) → child_of log job ≡ Some (living, shut)) × (child_of log job ≡ Some (living, shut) → Contains (asked_of v) (asked.Child job living shut))
+  children_stand job living shut = (asked_true (asked.Child job living shut), asked_there (asked.Child job living shut))
 
   in_range : IsInstance inst → (a : Asked) → StandsAsked inst log a → IsAsked a
   in_range valid (asked.Cancel by job) s = (valid.asks by _ s.asks).0
@@ -293,13 +353,13 @@ module _ (v : CommandsValue) (inst : Instance) (log : Log) (h : AgreesCommands v
       (ap (submit_at v inst log w.row) w.stands
       ∙ submit_made w.row x s.label s.named w.row.ask told-is s.needs w.named r-is (ap (seconds_open inst log) w.named ∙ sym s.seconds) count-is))
 
-  pub desk_is : (st : Store) (jobs : List StoredJob) → AreJobsOf st jobs → ((job : ℕ) → child_of log job ≡ None) → IsDeskOf inst log st (desk_of v inst log jobs)
-  desk_is st jobs are none = record {
+  pub desk_is : (st : Store) (jobs : List StoredJob) → AreJobsOf st jobs → IsDeskOf inst log st (desk_of v inst log jobs)
+  desk_is st jobs are = record {
     now = refl;
     grant = refl;
     answer = refl;
     birth = refl;
     jobs = are;
-    asked = λ a. (asked_true a, asked_there none a);
+    asked = λ a. (asked_true a, asked_there a);
     submits = λ x. (submits_true x, submits_there x);
   }

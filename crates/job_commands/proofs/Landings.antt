@@ -16,12 +16,14 @@ use Rattle.instance_rules.specs.Log.{Instance, IsOpen, JobAsk as Asks, Log, Mome
 use Rattle.instance_rules.specs.Replies.{AsksForEvent, IsCarriedOut}
 use Rattle.job_commands.specs.Agrees.{AgreesCommands, HasLanded, HasRow, HasUniqueLabels, IsDrawn, RowAgrees, StageAgrees, id_at}
 use Rattle.job_commands.specs.Asks.{told}
+use Rattle.job_commands.specs.Children.{AreChildrenOf}
 use Rattle.job_commands.specs.Moments.{CarriesOut, IsAside, landing as lands_at}
 use Rattle.job_commands.specs.Rows.{AreCarried, CommandsValue, carried, is_of, is_submit, job_at}
 use Rattle.job_commands.specs.declared.ask.JobAsk.{JobAsk}
 use Rattle.job_commands.specs.declared.ask.JobAsk.TheVariants as ask
 use Rattle.job_commands.specs.declared.row.Row.{Row}
 use Rattle.job_commands.specs.declared.row.Stage.TheVariants as stage
+use Rattle.job_commands.proofs.Children.{children_left}
 use Rattle.job_commands.proofs.Finding.{bytes_same}
 use Rattle.job_commands.proofs.Logs.{begun_before, count_push, decided_kept, decided_push, open_before, open_kept, row_kept, same_self, serves}
 use Rattle.job_commands.proofs.Marks.{drawn_same}
@@ -83,7 +85,7 @@ module _ (inst : Instance) (by : By) (group : Group) (authors : List (Option By)
           inr (is_it now.group other now.one c some, subst (λ g. Begins g id) (w.only now.group other now.one c some) now.begins)
     ]
 
-    module _ (v new : CommandsValue) (rows : AreCarried by number v.rows new.rows) (issued : new.issued ≡ v.issued) (marks : new.marks ≡ v.marks) (h : AgreesCommands v inst log)
+    module _ (v new : CommandsValue) (rows : AreCarried by number v.rows new.rows) (issued : new.issued ≡ v.issued) (marks : new.marks ≡ v.marks) (children : new.children ≡ v.children) (h : AgreesCommands v inst log)
         (some : IsSome (inst.asks by)) (lands : (asked : JobAsk) → inst.asks by ≡ Some (told asked) → HasLanded later by number asked) where
       row_its : (y : Row) → Contains v.rows y → y.by ≡ by → RowAgrees inst later (record y { stage = stage.Landed number })
       row_its y c e =
@@ -139,12 +141,13 @@ module _ (inst : Instance) (by : By) (group : Group) (authors : List (Option By)
         all = all_later;
         issued = λ rank t. ap (λ l. slice_index l rank) issued ∙ h.issued rank (subst (λ l. rank < length l) issued t) ∙ sym (count_push inst rank log landing ∙ omega arith);
         drawn = drawn_fewer v new waits_before issued marks inst.birth used h.drawn;
+        children = subst (λ l. AreChildrenOf l later) (sym children) (children_left v.children log landing (λ job. refl) h.children);
         decided = decided_later;
       }
 
     -- ---- an event
 
-    module _ (v new : CommandsValue) (labels : new.labels ≡ v.labels) (rows : AreCarried by number v.rows new.rows) (issued : new.issued ≡ v.issued) (marks : new.marks ≡ v.marks) (h : AgreesCommands v inst log)
+    module _ (v new : CommandsValue) (labels : new.labels ≡ v.labels) (rows : AreCarried by number v.rows new.rows) (issued : new.issued ≡ v.issued) (marks : new.marks ≡ v.marks) (children : new.children ≡ v.children) (h : AgreesCommands v inst log)
         (asked : Asks) (asks : inst.asks by ≡ Some asked) (event : AsksForEvent asked) where
       no_submission : (label : List ℕ) (urgency : ℕ) (needs : List Named) (text : List ℕ) → inst.asks by ≡ Some (Submit label urgency needs text) → ⊥
       no_submission label urgency needs text e =
@@ -185,16 +188,16 @@ module _ (inst : Instance) (by : By) (group : Group) (authors : List (Option By)
 
       pub event_agrees : AgreesCommands new inst later
       event_agrees =
-          lands_agrees v new rows issued marks h (asks_some inst by asked asks) event_lands
+          lands_agrees v new rows issued marks children h (asks_some inst by asked asks) event_lands
           (λ label id. (
             λ e. names_kept inst log landing label id ((h.labels label id).0 (sym (ap (job_at label) labels) ∙ e)),
             λ n. ap (job_at label) labels ∙ (h.labels label id).1 (names_before label id n),
           ))
-          (λ label id e. drawn_still v new (waits_before v new rows issued marks h (asks_some inst by asked asks) event_lands) issued marks inst.birth id (h.drawn.used label id (sym (ap (job_at label) labels) ∙ e)))
+          (λ label id e. drawn_still v new (waits_before v new rows issued marks children h (asks_some inst by asked asks) event_lands) issued marks inst.birth id (h.drawn.used label id (sym (ap (job_at label) labels) ∙ e)))
 
     -- ---- a submission
 
-    module _ (v new : CommandsValue) (rows : AreCarried by number v.rows new.rows) (issued : new.issued ≡ v.issued) (marks : new.marks ≡ v.marks) (h : AgreesCommands v inst log)
+    module _ (v new : CommandsValue) (rows : AreCarried by number v.rows new.rows) (issued : new.issued ≡ v.issued) (marks : new.marks ≡ v.marks) (children : new.children ≡ v.children) (h : AgreesCommands v inst log)
         (label : List ℕ) (urgency : ℕ) (needs : List Named) (text : List ℕ) (asks : inst.asks by ≡ Some (Submit label urgency needs text))
         (id : ℕ) (begins : Begins group id) (sole : (other : ℕ) → Begins group other → other ≡ id)
         (labels : (other : List ℕ) → job_at other new.labels ≡ cond (bytes_eq other label) (Some id) (job_at other v.labels))
@@ -259,11 +262,11 @@ module _ (inst : Instance) (by : By) (group : Group) (authors : List (Option By)
               let one : Some id ≡ Some i = sym (labels l ∙ cond-true (bytes_eq l label) _ _ t) ∙ e in
               let same : id ≡ i = cc in
               subst (IsDrawn new inst.birth) same d
-          at false t = drawn_still v new (waits_before v new rows issued marks h some_by lands) issued marks inst.birth i (h.drawn.used l i (sym (labels l ∙ cond-false (bytes_eq l label) _ _ t) ∙ e))
+          at false t = drawn_still v new (waits_before v new rows issued marks children h some_by lands) issued marks inst.birth i (h.drawn.used l i (sym (labels l ∙ cond-false (bytes_eq l label) _ _ t) ∙ e))
 
       pub submitted_agrees : (row : Row) → Contains v.rows row → row.by ≡ by → is_submit row ≡ true → id ≡ id_at inst.birth row.rank row.issued row.sequence → AgreesCommands new inst later
       submitted_agrees row known of waits made =
-          lands_agrees v new rows issued marks h some_by lands (λ l i. (from_table l i, to_table l i)) (λ l i. drawn_now l i drawn)
+          lands_agrees v new rows issued marks children h some_by lands (λ l i. (from_table l i, to_table l i)) (λ l i. drawn_now l i drawn)
         where
           drawn : IsDrawn new inst.birth id
           drawn = record {
@@ -273,6 +276,6 @@ module _ (inst : Instance) (by : By) (group : Group) (authors : List (Option By)
             made = made;
             drawn = drawn_same v new issued marks inst.birth row.rank row.issued row.sequence (h.drawn.rows row known waits);
             other = λ r c e rank second sequence.
-                waits_other v new rows issued marks h some_by lands r c e
-                (h.drawn.apart r row (waits_before v new rows issued marks h some_by lands r c e) known e waits rank second sequence ∙ of);
+                waits_other v new rows issued marks children h some_by lands r c e
+                (h.drawn.apart r row (waits_before v new rows issued marks children h some_by lands r c e) known e waits rank second sequence ∙ of);
           }

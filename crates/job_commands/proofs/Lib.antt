@@ -1,5 +1,6 @@
 pub mod Logs
 pub mod Marks
+pub mod Children
 pub mod Tables
 pub mod Tallies
 pub mod Finding

@@ -1,5 +1,5 @@
 -- The commands' table agrees with the log after a moment, an issue or an answer.
-use Rattle.std.proofs.Common.{◌≡◌, ◌≢◌, ℕ, ◌+◌, ◌-◌, ◌<◌, ◌≤◌, ◌==◌, ◌&&◌, ◌||◌, ◌⊎◌, inl, inr, List, [], ◌∷◌, ◌++◌, length, Bool, true, false, cond, Option, Some, None, IsSome, Contains, refl, sym, ap, ◌∙◌, subst, true≢false, count_by, arith}
+use Rattle.std.proofs.Common.{◌≡◌, ◌≢◌, ℕ, ◌+◌, ◌-◌, ◌<◌, ◌≤◌, ◌==◌, ◌&&◌, ◌||◌, ◌⊎◌, inl, inr, List, [], ◌∷◌, ◌++◌, length, map, Bool, true, false, cond, Option, Some, None, IsSome, Contains, refl, sym, ap, ◌∙◌, subst, true≢false, count_by, arith}
 use Rattle.std.specs.Prelude.{filter, not, slice_index}
 use Rattle.std.proofs.lemmas.Bool.{and_from, and_parts, cond-true, eq-eqb, eqb-true, or_from, or_right}
 use Rattle.std.proofs.lemmas.List.Elements.{Contains-append_left, Contains-push, Contains-push_cases}
@@ -11,15 +11,18 @@ use Rattle.kvs_txn.specs.declared.txn.By.{By}
 use Rattle.kvs_rules.proofs.Stores.{any_push}
 use Rattle.instance_rules.specs.Desks.{HasSubmitted, Names, is_submission, submits_at}
 use Rattle.instance_rules.specs.Log as rules
-use Rattle.instance_rules.specs.Log.{Instance, IsOpen, JobAsk as Asks, JobReply, Log, Moment, Issued, Replied, Ticked, before_issue, is_decided, is_issued, is_replied, issues_now, now_of, replies_now}
+use Rattle.instance_rules.specs.Log.{Instance, IsOpen, JobAsk as Asks, JobReply, Log, Moment, Born, Gone, Issued, Replied, Ticked, before_issue, is_decided, is_issued, is_replied, issues_now, now_of, replies_now}
 use Rattle.job_commands.specs.Agrees.{AgreesCommands, HasRow, IsDrawn, RowAgrees, StageAgrees, WasDrawn}
 use Rattle.job_commands.specs.Asks.{told}
-use Rattle.job_commands.specs.Moments.{IsAside, IsBeside}
+use Rattle.job_commands.specs.Children.{AreChildrenOf, AreEnded, LeavesChildren, born_child, ended}
+use Rattle.job_commands.specs.Moments.{IsAside, IsBeside, decides_now, groups_of}
 use Rattle.job_commands.specs.Rows.{CommandsValue, is_of, is_submit, is_waiting, job_at, mark_at, mark_now, unmarked}
 use Rattle.job_commands.specs.declared.ask.JobAsk.{JobAsk}
 use Rattle.job_commands.specs.declared.ask.JobAsk.TheVariants as ask
+use Rattle.job_commands.specs.declared.child.Child.{Child}
 use Rattle.job_commands.specs.declared.row.Row.{Row}
 use Rattle.job_commands.specs.declared.row.Stage.TheVariants as stage
+use Rattle.job_commands.proofs.Children.{children_born, children_gone, children_left, ended_all, none_begun}
 use Rattle.job_commands.proofs.Logs.{begun_before, count_push, decided_kept, differs, not_now, open_before, row_kept, same_self, submits_none, submitted_kept, undecided_kept}
 use Rattle.job_commands.proofs.Marks.{IsMarked, drawn_kept, drawn_more, mark_count, mark_of, mark_same, mark_second}
 use Rattle.job_commands.proofs.Tables.{IsCounted, drawn_fewer, drawn_still, from_forgotten, to_forgotten}
@@ -50,18 +53,75 @@ names_before inst log m beside label id n = record {
 
 -- ---- a moment that is about no job command
 
-pub beside_agrees : (v : CommandsValue) (inst : Instance) (log : Log) (m : Moment) → IsBeside inst m → AgreesCommands v inst log → AgreesCommands v inst (log ++ m ∷ [])
-beside_agrees v inst log m beside h = record {
+-- with the children that the log has then
+pub beside_table : (v : CommandsValue) (inst : Instance) (log : Log) (m : Moment) (children : List Child) → IsBeside inst m → AreChildrenOf children (log ++ m ∷ []) → AgreesCommands v inst log
+    → AgreesCommands (record v { children = children }) inst (log ++ m ∷ [])
+beside_table v inst log m children beside told h = record {
   labels = λ label id. (λ e. names_kept inst log m label id ((h.labels label id).0 e), λ n. (h.labels label id).1 (names_before inst log m beside label id n));
   rows = λ row c. let r = h.rows row c in row_kept inst log m row (beside row.by (asks_some inst row.by _ r.asks)) r;
   all = λ by asked e o. h.all by asked e (open_before by log m ((beside by (asks_some inst by _ e)).issues) o);
   issued = λ rank w. h.issued rank w ∙ sym (count_push inst rank log m ∙ ap (λ b. count_by (submits_at inst rank) log + cond b 1 0) (submits_none inst rank m (λ by some. (beside by some).issues)) ∙ omega arith);
-  drawn = h.drawn;
+  drawn = drawn_fewer v new (λ row c w. c) refl refl inst.birth (λ label id e. drawn_still v new (λ row c w. c) refl refl inst.birth id (h.drawn.used label id e)) h.drawn;
+  children = told;
   decided = λ by id some begun. decided_kept by log m (h.decided by id some (submitted_before inst log m beside by id some begun));
 }
+  where
+    new : CommandsValue
+    new = record v { children = children }
+
+pub beside_agrees : (v : CommandsValue) (inst : Instance) (log : Log) (m : Moment) → IsBeside inst m → LeavesChildren m → AgreesCommands v inst log → AgreesCommands v inst (log ++ m ∷ [])
+beside_agrees v inst log m beside leaves h = beside_table v inst log m v.children beside (children_left v.children log m leaves h.children) h
+
+-- ---- a birth and an end
+
+unspoken : (inst : Instance) (m : Moment) → ((by : By) → issues_now by m ≡ false) → ((by : By) → replies_now by m ≡ false) → ((by : By) → decides_now by m ≡ false) → groups_of m ≡ [] → IsBeside inst m
+unspoken inst m issues replies decides groups by some = record {
+  issues = issues by;
+  replies = replies by;
+  decides = decides by;
+  groups = λ group c. absurd (among_from [] group (subst (λ l. Contains l group) groups c));
+}
+
+pub birth_beside : (inst : Instance) (job : ℕ) → IsBeside inst (Born job)
+birth_beside inst job = unspoken inst (Born job) (λ by. refl) (λ by. refl) (λ by. refl) refl
+
+pub end_beside : (inst : Instance) (job : ℕ) (shut : Bool) → IsBeside inst (Gone job shut)
+end_beside inst job shut = unspoken inst (Gone job shut) (λ by. refl) (λ by. refl) (λ by. refl) refl
+
+pub born_agrees : (v : CommandsValue) (inst : Instance) (log : Log) (job : ℕ) → ((c : Child) → Contains v.children c → c.job ≢ job) → AgreesCommands v inst log
+    → AgreesCommands (record v { children = v.children ++ born_child job ∷ [] }) inst (log ++ Born job ∷ [])
+born_agrees v inst log job first h = beside_table v inst log (Born job) (v.children ++ born_child job ∷ []) (birth_beside inst job) (children_born v.children log job h.children first) h
+
+pub gone_agrees : (v : CommandsValue) (inst : Instance) (log : Log) (job : ℕ) (shut : Bool) → ((c : Child) × Contains v.children c × (c.job ≡ job)) → AgreesCommands v inst log
+    → AgreesCommands (record v { children = map (ended job shut) v.children }) inst (log ++ Gone job shut ∷ [])
+gone_agrees v inst log job shut had h = beside_table v inst log (Gone job shut) (map (ended job shut) v.children) (end_beside inst job shut) (children_gone v.children log job shut h.children had) h
 
 pub tick_beside : (inst : Instance) (second : ℕ) → IsBeside inst (Ticked second)
 tick_beside inst second by some = record { issues = refl; replies = refl; decides = refl; groups = λ group c. absurd (among_from [] group c) }
+
+-- the same table but for the children
+same_table : (v new : CommandsValue) (children : List Child) → new.labels ≡ v.labels → new.rows ≡ v.rows → new.issued ≡ v.issued → new.marks ≡ v.marks → new.children ≡ children → record v { children = children } ≡ new
+same_table v new children labels rows issued marks told =
+    let as_labels = sym labels in
+    let as_rows = sym rows in
+    let as_issued = sym issued in
+    let as_marks = sym marks in
+    let as_told = sym told in
+    λ i. (let w : CommandsValue = record { labels = as_labels i; rows = as_rows i; issued = as_issued i; marks = as_marks i; children = as_told i } in w)
+
+pub born_as : (v new : CommandsValue) (inst : Instance) (log : Log) (job : ℕ) → new.labels ≡ v.labels → new.rows ≡ v.rows → new.issued ≡ v.issued → new.marks ≡ v.marks → new.children ≡ v.children ++ born_child job ∷ []
+    → ((c : Child) → Contains v.children c → c.job ≢ job) → AgreesCommands v inst log → AgreesCommands new inst (log ++ Born job ∷ [])
+born_as v new inst log job labels rows issued marks told first h =
+    subst (λ w. AgreesCommands w inst (log ++ Born job ∷ [])) (same_table v new (v.children ++ born_child job ∷ []) labels rows issued marks told) (born_agrees v inst log job first h)
+
+pub gone_as : (v new : CommandsValue) (inst : Instance) (log : Log) (job : ℕ) (shut : Bool) → new.labels ≡ v.labels → new.rows ≡ v.rows → new.issued ≡ v.issued → new.marks ≡ v.marks → AreEnded job shut v.children new.children
+    → ((c : Child) × Contains v.children c × (c.job ≡ job)) → AgreesCommands v inst log → AgreesCommands new inst (log ++ Gone job shut ∷ [])
+gone_as v new inst log job shut labels rows issued marks told had h =
+    subst (λ w. AgreesCommands w inst (log ++ Gone job shut ∷ [])) (same_table v new (map (ended job shut) v.children) labels rows issued marks (ended_all job shut v.children new.children told)) (gone_agrees v inst log job shut had h)
+
+pub gone_is : (v new : CommandsValue) (job : ℕ) (shut : Bool) → new.labels ≡ v.labels → new.rows ≡ v.rows → new.issued ≡ v.issued → new.marks ≡ v.marks → AreEnded job shut v.children new.children
+    → new ≡ record v { children = map (ended job shut) v.children }
+gone_is v new job shut labels rows issued marks told = sym (same_table v new (map (ended job shut) v.children) labels rows issued marks (ended_all job shut v.children new.children told))
 
 -- ---- an answer
 
@@ -70,7 +130,7 @@ aside_reply by other reply number ne = record { issues = refl; replies = differs
 
 module _ (v new : CommandsValue) (inst : Instance) (log : Log) (by : By) (reply : JobReply) (number : Option ℕ)
     (labels : new.labels ≡ v.labels) (rows : new.rows ≡ filter (λ row. not (is_of by row)) v.rows) (issued : new.issued ≡ v.issued)
-    (marks : new.marks ≡ v.marks) (h : AgreesCommands v inst log) where
+    (marks : new.marks ≡ v.marks) (children : new.children ≡ v.children) (h : AgreesCommands v inst log) where
   abbrev replied : Moment
   replied = Replied by reply number
 
@@ -109,13 +169,14 @@ module _ (v new : CommandsValue) (inst : Instance) (log : Log) (by : By) (reply 
     all = all_rows;
     issued = λ rank w. ap (λ l. slice_index l rank) issued ∙ h.issued rank (subst (λ l. rank < length l) issued w) ∙ sym (count_push inst rank log replied ∙ omega arith);
     drawn = drawn_fewer v new (λ row c w. (kept row c).0) issued marks inst.birth used h.drawn;
+    children = subst (λ l. AreChildrenOf l (log ++ replied ∷ [])) (sym children) (children_left v.children log replied (λ job. refl) h.children);
     decided = λ other id some begun. decided_kept other log replied (h.decided other id some (begun_same other id begun));
   }
 
 -- ---- the beginning
 
-pub new_agrees : (v : CommandsValue) (inst : Instance) → v.labels ≡ [] → v.rows ≡ [] → ((k : ℕ) → slice_index v.issued k ≡ 0) → ((k : ℕ) → mark_at v.marks k ≡ unmarked) → AgreesCommands v inst []
-new_agrees v inst labels rows zero unset = record {
+pub new_agrees : (v : CommandsValue) (inst : Instance) → v.labels ≡ [] → v.rows ≡ [] → v.children ≡ [] → ((k : ℕ) → slice_index v.issued k ≡ 0) → ((k : ℕ) → mark_at v.marks k ≡ unmarked) → AgreesCommands v inst []
+new_agrees v inst labels rows childless zero unset = record {
   labels = λ label id. (λ e. (let none : None ≡ Some id = sym (ap (job_at label) labels) ∙ e in cc), λ n. absurd (among_from [] _ n.landed.1.landing));
   rows = λ row c. absurd (no_row row c);
   all = λ by asked e o. absurd (true≢false (sym o.issued));
@@ -127,6 +188,7 @@ new_agrees v inst labels rows zero unset = record {
     few = λ rank. let z = zero rank in omega arith;
     counts = λ rank. let none : (mark_at v.marks rank).count ≡ 0 = ap (λ m. m.count) (unset rank) in omega arith;
   };
+  children = none_begun v.children childless;
   decided = λ by id some begun. absurd (among_from [] _ begun.1.landing);
 }
   where
@@ -148,7 +210,7 @@ aside_issue : (by other : By) → other ≢ by → IsAside other (Issued by)
 aside_issue by other ne = record { issues = differs other by ne; replies = refl; decides = refl; groups = λ group c. absurd (among_from [] group c) }
 
 module _ (v new : CommandsValue) (row : Row) (inst : Instance) (log : Log)
-    (labels : new.labels ≡ v.labels) (rows : new.rows ≡ v.rows ++ row ∷ []) (counted : IsCounted row v.issued new.issued)
+    (labels : new.labels ≡ v.labels) (rows : new.rows ≡ v.rows ++ row ∷ []) (children : new.children ≡ v.children) (counted : IsCounted row v.issued new.issued)
     (marked : IsMarked row (mark_of v row) v.marks new.marks)
     (few : is_submission (Some (told row.ask)) ≡ true → slice_index v.issued row.rank < 1000) (later : is_submission (Some (told row.ask)) ≡ true → (mark_at v.marks row.rank).second ≤ row.issued)
     (sequence : row.sequence ≡ slice_index v.issued row.rank - (mark_of v row).count) (fresh : row.stage ≡ stage.Waits)
@@ -341,6 +403,7 @@ module _ (v new : CommandsValue) (row : Row) (inst : Instance) (log : Log)
       few = few_still;
       counts = counts_still;
     };
+    children = subst (λ l. AreChildrenOf l (log ++ issue ∷ [])) (sym children) (children_left v.children log issue (λ job. refl) h.children);
     decided = λ other id some begun. decided_kept other log issue (h.decided other id some (begun_old other id begun));
   }
 
@@ -391,5 +454,6 @@ module _ (v : CommandsValue) (inst : Instance) (log : Log) (by : By) (asks : ins
     all = λ other asked e o. h.all other asked e (open_before other log shutdown (differs other by (another other asked e)) o);
     issued = λ rank w. h.issued rank w ∙ sym (count_push inst rank log shutdown ∙ ap (λ b. count_by (submits_at inst rank) log + cond b 1 0) (no_count rank) ∙ omega arith);
     drawn = h.drawn;
+    children = children_left v.children log shutdown (λ job. refl) h.children;
     decided = λ other id some begun. decided_kept other log shutdown (h.decided other id some (begun_still other id begun));
   }

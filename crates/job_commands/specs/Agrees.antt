@@ -6,6 +6,7 @@ use Rattle.instance_rules.specs.Desks.{HasBegun, HasSubmitted, Names, submits_at
 use Rattle.instance_rules.specs.Log.{Instance, IsOpen, Log, Named, Submit, before_issue, is_decided, now_of}
 use Rattle.instance_rules.specs.Replies.{IsCarriedOut}
 use Rattle.job_commands.specs.Asks.{told}
+use Rattle.job_commands.specs.Children.{AreChildrenOf}
 use Rattle.job_commands.specs.Rows.{CommandsValue, is_submit, job_at, mark_at}
 use Rattle.job_commands.specs.declared.ask.JobAsk.{JobAsk}
 use Rattle.job_commands.specs.declared.ask.JobAsk.TheVariants as ask
@@ -89,8 +90,9 @@ pub record IsIdOf (v : CommandsValue) (birth : ℕ) (by : By) (id : ℕ) : Type 
 abbrev pub HasRow : CommandsValue → By → Type 0
 HasRow v by = (row : Row) × Contains v.rows row × (row.by ≡ by)
 
--- the labels name the jobs that the log has under them, the rows are the open commands, and as
--- many submissions were issued at each broker. What has begun a job counts as decided
+-- the labels name the jobs that the log has under them, the rows are the open commands, as many
+-- submissions were issued at each broker, and the children are those of the log. What has begun a
+-- job counts as decided
 pub record AgreesCommands (v : CommandsValue) (inst : Instance) (log : Log) : Type 0 where
   pub labels : (label : List ℕ) (id : ℕ) → (job_at label v.labels ≡ Some id)
       ↔ Names inst log label id
@@ -100,6 +102,7 @@ pub record AgreesCommands (v : CommandsValue) (inst : Instance) (log : Log) : Ty
   pub issued : (rank : ℕ) → rank < length v.issued
       → slice_index v.issued rank ≡ count_by (submits_at inst rank) log
   pub drawn : AreDrawn v inst.birth
+  pub children : AreChildrenOf v.children log
   pub decided : (by : By) (id : ℕ) → IsSome (inst.asks by) → HasSubmitted log by id
       → IsTrue (is_decided by log)
 

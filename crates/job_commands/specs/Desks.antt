@@ -1,5 +1,5 @@
 -- What the manager looks at, from the open commands and the labels.
-use Rattle.std.specs.Prelude.{List, [], ◌∷◌, Option, Some, None, filter_map, option_map, option_and_then, slice_index}
+use Rattle.std.specs.Prelude.{List, [], ◌∷◌, ◌++◌, Option, Some, None, filter_map, option_map, option_and_then, slice_index}
 use Rattle.job_spec.specs.declared.spec.Depend.{Depend}
 use Rattle.manager_rules.specs.declared.asked.Asked.{Asked}
 use Rattle.manager_rules.specs.declared.asked.Asked.TheVariants as asked
@@ -7,6 +7,7 @@ use Rattle.manager_rules.specs.Jobs.{StoredJob}
 use Rattle.manager_rules.specs.Posts.{Desk, Submit}
 use Rattle.kvs_txn.specs.declared.txn.By.{By}
 use Rattle.instance_rules.specs.Log.{Instance, Log, now_of, seconds_open}
+use Rattle.job_commands.specs.Children.{all_children}
 use Rattle.job_commands.specs.Rows.{CommandsValue, Labels, job_at}
 use Rattle.job_commands.specs.declared.ask.JobAsk.{JobAsk}
 use Rattle.job_commands.specs.declared.ask.JobAsk.TheVariants as ask
@@ -34,9 +35,9 @@ asked_at labels by asks (stage.Landed number) = None
 abbrev pub asked_in : Labels → Row → Option Asked
 asked_in labels row = asked_at labels row.by row.ask row.stage
 
--- the open commands that ask for events
+-- the open commands that ask for events, and the children
 abbrev pub asked_of : CommandsValue → List Asked
-asked_of v = filter_map (asked_in v.labels) v.rows
+asked_of v = filter_map (asked_in v.labels) v.rows ++ all_children v.children
 
 -- ---- submissions
 

@@ -1,4 +1,5 @@
 pub mod Asks
+pub mod Children
 pub mod Rows
 pub mod Shown
 pub mod Agrees

@@ -7,6 +7,7 @@ use Rattle.kvs_txn.specs.declared.txn.By.{By}
 use Rattle.instance_rules.specs.Desks.{is_submission}
 use Rattle.job_commands.specs.Asks.{told}
 use Rattle.job_commands.specs.declared.ask.JobAsk.{JobAsk}
+use Rattle.job_commands.specs.declared.child.Child.{Child}
 use Rattle.job_commands.specs.declared.row.Row.{Row}
 use Rattle.job_commands.specs.declared.row.Stage.{Stage}
 use Rattle.job_commands.specs.declared.row.Stage.TheVariants as stage
@@ -16,12 +17,13 @@ abbrev pub Labels : Type 0
 Labels = List (List ℕ × ℕ)
 
 -- open commands, the labels that name jobs with the ids of these, how many submissions were
--- issued at each broker, and the marks of the brokers
+-- issued at each broker, the marks of the brokers, and the children that jobs have had
 pub record CommandsValue : Type 0 where
   pub labels : Labels
   pub rows : List Row
   pub issued : List ℕ
   pub marks : List Mark
+  pub children : List Child
 
 -- the job that a label names
 abbrev pub job_at : List ℕ → Labels → Option ℕ

@@ -13,4 +13,5 @@ value_of w = record {
   rows = w.rows.items;
   issued = map (λ t. t.issued) w.tallies.items;
   marks = map (λ t. t.mark) w.tallies.items;
+  children = w.children.items;
 }

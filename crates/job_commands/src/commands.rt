@@ -1,20 +1,24 @@
 //! The open job commands of an instance.
-ghost use Rattle.std.specs.Prelude.{true, ◌≡◌, ◌≢◌, ◌↔◌, ℕ, ◌<◌, ◌≤◌, ◌++◌, List, [], ◌∷◌, None, Some, Option, All, Contains, false, IfNone, IfOk, IfSome, OnErr, OnOk, filter, filter_map, find, length, not, option_and_then, replicate, slice_index};
+ghost use Rattle.std.specs.Prelude.{true, ◌≡◌, ◌≢◌, ◌↔◌, ℕ, ◌<◌, ◌≤◌, ◌++◌, List, [], ◌∷◌, None, Some, Option, All, Contains, false, IfNone, IfOk, IfSome, OnErr, OnOk, filter, filter_map, find, length, map, not, option_and_then, replicate, slice_index};
+ghost use Rattle.std.specs.List.{list_any};
 ghost use Rattle.instance_rules.specs.Desks.{Begins, Names, StandsAsked, is_submission};
-ghost use Rattle.instance_rules.specs.Log.{Instance, IsInstance, IsPending, Issued, JobAsk as Asks, JobReply, Log, Named as Needs, Replied, Submit as Submission, child_of, is_decided, is_issued, is_replied, now_of};
+ghost use Rattle.instance_rules.specs.Log.{Instance, IsInstance, Born as Started, Gone, IsPending, Issued, JobAsk as Asks, JobReply, Log, Named as Needs, Replied, Submit as Submission, is_decided, is_issued, is_replied, now_of};
 ghost use Rattle.instance_rules.specs.Replies.{AsksForEvent};
 ghost use Rattle.kvs_txn.specs.declared.txn.By.{By as Command};
 ghost use Rattle.kvs_txn.specs.declared.txn.Group.{Group};
-ghost use Rattle.manager_rules.specs.Scene.{IsAsked};
+ghost use Rattle.manager_rules.specs.Scene.{IsAsked, has_living_child};
 ghost use Rattle.manager_rules.specs.declared.asked.Asked.{Asked as Question};
 ghost use Rattle.job_commands.specs.Agrees.{AgreesCommands, HasUniqueLabels, IsIdOf, RowAgrees};
 ghost use Rattle.job_commands.specs.Asks.{submitted_label, told};
+ghost use Rattle.job_commands.specs.Children.{all_children, born_child, ended, is_living_of};
+ghost use Rattle.job_commands.specs.declared.child.Child.{Child as Born};
 ghost use Rattle.job_commands.specs.Desks.{asked_by, asked_in, asked_of};
 ghost use Rattle.job_commands.specs.Moments.{CarriesOut, landing};
 ghost use Rattle.job_commands.specs.Rows.{AreCarried, AreMarkedBy, is_of, issued_row, job_at, mark_at, unmarked};
 ghost use Rattle.job_commands.specs.declared.row.Row.{Row as Open};
 
 use crate::ask::JobAsk;
+use crate::child::{Child, asked_child, end, is_living};
 use crate::labels::Labels;
 use crate::row::{Row, Stage, carry, forget, row_of};
 use crate::tally::{Tally, UNISSUED, mark_now};
@@ -24,14 +28,15 @@ use manager_rules::{Asked, OpenList};
 use std::alloc::{AllocError, Global};
 use std::marker::Model;
 
-/// The open job commands, the jobs that labels name, and how many submissions were issued at each
-/// broker and when.
+/// The open job commands, the jobs that labels name, how many submissions were issued at each
+/// broker and when, and the children that jobs have had.
 #[derive(Drop)]
 pub struct Commands {
     alloc: Global,
     labels: Labels,
     rows: Vec<Row>,
     tallies: Vec<Tally>,
+    children: Vec<Child>,
 }
 
 impl Model for Commands {
@@ -113,11 +118,22 @@ fn all_asked(alloc: Global, labels: &Labels, rows: &[Row]) -> Result<OpenList, A
     Ok(list)
 }
 
+/// Adds children as the manager looks at them.
+fn add_children(list: &mut OpenList, children: &[Child]) -> Result<(), AllocError>
+    ensures { OnOk result (list.new ≡ list.old ++ all_children children.now) }
+{
+    for child in children {
+        list.put(asked_child(child))?;
+    }
+    Ok(())
+}
+
 impl Commands {
     /// No commands, of so many brokers.
     pub fn new(alloc: Global, size: u32) -> Result<Commands, AllocError>
         ensures size { IfOk result (λ v. length v.issued ≡ size) }
         ensures agrees { IfOk result (λ v. (inst : Instance) → AgreesCommands v inst []) }
+        ensures childless { IfOk result (λ v. v.children ≡ []) }
         ensures marked { IfOk result (λ v. (now : ℕ) → AreMarkedBy v now) }
     {
         Ok(Commands {
@@ -125,6 +141,7 @@ impl Commands {
             labels: Labels::new(alloc),
             rows: Vec::new(alloc),
             tallies: unissued(alloc, size)?,
+            children: Vec::new(alloc),
         })
     }
 
@@ -146,6 +163,7 @@ impl Commands {
             ≡ self.old.rows ++ issued_row self.old by rank now ask ∷ []) }
         ensures labels { OnOk result (self.new.labels ≡ self.old.labels) }
         ensures size { OnOk result (length self.new.issued ≡ length self.old.issued) }
+        ensures children { OnOk result (self.new.children ≡ self.old.children) }
         ensures marked { OnOk result (AreMarkedBy self.old now → AreMarkedBy self.new now) }
         ensures kept { OnErr result (self.new ≡ self.old) }
     {
@@ -197,6 +215,7 @@ impl Commands {
         ensures rows { OnOk result (AreCarried by number self.old.rows self.new.rows) }
         ensures size { OnOk result (self.new.issued ≡ self.old.issued) }
         ensures marks { OnOk result (self.new.marks ≡ self.old.marks) }
+        ensures children { OnOk result (self.new.children ≡ self.old.children) }
         ensures kept { OnErr result (self.new ≡ self.old) }
     {
         let label = self.label_of(by)?;
@@ -217,6 +236,7 @@ impl Commands {
         ensures labels { self.new.labels ≡ self.old.labels }
         ensures size { self.new.issued ≡ self.old.issued }
         ensures marks { self.new.marks ≡ self.old.marks }
+        ensures children { self.new.children ≡ self.old.children }
     {
         carry(&mut self.rows, by, number);
     }
@@ -230,6 +250,7 @@ impl Commands {
         ensures labels { self.new.labels ≡ self.old.labels }
         ensures size { self.new.issued ≡ self.old.issued }
         ensures marks { self.new.marks ≡ self.old.marks }
+        ensures children { self.new.children ≡ self.old.children }
     {
         forget(&mut self.rows, by);
     }
@@ -281,16 +302,65 @@ impl Commands {
         row_of(self.rows.as_slice(), by)
     }
 
-    /// The open commands that ask for events of the jobs that their labels name, in an instance
-    /// without children.
+    /// A child is born for a job, which has had none.
+    pub fn born(&mut self, job: u64) -> Result<(), AllocError>
+        requires first { (c : Born) → Contains self.old.children c → c.job ≢ job }
+        ensures agrees { OnOk result ((inst : Instance) (log : Log)
+            → AgreesCommands self.old inst log
+            → AgreesCommands self.new inst (log ++ Started job ∷ [])) }
+        ensures adds { OnOk result (self.new ≡ record self.old {
+          children = self.old.children ++ born_child job ∷ [];
+        }) }
+        ensures kept { OnErr result (self.new ≡ self.old) }
+    {
+        self.children.push(Child {
+            job,
+            living: true,
+            shut: false,
+        })?;
+        Ok(())
+    }
+
+    /// The child of a job goes, by its own shutdown or not. This takes no memory.
+    pub fn gone(&mut self, job: u64, shut: bool)
+        requires had { (c : Born) × Contains self.old.children c × (c.job ≡ job) }
+        ensures agrees { (inst : Instance) (log : Log) → AgreesCommands self.old inst log
+            → AgreesCommands self.new inst (log ++ Gone job shut ∷ []) }
+        ensures ends { self.new
+            ≡ record self.old { children = map (ended job shut) self.old.children } }
+    {
+        end(&mut self.children, job, shut);
+    }
+
+    /// Whether a job has a living child.
+    pub fn has_living_child(&self, job: u64) -> bool
+        ensures exact { result ≡ list_any (is_living_of job) self.now.children }
+        ensures asked { result ≡ has_living_child (asked_of self.now) job }
+    {
+        is_living(self.children.as_slice(), job)
+    }
+
+    /// The children that jobs have had.
+    pub fn children(&self) -> Result<OpenList, AllocError>
+        ensures { IfOk result (λ list. list ≡ all_children self.now.children) }
+    {
+        let mut list = OpenList::new(self.alloc);
+        add_children(&mut list, self.children.as_slice())?;
+        Ok(list)
+    }
+
+    /// The open commands that ask for events of the jobs that their labels name, and the children
+    /// of jobs.
     pub fn asked(&self) -> Result<OpenList, AllocError>
         ensures exact { IfOk result (λ list. (inst : Instance) (log : Log)
-            → AgreesCommands self.now inst log → ((job : ℕ) → child_of log job ≡ None)
+            → AgreesCommands self.now inst log
             → (a : Question) → Contains list a ↔ StandsAsked inst log a) }
         ensures ranges { IfOk result (λ list. (inst : Instance) (log : Log)
             → AgreesCommands self.now inst log → IsInstance inst → All IsAsked list) }
         ensures list { IfOk result (λ list. list ≡ asked_of self.now) }
     {
-        all_asked(self.alloc, &self.labels, self.rows.as_slice())
+        let mut list = all_asked(self.alloc, &self.labels, self.rows.as_slice())?;
+        add_children(&mut list, self.children.as_slice())?;
+        Ok(list)
     }
 }

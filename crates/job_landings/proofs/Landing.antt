@@ -8,7 +8,7 @@ use Rattle.std.proofs.lemmas.List.{map-append}
 use Rattle.job_rules.proofs.Among.{Among, among_filter, among_from, among_kept, contains_from, each_at}
 use Rattle.instance_rules.specs.Desks.{AreDueFrom, IsDeskOf, IsDueFor}
 use Rattle.instance_rules.specs.Legal.{IsDueEvent, IsLegalMoment}
-use Rattle.instance_rules.specs.Log.{Instance, IsInstance, Log, Served, child_of, child_told, service_of}
+use Rattle.instance_rules.specs.Log.{Instance, IsInstance, Log, Served, service_of}
 use Rattle.job_commands.proofs.Desks.{desk_is}
 use Rattle.job_commands.proofs.Logs.{service_push}
 use Rattle.job_commands.proofs.Steps.{beside_agrees}
@@ -22,7 +22,7 @@ use Rattle.kvs_model.specs.History.{landed_on}
 use Rattle.kvs_model.specs.Operation.{effect}
 use Rattle.kvs_model.specs.Store.{Name, Store}
 use Rattle.kvs_rules.proofs.Logs.{legal_parts}
-use Rattle.kvs_rules.proofs.Sequences.{each_joined, latest_push}
+use Rattle.kvs_rules.proofs.Sequences.{each_joined}
 use Rattle.kvs_rules.specs.Answers.{IsLegalAfter, IsLegalLog}
 use Rattle.kvs_rules.specs.Landings.{IsAdvance, IsLegalLanding, IsManagers, IsUser, IsUsers}
 use Rattle.kvs_rules.specs.Log as service
@@ -89,14 +89,7 @@ pub besides_agree : (v : CommandsValue) (inst : Instance) (es : List KvsEvent) (
 besides_agree v inst [] log beside h = subst (AgreesCommands v inst) (sym (append-nil log)) h
 besides_agree v inst (e ∷ es) log beside h =
     subst (AgreesCommands v inst) (append_assoc log (happening e ∷ []) (map happening es))
-    (besides_agree v inst es (log ++ happening e ∷ []) beside.1 (beside_agrees v inst log (happening e) beside.0 h))
-
-pub child_same : (job : ℕ) (es : List KvsEvent) (log : Log) → child_of (log ++ map happening es) job ≡ child_of log job
-child_same job [] log = ap (λ l. child_of l job) (append-nil log)
-child_same job (e ∷ es) log =
-    ap (λ l. child_of l job) (sym (append_assoc log (happening e ∷ []) (map happening es)))
-    ∙ child_same job es (log ++ happening e ∷ [])
-    ∙ latest_push (child_told job) None log (happening e)
+    (besides_agree v inst es (log ++ happening e ∷ []) beside.1 (beside_agrees v inst log (happening e) beside.0 (λ job. refl) h))
 
 pub desk_along : (v : CommandsValue) (inst : Instance) (jobs : List StoredJob) (es : List KvsEvent) (log : Log) → desk_of v inst (log ++ map happening es) jobs ≡ desk_of v inst log jobs
 desk_along v inst jobs [] log = ap (λ l. desk_of v inst l jobs) (append-nil log)
@@ -172,7 +165,7 @@ module _ (inst : Instance) (valid : IsInstance inst) (log : service.Log) (post :
 -- ---- the whole step
 
 module _ (inst : Instance) (valid : IsInstance inst) (log : Log) (v : CommandsValue) (jobs : List StoredJob) (post : Post)
-    (agrees : AgreesCommands v inst log) (alone : (job : ℕ) → child_of log job ≡ None) (due : IsDuePost (desk_of v inst log jobs) post)
+    (agrees : AgreesCommands v inst log) (due : IsDuePost (desk_of v inst log jobs) post)
     (users_land : (es : List KvsEvent) (left : List Group) → posts_landed es ++ left ≡ [] → Each LandsUsers es)
     (due_from : (i : Instance) (l : Log) (desk : Desk) (p : Post) (gs : List Group) (s : Store) → IsDeskOf i l s desk → IsDuePost desk p → posts_in gs ≡ group_of p ∷ [] → AreDueFrom i l gs s) where
   users_alone : (es : List KvsEvent) → posts_landed es ≡ [] → Each LandsUsers es
@@ -226,7 +219,7 @@ module _ (inst : Instance) (valid : IsInstance inst) (log : Log) (v : CommandsVa
     desk_at st standing =
         let same : has_at.store ≡ st = same_one has_at.store st (sym has_at.stands ∙ ap (λ l. newest_store inst.service l primary) (sym service_at) ∙ standing) in
         subst (IsDeskOf inst at st) (desk_along v inst jobs before log)
-        (desk_is v inst at (besides_agree v inst before log beside_before agrees) st jobs (subst (λ s. AreJobsOf s jobs) same has_at.are) (λ job. child_same job before log ∙ alone job))
+        (desk_is v inst at (besides_agree v inst before log beside_before agrees) st jobs (subst (λ s. AreJobsOf s jobs) same has_at.are))
 
     landing_due : IsDueEvent inst at landing
     landing_due = λ inside st standing. due_from inst at (desk_of v inst log jobs) post groups st (desk_at st standing) due lands

@@ -1,7 +1,7 @@
 //! What follows from the words of the contracts.
 ghost use Rattle.std.specs.Prelude.{◌≡◌, ◌++◌, ◌∷◌, ℕ, List, [], None, Some, map};
 ghost use Rattle.instance_rules.specs.Legal.{IsLegalMoment};
-ghost use Rattle.instance_rules.specs.Log.{Instance, IsInstance, Log, Served, child_of, service_of};
+ghost use Rattle.instance_rules.specs.Log.{Instance, IsInstance, Log, Served, service_of};
 ghost use Rattle.job_commands.specs.Agrees.{AgreesCommands};
 ghost use Rattle.job_commands.specs.Desks.{desk_of};
 ghost use Rattle.job_commands.specs.Rows.{CommandsValue};
@@ -26,14 +26,14 @@ ghost use Rattle.manager_rules.specs.declared.due.Due.{Due};
 use job_manager::what_lands_is_due;
 use kvs_core::laws::users_land_where_nothing_is_posted;
 
-/// Where a step of the service lands a post that is due in an instance without children, the post
-/// lands at one of the step's events and carries out its command there, the other events are about
-/// no job command, and each event may follow those before it in the log of the instance: what the
-/// job manager lands is due at the store on which it works.
+/// Where a step of the service lands a post that is due, the post lands at one of the step's events
+/// and carries out its command there, the other events are about no job command, and each event may
+/// follow those before it in the log of the instance: what the job manager lands is due at the
+/// store on which it works.
 pub fn what_is_posted_lands_as_it_is_due()
     ensures { (step : KvsStep) (old new : CoreValue) (events : List KvsEvent) (inst : Instance)
         (log : Log) (v : CommandsValue) (jobs : List StoredJob) (st : Store) (post : Post)
-        → IsInstance inst → AgreesCommands v inst log → ((job : ℕ) → child_of log job ≡ None)
+        → IsInstance inst → AgreesCommands v inst log
         → Agrees old inst.service (service_of log) → IsLegalLog inst.service (service_of log)
         → newest_store inst.service (service_of log) primary ≡ Some st → AreJobsOf st jobs
         → Makes step old new events → IsDuePost (desk_of v inst log jobs) post

@@ -21,7 +21,7 @@ ghost use Rattle.manager_rules.specs.Posts.{Submits};
 ghost use Rattle.manager_rules.specs.Scene.{IsAsked};
 ghost use Rattle.job_manager.specs.Follows.{Finds, Follows, Keeps, Places, after_post};
 ghost use Rattle.job_manager.specs.Managed.{IsManaged, WasDuePost};
-ghost use Rattle.job_manager.specs.Posts.{post_of, told};
+ghost use Rattle.job_manager.specs.Posts.{is_posted_for, post_of, told};
 
 use crate::post::{Post, Submission};
 use crate::txns::{command_of, txn_of};
@@ -301,6 +301,16 @@ impl Manager {
         ensures { result ≡ is_some self.now.posted }
     {
         self.posted.is_some()
+    }
+
+    /// Whether an event of this job waits to land.
+    pub fn is_posted_for(&self, job: u64) -> bool
+        ensures { result ≡ is_posted_for job self.now.posted }
+    {
+        match &self.posted {
+            Some(Post::Does(due)) => due.job == job,
+            Some(Post::Submits(_)) | None => false,
+        }
     }
 
     /// What every manager keeps: its book tells the jobs of the newest store, which is sound.

@@ -1,6 +1,6 @@
 -- What a command is told, once it can be told, its rules allow.
-use Rattle.std.proofs.Common.{◌≡◌, ◌≢◌, ◌∙◌, ◌⊎◌, inl, inr, ℕ, ◌+◌, ◌-◌, ◌<◌, ◌≤◌, ◌==◌, ◌&&◌, Bool, true, false, cond, List, [], ◌∷◌, ◌++◌, Option, Some, None, map, refl, sym, ap, subst, arith, eqb-true, ltb}
-use Rattle.std.specs.Prelude.{Contains, IsTrue, IsSomeAnd, is_some, nat_le, option_and_then, option_map}
+use Rattle.std.proofs.Common.{◌≡◌, ◌≢◌, ◌∙◌, ◌⊎◌, inl, inr, ℕ, ◌+◌, ◌-◌, ◌≤◌, ◌&&◌, Bool, true, false, cond, List, [], ◌∷◌, ◌++◌, Option, Some, None, map, refl, sym, ap, subst, arith, eqb-true}
+use Rattle.std.specs.Prelude.{Contains, IsSomeAnd, is_some, nat_le, option_and_then, option_map}
 use Rattle.std.specs.List.{cons_option}
 use Rattle.std.specs.Option.{option_map_or}
 use Rattle.std.proofs.lemmas.Bool.Decides.{nat_tests}
@@ -10,14 +10,13 @@ use Rattle.answers.specs.declared.chronicle.Reply.TheVariants as reply
 use Rattle.instance_rules.specs.Desks.{HasBegun, Names}
 use Rattle.instance_rules.specs.Log as rules
 use Rattle.instance_rules.specs.Log.{Instance, Log, before_issue, is_decided, issues_now, now_of, served, service_of}
-use Rattle.instance_rules.specs.Replies.{AsksForEvent, AtLanding, ComesLate, DoesNotWait, HasGrounds, IsCarriedOut, IsLegalReply, NamesNone, OfJob, TellsEnd, key_path, state_of}
+use Rattle.instance_rules.specs.Replies.{AsksForEvent, AtLanding, ComesLate, DoesNotWait, HasGrounds, IsCarriedOut, NamesNone, OfJob, TellsEnd, key_path, state_of}
 use Rattle.job_book.proofs.Whys.{found_job, no_job}
 use Rattle.job_commands.specs.Agrees.{HasLanded, RowAgrees, StageAgrees}
 use Rattle.job_commands.specs.Asks.{key_of, named_of, told}
 use Rattle.job_commands.specs.Rows.{CommandsValue, job_at}
 use Rattle.job_commands.specs.declared.ask.JobAsk.{JobAsk}
 use Rattle.job_commands.specs.declared.ask.JobAsk.TheVariants as ask
-use Rattle.job_commands.specs.declared.ask.Key.{Key}
 use Rattle.job_commands.specs.declared.row.Row.{Row}
 use Rattle.job_commands.specs.declared.row.Stage.{Stage}
 use Rattle.job_commands.specs.declared.row.Stage.TheVariants as stage

@@ -1,8 +1,8 @@
 -- Where a store keeps a job, no link stands on the way.
-use Rattle.std.proofs.Common.{◌≡◌, ◌∙◌, ℕ, List, [], ◌∷◌, ◌++◌, Some, false, refl, sym, ap, ap₂, subst}
+use Rattle.std.proofs.Common.{◌≡◌, ◌∙◌, ℕ, [], ◌∷◌, ◌++◌, false, refl, sym, ap, ap₂, subst}
 use Rattle.std.specs.Prelude.{codes}
 use Rattle.kvs_model.specs.Operation.{is_link}
-use Rattle.kvs_model.specs.Store.{Name, Path, Store, IsStore, Directory, is_within, node_at}
+use Rattle.kvs_model.specs.Store.{Name, Path, Store, IsStore, node_at}
 use Rattle.manager_rules.specs.Keys.{job_path, value_at}
 use Rattle.store_laws.specs.Reserved.{HasNoLink}
 use Rattle.job_commands.specs.declared.ask.Key.{Key}

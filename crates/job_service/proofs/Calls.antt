@@ -11,9 +11,8 @@ use Rattle.instance_rules.specs.Log.{Instance, Log, Moment, Served, service_of}
 use Rattle.instance_rules.specs.Replies.{IsLegalReply}
 use Rattle.job_book.specs.Contract.{Finds, SaysAs}
 use Rattle.job_book.specs.Value.{BookValue, scene_of}
-use Rattle.job_clock.proofs.Bearing.{begins_childless}
 use Rattle.job_clock.proofs.Times.{begins_in_time}
-use Rattle.job_clock.specs.Children.{AreChildless, AskNoChild, IsChildless}
+use Rattle.job_clock.specs.Children.{AreChildless, IsChildless, SubmitsNoChild}
 use Rattle.job_clock.specs.Targets.{AreInTime}
 use Rattle.job_commands.proofs.Desks.{submits_true}
 use Rattle.job_commands.proofs.Steps.{names_kept}
@@ -57,6 +56,7 @@ use Rattle.resource_set.specs.Writing.{r_text}
 use Rattle.resource_set.specs.declared.node.Resources.{Resources}
 use Rattle.tap.specs.declared.Ask.{Ask}
 use Rattle.job_service.specs.Agrees.{AgreesJobs, IsAgreed, IsNewAsk, IsServedBy}
+use Rattle.job_service.specs.Children.{IsBearing}
 use Rattle.job_service.specs.Due.{IsEventDue, IsFoundBeside, Owes, scene_now}
 use Rattle.job_service.specs.Judged.{AreJudged}
 use Rattle.job_service.specs.Posted.{IsAlone, IsNamed}
@@ -78,22 +78,23 @@ with_parts v spent manager commands refused found submitted = record {
   commands = commands;
   refused = refused;
   found = found;
+  bearing = v.bearing;
   submitted = submitted;
   span = v.span;
 }
 
--- with other seconds of all advances
-abbrev pub spanned : JobServiceValue → ℕ → JobServiceValue
-spanned v span = record v { span = span }
+-- with other seconds of all advances, and another job whose child is to be born
+abbrev pub spanned : JobServiceValue → ℕ → Option ℕ → JobServiceValue
+spanned v span bearing = record v { span = span; bearing = bearing }
 
-pub respan : (v : JobServiceValue) (inst : Instance) (log : Log) (span : ℕ) → AgreesJobs v inst log → AgreesJobs (spanned v span) inst log
-respan v inst log span a = record {
+pub respan : (v : JobServiceValue) (inst : Instance) (log : Log) (span : ℕ) (bearing : Option ℕ) → AgreesJobs v inst log → AgreesJobs (spanned v span bearing) inst log
+respan v inst log span bearing a = record {
   kind = record { valid = a.kind.valid; unique = a.kind.unique; ranks = a.kind.ranks; answer = a.kind.answer; birth = a.kind.birth; grant = a.kind.grant };
   core = a.core;
   legal = a.legal;
   commands = a.commands;
   second = a.second;
-  alone = a.alone;
+  childless = a.childless;
   owes = a.owes;
   labelled = a.labelled;
   refused = a.refused;
@@ -102,12 +103,12 @@ respan v inst log span a = record {
 
 module _ (v : JobServiceValue) (inst : Instance) (log : Log) (a : AgreesJobs v inst log) where
   pub facts : Facts v.commands v.refused v.second inst log
-  facts = record { commands = a.commands; second = a.second; alone = a.alone; refused = a.refused; untold = a.untold }
+  facts = record { commands = a.commands; second = a.second; refused = a.refused; untold = a.untold }
 
   pub joined : (spent : Bool) (manager : ManagerValue) (commands : CommandsValue) (refused : List Refused) (found : Option Post) (submitted : ℕ) (later : Log) → manager.book.grant ≡ v.manager.book.grant
-      → Agrees manager.core inst.service (service_of later) → IsLegalLog inst.service (service_of later) → AreLabelled commands.labels manager.book.jobs → Owes manager.posted found (desk_of commands inst later manager.book.jobs) → Facts commands refused v.second inst later
+      → Agrees manager.core inst.service (service_of later) → IsLegalLog inst.service (service_of later) → AreLabelled commands.labels manager.book.jobs → (SubmitsNoChild inst → AreChildless manager.book.jobs) → Owes manager.posted found (desk_of commands inst later manager.book.jobs) → Facts commands refused v.second inst later
       → AgreesJobs (with_parts v spent manager commands refused found submitted) inst later
-  joined spent manager commands refused found submitted later grant core legal labelled owes f = record {
+  joined spent manager commands refused found submitted later grant core legal labelled childless owes f = record {
     kind = record {
       valid = a.kind.valid;
       unique = a.kind.unique;
@@ -120,7 +121,7 @@ module _ (v : JobServiceValue) (inst : Instance) (log : Log) (a : AgreesJobs v i
     legal = legal;
     commands = f.commands;
     second = f.second;
-    alone = f.alone;
+    childless = childless;
     owes = owes;
     labelled = labelled;
     refused = f.refused;
@@ -142,7 +143,7 @@ module _ (v : JobServiceValue) (inst : Instance) (log : Log) (a : AgreesJobs v i
       → AgreesJobs (with_parts v spent manager v.commands v.refused v.found v.submitted) inst later
   stays spent manager later book posted same core legal f =
       joined spent manager v.commands v.refused v.found v.submitted later (ap (λ b. b.grant) book) core legal
-      (subst (λ b. AreLabelled v.commands.labels b.jobs) (sym book) a.labelled) (owed manager later book posted same) f
+      (subst (λ b. AreLabelled v.commands.labels b.jobs) (sym book) a.labelled) (λ none. subst (λ b. AreChildless b.jobs) (sym book) (a.childless none)) (owed manager later book posted same) f
 
   served : (spent : Bool) (manager : ManagerValue) (m : service.Moment) → Keeps v.manager manager → IsLegalAfter inst.service (service_of log) (m ∷ []) → Agrees manager.core inst.service (service_of log ++ m ∷ [])
       → Facts v.commands v.refused v.second inst (log ++ Served m ∷ []) → AgreesJobs (with_parts v spent manager v.commands v.refused v.found v.submitted) inst (log ++ Served m ∷ [])
@@ -220,7 +221,7 @@ module _ (spent : Bool) (birth size fanout : ℕ) (grant : Resources) (manager :
     (book : manager.book ≡ record { grant = grant; jobs = [] }) (posted : manager.posted ≡ None) (set : (inst : Instance) → AgreesCommands commands inst [])
     (core : (s : Rattle.kvs_rules.specs.Namespaces.Setting) → s.size ≡ size → s.fanout ≡ fanout → s.grant ≡ r_text grant → Agrees manager.core s []) where
   abbrev begun : JobServiceValue
-  begun = record { spent = spent; birth = birth; second = birth; manager = manager; commands = commands; refused = []; found = None; submitted = 0; span = 0 }
+  begun = record { spent = spent; birth = birth; second = birth; manager = manager; commands = commands; refused = []; found = None; bearing = None; submitted = 0; span = 0 }
 
   -- an instance without commands
   abbrev plain : Instance
@@ -256,8 +257,8 @@ module _ (spent : Bool) (birth size fanout : ℕ) (grant : Resources) (manager :
   pub begun_childless : AreChildless manager.book.jobs
   begun_childless = all_from (λ j. IsChildless j.spec) manager.book.jobs (λ j i. absurd (no_jobs j (contains_from manager.book.jobs j i)))
 
-  pub begun_asking : AskNoChild commands
-  begun_asking = begins_childless commands plain (set plain)
+  pub begun_bearing : IsBearing commands manager.book None
+  begun_bearing id b = no_jobs b.j b.known
 
   pub begun_count : length manager.book.jobs + count_by is_submit commands.rows ≤ 0
   begun_count =
@@ -290,7 +291,7 @@ module _ (spent : Bool) (birth size fanout : ℕ) (grant : Resources) (manager :
     legal = tt;
     commands = set inst;
     second = of.birth;
-    alone = λ job. refl;
+    childless = λ none. begun_childless;
     owes = begun_owes inst;
     labelled = λ id c. absurd (among_from [] id (subst (λ b. Contains (ids_of b.jobs) id) book c));
     refused = λ r c. absurd (among_from [] r c);
@@ -329,11 +330,10 @@ labelled_still v new inst log m jobs old later h = λ id c.
 -- ---- what the code rests on
 
 -- of the time, of children, and of submissions
-pub record GoesOn (v : JobServiceValue) (manager : ManagerValue) (commands : CommandsValue) (refused : List Refused) (submitted span : ℕ) : Type 0 where
+pub record GoesOn (v : JobServiceValue) (manager : ManagerValue) (commands : CommandsValue) (refused : List Refused) (submitted span : ℕ) (bearing : Option ℕ) : Type 0 where
   pub timed : AreInTime commands v.birth v.second span
   pub near : span ≤ 1000000000
-  pub childless : AreChildless manager.book.jobs
-  pub asking : AskNoChild commands
+  pub bears : IsBearing commands manager.book bearing
   pub drawn : (rank : ℕ) → rank < length commands.issued → slice_index commands.issued rank ≤ submitted
   pub marked : AreMarkedBy commands v.second
   pub judged : AreJudged commands manager.book.jobs refused
@@ -344,10 +344,10 @@ is_soon v i = let present = i.timed.present in let near = i.near in omega (arith
 pub alone_in : (v : JobServiceValue) → IsFit v → IsAlone v.manager.posted v.found
 alone_in v i = found-alone v.commands v.manager.book v.second v.birth v.manager.posted v.found i.sought
 
-pub fit : (v : JobServiceValue) → IsFit v → (spent : Bool) (manager : ManagerValue) (commands : CommandsValue) (refused : List Refused) (later : Option Post) (submitted span : ℕ) → manager.spent ≡ false → manager.core.size ≡ v.manager.core.size
+pub fit : (v : JobServiceValue) → IsFit v → (spent : Bool) (manager : ManagerValue) (commands : CommandsValue) (refused : List Refused) (later : Option Post) (submitted span : ℕ) (bearing : Option ℕ) → manager.spent ≡ false → manager.core.size ≡ v.manager.core.size
     → length commands.issued ≡ length v.commands.issued → IsFoundBeside manager.posted commands manager.book v.second v.birth later → IsNamed commands v.birth manager.posted
-    → length manager.book.jobs + count_by is_submit commands.rows ≤ submitted → submitted ≤ 1000 → GoesOn v manager commands refused submitted span → IsAgreed (spanned (with_parts v spent manager commands refused later submitted) span) → IsFit (spanned (with_parts v spent manager commands refused later submitted) span)
-fit v i spent manager commands refused later submitted span ready size same sought posted counted bounded goes agreed = record {
+    → length manager.book.jobs + count_by is_submit commands.rows ≤ submitted → submitted ≤ 1000 → GoesOn v manager commands refused submitted span bearing → IsAgreed (spanned (with_parts v spent manager commands refused later submitted) span bearing) → IsFit (spanned (with_parts v spent manager commands refused later submitted) span bearing)
+fit v i spent manager commands refused later submitted span bearing ready size same sought posted counted bounded goes agreed = record {
   ready = ready;
   size = same ∙ i.size ∙ sym size;
   few = subst (λ n. n ≤ 32) (sym size) i.few;
@@ -363,8 +363,7 @@ fit v i spent manager commands refused later submitted span ready size same soug
   drawn = goes.drawn;
   marked = goes.marked;
   judged = goes.judged;
-  childless = goes.childless;
-  asking = goes.asking;
+  bearing = goes.bears;
   agreed = agreed;
 }
 
@@ -372,10 +371,10 @@ fit v i spent manager commands refused later submitted span ready size same soug
 pub fit_still : (v : JobServiceValue) → IsFit v → (spent : Bool) (manager : ManagerValue) → manager.spent ≡ false → manager.core.size ≡ v.manager.core.size → manager.book ≡ v.manager.book → manager.posted ≡ v.manager.posted
     → IsAgreed (with_parts v spent manager v.commands v.refused v.found v.submitted) → IsFit (with_parts v spent manager v.commands v.refused v.found v.submitted)
 fit_still v i spent manager ready size book posted agreed =
-    fit v i spent manager v.commands v.refused v.found v.submitted v.span ready size refl
+    fit v i spent manager v.commands v.refused v.found v.submitted v.span v.bearing ready size refl
     (subst (λ p. IsFoundBeside p v.commands manager.book v.second v.birth v.found) (sym posted) (subst (λ b. IsFoundBeside v.manager.posted v.commands b v.second v.birth v.found) (sym book) i.sought)) (subst (IsNamed v.commands v.birth) (sym posted) i.posted)
     (subst (λ b. length b.jobs + count_by is_submit v.commands.rows ≤ v.submitted) (sym book) i.counted) i.bounded
-    (record { timed = i.timed; near = i.near; childless = subst (λ b. AreChildless b.jobs) (sym book) i.childless; asking = i.asking; drawn = i.drawn; marked = i.marked; judged = subst (λ b. AreJudged v.commands b.jobs v.refused) (sym book) i.judged }) agreed
+    (record { timed = i.timed; near = i.near; bears = subst (λ b. IsBearing v.commands b v.bearing) (sym book) i.bearing; drawn = i.drawn; marked = i.marked; judged = subst (λ b. AreJudged v.commands b.jobs v.refused) (sym book) i.judged }) agreed
 
 pub row_known : (v : CommandsValue) (by : By) (result : Option (Bor Row)) (r : Bor Row) → option_copied result ≡ row_in v by → result ≡ Some r → Contains v.rows r.now × (r.now.by ≡ by)
 row_known v by result r e is = found by v.rows r.now (sym e ∙ ap option_copied is)

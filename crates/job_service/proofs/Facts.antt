@@ -1,5 +1,5 @@
 -- What a log says of job commands, after a further moment.
-use Rattle.std.proofs.Common.{◌≡◌, ◌≢◌, ℕ, inl, inr, List, [], ◌∷◌, ◌++◌, map, true, false, Option, Some, None, IsSome, Contains, refl, sym, ap, ◌∙◌, subst, true≢false, append_assoc, append-nil}
+use Rattle.std.proofs.Common.{◌≡◌, ◌≢◌, ℕ, inl, inr, List, [], ◌∷◌, ◌++◌, map, Bool, true, false, Option, Some, None, IsSome, Contains, refl, sym, ap, ◌∙◌, subst, true≢false, append_assoc, append-nil}
 use Rattle.std.specs.Prelude.{filter, not}
 use Rattle.std.specs.List.{AllByRecursion as Each}
 use Rattle.std.proofs.lemmas.Bool.{not-true, or_from, or_parts, or_right}
@@ -16,7 +16,7 @@ use Rattle.kvs_txn.specs.declared.txn.By.{By}
 use Rattle.kvs_txn.specs.declared.txn.Group.{Group}
 use Rattle.instance_rules.specs.Desks.{HasSubmitted, Names}
 use Rattle.instance_rules.specs.Log as rules
-use Rattle.instance_rules.specs.Log.{Instance, IsOpen, IsPending, JobAsk as Asks, JobReply, Log, Moment, Served, Issued, Replied, SinceIssued, Submit, Ticked, child_of, child_told, is_decided, is_issued, is_replied, issues_now, now_of, replies_now, service_of, ticked}
+use Rattle.instance_rules.specs.Log.{Instance, IsOpen, IsPending, JobAsk as Asks, JobReply, Log, Moment, Served, Issued, Replied, Born, Gone, SinceIssued, Submit, Ticked, is_decided, is_issued, is_replied, issues_now, now_of, replies_now, service_of, ticked}
 use Rattle.instance_rules.specs.Replies.{FindsNoJob, IsLegalReply, LacksJob}
 use Rattle.job_commands.proofs.Landings.{aside_other}
 use Rattle.job_commands.proofs.Logs.{begun_before, differs, same_self, service_push, undecided_kept}
@@ -42,7 +42,6 @@ use Rattle.job_service.specs.Refusals.{IsFaultOf, is_refusal_of, refusals_of, re
 pub record Facts (v : CommandsValue) (list : List Refused) (now : ℕ) (inst : Instance) (log : Log) : Type 0 where
   pub commands : AgreesCommands v inst log
   pub second : now_of inst log ≡ now
-  pub alone : (job : ℕ) → child_of log job ≡ None
   pub refused : (r : Refused) → Contains list r → IsLegalReply inst log r.by (reply_to r.fault) None
   pub untold : (by : By) → IsSome (inst.asks by) → is_issued by log ≡ false → IsUntold by log
 
@@ -99,9 +98,8 @@ untold_kept by log m quiet aside h = record {
 module _ (v : CommandsValue) (list : List Refused) (now : ℕ) (inst : Instance) where
   pub served_facts : (log : Log) (m : service.Moment) → IsBeside inst (Served m) → Facts v list now inst log → Facts v list now inst (log ++ Served m ∷ [])
   served_facts log m beside h = record {
-    commands = beside_agrees v inst log (Served m) beside h.commands;
+    commands = beside_agrees v inst log (Served m) beside (λ job. refl) h.commands;
     second = latest_push ticked inst.birth log (Served m) ∙ h.second;
-    alone = λ job. latest_push (child_told job) None log (Served m) ∙ h.alone job;
     refused = λ r c. let l = h.refused r c in legal_kept inst log (Served m) r.by r.fault refl (beside r.by (refused_asks inst log r.by _ None l)).decides l;
     untold = λ by some e. untold_kept by log (Served m) refl (beside by some).decides (h.untold by some (unissued_before by log (Served m) e));
   }
@@ -130,12 +128,36 @@ pending_kept inst by some (e ∷ es) log beside p =
 
 pub ticked_facts : (v : CommandsValue) (list : List Refused) (now second : ℕ) (inst : Instance) (log : Log) → Facts v list now inst log → Facts v list second inst (log ++ Ticked second ∷ [])
 ticked_facts v list now second inst log h = record {
-  commands = beside_agrees v inst log (Ticked second) (tick_beside inst second) h.commands;
+  commands = beside_agrees v inst log (Ticked second) (tick_beside inst second) (λ job. refl) h.commands;
   second = latest_push ticked inst.birth log (Ticked second);
-  alone = λ job. latest_push (child_told job) None log (Ticked second) ∙ h.alone job;
   refused = λ r c. legal_kept inst log (Ticked second) r.by r.fault refl refl (h.refused r c);
   untold = λ by some e. untold_kept by log (Ticked second) refl refl (h.untold by some (unissued_before by log (Ticked second) e));
 }
+
+-- ---- a child that is born or goes
+
+module _ (v new : CommandsValue) (list : List Refused) (now : ℕ) (inst : Instance) (log : Log) (h : Facts v list now inst log) where
+  pub born_facts : (job : ℕ) → AgreesCommands new inst (log ++ Born job ∷ []) → Facts new list now inst (log ++ Born job ∷ [])
+  born_facts job agrees = record {
+    commands = agrees;
+    second = latest_push ticked inst.birth log (Born job) ∙ h.second;
+    refused = λ r c. legal_kept inst log (Born job) r.by r.fault refl refl (h.refused r c);
+    untold = λ by some e. untold_kept by log (Born job) refl refl (h.untold by some (unissued_before by log (Born job) e));
+  }
+
+  pub gone_facts : (job : ℕ) (shut : Bool) → AgreesCommands new inst (log ++ Gone job shut ∷ []) → Facts new list now inst (log ++ Gone job shut ∷ [])
+  gone_facts job shut agrees = record {
+    commands = agrees;
+    second = latest_push ticked inst.birth log (Gone job shut) ∙ h.second;
+    refused = λ r c. legal_kept inst log (Gone job shut) r.by r.fault refl refl (h.refused r c);
+    untold = λ by some e. untold_kept by log (Gone job shut) refl refl (h.untold by some (unissued_before by log (Gone job shut) e));
+  }
+
+pub born_service : (log : Log) (job : ℕ) → service_of (log ++ Born job ∷ []) ≡ service_of log
+born_service log job = service_push log (Born job) ∙ append-nil (service_of log)
+
+pub gone_service : (log : Log) (job : ℕ) (shut : Bool) → service_of (log ++ Gone job shut ∷ []) ≡ service_of log
+gone_service log job shut = service_push log (Gone job shut) ∙ append-nil (service_of log)
 
 pub ticked_service : (log : Log) (second : ℕ) → service_of (log ++ Ticked second ∷ []) ≡ service_of log
 ticked_service log second = service_push log (Ticked second) ∙ append-nil (service_of log)
@@ -167,7 +189,6 @@ module _ (v new : CommandsValue) (list : List Refused) (now : ℕ) (inst : Insta
       record {
         commands = agrees;
         second = latest_push ticked inst.birth log m ∙ h.second;
-        alone = λ job. latest_push (child_told job) None log m ∙ h.alone job;
         refused = λ r c.
             let o = left_refusal by list r c in
             let l = h.refused r o.0 in
@@ -254,7 +275,6 @@ module _ (v new : CommandsValue) (list : List Refused) (now : ℕ) (inst : Insta
     issue_facts found is agrees = record {
       commands = agrees;
       second = latest_push ticked inst.birth log (Issued by) ∙ h.second;
-      alone = λ job. latest_push (child_told job) None log (Issued by) ∙ h.alone job;
       refused = λ r c. elim (Contains-append_cases list (refusals_of by found) r c) [
         | inl old ↦ legal_kept inst log (Issued by) r.by r.fault refl refl (h.refused r old)
         | inr now ↦ at r found is (among_from _ r now)
@@ -280,7 +300,6 @@ module _ (v new : CommandsValue) (list : List Refused) (now : ℕ) (inst : Insta
   reply_facts was agrees = record {
     commands = agrees;
     second = latest_push ticked inst.birth log (Replied by given number) ∙ h.second;
-    alone = λ job. latest_push (child_told job) None log (Replied by given number) ∙ h.alone job;
     refused = λ r c. let o = left_refusal by list r c in legal_kept inst log (Replied by given number) r.by r.fault (differs r.by by o.1) refl (h.refused r o.0);
     untold = λ other some e.
         let before = unissued_before other log (Replied by given number) e in

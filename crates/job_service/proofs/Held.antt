@@ -1,15 +1,17 @@
 -- What the code rests on after its calls.
-use Rattle.std.proofs.Common.{◌≡◌, ℕ, ◌+◌, ◌<◌, ◌≤◌, List, Bool, false, length, arith, Option, Some, None, count_by, refl, sym, ap, ◌∙◌, subst}
+use Rattle.std.proofs.Common.{◌≡◌, ℕ, ◌+◌, ◌-◌, ◌<◌, ◌≤◌, List, Bool, false, length, arith, Option, Some, None, count_by, refl, sym, ap, ◌∙◌, subst}
 use Rattle.std.specs.Global.{Vec}
-use Rattle.std.specs.Prelude.{option_map, slice_index}
-use Rattle.job_clock.specs.Children.{AreChildless, AskNoChild}
-use Rattle.job_clock.specs.Targets.{AreInTime, IsNextTick, targets_of}
+use Rattle.std.specs.Prelude.{max, option_map, slice_index}
+use Rattle.job_clock.specs.Targets.{AreInTime}
 use Rattle.job_commands.specs.Rows.{AreMarkedBy, CommandsValue, is_submit}
+use Rattle.job_commands.specs.declared.child.Child.{Child}
 use Rattle.job_manager.specs.Posts.{post_of}
 use Rattle.job_manager.specs.Value.{ManagerValue}
 use Rattle.job_manager.specs.declared.post.Post.{Post}
 use Rattle.manager_rules.specs.Posts as rules
 use Rattle.job_service.specs.Agrees.{IsAgreed}
+use Rattle.job_service.specs.Children.{IsBearing}
+use Rattle.job_service.specs.Times.{MayPassTo}
 use Rattle.job_service.specs.Due.{IsFoundBeside, PostsFound}
 use Rattle.job_service.specs.Judged.{AreJudged}
 use Rattle.job_service.specs.Posted.{IsNamed, id_posted}
@@ -17,7 +19,8 @@ use Rattle.job_service.specs.View.{IsHeld, value_of}
 use Rattle.job_service.specs.declared.refusals.Refused.{Refused}
 use Rattle.job_service.specs.declared.service.JobService.TheInside.{Inside}
 use Rattle.job_service.proofs.Calls.{fit, fit_still, spanned, with_parts}
-use Rattle.job_clock.proofs.Times.{in_time_at}
+use Rattle.job_clock.proofs.Times.{in_time_later}
+use Rattle.job_service.proofs.Born.{named_as, timed_as}
 use Rattle.job_service.proofs.Ticking.{ticked_value}
 use Rattle.job_service.proofs.Outgoing.{book_posted, id_known, named_posted, size_posted, sought_posted}
 use Rattle.job_service.proofs.Owing.{found-named}
@@ -31,14 +34,14 @@ held_still s h spent manager ready size book posted agreed = record {
 }
 
 -- where the manager stays, and what is due is looked for anew
-pub held_next : (s : Inside) → IsHeld s → (spent : Bool) (commands : CommandsValue) (refused : Vec Refused) (later : Option Post) (submitted span : ℕ) → length commands.issued ≡ length s.commands.issued → IsNamed commands s.birth s.manager.posted
-    → length s.manager.book.jobs + count_by is_submit commands.rows ≤ submitted → submitted ≤ 1000 → AreInTime commands s.birth s.second span → span ≤ 1000000000 → AskNoChild commands → ((rank : ℕ) → rank < length commands.issued → slice_index commands.issued rank ≤ submitted) → AreMarkedBy commands s.second → AreJudged commands s.manager.book.jobs refused.items
+pub held_next : (s : Inside) → IsHeld s → (spent : Bool) (commands : CommandsValue) (refused : Vec Refused) (later : Option Post) (submitted span : ℕ) (bearing : Option ℕ) → length commands.issued ≡ length s.commands.issued → IsNamed commands s.birth s.manager.posted
+    → length s.manager.book.jobs + count_by is_submit commands.rows ≤ submitted → submitted ≤ 1000 → AreInTime commands s.birth s.second span → span ≤ 1000000000 → IsBearing commands s.manager.book bearing → ((rank : ℕ) → rank < length commands.issued → slice_index commands.issued rank ≤ submitted) → AreMarkedBy commands s.second → AreJudged commands s.manager.book.jobs refused.items
     → IsFoundBeside s.manager.posted commands s.manager.book s.second s.birth (option_map post_of later)
-    → IsAgreed (spanned (with_parts (value_of s) spent s.manager commands refused.items (option_map post_of later) submitted) span) → IsHeld (record s { spent = spent; commands = commands; refused = refused; found = later; submitted = submitted; span = span })
-held_next s h spent commands refused later submitted span size named counted bounded timed near asking drawn marked judged found agreed =
+    → IsAgreed (spanned (with_parts (value_of s) spent s.manager commands refused.items (option_map post_of later) submitted) span bearing) → IsHeld (record s { spent = spent; commands = commands; refused = refused; found = later; bearing = bearing; submitted = submitted; span = span })
+held_next s h spent commands refused later submitted span bearing size named counted bounded timed near bears drawn marked judged found agreed =
     let next = option_map post_of later in
     record {
-      fit = fit (value_of s) h.fit spent s.manager commands refused.items next submitted span h.fit.ready refl size found named counted bounded (record { timed = timed; near = near; childless = h.fit.childless; asking = asking; drawn = drawn; marked = marked; judged = judged }) agreed;
+      fit = fit (value_of s) h.fit spent s.manager commands refused.items next submitted span bearing h.fit.ready refl size found named counted bounded (record { timed = timed; near = near; bears = bears; drawn = drawn; marked = marked; judged = judged }) agreed;
       submits = h.submits;
     }
 
@@ -49,50 +52,69 @@ held_posted s h spent manager id left post none ready is p agreed =
     let v = value_of s in
     subst (λ o. IsHeld (record s { spent = spent; manager = manager; found = o; submitting = id })) (sym none)
     (record {
-      fit = fit v h.fit spent manager s.commands s.refused.items None s.submitted s.span ready (size_posted v manager id post p) refl (sought_posted v manager id post p) (named_posted v manager id post (subst (IsNamed s.commands s.birth) is h.fit.named) p)
+      fit = fit v h.fit spent manager s.commands s.refused.items None s.submitted s.span s.bearing ready (size_posted v manager id post p) refl (sought_posted v manager id post p) (named_posted v manager id post (subst (IsNamed s.commands s.birth) is h.fit.named) p)
           (subst (λ b. length b.jobs + count_by is_submit s.commands.rows ≤ s.submitted) (sym (book_posted v manager id post p)) h.fit.counted) h.fit.bounded
-          (record { timed = h.fit.timed; near = h.fit.near; childless = subst (λ b. AreChildless b.jobs) (sym (book_posted v manager id post p)) h.fit.childless; asking = h.fit.asking; drawn = h.fit.drawn; marked = h.fit.marked; judged = subst (λ b. AreJudged s.commands b.jobs s.refused.items) (sym (book_posted v manager id post p)) h.fit.judged }) agreed;
+          (record { timed = h.fit.timed; near = h.fit.near; bears = subst (λ b. IsBearing s.commands b s.bearing) (sym (book_posted v manager id post p)) h.fit.bearing; drawn = h.fit.drawn; marked = h.fit.marked; judged = subst (λ b. AreJudged s.commands b.jobs s.refused.items) (sym (book_posted v manager id post p)) h.fit.judged }) agreed;
       submits = id_known v manager id post p;
     })
 
 -- where a post has landed
-pub held_landed : (s : Inside) → IsHeld s → (spent : Bool) (manager : ManagerValue) (commands : CommandsValue) (refused : Vec Refused) (later : Option Post) → manager.spent ≡ false → manager.core.size ≡ s.manager.core.size → manager.posted ≡ None → length commands.issued ≡ length s.commands.issued
-    → length manager.book.jobs + count_by is_submit commands.rows ≤ s.submitted → AreInTime commands s.birth s.second s.span → AreChildless manager.book.jobs → AskNoChild commands → ((rank : ℕ) → rank < length commands.issued → slice_index commands.issued rank ≤ s.submitted) → AreMarkedBy commands s.second → AreJudged commands manager.book.jobs refused.items
+pub held_landed : (s : Inside) → IsHeld s → (spent : Bool) (manager : ManagerValue) (commands : CommandsValue) (refused : Vec Refused) (later : Option Post) (bearing : Option ℕ) → manager.spent ≡ false → manager.core.size ≡ s.manager.core.size → manager.posted ≡ None → length commands.issued ≡ length s.commands.issued
+    → length manager.book.jobs + count_by is_submit commands.rows ≤ s.submitted → AreInTime commands s.birth s.second s.span → IsBearing commands manager.book bearing → ((rank : ℕ) → rank < length commands.issued → slice_index commands.issued rank ≤ s.submitted) → AreMarkedBy commands s.second → AreJudged commands manager.book.jobs refused.items
     → IsFoundBeside manager.posted commands manager.book s.second s.birth (option_map post_of later)
-    → IsAgreed (with_parts (value_of s) spent manager commands refused.items (option_map post_of later) s.submitted) → IsHeld (record s { spent = spent; manager = manager; commands = commands; refused = refused; found = later; submitting = None })
-held_landed s h spent manager commands refused later ready size posted same counted timed childless asking drawn marked judged found agreed =
+    → IsAgreed (spanned (with_parts (value_of s) spent manager commands refused.items (option_map post_of later) s.submitted) s.span bearing) → IsHeld (record s { spent = spent; manager = manager; commands = commands; refused = refused; found = later; bearing = bearing; submitting = None })
+held_landed s h spent manager commands refused later bearing ready size posted same counted timed bears drawn marked judged found agreed =
     let next = option_map post_of later in
     record {
-      fit = fit (value_of s) h.fit spent manager commands refused.items next s.submitted s.span ready size same found (subst (IsNamed commands s.birth) (sym posted) tt) counted h.fit.bounded (record { timed = timed; near = h.fit.near; childless = childless; asking = asking; drawn = drawn; marked = marked; judged = judged }) agreed;
+      fit = fit (value_of s) h.fit spent manager commands refused.items next s.submitted s.span bearing ready size same found (subst (IsNamed commands s.birth) (sym posted) tt) counted h.fit.bounded (record { timed = timed; near = h.fit.near; bears = bears; drawn = drawn; marked = marked; judged = judged }) agreed;
       submits = sym (ap id_posted posted);
     }
 
 -- where time has gone on
-pub held_ticked : (s : Inside) → IsHeld s → (spent : Bool) (second : ℕ) (ends : List ℕ) (later : Option Post) → s.manager.posted ≡ None → IsNextTick (targets_of s.commands) ends s.second second
-    → IsFoundBeside s.manager.posted s.commands s.manager.book second s.birth (option_map post_of later) → IsAgreed (ticked_value (value_of s) spent second (option_map post_of later)) → IsHeld (record s { spent = spent; second = second; found = later })
-held_ticked s h spent second ends later posted next found agreed =
+pub held_ticked : (s : Inside) → IsHeld s → (spent : Bool) (second span : ℕ) (later : Option Post) → s.manager.posted ≡ None → MayPassTo (value_of s) second → span ≡ max s.span (second - s.birth)
+    → IsFoundBeside s.manager.posted s.commands s.manager.book second s.birth (option_map post_of later) → IsAgreed (ticked_value (value_of s) spent second span (option_map post_of later)) → IsHeld (record s { spent = spent; second = second; found = later; span = span })
+held_ticked s h spent second span later posted may is found agreed =
     let i = h.fit in
     let f = option_map post_of later in
+    let above = may.passes.above in
     record {
       fit = record {
         ready = i.ready;
         size = i.size;
         few = i.few;
-        order = (let a = i.order in let b = next.above in omega (arith, a, b));
+        order = (let a = i.order in omega (arith, a, above));
         early = i.early;
-        timed = in_time_at s.commands ends s.birth s.second second s.span next i.timed;
-        near = i.near;
+        timed = subst (AreInTime s.commands s.birth second) (sym is) (in_time_later s.commands s.birth s.second second s.span (omega (arith, above)) i.timed);
+        near = (let a = i.near in let b = may.near in omega (arith, a, b, is));
         sought = found;
         posted = i.posted;
         named = found-named s.commands s.manager.book second s.birth s.manager.posted f found;
         counted = i.counted;
         bounded = i.bounded;
         drawn = i.drawn;
-        marked = λ rank. let a = i.marked rank in let b = next.above in omega (arith, a, b);
+        marked = λ rank. let a = i.marked rank in omega (arith, a, above);
         judged = i.judged;
-        childless = i.childless;
-        asking = i.asking;
+        bearing = i.bearing;
         agreed = agreed;
       };
       submits = h.submits;
     }
+
+-- where a child is born or goes
+pub held_child : (s : Inside) → IsHeld s → (spent : Bool) (commands : CommandsValue) (children : List Child) (later : Option Post) (bearing : Option ℕ) → commands ≡ record s.commands { children = children } → IsBearing commands s.manager.book bearing
+    → IsFoundBeside s.manager.posted commands s.manager.book s.second s.birth (option_map post_of later)
+    → IsAgreed (spanned (with_parts (value_of s) spent s.manager commands s.refused.items (option_map post_of later) s.submitted) s.span bearing) → IsHeld (record s { spent = spent; commands = commands; found = later; bearing = bearing })
+held_child s h spent commands children later bearing is bears found agreed =
+    let i = h.fit in
+    let so = sym is in
+    held_next s h spent commands s.refused later s.submitted s.span bearing
+    (ap (λ w. length w.issued) is)
+    (subst (λ w. IsNamed w s.birth s.manager.posted) so (named_as s.commands children s.birth s.manager.posted i.posted))
+    (subst (λ w. length s.manager.book.jobs + count_by is_submit w.rows ≤ s.submitted) so i.counted)
+    i.bounded
+    (subst (λ w. AreInTime w s.birth s.second s.span) so (timed_as s.commands children s.birth s.second s.span i.timed))
+    i.near bears
+    (subst (λ (w : CommandsValue). (rank : ℕ) → rank < length w.issued → slice_index w.issued rank ≤ s.submitted) so i.drawn)
+    (subst (λ w. AreMarkedBy w s.second) so i.marked)
+    (subst (λ w. AreJudged w s.manager.book.jobs s.refused.items) so i.judged)
+    found agreed

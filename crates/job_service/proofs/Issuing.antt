@@ -1,5 +1,5 @@
 -- A job service when a command is issued, and when one is told what became of it.
-use Rattle.std.proofs.Common.{◌≡◌, ◌≢◌, ℕ, ◌+◌, ◌-◌, ◌*◌, ◌^◌, ◌<◌, ◌≤◌, inl, inr, List, [], ◌∷◌, ◌++◌, length, map, Bool, true, false, cond, ◌&&◌, Option, Some, None, IsSome, Contains, count_by, refl, sym, ap, ◌∙◌, subst, arith, true≢false}
+use Rattle.std.proofs.Common.{◌≡◌, ◌≢◌, ℕ, ◌+◌, ◌-◌, ◌*◌, ◌^◌, ◌<◌, ◌≤◌, inl, List, [], ◌∷◌, ◌++◌, length, map, Bool, true, false, cond, ◌&&◌, Option, Some, None, IsSome, Contains, count_by, refl, sym, ap, ◌∙◌, subst, arith, true≢false}
 use Rattle.std.specs.Prelude.{◌==◌, filter, is_some, not, slice_index}
 use Rattle.std.specs.List.{AllByRecursion as Each}
 use Rattle.std.specs.Option.{option_map_or}
@@ -8,18 +8,17 @@ use mir.Val.{bool_byte}
 use Rattle.answers.specs.declared.chronicle.Reply.{Reply}
 use Rattle.instance_rules.specs.Desks.{is_submission, submits_at}
 use Rattle.instance_rules.specs.Log as rules
-use Rattle.instance_rules.specs.Log.{Instance, IsPending, JobAsk as Asks, JobReply, Log, Moment, Issued, Replied, child_of, is_decided, is_issued, is_replied, now_of, service_of}
+use Rattle.instance_rules.specs.Log.{Instance, IsPending, JobAsk as Asks, JobReply, Log, Moment, Issued, Replied, child_told, is_decided, is_issued, is_replied, now_of, service_of}
 use Rattle.instance_rules.specs.Replies.{AsksForEvent}
 use Rattle.job_clock.proofs.Times.{advance_in_time, other_in_time}
-use Rattle.job_clock.specs.Children.{AskNoChild, AsksNoChild}
 use Rattle.job_clock.specs.Targets.{AreInTime}
 use Rattle.job_service.specs.Times.{HasTime, seconds_asked}
 use Rattle.job_commands.proofs.Desks.{there_and_back}
 use Rattle.job_commands.proofs.Logs.{differs}
-use Rattle.job_commands.proofs.Tables.{found, from_forgotten, not_found, to_forgotten}
+use Rattle.job_commands.proofs.Tables.{found, not_found, to_forgotten}
 use Rattle.job_commands.specs.Agrees.{AgreesCommands, StageAgrees}
 use Rattle.job_commands.specs.Asks.{named_of, told}
-use Rattle.job_commands.specs.Desks.{desk_of}
+use Rattle.job_commands.specs.Desks.{asked_of, desk_of}
 use Rattle.job_commands.specs.Rows.{CommandsValue, is_of, is_submit, is_waiting, issued_row}
 use Rattle.job_commands.specs.declared.ask.JobAsk.{JobAsk}
 use Rattle.job_commands.specs.declared.ask.JobAsk.TheVariants as ask
@@ -31,7 +30,7 @@ use Rattle.job_landings.proofs.Open.{event_open, submit_open}
 use Rattle.job_manager.specs.Managed.{IsManaged}
 use Rattle.job_manager.specs.Posts.{command_of}
 use Rattle.job_replies.specs.Told.{MayTell}
-use Rattle.job_rules.proofs.Among.{among_append, among_from, among_left, contains_from}
+use Rattle.job_rules.proofs.Among.{among_from, among_left, contains_from}
 use Rattle.job_spec.specs.declared.spec.Depend.{Depend}
 use Rattle.job_submissions.specs.Faults.{Lacks, LacksSome}
 use Rattle.job_submissions.specs.Made.{AreLabelled}
@@ -43,8 +42,9 @@ use Rattle.kvs_rules.specs.Namespaces.{newest_store, primary}
 use Rattle.kvs_txn.specs.declared.txn.By.{By}
 use Rattle.manager_rules.specs.Jobs.{StoredJob}
 use Rattle.manager_rules.specs.Posts.{Does, IsDuePost, Post, Submits}
+use Rattle.manager_rules.specs.declared.asked.Asked.{Asked}
 use Rattle.job_service.specs.Agrees.{AgreesJobs, HasRoom, IsNewCommand}
-use Rattle.job_service.specs.Due.{IsFoundBeside, LeavesOpen, Owes}
+use Rattle.job_service.specs.Due.{IsFoundBeside, LeavesChildOf, LeavesOpen, Owes}
 use Rattle.job_service.specs.Posted.{IsNamed}
 use Rattle.job_service.specs.Refusals.{IsFaultOf, is_refusal_of, refusals_of, row_in}
 use Rattle.job_service.specs.Replies.{Answers, asks_manager, can_reply, is_kept_back, is_undone}
@@ -58,18 +58,23 @@ use Rattle.job_service.proofs.Owing.{MadeAreDue, UnmadeAreNot, beside-owes, post
 
 -- what the law says of what waits
 abbrev pub StaysDue : Type 0
-StaysDue = (v new : CommandsValue) (inst : Instance) (log : Log) (m : Moment) (jobs : List StoredJob) (post : Post) → AgreesCommands v inst log → AgreesCommands new inst (log ++ m ∷ []) → ((job : ℕ) → child_of log job ≡ None) → ((job : ℕ) → child_of (log ++ m ∷ []) job ≡ None)
-    → now_of inst (log ++ m ∷ []) ≡ now_of inst log → LeavesOpen m post → IsDuePost (desk_of v inst log jobs) post → IsDuePost (desk_of new inst (log ++ m ∷ []) jobs) post
+StaysDue = (v new : CommandsValue) (inst : Instance) (log : Log) (m : Moment) (jobs : List StoredJob) (post : Post) → AgreesCommands v inst log → AgreesCommands new inst (log ++ m ∷ [])
+    → now_of inst (log ++ m ∷ []) ≡ now_of inst log → LeavesOpen m post → LeavesChildOf (asked_of v) jobs m post → IsDuePost (desk_of v inst log jobs) post → IsDuePost (desk_of new inst (log ++ m ∷ []) jobs) post
+
+-- a moment that is about no child leaves that of each job
+pub leaves_children : (list : List Asked) (jobs : List StoredJob) (m : Moment) → ((id : ℕ) → child_told id m ≡ None) → (post : Post) → LeavesChildOf list jobs m post
+leaves_children list jobs m none (Does due) = inl (none due.job)
+leaves_children list jobs m none (Submits x) = tt
 
 module _ (v : JobServiceValue) (inst : Instance) (log : Log) (a : AgreesJobs v inst log) where
   -- what is owed behind a further moment of the same second, which leaves the jobs
   module _ (commands : CommandsValue) (refused : List Refused) (m : Moment) (f : Facts commands refused v.second inst (log ++ m ∷ [])) (labelled : AreLabelled commands.labels v.manager.book.jobs)
       (smalls : Each (λ j. j.id < 2 ^ 64) v.manager.book.jobs) (soon : 1000 * (v.second - v.birth) < 2 ^ 40) (short : length commands.issued ≤ 32) (made-due : MadeAreDue) (unmade-not : UnmadeAreNot) (stays : StaysDue)
-      (leaves : (post : Post) → v.manager.posted ≡ Some post → LeavesOpen m post) where
+      (leaves : (post : Post) → v.manager.posted ≡ Some post → LeavesOpen m post) (children : (post : Post) → v.manager.posted ≡ Some post → LeavesChildOf (asked_of v.commands) v.manager.book.jobs m post) where
     pub owes_next : (later : Option Post) → IsFoundBeside v.manager.posted commands v.manager.book v.second v.birth later → Owes v.manager.posted later (desk_of commands inst (log ++ m ∷ []) v.manager.book.jobs)
     owes_next later h =
         beside-owes commands v.manager.book v.second v.birth inst (log ++ m ∷ []) f.commands a.kind.valid f.second a.kind.answer a.kind.birth a.kind.grant labelled smalls soon short made-due unmade-not v.manager.posted later
-        (λ post e. stays v.commands commands inst log m v.manager.book.jobs post a.commands f.commands a.alone f.alone (f.second ∙ sym a.second) (leaves post e)
+        (λ post e. stays v.commands commands inst log m v.manager.book.jobs post a.commands f.commands (f.second ∙ sym a.second) (leaves post e) (children post e)
         (posted-due v.manager.posted v.found (desk_of v.commands inst log v.manager.book.jobs) a.owes post e))
         h
 
@@ -95,15 +100,16 @@ module _ (v : JobServiceValue) (inst : Instance) (log : Log) (a : AgreesJobs v i
     labelled_next = labelled_still v.commands commands inst log (Issued by) v.manager.book.jobs a.commands issued_commands a.labelled
 
     pub issue_all : Each (λ j. j.id < 2 ^ 64) v.manager.book.jobs → 1000 * (v.second - v.birth) < 2 ^ 40 → length commands.issued ≤ 32 → MadeAreDue → UnmadeAreNot → StaysDue → (later : Option Post) (submitted : ℕ) → IsFoundBeside v.manager.posted commands v.manager.book v.second v.birth later
-        → (span : ℕ) → AgreesJobs (spanned (with_parts v spent v.manager commands (v.refused ++ refusals_of by fault) later submitted) span) inst (log ++ Issued by ∷ [])
+        → (span : ℕ) → AgreesJobs (spanned (with_parts v spent v.manager commands (v.refused ++ refusals_of by fault) later submitted) span v.bearing) inst (log ++ Issued by ∷ [])
     issue_all smalls soon short made-due unmade-not stays later submitted h span =
         let same = issued_service v.commands commands v.refused v.second inst log by (facts v inst log a) in
-        respan (with_parts v spent v.manager commands (v.refused ++ refusals_of by fault) later submitted) inst (log ++ Issued by ∷ []) span
+        respan (with_parts v spent v.manager commands (v.refused ++ refusals_of by fault) later submitted) inst (log ++ Issued by ∷ []) span v.bearing
         (joined v inst log a spent v.manager commands (v.refused ++ refusals_of by fault) later submitted (log ++ Issued by ∷ []) refl
         (subst (Agrees v.manager.core inst.service) (sym same) a.core)
         (subst (IsLegalLog inst.service) (sym same) a.legal)
-        labelled_next
-        (owes_next commands (v.refused ++ refusals_of by fault) (Issued by) issued_facts labelled_next smalls soon short made-due unmade-not stays (λ post e other c. record { unanswered = refl; undecided = refl }) later h)
+        labelled_next a.childless
+        (owes_next commands (v.refused ++ refusals_of by fault) (Issued by) issued_facts labelled_next smalls soon short made-due unmade-not stays (λ post e other c. record { unanswered = refl; undecided = refl })
+        (λ post e. leaves_children (asked_of v.commands) v.manager.book.jobs (Issued by) (λ id. refl) post) later h)
         issued_facts)
 
   -- ---- what is posted carries out no command that can be told
@@ -207,9 +213,10 @@ module _ (v : JobServiceValue) (inst : Instance) (log : Log) (a : AgreesJobs v i
           agrees = joined v inst log a spent v.manager commands (filter (λ x. not (is_refusal_of by x)) v.refused) later v.submitted (log ++ Replied by t.reply number ∷ []) refl
               (subst (Agrees v.manager.core inst.service) (sym same) a.core)
               (subst (IsLegalLog inst.service) (sym same) a.legal)
-              labelled_told
+              labelled_told a.childless
               (owes_next commands (filter (λ x. not (is_refusal_of by x)) v.refused) (Replied by t.reply number) replied_facts labelled_told smalls soon short made-due unmade-not stays
-              (λ post e other c. record { unanswered = differs other by (not_kept by free post e other c); undecided = refl }) later h)
+              (λ post e other c. record { unanswered = differs other by (not_kept by free post e other c); undecided = refl })
+              (λ post e. leaves_children (asked_of v.commands) v.manager.book.jobs (Replied by t.reply number) (λ id. refl) post) later h)
               replied_facts;
         }
 
@@ -278,7 +285,7 @@ issued_drawn v inst log old commands by asked more submits asks later size s is 
     at_most true false n e = omega arith
     at_most false t n e = omega arith
 
--- ---- time and children
+-- ---- time
 
 pub issued_time : (v new : CommandsValue) (by : By) (rank now birth span : ℕ) (asked : JobAsk) → new.rows ≡ v.rows ++ issued_row v by rank now asked ∷ [] → AreInTime v birth now span → AreInTime new birth now (span + seconds_asked asked)
 issued_time v new by rank now birth span (ask.Advance seconds) rows h = advance_in_time v new (issued_row v by rank now (ask.Advance seconds)) birth now span seconds rows refl refl h
@@ -295,16 +302,6 @@ issued_time v new by rank now birth span (ask.ResultOf label) rows h = subst (Ar
 pub time_left : (v : JobServiceValue) (asked : JobAsk) → HasTime v asked → v.span ≤ 1000000000 → v.span + seconds_asked asked ≤ 1000000000
 time_left v (ask.Advance seconds) h near = h
 time_left v _ h near = omega (arith, near)
-
-pub issued_asking : (v new : CommandsValue) (row : Row) → new.rows ≡ v.rows ++ row ∷ [] → AskNoChild v → AsksNoChild row.ask → AskNoChild new
-issued_asking v new row rows h none r c w = elim (among_append v.rows (row ∷ []) r (among_from _ r (subst (λ l. Contains l r) rows c))) [
-  | inl old ↦ h r (contains_from v.rows r old) w
-  | inr (inl same) ↦ subst (λ x. AsksNoChild x.ask) same none
-  | inr (inr wrong) ↦ absurd wrong
-]
-
-pub told_asking : (v new : CommandsValue) (by : By) → new.rows ≡ filter (λ r. not (is_of by r)) v.rows → AskNoChild v → AskNoChild new
-told_asking v new by rows h r c w = h r (from_forgotten by v.rows r (subst (λ l. Contains l r) rows c)).0 w
 
 pub short_next : (v : JobServiceValue) → IsFit v → (commands : CommandsValue) → length commands.issued ≡ length v.commands.issued → length commands.issued ≤ 32
 short_next v i commands same = let a = i.size in let b = i.few in omega (arith, same, a, b)

@@ -1,5 +1,5 @@
 -- A step of the service at which a post lands.
-use Rattle.std.proofs.Common.{◌≡◌, ℕ, zero, suc, take, get_or, ◌+◌, ◌-◌, ◌*◌, ◌^◌, ◌<◌, ◌≤◌, inl, inr, List, [], ◌∷◌, ◌++◌, length, map, Bool, true, false, cond, ◌||◌, Option, Some, None, IsSome, Contains, count_by, refl, sym, ap, ◌∙◌, subst, arith, append_assoc}
+use Rattle.std.proofs.Common.{◌≡◌, ℕ, zero, suc, take, get_or, ◌+◌, ◌-◌, ◌*◌, ◌^◌, ◌<◌, ◌≤◌, inl, inr, List, [], ◌∷◌, ◌++◌, length, map, Bool, true, false, cond, ◌||◌, Option, Some, None, IsSome, count_by, refl, sym, ap, ◌∙◌, subst, arith, append_assoc}
 use Rattle.std.specs.Prelude.{find, flat_map, option_and_then, slice_get, slice_index}
 use Rattle.std.specs.List.{AllByRecursion as Each, list_any}
 use Rattle.std.specs.Option.{option_map_or}
@@ -8,16 +8,13 @@ use Rattle.instance_rules.specs.Desks.{Begins}
 use Rattle.instance_rules.specs.Log.{Instance, Log, service_of}
 use Rattle.job_clock.proofs.Bearing.{posts_childless, submissions_childless}
 use Rattle.job_clock.proofs.Times.{carried_in_time}
-use Rattle.job_clock.specs.Children.{AreChildless, AskNoChild, AsksNoChild}
+use Rattle.job_clock.specs.Children.{AreChildless, SubmitsNoChild}
 use Rattle.job_clock.specs.Targets.{AreInTime}
 use Rattle.job_commands.proofs.Landings.{now_begun}
-use Rattle.job_commands.proofs.Tables.{carried_at, carried_past, from_carried}
 use Rattle.job_commands.specs.Desks.{desk_of}
 use Rattle.job_commands.specs.Moments.{landing as lands_at}
 use Rattle.job_commands.specs.Agrees.{IsIdOf}
-use Rattle.job_commands.specs.Rows.{AreCarried, CommandsValue, carried, is_of, is_submit}
-use Rattle.job_commands.specs.declared.row.Row.{Row}
-use Rattle.job_commands.specs.declared.row.Stage.TheVariants as stage
+use Rattle.job_commands.specs.Rows.{CommandsValue, is_submit}
 use Rattle.job_landings.proofs.Landing.{service_all}
 use Rattle.job_landings.proofs.Open.{event_open, submit_open}
 use Rattle.job_landings.specs.Landings.{Carries, CarriesFor, LandsPost, happening, lands_post, number_in, number_of_post}
@@ -181,22 +178,10 @@ landed_time v new list left id number birth now span None l h = subst (λ c. Are
 landed_time v new list left (Some id) number birth now span (Some by) l h = carried_in_time v new by number birth now span l.0.rows h
 landed_time v new list left None number birth now span (Some by) l h = carried_in_time v new by number birth now span l.0.rows h
 
-carried_asking : (v new : CommandsValue) (by : By) (number : ℕ) → AreCarried by number v.rows new.rows → AskNoChild v → AskNoChild new
-carried_asking v new by number rows h r c w = at (from_carried by number v.rows new.rows rows r c)
-  where
-    at : (y : Row) × Contains v.rows y × (r ≡ carried by number y) → AsksNoChild r.ask
-    at (y, known, is) = by_test (is_of by y) refl
-      where
-        by_test : (b : Bool) → is_of by y ≡ b → AsksNoChild r.ask
-        by_test true t = absurd (let wrong : stage.Landed number ≡ stage.Waits = sym (ap (λ x. x.stage) (is ∙ carried_at by number y t)) ∙ w in cc)
-        by_test false t =
-            let same : r ≡ y = is ∙ carried_past by number y t in
-            subst (λ x. AsksNoChild x.ask) (sym same) (h y known (ap (λ x. x.stage) (sym same) ∙ w))
-
-pub landed_asking : (v new : CommandsValue) (list left : List Refused) (id : Option ℕ) (number : ℕ) (o : Option By) → IsLanded o id number v new list left → AskNoChild v → AskNoChild new
-landed_asking v new list left id number None l h = subst AskNoChild (sym l.0) h
-landed_asking v new list left (Some id) number (Some by) l h = carried_asking v new by number l.0.rows h
-landed_asking v new list left None number (Some by) l h = carried_asking v new by number l.0.rows h
+pub landed_children : (v new : CommandsValue) (list left : List Refused) (id : Option ℕ) (number : ℕ) (o : Option By) → IsLanded o id number v new list left → new.children ≡ v.children
+landed_children v new list left id number None l = ap (λ c. c.children) l.0
+landed_children v new list left (Some id) number (Some by) l = l.0.children
+landed_children v new list left None number (Some by) l = l.0.children
 
 -- ---- the whole step
 
@@ -295,10 +280,10 @@ module _ (v : JobServiceValue) (inst : Instance) (log : Log) (a : AgreesJobs v i
         subst (λ b. all b.jobs commands ≤ all jobs v.commands) (sym l.book)
         (landed_count jobs v.commands commands v.refused refused id p.number v.birth l.post (is ∙ ap id_posted l.waited) (subst (IsNamed v.commands v.birth) l.waited named) landed)
 
-    pub landed_childless : AreChildless jobs → AskNoChild v.commands → AreChildless manager.book.jobs
-    landed_childless childless asking =
+    landed_childless : SubmitsNoChild inst → AreChildless manager.book.jobs
+    landed_childless none =
         subst (λ b. AreChildless b.jobs) (sym l.book)
-        (posts_childless desk l.post childless (submissions_childless v.commands inst log jobs asking) (posted-due v.manager.posted v.found desk a.owes l.post l.waited))
+        (posts_childless desk l.post (a.childless none) (submissions_childless v.commands inst log jobs a.commands none) (posted-due v.manager.posted v.found desk a.owes l.post l.waited))
 
     abbrev later : Log
     later = log ++ map happening events
@@ -325,7 +310,7 @@ module _ (v : JobServiceValue) (inst : Instance) (log : Log) (a : AgreesJobs v i
         joined v inst log a spent manager commands refused found v.submitted later grant
         (subst (Agrees manager.core inst.service) (sym same) (makes.agrees inst.service (service_of log) a.core))
         (subst (IsLegalLog inst.service) (sym same) (legal_joined inst.service [] (service_of log) (map service.Happened events) a.legal (makes.legal inst.service (service_of log) a.core)))
-        labelled_later
+        labelled_later landed_childless
         (beside-owes commands manager.book v.second v.birth inst later facts_later.commands a.kind.valid facts_later.second a.kind.answer a.kind.birth (grant ∙ a.kind.grant)
         labelled_later smalls soon short made-due unmade-not manager.posted found
         (λ post e. absurd (let wrong : None ≡ Some post = sym l.posted ∙ e in cc)) h)

@@ -1,6 +1,6 @@
 -- What open commands wait for where nothing can go on.
 use Rattle.std.proofs.Common.{◌≡◌, ◌≢◌, ℕ, ◌+◌, ◌-◌, ◌<◌, ◌≤◌, ◌⊎◌, inl, inr, List, [], ◌∷◌, ◌++◌, map, Bool, true, false, ◌&&◌, ◌||◌, not, Option, Some, None, IsSome, Contains, cond, refl, sym, ap, ◌∙◌, subst, arith, true≢false}
-use Rattle.std.specs.Prelude.{find, is_some, nat_le, option_and_then, option_map, unwrap_or}
+use Rattle.std.specs.Prelude.{filter_map, find, is_some, nat_le, option_and_then, option_map, unwrap_or}
 use Rattle.std.specs.List.{list_any}
 use Rattle.std.specs.Option.{option_map_or}
 use Rattle.std.proofs.lemmas.Bool.{and_from, eqb-false, le-leb, or_parts}
@@ -14,6 +14,7 @@ use Rattle.job_commands.proofs.Logs.{same_self}
 use Rattle.job_commands.proofs.Tables.{found, not_found}
 use Rattle.job_commands.specs.Agrees.{StageAgrees}
 use Rattle.job_commands.specs.Asks.{named_of, told}
+use Rattle.job_commands.specs.Children.{all_children}
 use Rattle.job_commands.specs.Desks.{asked_at, asked_by, asked_in, asked_of}
 use Rattle.job_commands.specs.Rows.{Labels, job_at}
 use Rattle.job_commands.specs.declared.ask.JobAsk.{JobAsk}
@@ -24,7 +25,7 @@ use Rattle.job_commands.specs.declared.row.Row.{Row}
 use Rattle.job_commands.specs.declared.row.Stage.{Stage}
 use Rattle.job_commands.specs.declared.row.Stage.TheVariants as stage
 use Rattle.job_replies.specs.Ready.{fits, has_run, is_answered, is_ending, is_inactive, is_late_raise, is_ready, is_ready_at, job_in}
-use Rattle.job_rules.proofs.Among.{Among, all_at, among_from, contains_from}
+use Rattle.job_rules.proofs.Among.{Among, all_at, among_from, among_left, contains_from}
 use Rattle.job_states.specs.Table.{is_state}
 use Rattle.job_states.specs.declared.job.State.{State}
 use Rattle.job_states.specs.declared.job.State.TheVariants as state
@@ -164,7 +165,7 @@ module _ (v : JobServiceValue) (i : IsFit v) (inst : Instance) (log : Log) (a : 
   none_asked : (row : Row) → Contains v.commands.rows row → (one : Asked) → asked_in labels row ≡ Some one → (j : StoredJob) → Contains jobs j → (j.job.state ≡ state.New) ⊎ MayCarry j one → ⊥
   none_asked row known one is j stands (inl new) = none_due j stands Validates new
   none_asked row known one is j stands (inr may) =
-      none_due j stands (Carries one) (contains_from (asked_of v.commands) one (to_kept (asked_in labels) v.commands.rows row one (among_from v.commands.rows row known) is), may)
+      none_due j stands (Carries one) (contains_from (asked_of v.commands) one (among_left (filter_map (asked_in labels) v.commands.rows) (all_children v.commands.children) one (to_kept (asked_in labels) v.commands.rows row one (among_from v.commands.rows row known) is)), may)
 
   asks_so : (row : Row) (x : JobAsk) → row.ask ≡ x → row.stage ≡ stage.Waits → asked_in labels row ≡ asked_by labels row.by x
   asks_so row x e w = ap (asked_at labels row.by row.ask) w ∙ ap (asked_by labels row.by) e

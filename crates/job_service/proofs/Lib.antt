@@ -1,12 +1,15 @@
 mod Facts
 mod Owing
 mod Calls
+mod Running
+mod Bearing
 mod Counting
 mod Judging
 mod Landed
 mod Outgoing
 mod Issuing
 mod Turning
+mod Born
 mod Ticking
 mod Held
 mod Staying

@@ -6,8 +6,8 @@ use Rattle.std.proofs.lemmas.Bool.{false_from_ne_true, lt-ltb, ltb-false, ltb-tr
 use Rattle.instance_rules.specs.Family.{IsLeftResult, Living}
 use Rattle.instance_rules.specs.Log.{Instance, IsOpen, Log, service_of}
 use Rattle.job_book.proofs.Whys.{found_job}
-use Rattle.job_clock.proofs.Standing.{at_top}
-use Rattle.job_clock.specs.Standing.{IsTop}
+use Rattle.job_clock.proofs.Standing.{at_living}
+use Rattle.job_clock.specs.Standing.{IsLiving}
 use Rattle.job_clock.specs.Targets.{IsNextTick, targets_of}
 use Rattle.job_commands.proofs.Tables.{found}
 use Rattle.job_commands.specs.Agrees.{AgreesCommands}
@@ -26,6 +26,7 @@ use Rattle.kvs_rules.specs.Namespaces.{newest_store, primary}
 use Rattle.kvs_txn.specs.declared.txn.By.{By}
 use Rattle.manager_rules.specs.Dependencies.{job_at as stored_at}
 use Rattle.manager_rules.specs.Jobs.{StoredJob}
+use Rattle.job_service.specs.Children.{is_due}
 use Rattle.job_service.specs.Refusals.{row_in}
 use Rattle.job_service.specs.Still.{IsStill, awaited, awaited_by, can_tick, unless_over}
 use Rattle.job_service.specs.Value.{JobServiceValue}
@@ -47,21 +48,23 @@ next_later now targets ends None some none = sym (false_from_ne_true (waits_late
     no : (t : ℕ) × Among t targets × (nat_lt now t ≡ true) → ⊥
     no (t, i, late) = let low = all_at (λ target. target ≤ now) targets t none i in let above = ltb-true now t late in absurd (omega (arith, low, above))
 
-free_tick : (p f a : Bool) → (p || f) ≡ false → (not p && not f && a) ≡ a
-free_tick true f a e = cc
-free_tick false true a e = cc
-free_tick false false a e = refl
+free_tick : (d a : Bool) → d ≡ false → (not d && a) ≡ a
+free_tick true a e = cc
+free_tick false a e = refl
 
-busy_tick : (p f a : Bool) → (p || f) ≡ true → (not p && not f && a) ≡ false
-busy_tick true f a e = refl
-busy_tick false true a e = refl
-busy_tick false false a e = cc
+busy_tick : (d a : Bool) → d ≡ true → (not d && a) ≡ false
+busy_tick true a e = refl
+busy_tick false a e = cc
 
-pub can_next : (v : JobServiceValue) (ends : List ℕ) (o : Option ℕ) → (is_some v.manager.posted || is_some v.found) ≡ false → IfSome o (λ second. IsNextTick (targets_of v.commands) ends v.second second) → IfNone o (All (λ target. target ≤ v.second) (targets_of v.commands)) → is_some o ≡ can_tick v
-can_next v ends o free some none = next_later v.second (targets_of v.commands) ends o some none ∙ sym (free_tick (is_some v.manager.posted) (is_some v.found) (waits_later v.second (targets_of v.commands)) free)
+pub can_next : (v : JobServiceValue) (ends : List ℕ) (o : Option ℕ) → is_due v ≡ false → IfSome o (λ second. IsNextTick (targets_of v.commands) ends v.second second) → IfNone o (All (λ target. target ≤ v.second) (targets_of v.commands)) → is_some o ≡ can_tick v
+can_next v ends o free some none = next_later v.second (targets_of v.commands) ends o some none ∙ sym (free_tick (is_due v) (waits_later v.second (targets_of v.commands)) free)
 
-pub no_next : (v : JobServiceValue) → (is_some v.manager.posted || is_some v.found) ≡ true → false ≡ can_tick v
-no_next v busy = sym (busy_tick (is_some v.manager.posted) (is_some v.found) (waits_later v.second (targets_of v.commands)) busy)
+pub no_next : (v : JobServiceValue) → is_due v ≡ true → false ≡ can_tick v
+no_next v busy = sym (busy_tick (is_due v) (waits_later v.second (targets_of v.commands)) busy)
+
+-- whether something is posted or due, from its parts
+pub none_now : (v : JobServiceValue) → v.manager.posted ≡ None → v.found ≡ None → v.bearing ≡ None → is_due v ≡ false
+none_now v unposted unfound unborn = ap (λ p. (is_some p || is_some v.found) || is_some v.bearing) unposted ∙ ap (λ f. is_some f || is_some v.bearing) unfound ∙ ap is_some unborn
 
 -- ---- nothing is posted
 
@@ -75,8 +78,7 @@ unposted_still m managed none = at m.posted refl managed.outstanding
 pub late_still : (v : JobServiceValue) → IsStill v → v.manager.posted ≡ None → All (λ target. target ≤ v.second) (targets_of v.commands)
 late_still v still unposted =
     let later = waits_later v.second (targets_of v.commands) in
-    let free : (is_some v.manager.posted || is_some v.found) ≡ false = ap (λ p. is_some p || is_some v.found) unposted ∙ ap is_some still.unfound in
-    none_later v.second (targets_of v.commands) (sym (free_tick (is_some v.manager.posted) (is_some v.found) later free) ∙ still.late)
+    none_later v.second (targets_of v.commands) (sym (free_tick (is_due v) later (none_now v unposted still.unfound still.unborn)) ∙ still.late)
 
 -- ---- the job of a label
 
@@ -157,13 +159,13 @@ module _ (v : JobServiceValue) (m : IsManaged v.manager) (l : Living) (by : By) 
         goes_on = λ e. true≢false (sym (ap is_inactive e) ∙ r.on);
       }
 
-  pub left_result : (inst : Instance) (log : Log) → AgreesCommands v.commands inst log → newest_store inst.service (service_of log) primary ≡ Some (newest_of v.manager.core) → IsTop inst log l → awaited v by ≡ Some where_ → IsLeftResult l by where_
-  left_result inst log a newest top e = at (row_in v.commands by) refl e
+  pub left_result : (inst : Instance) (log : Log) → AgreesCommands v.commands inst log → newest_store inst.service (service_of log) primary ≡ Some (newest_of v.manager.core) → IsLiving inst log l → awaited v by ≡ Some where_ → IsLeftResult l by where_
+  left_result inst log a newest lives e = at (row_in v.commands by) refl e
     where
       at : (o : Option Row) → row_in v.commands by ≡ o → option_and_then (λ row. awaited_by v.commands.labels v.manager.book.jobs row.ask) o ≡ Some where_ → IsLeftResult l by where_
       at None f e = cc
       at (Some row) f e =
           let known = found by v.commands.rows row f in
           let r = asks_result v.commands.labels v.manager.book.jobs row.ask where_ e in
-          at_top l inst log top (λ i g. AgreesCommands v.commands i g → newest_store i.service (service_of g) primary ≡ Some (newest_of v.manager.core) → IsLeftResult l by where_)
+          at_living l inst log lives (λ i g. AgreesCommands v.commands i g → newest_store i.service (service_of g) primary ≡ Some (newest_of v.manager.core) → IsLeftResult l by where_)
           (result_of row known.0 known.1 r) a newest

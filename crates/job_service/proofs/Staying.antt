@@ -1,32 +1,34 @@
 -- What is due by the log of an instance stays due while its command is open.
-use Rattle.std.proofs.Common.{◌≡◌, ℕ, inl, inr, List, [], ◌∷◌, ◌++◌, Bool, true, false, cond, ◌&&◌, Some, None, Contains, refl, sym, ap, ◌∙◌, subst, count_by, arith}
-use Rattle.std.specs.Prelude.{filter_map}
-use Rattle.std.specs.List.{list_any}
-use Rattle.std.proofs.lemmas.Bool.{false_from_ne_true}
+use Rattle.std.proofs.Common.{◌≡◌, ℕ, inl, inr, List, [], ◌∷◌, ◌++◌, Bool, true, false, cond, ◌&&◌, ◌==◌, Some, None, Contains, refl, sym, ap, ◌∙◌, subst, count_by, arith}
+use Rattle.std.specs.Prelude.{filter_map, not, unwrap_or}
+use Rattle.std.specs.Option.{option_map_or}
+use Rattle.kvs_rules.proofs.Sequences.{latest_push}
+use Rattle.std.proofs.lemmas.Bool.{cond-true, eq-eqb}
 use Rattle.std.proofs.lemmas.List.Elements.{filter_map-append}
-use Rattle.job_rules.proofs.Among.{Among, among_from, among_left, any_from, contains_from}
+use Rattle.job_rules.proofs.Among.{Among, among_from, among_left, contains_from}
 use Rattle.job_spec.specs.declared.spec.Depend.{Depend}
 use Rattle.kvs_rules.specs.Log.{same_command}
 use Rattle.kvs_txn.specs.declared.txn.By.{By}
 use Rattle.instance_rules.specs.Desks.{AreNamed, StandsAsked, StandsSubmitted, submits_at}
 use Rattle.instance_rules.specs.Log as rules
-use Rattle.instance_rules.specs.Log.{Instance, IsPending, Log, Moment, Served, Issued, Replied, Ticked, Born, Gone, child_of, is_decided, now_of, replies_now, seconds_from, seconds_open, ticked}
-use Rattle.job_commands.proofs.Desks.{asked_there, asked_true, submits_there, submits_true}
+use Rattle.instance_rules.specs.Log.{Instance, IsPending, Log, Moment, Served, Issued, Replied, Ticked, Born, Gone, child_of, child_told, is_decided, now_of, replies_now, seconds_from, seconds_open, ticked}
+use Rattle.job_commands.proofs.Children.{living_told, shut_told}
+use Rattle.job_commands.proofs.Desks.{asked_there, children_stand, asked_true, submits_there, submits_true}
 use Rattle.job_commands.proofs.Logs.{count_push, open_kept, undecided_kept}
 use Rattle.job_commands.proofs.Steps.{names_kept}
 use Rattle.job_commands.specs.Agrees.{AgreesCommands}
 use Rattle.job_commands.specs.Desks.{asked_of, desk_of}
 use Rattle.job_commands.specs.Rows.{CommandsValue}
 use Rattle.manager_rules.specs.Deeds.{command_asked}
-use Rattle.manager_rules.specs.Due.{IsDue, IsLike, StillWaits}
+use Rattle.manager_rules.specs.Due.{IsDue, IsEnding, IsLike, StillWaits}
 use Rattle.manager_rules.specs.Jobs.{StoredJob, ids_of}
 use Rattle.manager_rules.specs.Posts as posts
 use Rattle.manager_rules.specs.Posts.{Desk, Does, IsDuePost, IsOpenStill, IsSubmission, Post, StillSubmits, Submission, Submits}
-use Rattle.manager_rules.specs.Scene.{Scene, is_child_of, is_living, is_shut}
+use Rattle.manager_rules.specs.Scene.{Scene, has_living_child, has_shut_child}
 use Rattle.manager_rules.specs.declared.asked.Asked.{Asked}
 use Rattle.manager_rules.specs.declared.asked.Asked.TheVariants as asked
 use Rattle.manager_rules.specs.declared.due.Due.{Due}
-use Rattle.job_service.specs.Due.{IsOpenFor, LeavesOpen}
+use Rattle.job_service.specs.Due.{IsOpenFor, LeavesChild, LeavesChildOf, LeavesOpen}
 
 -- ---- seconds stay
 
@@ -50,17 +52,6 @@ opened_same by now (Gone job shut ∷ log) m s i = opened_same by now log m s i
 
 seconds_kept : (inst : Instance) (log : Log) (m : Moment) (by : By) (s : ℕ) → Contains (seconds_open inst log by) s → Contains (seconds_open inst (log ++ m ∷ []) by) s
 seconds_kept inst log m by s c = contains_from _ s (opened_same by inst.birth log m s (among_from _ s c))
-
--- ---- a list without children
-
-no_children : (P : Asked → Bool) (id : ℕ) (list : List Asked) → ((job : ℕ) (living shut : Bool) → Contains list (asked.Child job living shut) → ⊥) → list_any (λ a. is_child_of id a && P a) list ≡ false
-no_children P id list none = false_from_ne_true _ (λ e. let f = any_from (λ a. is_child_of id a && P a) list e in at f.0 (contains_from list f.0 f.1) f.2)
-  where
-    at : (a : Asked) → Contains list a → (is_child_of id a && P a) ≡ true → ⊥
-    at (asked.Child job living shut) c e = none job living shut c
-    at (asked.Cancel by job) c e = cc
-    at (asked.Raise by job kind severity note) c e = cc
-    at (asked.Urgency by job urgency) c e = cc
 
 module _ (inst : Instance) (log : Log) (m : Moment) where
   abbrev later : Log
@@ -135,34 +126,67 @@ module _ (inst : Instance) (log : Log) (m : Moment) where
   }
 
   module _ (v new : CommandsValue) (jobs : List StoredJob) (old : AgreesCommands v inst log) (now : AgreesCommands new inst later)
-      (alone : (job : ℕ) → child_of log job ≡ None) (alone_still : (job : ℕ) → child_of later job ≡ None) (same : now_of inst later ≡ now_of inst log)
+      (same : now_of inst later ≡ now_of inst log)
       (events : (s t : Scene) (due : Due) → IsLike s t due.job → StillWaits s t due → IsDue s due → IsDue t due)
       (submissions : (s t : Scene) (birth : ℕ) (submits more : List posts.Submit) (x : Submission) → StillSubmits s t submits more x → IsSubmission s birth submits x → IsSubmission t birth more x) where
-    childless : (job : ℕ) (living shut : Bool) → Contains (asked_of v) (asked.Child job living shut) → ⊥
-    childless job living shut c = let wrong = sym (alone job) ∙ asked_true v inst log old (asked.Child job living shut) c in cc
-
-    childless_still : (job : ℕ) (living shut : Bool) → Contains (asked_of new) (asked.Child job living shut) → ⊥
-    childless_still job living shut c = let wrong = sym (alone_still job) ∙ asked_true new inst later now (asked.Child job living shut) c in cc
-
     abbrev before : Desk
     before = desk_of v inst log jobs
 
     abbrev after : Desk
     after = desk_of new inst later jobs
 
-    like : (id : ℕ) → IsLike before.scene after.scene id
-    like id = record {
+    told_now : (id : ℕ) → child_of later id ≡ unwrap_or (child_told id m) (child_of log id)
+    told_now id = latest_push (child_told id) None log m
+
+    kept_told : (id : ℕ) → child_told id m ≡ None → child_of later id ≡ child_of log id
+    kept_told id none = told_now id ∙ ap (λ o. unwrap_or o (child_of log id)) none
+
+    living_before : (id : ℕ) → has_living_child before.scene.asked id ≡ option_map_or (λ c. c.0) (child_of log id) false
+    living_before id = living_told (asked_of v) log (children_stand v inst log old) id
+
+    living_after : (id : ℕ) → has_living_child after.scene.asked id ≡ option_map_or (λ c. c.0) (child_of later id) false
+    living_after id = living_told (asked_of new) later (children_stand new inst later now) id
+
+    shut_before : (id : ℕ) → has_shut_child before.scene.asked id ≡ option_map_or (λ c. not c.0 && c.1) (child_of log id) false
+    shut_before id = shut_told (asked_of v) log (children_stand v inst log old) id
+
+    shut_after : (id : ℕ) → has_shut_child after.scene.asked id ≡ option_map_or (λ c. not c.0 && c.1) (child_of later id) false
+    shut_after id = shut_told (asked_of new) later (children_stand new inst later now) id
+
+    like_kept : (id : ℕ) → child_told id m ≡ None → IsLike before.scene after.scene id
+    like_kept id none =
+        let e = kept_told id none in
+        record {
+          now = same;
+          grant = refl;
+          jobs = refl;
+          answer = refl;
+          shut = shut_after id ∙ ap (λ o. option_map_or (λ c. not c.0 && c.1) o false) e ∙ sym (shut_before id);
+          living = λ ending gone. living_after id ∙ ap (λ o. option_map_or (λ c. c.0) o false) e ∙ sym (living_before id) ∙ gone;
+        }
+
+    born_told : (id : ℕ) → m ≡ Born id → child_of later id ≡ Some (true, false)
+    born_told id is =
+        let born_now : child_told id (Born id) ≡ Some (Some (true, false)) = cond-true (id == id) _ _ (eq-eqb id id refl) in
+        told_now id ∙ ap (λ x. unwrap_or (child_told id x) (child_of log id)) is ∙ ap (λ o. unwrap_or o (child_of log id)) born_now
+
+    like_born : (id : ℕ) → m ≡ Born id → (IsEnding jobs id → ⊥) → has_shut_child before.scene.asked id ≡ false → IsLike before.scene after.scene id
+    like_born id is alive open_ = record {
       now = same;
       grant = refl;
       jobs = refl;
       answer = refl;
-      shut = no_children is_shut id (asked_of new) childless_still ∙ sym (no_children is_shut id (asked_of v) childless);
-      living = λ ending none. no_children is_living id (asked_of new) childless_still;
+      shut = shut_after id ∙ ap (λ o. option_map_or (λ c. not c.0 && c.1) o false) (born_told id is) ∙ sym open_;
+      living = λ ending gone. absurd (alive ending);
     }
+
+    like : (id : ℕ) → LeavesChild before.scene.asked jobs m id → IsLike before.scene after.scene id
+    like id (inl none) = like_kept id none
+    like id (inr b) = like_born id b.0 b.1 b.2
 
     waits : (due : Due) → LeavesOpen m (Does due) → StillWaits before.scene after.scene due
     waits due o by a command asks c =
-        asked_there new inst later now alone_still a (stands_kept by (o by command) a asks (asked_true v inst log old a c))
+        asked_there new inst later now a (stands_kept by (o by command) a asks (asked_true v inst log old a c))
 
     submits : (x : Submission) → LeavesOpen m (Submits x) → (Contains (ids_of jobs) x.id → ⊥) → StillSubmits before.scene after.scene before.submits after.submits x
     submits x o new_id = record {
@@ -174,6 +198,6 @@ module _ (inst : Instance) (log : Log) (m : Moment) where
           (still from, submits_there new inst later now (still from) (submitted_still from (o from.by (ap Some (sym by))) h), is_still from h);
     }
 
-    pub stays_due : (post : Post) → LeavesOpen m post → IsDuePost before post → IsDuePost after post
-    stays_due (Submits x) o h = submissions before.scene after.scene before.birth before.submits after.submits x (submits x o h.new) h
-    stays_due (Does due) o h = events before.scene after.scene due (like due.job) (waits due o) h
+    pub stays_due : (post : Post) → LeavesOpen m post → LeavesChildOf (asked_of v) jobs m post → IsDuePost before post → IsDuePost after post
+    stays_due (Submits x) o k h = submissions before.scene after.scene before.birth before.submits after.submits x (submits x o h.new) h
+    stays_due (Does due) o k h = events before.scene after.scene due (like due.job k) (waits due o) h

@@ -1,19 +1,19 @@
 -- A job service when time goes on, and when nothing is left to be done.
-use Rattle.std.proofs.Common.{◌≡◌, ℕ, ◌-◌, ◌*◌, ◌^◌, ◌<◌, ◌≤◌, [], ◌∷◌, ◌++◌, length, Bool, true, false, ◌&&◌, ◌||◌, not, Option, Some, None, Contains, refl, sym, ap, ◌∙◌, subst, arith, true≢false}
-use Rattle.std.specs.Prelude.{All, is_some, nat_le}
+use Rattle.std.proofs.Common.{◌≡◌, ℕ, ◌+◌, ◌-◌, ◌*◌, ◌^◌, ◌<◌, ◌≤◌, [], ◌∷◌, ◌++◌, length, Bool, true, false, ◌&&◌, ◌||◌, not, Option, Some, None, Contains, refl, sym, ap, ◌∙◌, subst, arith, true≢false}
+use Rattle.std.specs.Prelude.{All, IfSome, flat_map, is_some, nat_le, nat_lt}
 use Rattle.std.specs.List.{AllByRecursion as Each}
 use Rattle.std.specs.Option.{option_map_or}
-use Rattle.std.proofs.lemmas.Bool.{or_right}
-use Rattle.instance_rules.specs.Family.{IsTarget, Living, MayTick}
+use Rattle.std.proofs.lemmas.Bool.{lt-ltb, ltb-true, or_parts, or_right}
+use Rattle.instance_rules.specs.Family.{HasTarget, IsTarget, Living, MayTick, OfLiving}
 use Rattle.instance_rules.specs.Legal.{IsLegalMoment, OfDesk}
 use Rattle.instance_rules.specs.Log.{Instance, Log, Ticked, before_issue, now_of, service_of}
 use Rattle.job_book.specs.Contract.{seconds_left}
-use Rattle.job_clock.proofs.Bearing.{no_births}
-use Rattle.job_clock.proofs.Standing.{at_top, may_tick, of_desk, target_here, tick_legal}
+use Rattle.job_book.specs.Seconds.{IsSoonest}
+use Rattle.job_book.specs.Value.{BookValue}
+use Rattle.job_clock.proofs.Standing.{at_living, at_top, end_known, end_there, has_known, has_there, may_tick, of_desk, pass_legal, target_here}
 use Rattle.job_clock.proofs.Targets.{reached_row}
 use Rattle.job_clock.proofs.Times.{in_time_at}
-use Rattle.job_clock.specs.Children.{AreChildless}
-use Rattle.job_clock.specs.Standing.{IsTop, StandsAlone}
+use Rattle.job_clock.specs.Standing.{IsLiving, IsTop, PassesNone, StandsWith}
 use Rattle.job_clock.specs.Targets.{IsNextTick, IsReached, targets_of}
 use Rattle.job_commands.proofs.Tables.{found, not_found}
 use Rattle.job_commands.specs.Agrees.{AgreesCommands, StageAgrees}
@@ -26,66 +26,108 @@ use Rattle.job_commands.specs.declared.row.Stage.{Stage}
 use Rattle.job_commands.specs.declared.row.Stage.TheVariants as stage
 use Rattle.job_manager.specs.Managed.{IsManaged}
 use Rattle.job_replies.specs.Ready.{is_ready, is_ready_at}
-use Rattle.job_rules.proofs.Among.{all_at, among_from}
+use Rattle.job_rules.proofs.Among.{all_at, all_from, among_filter, among_from, among_kept, among_right, contains_from}
 use Rattle.kvs_core.specs.Agrees.{Agrees}
 use Rattle.kvs_core.specs.Posted.{newest_of}
 use Rattle.kvs_rules.specs.Answers.{IsLegalLog}
 use Rattle.kvs_rules.specs.Namespaces.{newest_store, primary}
 use Rattle.kvs_txn.specs.declared.txn.By.{By}
 use Rattle.manager_rules.specs.Posts.{Desk, Post}
-use Rattle.manager_rules.specs.Times.{IsIdle, seconds_ahead}
+use Rattle.manager_rules.specs.Times.{IsIdle, seconds_ahead, seconds_of}
 use Rattle.job_service.specs.Agrees.{AgreesJobs}
+use Rattle.job_service.specs.Children.{IsBearing, is_due}
 use Rattle.job_service.specs.Due.{IsFoundBeside, Owes, OwesNothing}
 use Rattle.job_service.specs.Refusals.{fault_for, row_in}
 use Rattle.job_service.specs.Replies.{can_reply, is_ready_in, is_undone}
-use Rattle.job_service.specs.Times.{MayGoTo}
+use Rattle.job_service.specs.Times.{MayGoTo, MayPassTo, targets_left}
 use Rattle.job_service.specs.Value.{JobServiceValue}
 use Rattle.job_service.specs.View.{IsFit}
+use Rattle.job_service.proofs.Bearing.{none_due, stands}
 use Rattle.job_service.proofs.Calls.{facts}
 use Rattle.job_service.proofs.Facts.{ticked_facts, ticked_service}
 use Rattle.job_service.proofs.Owing.{MadeAreDue, UnmadeAreNot, beside-owes}
 
 -- the service at a later second
-abbrev pub ticked_value : JobServiceValue → Bool → ℕ → Option Post → JobServiceValue
-ticked_value v spent second later = record v { spent = spent; second = second; found = later }
+abbrev pub ticked_value : JobServiceValue → Bool → ℕ → ℕ → Option Post → JobServiceValue
+ticked_value v spent second span later = record v { spent = spent; second = second; span = span; found = later }
 
 -- the later second is near enough
-pub then_soon : (v : JobServiceValue) → IsFit v → (second : ℕ) → MayGoTo v second → (v.birth ≤ second) × (1000 * (second - v.birth) < 2 ^ 40)
+pub then_soon : (v : JobServiceValue) → IsFit v → (second : ℕ) → MayPassTo v second → (v.birth ≤ second) × (1000 * (second - v.birth) < 2 ^ 40)
 then_soon v i second may =
     let order = i.order in
-    let above = may.next.above in
+    let above = may.passes.above in
+    let near = may.near in
+    (omega (arith, order, above), omega (arith, near))
+
+none_of : {A : Type 0} (o : Option A) → is_some o ≡ false → o ≡ None
+none_of None e = refl
+none_of (Some x) e = absurd (true≢false e)
+
+free_parts : (v : JobServiceValue) → is_due v ≡ false → (v.manager.posted ≡ None) × (v.found ≡ None) × (v.bearing ≡ None)
+free_parts v free =
+    let both = or_parts (is_some v.manager.posted || is_some v.found) (is_some v.bearing) free in
+    let two = or_parts (is_some v.manager.posted) (is_some v.found) both.0 in
+    (none_of v.manager.posted two.0, none_of v.found two.1, none_of v.bearing both.1)
+
+-- where nothing is due, the next second of the only instance is one to which time may go
+pub goes_to : (v : JobServiceValue) → IsFit v → is_due v ≡ false → (second : ℕ) → IsNextTick (targets_of v.commands) (seconds_left v.second v.manager.book) v.second second → MayGoTo v second
+goes_to v i free second next =
+    let parts = free_parts v free in
+    let present = (in_time_at v.commands (seconds_left v.second v.manager.book) v.birth v.second second v.span next i.timed).present in
     let near = i.near in
-    let present = (in_time_at v.commands (seconds_left v.second v.manager.book) v.birth v.second second v.span may.next i.timed).present in
-    (omega (arith, order, above), omega (arith, near, present))
+    record {
+      pass = record {
+        unposted = parts.0;
+        unfound = parts.1;
+        unborn = parts.2;
+        passes = record {
+          above = next.above;
+          before = all_from (λ other. second ≤ other) (seconds_left v.second v.manager.book) (λ other i.
+              let kept = among_filter (λ t. nat_lt v.second t) (flat_map seconds_of v.manager.book.jobs) other i in
+              next.least other (contains_from (targets_of v.commands ++ seconds_left v.second v.manager.book) other (among_right (targets_of v.commands) (seconds_left v.second v.manager.book) other i)) (ltb-true v.second other kept.1));
+        };
+        near = omega (arith, present, near);
+      };
+      within = present;
+      next = next;
+    }
+
+pub goes_all : (v : JobServiceValue) → IsFit v → is_due v ≡ false → (book : BookValue) → book ≡ v.manager.book → (o : Option ℕ) → IfSome o (λ second. IsNextTick (targets_of v.commands) (seconds_left v.second book) v.second second) → IfSome o (MayGoTo v)
+goes_all v i free book same None h = tt
+goes_all v i free book same (Some second) h = goes_to v i free second (subst (λ b. IsNextTick (targets_of v.commands) (seconds_left v.second b) v.second second) same h)
 
 module _ (v : JobServiceValue) (inst : Instance) (log : Log) (a : AgreesJobs v inst log) (m : IsManaged v.manager) (newest : newest_store inst.service (service_of log) primary ≡ Some (newest_of v.manager.core))
-    (childless : AreChildless v.manager.book.jobs) (unposted : v.manager.posted ≡ None) (unfound : v.found ≡ None) where
+    (bears : IsBearing v.commands v.manager.book v.bearing) (unposted : v.manager.posted ≡ None) (unfound : v.found ≡ None) (unborn : v.bearing ≡ None) where
   abbrev desk : Desk
   desk = desk_of v.commands inst log v.manager.book.jobs
 
   idle : IsIdle desk
   idle = record {
     posts = (let o : OwesNothing desk = subst (λ f. Owes None f desk) unfound (subst (λ p. Owes p v.found desk) unposted a.owes) in o);
-    births = no_births desk.scene childless;
+    births = none_due v inst log a (subst (IsBearing v.commands v.manager.book) unborn bears);
   }
 
-  stands : StandsAlone v.commands v.manager.book.jobs inst log
-  stands = record { commands = a.commands; store = newest_of v.manager.core; standing = newest; are = m.jobs; childless = a.alone }
+  abbrev stand : StandsWith v.commands v.manager.book.jobs inst log
+  stand = stands v inst log a m newest
 
   pub idle_now : OfDesk inst log IsIdle
-  idle_now = of_desk v.commands v.manager.book.jobs inst log stands IsIdle idle
+  idle_now = of_desk v.commands v.manager.book.jobs inst log stand IsIdle idle
+
+  module _ (second : ℕ) (may : MayPassTo v second) where
+    passes : PassesNone (seconds_ahead desk.scene) (now_of inst log) second
+    passes = subst (λ n. PassesNone (seconds_left n v.manager.book) n second) (sym a.second) may.passes
+
+    pub ticks_legal : IsLegalMoment inst log (Ticked second)
+    ticks_legal = pass_legal v.commands v.manager.book.jobs inst log stand second idle passes
 
   module _ (second : ℕ) (may : MayGoTo v second) where
     next : IsNextTick (targets_of v.commands) (seconds_ahead desk.scene) (now_of inst log) second
     next = subst (λ n. IsNextTick (targets_of v.commands) (seconds_left n v.manager.book) n second) (sym a.second) may.next
 
-    pub ticks_legal : IsLegalMoment inst log (Ticked second)
-    ticks_legal = tick_legal v.commands v.manager.book.jobs inst log stands second idle next
-
     pub ticks_may : (l : Living) → IsTop inst log l → MayTick (l ∷ []) (now_of inst log) [] second
     ticks_may l top =
-        at_top l inst log top (λ i g. StandsAlone v.commands v.manager.book.jobs i g → IsIdle (desk_of v.commands i g v.manager.book.jobs) → IsNextTick (targets_of v.commands) (seconds_ahead (desk_of v.commands i g v.manager.book.jobs).scene) (now_of i g) second → MayTick (l ∷ []) (now_of i g) [] second)
-        (λ s at_rest first. may_tick v.commands v.manager.book.jobs l top.from s second at_rest first) stands idle next
+        at_top l inst log top (λ i g. StandsWith v.commands v.manager.book.jobs i g → IsIdle (desk_of v.commands i g v.manager.book.jobs) → IsNextTick (targets_of v.commands) (seconds_ahead (desk_of v.commands i g v.manager.book.jobs).scene) (now_of i g) second → MayTick (l ∷ []) (now_of i g) [] second)
+        (λ s at_rest first. may_tick v.commands v.manager.book.jobs l top.from s second at_rest first) stand idle next
 
   -- ---- no advance is left
 
@@ -127,22 +169,65 @@ module _ (v : JobServiceValue) (inst : Instance) (log : Log) (a : AgreesJobs v i
           ap (λ p. not (is_some p && option_map_or is_undone (row_in v.commands row.by) false) && (is_some (fault_for v.refused row.by) || is_ready_in v row.by)) unposted
           ∙ or_right (is_some (fault_for v.refused row.by)) (is_ready_in v row.by) ready
 
-  pub none_left : All (λ target. target ≤ v.second) (targets_of v.commands) → ((by : By) → can_reply v by ≡ false) → (l : Living) → IsTop inst log l → (target : ℕ) → IsTarget (l ∷ []) [] target → ⊥
-  none_left late untold l top target t =
-      at_top l inst log top (λ i g. AgreesCommands v.commands i g → ⊥)
-      (λ h.
-      let known = target_here v.commands l h target t in
+  none_known : All (λ target. target ≤ v.second) (targets_of v.commands) → ((by : By) → can_reply v by ≡ false) → (target : ℕ) → Contains (targets_of v.commands) target → ⊥
+  none_known late untold target known =
       let low = all_at (λ n. n ≤ v.second) (targets_of v.commands) target late (among_from (targets_of v.commands) target known) in
       let r = reached_row v.commands v.second target known low in
-      true≢false (sym (can_be_told r.0 r.1 r.2) ∙ untold r.0.by))
-      a.commands
+      true≢false (sym (can_be_told r.0 r.1 r.2) ∙ untold r.0.by)
+
+  pub none_left : All (λ target. target ≤ v.second) (targets_of v.commands) → ((by : By) → can_reply v by ≡ false) → (l : Living) → IsLiving inst log l → (target : ℕ) → HasTarget l target → ⊥
+  none_left late untold l lives target t =
+      at_living l inst log lives (λ i g. AgreesCommands v.commands i g → ⊥) (λ h. none_known late untold target (has_known v.commands l h target t)) a.commands
+
+  pub none_left_alone : All (λ target. target ≤ v.second) (targets_of v.commands) → ((by : By) → can_reply v by ≡ false) → (l : Living) → IsTop inst log l → (target : ℕ) → IsTarget (l ∷ []) [] target → ⊥
+  none_left_alone late untold l top target t =
+      at_top l inst log top (λ i g. AgreesCommands v.commands i g → ⊥) (λ h. none_known late untold target (target_here v.commands l h target t)) a.commands
+
+-- ---- among other instances
+
+-- where nothing is due, its parts say so
+pub idle_free : (v : JobServiceValue) (inst : Instance) (log : Log) → AgreesJobs v inst log → IsManaged v.manager → newest_store inst.service (service_of log) primary ≡ Some (newest_of v.manager.core) → IsBearing v.commands v.manager.book v.bearing → is_due v ≡ false → OfDesk inst log IsIdle
+idle_free v inst log a m newest bears free =
+    let p = free_parts v free in
+    idle_now v inst log a m newest bears p.0 p.1 p.2
+
+module _ (v : JobServiceValue) (inst : Instance) (log : Log) (a : AgreesJobs v inst log) where
+  pub target_left : (l : Living) → IsLiving inst log l → (target : ℕ) → (HasTarget l target × (v.second < target) → Contains (targets_left v) target) × (Contains (targets_left v) target → HasTarget l target × (v.second < target))
+  target_left l lives target = (
+    λ t. contains_from (targets_left v) target (among_kept (λ n. nat_lt v.second n) (targets_of v.commands) target (among_from (targets_of v.commands) target (known t.0)) (lt-ltb v.second target t.1)),
+    λ c.
+        let both = among_filter (λ n. nat_lt v.second n) (targets_of v.commands) target (among_from (targets_left v) target c) in
+        (open_ (contains_from (targets_of v.commands) target both.0), ltb-true v.second target both.1),
+  )
+    where
+      known : HasTarget l target → Contains (targets_of v.commands) target
+      known t = at_living l inst log lives (λ i g. AgreesCommands v.commands i g → Contains (targets_of v.commands) target) (λ h. has_known v.commands l h target t) a.commands
+
+      open_ : Contains (targets_of v.commands) target → HasTarget l target
+      open_ c = at_living l inst log lives (λ i g. AgreesCommands v.commands i g → HasTarget l target) (λ h. has_there v.commands l h target c) a.commands
+
+  module _ (m : IsManaged v.manager) (newest : newest_store inst.service (service_of log) primary ≡ Some (newest_of v.manager.core)) where
+    pub ends_left : (l : Living) → IsLiving inst log l → (second : ℕ) → (OfLiving l (λ d. Contains (seconds_ahead d.scene) second) → Contains (seconds_left v.second v.manager.book) second) × (Contains (seconds_left v.second v.manager.book) second → OfLiving l (λ d. Contains (seconds_ahead d.scene) second))
+    ends_left l lives second =
+        subst (λ n. (OfLiving l (λ d. Contains (seconds_ahead d.scene) second) → Contains (seconds_left n v.manager.book) second) × (Contains (seconds_left n v.manager.book) second → OfLiving l (λ d. Contains (seconds_ahead d.scene) second))) a.second
+        (at_living l inst log lives (λ i g. StandsWith v.commands v.manager.book.jobs i g
+        → (OfLiving l (λ d. Contains (seconds_ahead d.scene) second) → Contains (seconds_ahead (desk_of v.commands i g v.manager.book.jobs).scene) second)
+        × (Contains (seconds_ahead (desk_of v.commands i g v.manager.book.jobs).scene) second → OfLiving l (λ d. Contains (seconds_ahead d.scene) second)))
+        (λ s. (end_known v.commands v.manager.book.jobs l.inst l.log s second, end_there v.commands v.manager.book.jobs l.inst l.log s second)) (stands v inst log a m newest))
+
+-- the least target ahead is no later than the advances let time go
+pub target_within : (v : JobServiceValue) → IsFit v → (o : Option ℕ) → IsSoonest (targets_left v) o → IfSome o (λ target. target ≤ v.birth + v.span)
+target_within v i None h = tt
+target_within v i (Some target) h =
+    all_at (λ t. t ≤ v.birth + v.span) (targets_of v.commands) target i.timed.targets
+    (among_filter (λ n. nat_lt v.second n) (targets_of v.commands) target (among_from (targets_left v) target h.one)).0
 
 -- ---- behind the second
 
 module _ (v : JobServiceValue) (inst : Instance) (log : Log) (a : AgreesJobs v inst log) (second : ℕ) (unposted : v.manager.posted ≡ None) where
-  pub ticked_agrees : (spent : Bool) (later : Option Post) → Each (λ j. j.id < 2 ^ 64) v.manager.book.jobs → 1000 * (second - v.birth) < 2 ^ 40 → length v.commands.issued ≤ 32 → MadeAreDue → UnmadeAreNot → IsFoundBeside v.manager.posted v.commands v.manager.book second v.birth later
-      → AgreesJobs (ticked_value v spent second later) inst (log ++ Ticked second ∷ [])
-  ticked_agrees spent later smalls soon short made-due unmade-not h =
+  pub ticked_agrees : (spent : Bool) (span : ℕ) (later : Option Post) → Each (λ j. j.id < 2 ^ 64) v.manager.book.jobs → 1000 * (second - v.birth) < 2 ^ 40 → length v.commands.issued ≤ 32 → MadeAreDue → UnmadeAreNot → IsFoundBeside v.manager.posted v.commands v.manager.book second v.birth later
+      → AgreesJobs (ticked_value v spent second span later) inst (log ++ Ticked second ∷ [])
+  ticked_agrees spent span later smalls soon short made-due unmade-not h =
       let f = ticked_facts v.commands v.refused v.second second inst log (facts v inst log a) in
       let same = ticked_service log second in
       record {
@@ -151,7 +236,7 @@ module _ (v : JobServiceValue) (inst : Instance) (log : Log) (a : AgreesJobs v i
         legal = subst (IsLegalLog inst.service) (sym same) a.legal;
         commands = f.commands;
         second = f.second;
-        alone = f.alone;
+        childless = a.childless;
         owes = beside-owes v.commands v.manager.book second v.birth inst (log ++ Ticked second ∷ []) f.commands a.kind.valid f.second a.kind.answer a.kind.birth a.kind.grant a.labelled smalls soon short made-due unmade-not v.manager.posted later
             (λ post e. absurd (let wrong : None ≡ Some post = sym unposted ∙ e in cc)) h;
         labelled = a.labelled;

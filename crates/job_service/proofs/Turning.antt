@@ -3,8 +3,7 @@ use Rattle.std.proofs.Common.{◌≡◌, ℕ, ◌+◌, ◌-◌, ◌*◌, ◌^◌
 use Rattle.std.specs.List.{AllByRecursion as Each}
 use Rattle.std.specs.Prelude.{slice_index}
 use Rattle.instance_rules.specs.Legal.{IsLegalMoment}
-use Rattle.instance_rules.specs.Log.{Instance, IsInstance, Log, child_of, service_of}
-use Rattle.job_clock.specs.Children.{AreChildless, AskNoChild}
+use Rattle.instance_rules.specs.Log.{Instance, IsInstance, Log, service_of}
 use Rattle.job_clock.specs.Targets.{AreInTime}
 use Rattle.job_commands.specs.Agrees.{AgreesCommands}
 use Rattle.job_commands.specs.Desks.{desk_of}
@@ -37,12 +36,12 @@ use Rattle.job_service.specs.Value.{JobServiceValue}
 use Rattle.job_service.specs.declared.refusals.Refused.{Refused}
 use Rattle.job_service.proofs.Calls.{with_parts}
 use Rattle.job_service.proofs.Facts.{Facts}
-use Rattle.job_service.proofs.Landed.{command_first, facts_later, landed_agrees, landed_asking, landed_childless, landed_counted, landed_drawn, landed_marks, landed_size, landed_time, later_judged, none_numbered}
+use Rattle.job_service.proofs.Landed.{command_first, facts_later, landed_agrees, landed_counted, landed_drawn, landed_marks, landed_size, landed_time, later_judged, none_numbered}
 use Rattle.job_service.proofs.Owing.{MadeAreDue, UnmadeAreNot, posted-due}
 
 -- what the law says of a post that lands
 abbrev pub LandAsDue : Type 0
-LandAsDue = (step : KvsStep) (old new : CoreValue) (events : List KvsEvent) (inst : Instance) (log : Log) (v : CommandsValue) (jobs : List StoredJob) (st : Store) (post : Post) → IsInstance inst → AgreesCommands v inst log → ((job : ℕ) → child_of log job ≡ None)
+LandAsDue = (step : KvsStep) (old new : CoreValue) (events : List KvsEvent) (inst : Instance) (log : Log) (v : CommandsValue) (jobs : List StoredJob) (st : Store) (post : Post) → IsInstance inst → AgreesCommands v inst log
     → Agrees old inst.service (service_of log) → IsLegalLog inst.service (service_of log) → newest_store inst.service (service_of log) primary ≡ Some st → AreJobsOf st jobs → core.Makes step old new events → IsDuePost (desk_of v inst log jobs) post
     → posts_landed events ≡ group_of post ∷ [] → LandsPost inst post events × EachAfter (IsLegalMoment inst) log (map happening events)
 
@@ -50,7 +49,7 @@ module _ (v : JobServiceValue) (inst : Instance) (log : Log) (a : AgreesJobs v i
     (manager : ManagerValue) (step : KvsStep) (events : List KvsEvent) (makes : core.Makes step v.manager.core manager.core events) (follows : Follows v.manager manager events) (law : LandAsDue) where
   lands : (l : Lands v.manager manager events) → LandsPost inst l.post events × EachAfter (IsLegalMoment inst) log (map happening events)
   lands l =
-      law step v.manager.core manager.core events inst log v.commands v.manager.book.jobs (newest_of v.manager.core) l.post a.kind.valid a.commands a.alone a.core a.legal newest m.jobs makes
+      law step v.manager.core manager.core events inst log v.commands v.manager.book.jobs (newest_of v.manager.core) l.post a.kind.valid a.commands a.core a.legal newest m.jobs makes
       (posted-due v.manager.posted v.found (desk_of v.commands inst log v.manager.book.jobs) a.owes l.post l.waited) l.landed
 
   pub unnumbered_stays : number_of_post events ≡ None → Stays v.manager manager events
@@ -103,12 +102,6 @@ module _ (v : JobServiceValue) (inst : Instance) (log : Log) (a : AgreesJobs v i
 
     pub turned_judged : AreJudged v.commands v.manager.book.jobs v.refused → AreJudged commands manager.book.jobs refused
     turned_judged = later_judged v inst log a manager step events makes numbered_lands post_lands commands refused id is_id named carried
-
-    pub turned_asking : AskNoChild v.commands → AskNoChild commands
-    turned_asking h = landed_asking v.commands commands v.refused refused id number by landed h
-
-    pub turned_childless : AreChildless v.manager.book.jobs → AskNoChild v.commands → AreChildless manager.book.jobs
-    turned_childless = landed_childless v inst log a manager step events makes numbered_lands post_lands commands refused id is_id named carried
 
     pub turned_facts : Facts commands refused v.second inst (log ++ map happening events)
     turned_facts = facts_later v inst log a manager step events makes numbered_lands post_lands commands refused id is_id named carried

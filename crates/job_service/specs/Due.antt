@@ -1,7 +1,7 @@
 -- What is due of the job manager.
-use Rattle.std.specs.Prelude.{◌≡◌, ℕ, ◌≤◌, ◌<◌, ◌-◌, ◌*◌, ◌^◌, false, All, Contains, Option, Some, None, length}
+use Rattle.std.specs.Prelude.{◌≡◌, ◌⊎◌, ℕ, ◌≤◌, ◌<◌, ◌-◌, ◌*◌, ◌^◌, false, All, Contains, List, Option, Some, None, length}
 use Rattle.answers.specs.Jobs.{default_priority}
-use Rattle.instance_rules.specs.Log.{Moment, replies_now}
+use Rattle.instance_rules.specs.Log.{Born, Moment, child_told, replies_now}
 use Rattle.job_book.specs.Value.{BookValue, scene_of}
 use Rattle.job_commands.specs.Agrees.{AreDrawn}
 use Rattle.job_commands.specs.Desks.{asked_of}
@@ -14,9 +14,11 @@ use Rattle.job_manager.specs.Posts.{command_of}
 use Rattle.job_manager.specs.Value.{ManagerValue}
 use Rattle.job_submissions.specs.Made.{IsMade, MakesNone}
 use Rattle.kvs_txn.specs.declared.txn.By.{By}
-use Rattle.manager_rules.specs.Due.{IsDue}
+use Rattle.manager_rules.specs.Due.{IsDue, IsEnding}
+use Rattle.manager_rules.specs.Jobs.{StoredJob}
 use Rattle.manager_rules.specs.Posts.{Desk, Does, IsDuePost, Post, Submits}
-use Rattle.manager_rules.specs.Scene.{IsAsked, Scene}
+use Rattle.manager_rules.specs.Scene.{IsAsked, Scene, has_shut_child}
+use Rattle.manager_rules.specs.declared.asked.Asked.{Asked}
 use Rattle.manager_rules.specs.declared.due.Due.{Due}
 
 -- what the manager looks at of the jobs, everyone's being given the default priority
@@ -82,6 +84,17 @@ Owes None None desk = OwesNothing desk
 pub record IsOpenFor (by : By) (m : Moment) : Type 0 where
   pub unanswered : replies_now by m ≡ false
   pub undecided : decides_now by m ≡ false
+
+-- the child of this job is as before, or it is born, no other one has shut down, and the job isn't
+-- ending
+abbrev pub LeavesChild : List Asked → List StoredJob → Moment → ℕ → Type 0
+LeavesChild asked jobs m id = (child_told id m ≡ None)
+    ⊎ ((m ≡ Born id) × (IsEnding jobs id → ⊥) × (has_shut_child asked id ≡ false))
+
+-- so of the job of an event
+abbrev pub LeavesChildOf : List Asked → List StoredJob → Moment → Post → Type 0
+LeavesChildOf asked jobs m (Does due) = LeavesChild asked jobs m due.job
+LeavesChildOf asked jobs m (Submits x) = Unit {0}
 
 -- so of the command that the post carries out, if it carries out one
 abbrev pub LeavesOpen : Moment → Post → Type 0

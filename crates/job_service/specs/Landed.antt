@@ -21,6 +21,7 @@ pub record LandsSubmission (by : By) (id number : ℕ) (old new : CommandsValue)
   pub rows : AreCarried by number old.rows new.rows
   pub size : new.issued ≡ old.issued
   pub marks : new.marks ≡ old.marks
+  pub children : new.children ≡ old.children
   pub agrees : (inst : Instance) (log : Log) (group : Group) (authors : List (Option By))
       (groups : List Group) (label : List ℕ) (urgency : ℕ) (needs : List Named) (text : List ℕ)
       → AgreesCommands old inst log → HasUniqueLabels inst → IsPending by log
@@ -33,6 +34,7 @@ pub record LandsEvent (by : By) (number : ℕ) (old new : CommandsValue) : Type 
   pub rows : AreCarried by number old.rows new.rows
   pub size : new.issued ≡ old.issued
   pub marks : new.marks ≡ old.marks
+  pub children : new.children ≡ old.children
   pub labels : new.labels ≡ old.labels
   pub agrees : (inst : Instance) (log : Log) (group : Group) (authors : List (Option By))
       (groups : List Group) (ask : JobAsk) → AgreesCommands old inst log → inst.asks by ≡ Some ask

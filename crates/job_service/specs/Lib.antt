@@ -1,4 +1,5 @@
 pub mod Value
+pub mod Children
 pub mod Refusals
 pub mod Agrees
 pub mod Replies

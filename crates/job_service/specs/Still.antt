@@ -1,5 +1,5 @@
 -- When nothing of an instance's jobs can go on, and what open commands then wait for.
-use Rattle.std.specs.Prelude.{◌≡◌, ◌&&◌, not, nat_lt, Bool, false, List, Option, Some, None, is_some, option_and_then, if◌then◌else◌}
+use Rattle.std.specs.Prelude.{◌≡◌, ◌&&◌, not, nat_lt, Bool, false, List, Option, Some, None, option_and_then, if◌then◌else◌}
 use Rattle.std.specs.List.{list_any}
 use Rattle.job_clock.specs.Targets.{targets_of}
 use Rattle.job_commands.specs.declared.ask.JobAsk.{JobAsk}
@@ -10,20 +10,22 @@ use Rattle.job_states.specs.declared.job.State.{State}
 use Rattle.kvs_core.specs.Steps.{IsStill as CoreIsStill}
 use Rattle.kvs_txn.specs.declared.txn.By.{By}
 use Rattle.manager_rules.specs.Jobs.{StoredJob}
+use Rattle.job_service.specs.Children.{is_due}
 use Rattle.job_service.specs.Refusals.{row_in}
 use Rattle.job_service.specs.Replies.{can_reply}
 use Rattle.job_service.specs.Value.{JobServiceValue}
 
--- whether time can go on: nothing is posted or due, and an open advance waits for a later second
+-- whether time can go on by an advance of its own: nothing is posted or due, and one waits for a
+-- later second
 abbrev pub can_tick : JobServiceValue → Bool
-can_tick v = not (is_some v.manager.posted) && not (is_some v.found)
-    && list_any (λ target. nat_lt v.second target) (targets_of v.commands)
+can_tick v = not (is_due v) && list_any (λ target. nat_lt v.second target) (targets_of v.commands)
 
 -- no step of the key-value service can be made and none of its answers waits, nothing is to be
--- posted, time doesn't go on, and no job command can be told
+-- posted, no child is to be born, time doesn't go on, and no job command can be told
 pub record IsStill (v : JobServiceValue) : Type 0 where
   pub core : CoreIsStill v.manager.core
   pub unfound : v.found ≡ None
+  pub unborn : v.bearing ≡ None
   pub late : can_tick v ≡ false
   pub untold : (by : By) → can_reply v by ≡ false
 

@@ -1,11 +1,11 @@
 -- A job service's value, from its fields.
 use Rattle.std.specs.Prelude.{◌≡◌, ℕ, ◌+◌, ◌≤◌, ◌<◌, ◌^◌, false, length, count_by, option_map, slice_index}
-use Rattle.job_clock.specs.Children.{AreChildless, AskNoChild}
 use Rattle.job_clock.specs.Targets.{AreInTime}
 use Rattle.job_commands.specs.Rows.{AreMarkedBy, is_submit}
 use Rattle.job_manager.specs.Posts.{post_of}
 use Rattle.job_service.specs.declared.service.JobService.TheInside.{Inside}
 use Rattle.job_service.specs.Agrees.{IsAgreed}
+use Rattle.job_service.specs.Children.{IsBearing}
 use Rattle.job_service.specs.Due.{IsFoundBeside}
 use Rattle.job_service.specs.Judged.{AreJudged}
 use Rattle.job_service.specs.Posted.{IsNamed, id_posted}
@@ -20,6 +20,7 @@ value_of s = record {
   commands = s.commands;
   refused = s.refused.items;
   found = option_map post_of s.found;
+  bearing = s.bearing;
   submitted = s.submitted;
   span = s.span;
 }
@@ -42,8 +43,7 @@ pub record IsFit (v : JobServiceValue) : Type 0 where
       → slice_index v.commands.issued rank ≤ v.submitted
   pub marked : AreMarkedBy v.commands v.second
   pub judged : AreJudged v.commands v.manager.book.jobs v.refused
-  pub childless : AreChildless v.manager.book.jobs
-  pub asking : AskNoChild v.commands
+  pub bearing : IsBearing v.commands v.manager.book v.bearing
   pub agreed : IsAgreed v
 
 -- and it knows the id of the job that is posted

@@ -1,30 +1,29 @@
-//! Submissions whose jobs begin no instance.
-ghost use Rattle.std.specs.Prelude.{IfOk, IsTrue};
-ghost use Rattle.job_clock.specs.Children.{AsksNoChild, TellsNoChild};
+//! Which child is born next, and which may go.
+ghost use Rattle.std.specs.Prelude.{◌≡◌, ◌||◌, IfOk, false};
+ghost use Rattle.std.specs.Option.{option_map_or};
+ghost use Rattle.manager_rules.specs.Dependencies.{job_at};
+ghost use Rattle.job_service.specs.Children.{IsBearing, is_ending};
 
-use job_clock::is_childless;
-use job_commands::JobAsk;
-use std::alloc::{AllocError, Global};
+use job_book::Book;
+use job_commands::Commands;
+use job_states::State;
+use std::alloc::AllocError;
 
-/// Whether a text tells no jobspec whose command begins an instance (Flux RFC 14).
-fn tells_no_child(alloc: Global, text: &[u8]) -> Result<bool, AllocError>
-    ensures { IfOk result (λ none. IsTrue none → TellsNoChild text.now) }
+/// The first job whose child is to be born: it has started with a command that begins an instance,
+/// and has had none.
+pub fn bearing(commands: &Commands, book: &Book) -> Result<Option<u64>, AllocError>
+    ensures { IfOk result (IsBearing commands.now book.now) }
 {
-    match job_spec::read(alloc, text) {
-        Ok(spec) => Ok(is_childless(&spec)),
-        Err(fault) => match fault.number() {
-            Some(_) => Ok(true),
-            None => Err(AllocError),
-        },
-    }
+    let children = commands.children()?;
+    Ok(book.birth(&children))
 }
 
-/// Whether a command submits no job that begins an instance.
-pub fn asks_no_child(alloc: Global, ask: &JobAsk) -> Result<bool, AllocError>
-    ensures { IfOk result (λ none. IsTrue none → AsksNoChild ask.now) }
+/// Whether the child of a job is to go where it lives: it shuts down, or the job is ending.
+pub fn is_over(book: &Book, job: u64, shut: bool) -> bool
+    ensures { result ≡ option_map_or (λ j. shut || is_ending j) (job_at book.now.jobs job) false }
 {
-    match ask {
-        JobAsk::Submit { text, .. } => tells_no_child(alloc, text.as_slice()),
-        _ => Ok(true),
+    match book.job(job) {
+        Some(job) => shut || job.state == State::Cleanup,
+        None => false,
     }
 }

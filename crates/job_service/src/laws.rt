@@ -1,23 +1,24 @@
 //! What follows from the words of the contracts.
-ghost use Rattle.std.specs.Prelude.{◌≡◌, ◌++◌, ◌∷◌, ℕ, List, [], None};
-ghost use Rattle.instance_rules.specs.Log.{Instance, Log, Moment, child_of, now_of};
+ghost use Rattle.std.specs.Prelude.{◌≡◌, ◌++◌, ◌∷◌, List, []};
+ghost use Rattle.instance_rules.specs.Log.{Instance, Log, Moment, now_of};
 ghost use Rattle.job_commands.specs.Agrees.{AgreesCommands};
-ghost use Rattle.job_commands.specs.Desks.{desk_of};
+ghost use Rattle.job_commands.specs.Desks.{asked_of, desk_of};
 ghost use Rattle.job_commands.specs.Rows.{CommandsValue};
-ghost use Rattle.job_service.specs.Due.{LeavesOpen};
+ghost use Rattle.job_service.specs.Due.{LeavesChildOf, LeavesOpen};
 ghost use Rattle.manager_rules.specs.Jobs.{StoredJob};
 ghost use Rattle.manager_rules.specs.Posts.{IsDuePost, Post};
 
 use manager_rules::what_is_due_stays_due;
 
-/// What is due by the log of an instance without children stays due through each further moment of
-/// the same second that leaves the jobs as they are and its command open.
+/// What is due by the log of an instance stays due through each further moment of the same second
+/// that leaves the jobs as they are, its command open, and the child of its job as it was, if that
+/// isn't born meanwhile.
 pub fn what_waits_stays_due()
     ensures { (v new : CommandsValue) (inst : Instance) (log : Log) (m : Moment)
         (jobs : List StoredJob) (post : Post) → AgreesCommands v inst log
-        → AgreesCommands new inst (log ++ m ∷ []) → ((job : ℕ) → child_of log job ≡ None)
-        → ((job : ℕ) → child_of (log ++ m ∷ []) job ≡ None)
+        → AgreesCommands new inst (log ++ m ∷ [])
         → now_of inst (log ++ m ∷ []) ≡ now_of inst log → LeavesOpen m post
+        → LeavesChildOf (asked_of v) jobs m post
         → IsDuePost (desk_of v inst log jobs) post
         → IsDuePost (desk_of new inst (log ++ m ∷ []) jobs) post }
 {

@@ -12,7 +12,6 @@ mod rest;
 mod service;
 mod time;
 
-pub use children::asks_no_child;
 pub use laws::what_waits_stays_due;
 pub use refusals::Refused;
 pub use service::JobService;

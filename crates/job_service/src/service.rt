@@ -1,8 +1,8 @@
 //! The jobs of an instance.
-ghost use Rattle.std.specs.Prelude.{◌≡◌, ◌≢◌, ◌↔◌, ◌<◌, ◌≤◌, ◌+◌, ◌^◌, ◌++◌, ◌∷◌, [], true, false, ◌||◌, ℕ, Some, IsSome, IsTrue, is_some, None, IfNone, IfOk, IfSome, OnErr, OnOk};
-ghost use Rattle.instance_rules.specs.Desks.{is_submission};
-ghost use Rattle.instance_rules.specs.Family.{IsLeftResult, IsTarget, Living, MayTick};
-ghost use Rattle.instance_rules.specs.Log.{Instance, IsOpen, Issued, Log, Served, Shutdown, Ticked, now_of, service_of};
+ghost use Rattle.std.specs.Prelude.{◌≡◌, ◌≢◌, ◌↔◌, ◌<◌, ◌≤◌, ◌+◌, ◌^◌, ◌++◌, ◌∷◌, [], true, false, ℕ, Some, IsSome, Contains, IsTrue, is_some, None, IfNone, IfOk, IfSome, OnErr, OnOk, option_map};
+ghost use Rattle.instance_rules.specs.Desks.{Names, is_submission};
+ghost use Rattle.instance_rules.specs.Family.{HasTarget, IsLeftResult, IsTarget, Living, MayTick, OfLiving};
+ghost use Rattle.instance_rules.specs.Log.{Born, Gone, Instance, IsOpen, Issued, Log, Served, Shutdown, Ticked, now_of, service_of};
 ghost use Rattle.instance_rules.specs.Legal.{IsLegalMoment, OfDesk};
 ghost use Rattle.job_commands.specs.Asks.{told};
 ghost use Rattle.job_replies.specs.Told.{MayTell};
@@ -14,16 +14,21 @@ ghost use Rattle.kvs_rules.specs.Quiet.{AreAllTold};
 ghost use Rattle.kvs_rules.specs.declared.events.KvsEvent.TheVariants as event;
 ghost use Rattle.resource_set.specs.Valid.{IsR};
 ghost use Rattle.job_service.specs.Agrees.{AgreesJobs, HasRoom, IsNewAsk, IsNewCommand, IsServedBy, MayAsk, MayIssue};
+ghost use Rattle.job_service.specs.Children.{IsFirstBirth, IsGrantedBy, NoBirth, grant_from, is_due, is_end_due, may_end};
 ghost use Rattle.job_service.specs.Makes.{Makes};
-ghost use Rattle.job_clock.specs.Children.{AsksNoChild};
-ghost use Rattle.job_clock.specs.Standing.{IsTop};
+ghost use Rattle.job_book.specs.Contract.{r_at, seconds_left};
+ghost use Rattle.job_book.specs.Seconds.{IsSoonest};
+ghost use Rattle.job_clock.specs.Children.{SubmitsNoChild};
+ghost use Rattle.job_clock.specs.Standing.{IsLiving, IsTop};
 ghost use Rattle.kvs_txn.specs.declared.txn.By.{By as Command};
-ghost use Rattle.manager_rules.specs.Times.{IsIdle};
+ghost use Rattle.manager_rules.specs.Jobs.{StoredJob, is_live};
+ghost use Rattle.manager_rules.specs.Times.{IsEndDue, IsIdle, seconds_ahead};
 ghost use Rattle.job_service.specs.Still.{IsStill, awaited, can_tick};
-ghost use Rattle.job_service.specs.Times.{Counts, HasTime, IsTimeUp, KeepsCounts, MayGoTo};
+ghost use Rattle.job_service.specs.Times.{Counts, CountsTo, HasTime, IsTimeUp, KeepsCounts, MayGoTo, MayPassTo, targets_left};
 ghost use Rattle.job_states.specs.declared.job.State.{State as StateValue};
 ghost use Rattle.job_service.specs.Replies.{Answers, can_reply, is_kept_back, is_ready_in};
 
+use crate::children::{bearing, is_over};
 use crate::due::look;
 use crate::landing::{command_posted, land};
 use crate::laws::what_waits_stays_due;
@@ -33,7 +38,8 @@ use crate::refusals::{
 };
 use crate::rest::awaited;
 use crate::time::{is_within, seconds_asked};
-use job_clock::next_tick;
+use child_grant::child;
+use job_clock::{next_target, next_tick};
 use job_commands::{Commands, JobAsk};
 use job_landings::{number_of_post, what_is_posted_lands_as_it_is_due};
 use job_manager::{Manager, Post};
@@ -66,9 +72,12 @@ pub struct JobService {
     found: Option<Post>,
     /// The id of the job that is submitted, where a submission is posted.
     submitting: Option<u64>,
+    /// The first job whose child is to be born.
+    bearing: Option<u64>,
     /// How many submissions were issued.
     submitted: u64,
-    /// The seconds of all advances that were issued, together.
+    /// By how many seconds time has gone on or may go on by the advances that were issued: their
+    /// seconds together, or more where it has gone on by others.
     span: u64,
 }
 
@@ -117,6 +126,7 @@ impl JobService {
             refused: Vec::new(alloc),
             found: None,
             submitting: None,
+            bearing: None,
             submitted: 0,
             span: 0,
         })
@@ -214,6 +224,7 @@ impl JobService {
             self.second,
             self.birth,
         )?;
+        self.bearing = bearing(&self.commands, self.manager.book())?;
         self.spent = false;
         Ok(events)
     }
@@ -248,16 +259,139 @@ impl JobService {
         Ok(())
     }
 
+    /// The first job whose child is to be born: it has started with a command that begins an
+    /// instance (Flux RFC 14), and has had none. This takes no memory.
+    pub fn birth(&self) -> Option<u64>
+        requires { self.now.spent ≡ false }
+        ensures kept { result ≡ self.now.bearing }
+        ensures some { IfSome result (λ job. (inst : Instance) (log : Log)
+            → AgreesJobs self.now inst log
+            → OfDesk inst log (λ desk. IsFirstBirth desk.scene job)) }
+        ensures none { IfNone result ((inst : Instance) (log : Log) → AgreesJobs self.now inst log
+            → OfDesk inst log (λ desk. NoBirth desk.scene)) }
+    {
+        self.manager.keeps();
+        self.manager.core().standing();
+        self.bearing
+    }
+
+    /// The child of a job is born, which is the first that is to be. After an error the service is
+    /// spent.
+    pub fn born(&mut self, job: u64) -> Result<(), AllocError>
+        requires ready { self.old.spent ≡ false }
+        requires due { self.old.bearing ≡ Some job }
+        ensures ready { OnOk result (self.new.spent ≡ false) }
+        ensures counts { OnOk result (KeepsCounts self.old self.new) }
+        ensures spent { OnErr result (self.new.spent ≡ true) }
+        ensures legal { OnOk result ((inst : Instance) (log : Log) → AgreesJobs self.old inst log
+            → IsLegalMoment inst log (Born job)) }
+        ensures agrees { OnOk result ((inst : Instance) (log : Log) → AgreesJobs self.old inst log
+            → AgreesJobs self.new inst (log ++ Born job ∷ [])) }
+    {
+        self.spent = true;
+        self.manager.keeps();
+        self.manager.core().standing();
+        self.manager.book().keeps();
+        what_waits_stays_due();
+        what_is_made_is_due();
+        self.commands.born(job)?;
+        self.found = look(
+            self.alloc,
+            &self.commands,
+            &self.manager,
+            self.second,
+            self.birth,
+        )?;
+        self.bearing = bearing(&self.commands, self.manager.book())?;
+        self.spent = false;
+        Ok(())
+    }
+
+    /// Whether the child of a job may go, which shuts down or doesn't: it lives, it shuts down or
+    /// its job is ending, and no event of the job waits to land. Where its end is due by the rules
+    /// and none waits, it may. This takes no memory.
+    pub fn may_end(&self, job: u64, shut: bool) -> bool
+        requires { self.now.spent ≡ false }
+        ensures exact { result ≡ may_end self.now job shut }
+        ensures due { (inst : Instance) (log : Log) → AgreesJobs self.now inst log
+            → IsTrue (is_end_due self.now job shut)
+            ↔ OfDesk inst log (λ desk. IsEndDue desk.scene (IsTrue shut) job) }
+    {
+        self.manager.keeps();
+        self.manager.core().standing();
+        !self.manager.is_posted_for(job)
+            && is_over(self.manager.book(), job, shut)
+            && self.commands.has_living_child(job)
+    }
+
+    /// The child of a job goes, by its own shutdown or not. After an error the service is spent.
+    pub fn gone(&mut self, job: u64, shut: bool) -> Result<(), AllocError>
+        requires ready { self.old.spent ≡ false }
+        requires may { may_end self.old job shut ≡ true }
+        ensures ready { OnOk result (self.new.spent ≡ false) }
+        ensures counts { OnOk result (KeepsCounts self.old self.new) }
+        ensures spent { OnErr result (self.new.spent ≡ true) }
+        ensures legal { OnOk result ((inst : Instance) (log : Log) → AgreesJobs self.old inst log
+            → IsLegalMoment inst log (Gone job shut)) }
+        ensures agrees { OnOk result ((inst : Instance) (log : Log) → AgreesJobs self.old inst log
+            → AgreesJobs self.new inst (log ++ Gone job shut ∷ [])) }
+    {
+        self.spent = true;
+        self.manager.keeps();
+        self.manager.core().standing();
+        self.manager.book().keeps();
+        what_waits_stays_due();
+        what_is_made_is_due();
+        self.commands.gone(job, shut);
+        self.found = look(
+            self.alloc,
+            &self.commands,
+            &self.manager,
+            self.second,
+            self.birth,
+        )?;
+        self.bearing = bearing(&self.commands, self.manager.book())?;
+        self.spent = false;
+        Ok(())
+    }
+
+    /// The grant of the child of a live job: the job's resources at ranks from 0 on (Flux RFC 20),
+    /// or none where the job holds none.
+    pub fn grant_of(&self, job: u64) -> Result<Option<Resources>, AllocError>
+        requires { self.now.spent ≡ false }
+        ensures grant { IfOk result (λ grant. grant
+            ≡ option_map grant_from (r_at self.now.manager.book.jobs job)) }
+        ensures valid { IfOk result (λ grant. IfSome grant IsR) }
+        ensures held { IfOk result (λ grant. IfSome grant (λ r. (inst : Instance) (log : Log)
+            → AgreesJobs self.now inst log → IsGrantedBy inst log job r)) }
+        ensures none { IfOk result (λ grant. grant ≡ None → (j : StoredJob)
+            → Contains self.now.manager.book.jobs j → j.id ≡ job → is_live j.job ≡ false) }
+        ensures bears { IfOk result (λ grant. self.now.bearing ≡ Some job → IsSome grant) }
+    {
+        self.manager.keeps();
+        self.manager.core().standing();
+        match self.manager.book().r(job) {
+            Some(r) => Ok(Some(child(self.alloc, r)?)),
+            None => Ok(None),
+        }
+    }
+
+    /// The job that a label names.
+    pub fn job_of(&self, label: &[u8]) -> Option<u64>
+        ensures { (inst : Instance) (log : Log) → AgreesJobs self.now inst log → (id : ℕ)
+            → (result ≡ Some id) ↔ Names inst log label.now id }
+    {
+        self.commands.job_of(label)
+    }
+
     /// Issues a job command at its broker. A submission is looked at once, here: where it is
-    /// refused, it can be told so from then on. Its text tells no job whose command begins an
-    /// instance (Flux RFC 14), and all advances together let time go on by no more than
-    /// 1,000,000,000 seconds. After an error the service is spent.
+    /// refused, it can be told so from then on. All advances together let time go on by no more
+    /// than 1,000,000,000 seconds. After an error the service is spent.
     pub fn issue(&mut self, by: By, rank: u32, ask: JobAsk) -> Result<(), AllocError>
         requires ready { self.old.spent ≡ false }
         requires may { MayIssue self.old by rank ask }
         requires room { is_submission (Some (told ask)) ≡ true → HasRoom self.old }
         requires time { HasTime self.old ask }
-        requires childless { AsksNoChild ask }
         ensures ready { OnOk result (self.new.spent ≡ false) }
         ensures size { OnOk result (self.new.manager.core.size ≡ self.old.manager.core.size) }
         ensures counts { OnOk result (Counts ask self.old self.new) }
@@ -314,39 +448,74 @@ impl JobService {
             }
     }
 
-    /// Whether something is posted or due.
-    fn is_busy(&self) -> bool
-        ensures { result ≡ (is_some self.now.manager.posted || is_some self.now.found) }
+    /// Whether something is posted or due: a post, or a birth. This takes no memory.
+    pub fn is_due(&self) -> bool
+        requires { self.now.spent ≡ false }
+        ensures exact { result ≡ is_due self.now }
+        ensures idle { (inst : Instance) (log : Log) → AgreesJobs self.now inst log
+            → result ≡ false → OfDesk inst log IsIdle }
     {
-        self.manager.is_waiting() || self.found.is_some()
+        self.manager.keeps();
+        self.manager.core().standing();
+        self.manager.is_waiting() || self.found.is_some() || self.bearing.is_some()
     }
 
-    /// The second to which time goes next, if it goes on: nothing is posted or due, and an open
-    /// advance waits for a later second. This takes no memory.
+    /// The least second ahead that an open advance waits for. This takes no memory.
+    pub fn next_target(&self) -> Option<u64>
+        requires { self.now.spent ≡ false }
+        ensures soonest { IsSoonest (targets_left self.now) result }
+        ensures targets { (inst : Instance) (log : Log) (l : Living) (target : ℕ)
+            → AgreesJobs self.now inst log → IsLiving inst log l
+            → (HasTarget l target × (self.now.second < target))
+            ↔ Contains (targets_left self.now) target }
+        ensures within { IfSome result (λ target. target ≤ self.now.birth + self.now.span) }
+    {
+        next_target(&self.commands, self.second)
+    }
+
+    /// The next second, behind the present one, at which a running job's command ends or its
+    /// resources do. This takes no memory.
+    pub fn next_end(&self) -> Option<u64>
+        requires { self.now.spent ≡ false }
+        ensures soonest { IsSoonest (seconds_left self.now.second self.now.manager.book) result }
+        ensures ends { (inst : Instance) (log : Log) (l : Living) (second : ℕ)
+            → AgreesJobs self.now inst log → IsLiving inst log l
+            → OfLiving l (λ desk. Contains (seconds_ahead desk.scene) second)
+            ↔ Contains (seconds_left self.now.second self.now.manager.book) second }
+    {
+        self.manager.keeps();
+        self.manager.core().standing();
+        self.manager.book().next_second(self.second)
+    }
+
+    /// The second to which time goes next where no other instance lives, if it goes on: nothing is
+    /// posted or due, and an open advance waits for a later second. This takes no memory.
     pub fn next_second(&self) -> Option<u64>
         requires { self.now.spent ≡ false }
         ensures can { is_some result ≡ can_tick self.now }
         ensures some { IfSome result (MayGoTo self.now) }
         ensures none { IfNone result (IsTimeUp self.now) }
     {
-        if self.is_busy() {
+        if self.is_due() {
             return None;
         }
         next_tick(&self.commands, self.manager.book(), self.second)
     }
 
-    /// Lets time go on to this second. After an error the service is spent.
+    /// Lets time go on to this second, by an advance of this instance or of another one. After an
+    /// error the service is spent.
     pub fn tick(&mut self, second: u64) -> Result<(), AllocError>
         requires ready { self.old.spent ≡ false }
-        requires may { MayGoTo self.old second }
+        requires may { MayPassTo self.old second }
         ensures ready { OnOk result (self.new.spent ≡ false) }
-        ensures counts { OnOk result (KeepsCounts self.old self.new) }
+        ensures counts { OnOk result (CountsTo second self.old self.new) }
+        ensures keeps { OnOk result (MayGoTo self.old second → KeepsCounts self.old self.new) }
         ensures second { OnOk result (self.new.second ≡ second) }
         ensures spent { OnErr result (self.new.spent ≡ true) }
         ensures legal { OnOk result ((inst : Instance) (log : Log) → AgreesJobs self.old inst log
             → IsLegalMoment inst log (Ticked second)) }
         ensures may { OnOk result ((inst : Instance) (log : Log) (l : Living)
-            → AgreesJobs self.old inst log → IsTop inst log l
+            → AgreesJobs self.old inst log → IsTop inst log l → MayGoTo self.old second
             → MayTick (l ∷ []) (now_of inst log) [] second) }
         ensures agrees { OnOk result ((inst : Instance) (log : Log) → AgreesJobs self.old inst log
             → AgreesJobs self.new inst (log ++ Ticked second ∷ [])) }
@@ -357,6 +526,7 @@ impl JobService {
         self.manager.book().keeps();
         what_is_made_is_due();
         self.second = second;
+        self.span = self.span.max(second - self.birth);
         self.found = look(
             self.alloc,
             &self.commands,
@@ -378,20 +548,25 @@ impl JobService {
 
     /// Where nothing can go on, nothing is due by the log of the instance and none of its advances
     /// is left. Where all brokers are told besides, a job command that is left waits for the result
-    /// of a job that isn't over; shutdowns are another's.
+    /// of a job that isn't over; shutdowns are another's. No child is to be born where no command
+    /// submits a job that begins an instance.
     pub fn still(&self)
         requires { self.now.spent ≡ false }
         ensures idle { (inst : Instance) (log : Log) → AgreesJobs self.now inst log
             → IsStill self.now → OfDesk inst log IsIdle }
         ensures advanced { (inst : Instance) (log : Log) (l : Living) → AgreesJobs self.now inst log
+            → IsStill self.now → IsLiving inst log l → (target : ℕ) → HasTarget l target → ⊥ }
+        ensures alone { (inst : Instance) (log : Log) (l : Living) → AgreesJobs self.now inst log
             → IsStill self.now → IsTop inst log l
             → (target : ℕ) → IsTarget (l ∷ []) [] target → ⊥ }
+        ensures childless { (inst : Instance) (log : Log) → AgreesJobs self.now inst log
+            → SubmitsNoChild inst → self.now.bearing ≡ None }
         ensures left { (inst : Instance) (log : Log) → AgreesJobs self.now inst log
             → IsStill self.now → AreAllTold inst.service (service_of log) → (by : Command)
             → IsSome (inst.asks by) → inst.asks by ≢ Some Shutdown → IsOpen by log
             → IsSome (awaited self.now by) }
         ensures results { (inst : Instance) (log : Log) (l : Living) → AgreesJobs self.now inst log
-            → IsTop inst log l → (by : Command) (where_ : StateValue)
+            → IsLiving inst log l → (by : Command) (where_ : StateValue)
             → awaited self.now by ≡ Some where_ → IsLeftResult l by where_ }
     {
         self.manager.keeps();

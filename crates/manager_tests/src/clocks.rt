@@ -1,11 +1,10 @@
-//! Next seconds of small tables of commands, and commands that begin instances.
+//! Next seconds of small tables of commands.
 ghost use Rattle.std.specs.Prelude.{◌<◌, ◌^◌, All, IfSome, IsTrue, filter_map};
 ghost use Rattle.job_clock.specs.Targets.{target_in as target_of};
 
 use job_book::Book;
-use job_clock::{is_childless, next_tick};
+use job_clock::next_tick;
 use job_commands::{Commands, JobAsk, Row};
-use job_spec::JobSpec;
 use kvs_txn::By;
 use std::alloc::{AllocError, Global};
 use std::test::Fail;
@@ -26,18 +25,6 @@ const TICKS: [([u64; 3], u64, u64); 9] = [
     ([9, 1, 4], 6, 9),
     ([9, 1, 4], 9, 14),
     ([0, 0, 18446744073709551610], 5, 18446744073709551615),
-];
-
-/// Commands, and whether they begin no instance.
-const COMMANDS: [(&str, bool); 8] = [
-    ("\"true\"", true),
-    ("\"false\"", true),
-    ("\"sleep\",\"10\"", true),
-    ("\"flux\"", true),
-    ("\"flux\",\"start\"", true),
-    ("\"broker\",\"flux\"", true),
-    ("\"flux\",\"broker\"", false),
-    ("\"flux\",\"broker\",\"sleep\",\"1\"", false),
 ];
 
 /// Whether the second that a command waits for fits.
@@ -88,23 +75,6 @@ fn time_goes_to_the_next_target(rt: HostRuntime) -> Result<(), Fail> {
     for (seconds, now, wanted) in TICKS {
         let told = next(rt.alloc(), seconds, now)?;
         assert_eq!(rt; told.unwrap_or(0), wanted, "after {now}");
-    }
-    Ok(())
-}
-
-/// A job of this command.
-fn job(alloc: Global, command: &str) -> Result<JobSpec, Fail> {
-    let text = format!(in alloc;
-        "{{\"resources\":[{{\"type\":\"slot\",\"count\":1,\"with\":[{{\"type\":\"core\",\"count\":1}}],\"label\":\"task\"}}],\"tasks\":[{{\"command\":[{command}],\"slot\":\"task\",\"count\":{{\"per_slot\":1}}}}],\"version\":1}}"
-    )?;
-    Ok(job_spec::read(alloc, text.as_bytes())?)
-}
-
-#[test]
-fn brokers_begin_instances(rt: HostRuntime) -> Result<(), Fail> {
-    for (command, wanted) in COMMANDS {
-        let spec = job(rt.alloc(), command)?;
-        assert_eq!(rt; is_childless(&spec), wanted, "{command}");
     }
     Ok(())
 }

@@ -1,4 +1,4 @@
-//! Two submissions under labels, and commands about their jobs.
+//! Two submissions under labels, commands about their jobs, and the child of a job.
 ghost use Rattle.std.specs.Prelude.{◌≡◌, ◌<◌, OnOk, length};
 
 use job_commands::{Commands, JobAsk, NamedList};
@@ -99,5 +99,27 @@ fn commands_wait_for_their_labels(rt: HostRuntime) -> Result<(), Fail> {
     assert_eq!(rt; commands.rows().len(), 2);
     assert_eq!(rt; commands.issued(2), 2);
     assert!(rt; commands.row(by(2)).is_none());
+    Ok(())
+}
+
+#[test]
+fn a_child_is_born_and_goes(rt: HostRuntime) -> Result<(), Fail> {
+    let mut commands = Commands::new(rt.alloc(), 1)?;
+    commands.born(77)?;
+    assert!(rt; commands.has_living_child(77));
+    assert!(rt; !commands.has_living_child(78));
+    commands.gone(77, true);
+    assert!(rt; !commands.has_living_child(77));
+    let children = commands.children()?;
+    assert!(rt;
+        matches!(
+            children.as_slice(),
+            [Asked::Child {
+                job: 77,
+                living: false,
+                shut: true
+            }]
+        )
+    );
     Ok(())
 }

@@ -12,7 +12,7 @@ use answers::Reply;
 use fl_digest::Hash;
 use job_book::Book;
 use job_commands::{JobAsk, Named, NamedList};
-use job_service::{JobService, asks_no_child};
+use job_service::JobService;
 use job_spec::Scheme;
 use job_states::State;
 use kvs_core::Setting;
@@ -32,6 +32,13 @@ const SPEC: &str =
 /// The jobspec of a job that sleeps.
 const SLEEP: &str =
     "{\"resources\":[{\"type\":\"slot\",\"count\":1,\"with\":[{\"type\":\"core\",\"count\":1}],\"label\":\"task\"}],\"tasks\":[{\"command\":[\"sleep\",\"10\"],\"slot\":\"task\",\"count\":{\"per_slot\":1}}],\"version\":1}";
+
+/// The jobspec of a job that begins an instance, and of one that does so for three seconds at most.
+const BROKER: &str =
+    "{\"resources\":[{\"type\":\"slot\",\"count\":1,\"with\":[{\"type\":\"core\",\"count\":1}],\"label\":\"task\"}],\"tasks\":[{\"command\":[\"flux\",\"broker\"],\"slot\":\"task\",\"count\":{\"per_slot\":1}}],\"version\":1}";
+
+const BRIEF: &str =
+    "{\"resources\":[{\"type\":\"slot\",\"count\":1,\"with\":[{\"type\":\"core\",\"count\":1}],\"label\":\"task\"}],\"tasks\":[{\"command\":[\"flux\",\"broker\"],\"slot\":\"task\",\"count\":{\"per_slot\":1}}],\"attributes\":{\"system\":{\"duration\":3.0}},\"version\":1}";
 
 /// Commands, and what is told at once and what is due then.
 const ROWS: [(&str, &str); 6] = [
@@ -114,6 +121,9 @@ const SECOND: By = By {
     command: 1,
 };
 
+/// The id of the first job.
+const JOB: u64 = 0;
+
 /// The words for a reply.
 fn words_of(alloc: Global, reply: &Reply) -> Result<String, Fail> {
     Ok(match reply {
@@ -122,6 +132,9 @@ fn words_of(alloc: Global, reply: &Reply) -> Result<String, Fail> {
         Reply::Jobs(jobs) => format!(in alloc; "{} jobs", jobs.as_slice().len())?,
         Reply::Submitted(id) => format!(in alloc; "submitted {id}")?,
         Reply::Advanced { second } => format!(in alloc; "advanced {second}")?,
+        Reply::EndedWith {
+            status: Some(status),
+        } => format!(in alloc; "ended {status}")?,
         _ => format!(in alloc; "other")?,
     })
 }
@@ -137,16 +150,13 @@ fn has_time(service: &JobService, ask: &JobAsk) -> bool
 }
 
 /// Issues a command at the one broker.
-fn issue(alloc: Global, service: &mut JobService, by: By, ask: JobAsk) -> Result<(), Fail>
+fn issue(service: &mut JobService, by: By, ask: JobAsk) -> Result<(), Fail>
     requires ready { service.old.spent ≡ false }
     requires may { MayIssue service.old by 0 ask }
     ensures ready { OnOk result (service.new.spent ≡ false) }
     ensures agrees { OnOk result ((inst : Instance) (log : Log) → AgreesJobs service.old inst log
         → IsNewCommand inst log by 0 ask → AgreesJobs service.new inst (log ++ Issued by ∷ [])) }
 {
-    if !asks_no_child(alloc, &ask)? {
-        return Err("a child".into());
-    }
     if !service.has_room() || !has_time(service, &ask) {
         return Err("no room".into());
     }
@@ -173,7 +183,7 @@ fn told_at(alloc: Global, service: &mut JobService, ask: JobAsk) -> Result<Strin
     requires begun { IsBegun service.old }
     requires range { IsInRange (told ask) }
 {
-    issue(alloc, service, FIRST, ask)?;
+    issue(service, FIRST, ask)?;
     told_of(alloc, service)
 }
 
@@ -248,30 +258,85 @@ fn tick(service: &mut JobService) -> Result<(), Fail>
     Ok(())
 }
 
-/// Does what can be done first: a step of the service, a post, a reply, or a tick.
-fn act(alloc: Global, service: &mut JobService, told: &mut String) -> Result<(), Fail>
+/// The child of a job is born, if one is to be: whether it has a grant then, and whether it may go
+/// by its shutdown and without one.
+fn bear(alloc: Global, service: &mut JobService, told: &mut String) -> Result<bool, Fail>
+    requires { service.old.spent ≡ false }
+    ensures { OnOk result (service.new.spent ≡ false) }
+{
+    let Some(job) = service.birth() else {
+        return Ok(false);
+    };
+    let granted = service.grant_of(job)?.is_some();
+    service.born(job)?;
+    let shuts = service.may_end(job, true);
+    let ends = service.may_end(job, false);
+    let words = format!(in alloc; "born {granted}, may go {shuts} {ends}; ")?;
+    told.push_str(words.as_str())?;
+    Ok(true)
+}
+
+/// The child of the job goes, if it may: whether anything is due then, and whether it may go again.
+fn leave(
+    alloc: Global,
+    service: &mut JobService,
+    shut: bool,
+    told: &mut String,
+) -> Result<bool, Fail>
+    requires { service.old.spent ≡ false }
+    ensures { OnOk result (service.new.spent ≡ false) }
+{
+    if !service.may_end(JOB, shut) {
+        return Ok(false);
+    }
+    let waits = service.can_post();
+    service.gone(JOB, shut)?;
+    let due = service.can_post();
+    let again = service.may_end(JOB, true);
+    let words = format!(in alloc; "gone, due {waits} {due}, may go {again}; ")?;
+    told.push_str(words.as_str())?;
+    Ok(true)
+}
+
+/// Makes a step of the service, a post or a reply, if one can be made.
+fn serve(alloc: Global, service: &mut JobService, told: &mut String) -> Result<bool, Fail>
     requires { service.old.spent ≡ false }
     ensures { OnOk result (service.new.spent ≡ false) }
 {
     if turn(service)? {
-        return Ok(());
+        return Ok(true);
     }
     if post(service)? {
+        return Ok(true);
+    }
+    tell(alloc, service, told)
+}
+
+/// Does what can be done first: a step, a post or a reply, a birth, the end of a child, by its
+/// shutdown or without one, or a tick.
+fn act(alloc: Global, service: &mut JobService, shut: bool, told: &mut String) -> Result<(), Fail>
+    requires { service.old.spent ≡ false }
+    ensures { OnOk result (service.new.spent ≡ false) }
+{
+    if serve(alloc, service, told)? {
         return Ok(());
     }
-    if tell(alloc, service, told)? {
+    if bear(alloc, service, told)? {
+        return Ok(());
+    }
+    if leave(alloc, service, shut, told)? {
         return Ok(());
     }
     tick(service)
 }
 
 /// What is told, in order, until nothing can be done.
-fn all_told(alloc: Global, service: &mut JobService) -> Result<String, Fail>
+fn all_told(alloc: Global, service: &mut JobService, shut: bool) -> Result<String, Fail>
     requires { service.old.spent ≡ false }
 {
     let mut told = String::new(alloc);
     for _ in 0..200 {
-        act(alloc, service, &mut told)?;
+        act(alloc, service, shut, &mut told)?;
     }
     Ok(told)
 }
@@ -282,22 +347,29 @@ fn both_told(
     service: &mut JobService,
     first: JobAsk,
     second: JobAsk,
+    shut: bool,
 ) -> Result<String, Fail>
     requires begun { IsBegun service.old }
     requires range { IsInRange (told first) }
     requires other { IsInRange (told second) }
     requires apart { is_submission (Some (told second)) ≡ false }
 {
-    issue(alloc, service, FIRST, first)?;
-    issue(alloc, service, SECOND, second)?;
-    all_told(alloc, service)
+    issue(service, FIRST, first)?;
+    issue(service, SECOND, second)?;
+    all_told(alloc, service, shut)
 }
 
 /// What is told of a job and an advance.
 fn run_told(alloc: Global) -> Result<String, Fail> {
     let submit = submission(alloc, SPEC, false)?;
     let mut service = begun(alloc)?;
-    both_told(alloc, &mut service, submit, JobAsk::Advance { seconds: 2 })
+    both_told(
+        alloc,
+        &mut service,
+        submit,
+        JobAsk::Advance { seconds: 2 },
+        false,
+    )
 }
 
 #[test]
@@ -314,7 +386,7 @@ fn result_left(alloc: Global, text: &str) -> Result<Option<State>, Fail> {
         label: Bytes::of(alloc, b"one")?,
     };
     let mut service = begun(alloc)?;
-    both_told(alloc, &mut service, submit, result)?;
+    both_told(alloc, &mut service, submit, result, false)?;
     Ok(service.awaited(SECOND))
 }
 
@@ -322,5 +394,49 @@ fn result_left(alloc: Global, text: &str) -> Result<Option<State>, Fail> {
 fn a_result_waits_for_a_job_that_sleeps(rt: HostRuntime) -> Result<(), Fail> {
     assert_eq!(rt; result_left(rt.alloc(), SLEEP)?, Some(State::Run));
     assert_eq!(rt; result_left(rt.alloc(), SPEC)?, None);
+    Ok(())
+}
+
+/// What is told of a job that begins an instance, which shuts down, and of its result.
+fn shutdown_told(alloc: Global) -> Result<String, Fail> {
+    let submit = submission(alloc, BROKER, false)?;
+    let result = JobAsk::ResultOf {
+        label: Bytes::of(alloc, b"one")?,
+    };
+    let mut service = begun(alloc)?;
+    both_told(alloc, &mut service, submit, result, true)
+}
+
+#[test]
+fn a_job_ends_well_once_its_child_has_shut_down(rt: HostRuntime) -> Result<(), Fail> {
+    let told = shutdown_told(rt.alloc())?;
+    assert_eq!(rt;
+        told.as_str(),
+        "submitted 0; born true, may go true false; gone, due false true, may go false; ended 0; "
+    );
+    Ok(())
+}
+
+/// What is told of a job that begins an instance and is out of time while that lives, and of an
+/// advance.
+fn timeout_told(alloc: Global, shut: bool) -> Result<String, Fail> {
+    let submit = submission(alloc, BRIEF, false)?;
+    let mut service = begun(alloc)?;
+    both_told(
+        alloc,
+        &mut service,
+        submit,
+        JobAsk::Advance { seconds: 5 },
+        shut,
+    )
+}
+
+#[test]
+fn a_job_that_is_ending_waits_for_its_child(rt: HostRuntime) -> Result<(), Fail> {
+    let told = timeout_told(rt.alloc(), false)?;
+    assert_eq!(rt;
+        told.as_str(),
+        "submitted 0; born true, may go true false; gone, due false true, may go false; advanced 10; "
+    );
     Ok(())
 }

@@ -29,7 +29,7 @@ contents_still v h = record {
 }
 
 pub jobs_still : (v : ServicesValue) → IsStill v → JobsAreStill v.jobs
-jobs_still v h = record { core = core_still v h; unfound = h.unfound; late = h.late; untold = h.untold }
+jobs_still v h = record { core = core_still v h; unfound = h.unfound; unborn = h.unborn; late = h.late; untold = h.untold }
 
 -- where no open command asks of contents, each is one of the core's
 pub open_are_cores : (set : Setting) (log : Log) → ((by : By) → asks_content set by ≡ true → IsOpen by log → ⊥) → (by : By) → IsOpen by log → asks_contents set by ≡ false

@@ -1,5 +1,5 @@
 -- The jobs stay where they stand at each moment of contents.
-use Rattle.std.proofs.Common.{◌≡◌, ℕ, List, [], ◌∷◌, ◌++◌, map, false, Option, None, IsSome, refl, sym, ap, ◌∙◌, subst, append-nil, append_assoc}
+use Rattle.std.proofs.Common.{◌≡◌, ℕ, List, [], ◌∷◌, ◌++◌, map, Bool, false, Option, None, IsSome, refl, sym, ap, ◌∙◌, subst, append-nil, append_assoc}
 use Rattle.std.specs.List.{AllByRecursion as Each}
 use Rattle.std.proofs.lemmas.Bool.{or_from, or_parts}
 use Rattle.kvs_core.specs.Agrees.{Agrees}
@@ -16,7 +16,7 @@ use Rattle.kvs_rules.specs.declared.events.KvsEvent.TheVariants as event
 use Rattle.kvs_txn.specs.declared.txn.By.{By}
 use Rattle.content_service.specs.Makes.{IsOfContents as IsContentEvent}
 use Rattle.instance_rules.specs.Legal.{IsLegalMoment}
-use Rattle.instance_rules.specs.Log.{Instance, JobAsk, JobReply, Log, Moment, Served, Issued, Replied, SinceIssued, Submit, Ticked, child_told, is_issued, is_replied, issues_now, replies_now, service_of, ticked}
+use Rattle.instance_rules.specs.Log.{Born, Gone, Instance, JobAsk, JobReply, Log, Moment, Served, Issued, Replied, SinceIssued, Submit, Ticked, is_issued, is_replied, issues_now, replies_now, service_of, ticked}
 use Rattle.instance_rules.specs.Replies.{FindsNoJob, IsLegalReply, LacksJob}
 use Rattle.job_commands.proofs.Logs.{open_kept, service_push, undecided_kept}
 use Rattle.job_commands.proofs.Steps.{beside_agrees}
@@ -46,6 +46,12 @@ replied_is log by reply number = service_push log (Replied by reply number) ∙ 
 
 pub ticked_is : (log : Log) (second : ℕ) → service_of (log ++ Ticked second ∷ []) ≡ service_of log
 ticked_is log second = service_push log (Ticked second) ∙ append-nil (service_of log)
+
+pub born_is : (log : Log) (job : ℕ) → service_of (log ++ Born job ∷ []) ≡ service_of log
+born_is log job = service_push log (Born job) ∙ append-nil (service_of log)
+
+pub gone_is : (log : Log) (job : ℕ) (shut : Bool) → service_of (log ++ Gone job shut ∷ []) ≡ service_of log
+gone_is log job shut = service_push log (Gone job shut) ∙ append-nil (service_of log)
 
 -- what may follow the log of the instance may follow that of its service
 pub legal_there : (inst : Instance) (es : List KvsEvent) (log : Log) → EachAfter (IsLegalMoment inst) log (map happening es) → IsLegalAfter inst.service (service_of log) (map service.Happened es)
@@ -115,9 +121,9 @@ module _ (stays : CoreStays) (v : JobServiceValue) (inst : Instance) where
     kind = a.kind;
     core = subst (Agrees v.manager.core inst.service) (sym (served_is log m)) (stays v.manager.core inst.service (service_of log) m a.core legal own);
     legal = subst (IsLegalLog inst.service) (sym (served_is log m)) (legal_joined inst.service [] (service_of log) (m ∷ []) a.legal (legal, tt));
-    commands = beside_agrees v.commands inst log (Served m) beside a.commands;
+    commands = beside_agrees v.commands inst log (Served m) beside (λ job. refl) a.commands;
     second = latest_push ticked inst.birth log (Served m) ∙ a.second;
-    alone = λ job. latest_push (child_told job) None log (Served m) ∙ a.alone job;
+    childless = a.childless;
     owes = subst (Owes v.manager.posted v.found) (sym (desk_same v.commands inst log m v.manager.book.jobs)) a.owes;
     labelled = a.labelled;
     refused = λ r c.

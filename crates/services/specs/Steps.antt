@@ -16,11 +16,12 @@ can_step v s = core_can_step v.jobs.manager.core s || contents_can_step v.conten
 abbrev pub can_take : ServicesValue → By → Bool
 can_take v by = core_can_take v.jobs.manager.core by || contents_can_take v.contents by
 
--- no step can be made, no answer waits to be taken, nothing is to be posted, time doesn't go on,
--- and no job command can be told
+-- no step can be made, no answer waits to be taken, nothing is to be posted, no child is to be
+-- born, time doesn't go on, and no job command can be told
 pub record IsStill (v : ServicesValue) : Type 0 where
   pub steps : (s : KvsStep) → can_step v s ≡ false
   pub answers : (by : By) → can_take v by ≡ false
   pub unfound : v.jobs.found ≡ None
+  pub unborn : v.jobs.bearing ≡ None
   pub late : can_tick v.jobs ≡ false
   pub untold : (by : By) → can_reply v.jobs by ≡ false

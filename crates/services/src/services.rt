@@ -6,16 +6,17 @@ ghost use Rattle.kvs_rules.specs.Quiet.{IsQuiet};
 ghost use Rattle.kvs_rules.specs.Brokers.{heard};
 ghost use Rattle.content_service.specs.Asks.{is_content};
 ghost use Rattle.instance_rules.specs.Desks.{is_submission};
-ghost use Rattle.instance_rules.specs.Family.{IsLeftResult, IsTarget, Living, MayTick};
+ghost use Rattle.instance_rules.specs.Family.{HasTarget, IsLeftResult, Living, MayTick};
 ghost use Rattle.instance_rules.specs.Legal.{IsLegalMoment, OfDesk};
-ghost use Rattle.instance_rules.specs.Log.{Instance, IsOpen, Issued, Log, Shutdown, Ticked, now_of, service_of};
-ghost use Rattle.job_clock.specs.Children.{AsksNoChild};
-ghost use Rattle.job_clock.specs.Standing.{IsTop};
+ghost use Rattle.instance_rules.specs.Log.{Born, Gone, Instance, IsOpen, Issued, Log, Shutdown, Ticked, now_of, service_of};
+ghost use Rattle.job_clock.specs.Children.{SubmitsNoChild};
+ghost use Rattle.job_clock.specs.Standing.{IsLiving, IsTop};
 ghost use Rattle.job_commands.specs.Asks.{told};
 ghost use Rattle.job_service.specs.Agrees.{HasRoom, IsNewCommand, MayIssue};
+ghost use Rattle.job_service.specs.Children.{may_end};
 ghost use Rattle.job_service.specs.Replies.{can_reply};
 ghost use Rattle.job_service.specs.Still.{awaited};
-ghost use Rattle.job_service.specs.Times.{Counts, HasTime, MayGoTo};
+ghost use Rattle.job_service.specs.Times.{Counts, CountsTo, HasTime, MayGoTo, MayPassTo};
 ghost use Rattle.job_rules.specs.Fits.{IsGrant};
 ghost use Rattle.job_states.specs.declared.job.State.{State};
 ghost use Rattle.kvs_txn.specs.declared.txn.By.{By as Command};
@@ -319,14 +320,12 @@ impl Services {
         }
     }
 
-    /// Issues a job command at its broker. Its text tells no job whose command begins an instance
-    /// (Flux RFC 14). After an error the services are spent.
+    /// Issues a job command at its broker. After an error the services are spent.
     pub fn issue(&mut self, by: By, rank: u32, ask: JobAsk) -> Result<(), AllocError>
         requires ready { self.old.spent ≡ false }
         requires may { MayIssue self.old.jobs by rank ask }
         requires room { is_submission (Some (told ask)) ≡ true → HasRoom self.old.jobs }
         requires time { HasTime self.old.jobs ask }
-        requires childless { AsksNoChild ask }
         ensures ready { OnOk result (self.new.spent ≡ false) }
         ensures size { OnOk result (self.new.size ≡ self.old.size) }
         ensures counts { OnOk result (Counts ask self.old.jobs self.new.jobs) }
@@ -378,17 +377,59 @@ impl Services {
         Ok(())
     }
 
-    /// Lets time go on to this second. After an error the services are spent.
-    pub fn tick(&mut self, second: u64) -> Result<(), AllocError>
+    /// The child of a job is born, which is the first that is to be. After an error the services
+    /// are spent.
+    pub fn born(&mut self, job: u64) -> Result<(), AllocError>
         requires ready { self.old.spent ≡ false }
-        requires may { MayGoTo self.old.jobs second }
+        requires due { self.old.jobs.bearing ≡ Some job }
         ensures ready { OnOk result (self.new.spent ≡ false) }
         ensures keeps { OnOk result (Keeps self.old self.new) }
         ensures spent { OnErr result (self.new.spent ≡ true) }
         ensures legal { OnOk result ((inst : Instance) (log : Log)
+            → AgreesServices self.old inst log → IsLegalMoment inst log (Born job)) }
+        ensures agrees { OnOk result ((inst : Instance) (log : Log)
+            → AgreesServices self.old inst log
+            → AgreesServices self.new inst (log ++ Born job ∷ [])) }
+    {
+        self.spent = true;
+        self.jobs.born(job)?;
+        self.spent = false;
+        Ok(())
+    }
+
+    /// The child of a job goes, by its own shutdown or not. After an error the services are spent.
+    pub fn gone(&mut self, job: u64, shut: bool) -> Result<(), AllocError>
+        requires ready { self.old.spent ≡ false }
+        requires may { may_end self.old.jobs job shut ≡ true }
+        ensures ready { OnOk result (self.new.spent ≡ false) }
+        ensures keeps { OnOk result (Keeps self.old self.new) }
+        ensures spent { OnErr result (self.new.spent ≡ true) }
+        ensures legal { OnOk result ((inst : Instance) (log : Log)
+            → AgreesServices self.old inst log → IsLegalMoment inst log (Gone job shut)) }
+        ensures agrees { OnOk result ((inst : Instance) (log : Log)
+            → AgreesServices self.old inst log
+            → AgreesServices self.new inst (log ++ Gone job shut ∷ [])) }
+    {
+        self.spent = true;
+        self.jobs.gone(job, shut)?;
+        self.spent = false;
+        Ok(())
+    }
+
+    /// Lets time go on to this second, by an advance of this instance or of another one. After an
+    /// error the services are spent.
+    pub fn tick(&mut self, second: u64) -> Result<(), AllocError>
+        requires ready { self.old.spent ≡ false }
+        requires may { MayPassTo self.old.jobs second }
+        ensures ready { OnOk result (self.new.spent ≡ false) }
+        ensures size { OnOk result (self.new.size ≡ self.old.size) }
+        ensures counts { OnOk result (CountsTo second self.old.jobs self.new.jobs) }
+        ensures keeps { OnOk result (MayGoTo self.old.jobs second → Keeps self.old self.new) }
+        ensures spent { OnErr result (self.new.spent ≡ true) }
+        ensures legal { OnOk result ((inst : Instance) (log : Log)
             → AgreesServices self.old inst log → IsLegalMoment inst log (Ticked second)) }
         ensures may { OnOk result ((inst : Instance) (log : Log) (l : Living)
-            → AgreesServices self.old inst log → IsTop inst log l
+            → AgreesServices self.old inst log → IsTop inst log l → MayGoTo self.old.jobs second
             → MayTick (l ∷ []) (now_of inst log) [] second) }
         ensures agrees { OnOk result ((inst : Instance) (log : Log)
             → AgreesServices self.old inst log
@@ -402,7 +443,8 @@ impl Services {
 
     /// Where nothing can go on, each broker has heard the last landing and of each live namespace;
     /// a command waits for a number that hasn't landed, for members of a fence that haven't come,
-    /// or for the result of a job that isn't over; nothing is due, and no advance is left.
+    /// or for the result of a job that isn't over; nothing is due, and no advance is left. No child
+    /// is to be born where no command submits a job that begins an instance.
     pub fn still(&self)
         requires { self.now.spent ≡ false }
         ensures quiet { (inst : Instance) (log : Log) → AgreesServices self.now inst log
@@ -413,13 +455,15 @@ impl Services {
         ensures idle { (inst : Instance) (log : Log) → AgreesServices self.now inst log
             → IsStill self.now → OfDesk inst log IsIdle }
         ensures advanced { (inst : Instance) (log : Log) (l : Living)
-            → AgreesServices self.now inst log → IsStill self.now → IsTop inst log l
-            → (target : ℕ) → IsTarget (l ∷ []) [] target → ⊥ }
+            → AgreesServices self.now inst log → IsStill self.now → IsLiving inst log l
+            → (target : ℕ) → HasTarget l target → ⊥ }
+        ensures childless { (inst : Instance) (log : Log) → AgreesServices self.now inst log
+            → SubmitsNoChild inst → self.now.jobs.bearing ≡ None }
         ensures left { (inst : Instance) (log : Log) → AgreesServices self.now inst log
             → IsStill self.now → (by : Command) → IsSome (inst.asks by)
             → inst.asks by ≢ Some Shutdown → IsOpen by log → IsSome (awaited self.now.jobs by) }
         ensures results { (inst : Instance) (log : Log) (l : Living)
-            → AgreesServices self.now inst log → IsTop inst log l → (by : Command)
+            → AgreesServices self.now inst log → IsLiving inst log l → (by : Command)
             (where_ : State) → awaited self.now.jobs by ≡ Some where_ → IsLeftResult l by where_ }
     {
         self.core().still();

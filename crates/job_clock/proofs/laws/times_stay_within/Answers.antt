@@ -1,4 +1,4 @@
-use Rattle.job_clock.proofs.Times.{advance_in_time, carried_in_time, fewer_in_time, in_time_at, in_time_below, other_in_time}
+use Rattle.job_clock.proofs.Times.{advance_in_time, carried_in_time, fewer_in_time, in_time_at, in_time_below, in_time_later, other_in_time}
 use Rattle.job_clock.proofs.laws.times_stay_within.Goals as goal
 
 pub returns-clause-advances : goal.returns-clause-advances
@@ -18,3 +18,6 @@ returns-clause-ticks c = λ v ends birth now second span next h. in_time_at v en
 
 pub returns-clause-bounds : goal.returns-clause-bounds
 returns-clause-bounds c = λ v birth now span bound h below. in_time_below v birth now span bound h below
+
+pub returns-clause-later : goal.returns-clause-later
+returns-clause-later c = λ v birth now second span on h. in_time_later v birth now second span on h

@@ -1,4 +1,4 @@
-use Rattle.std.proofs.Common.{◌≡◌, map, take}
+use Rattle.std.proofs.Common.{◌≡◌, take}
 use Rattle.manager_rules.specs.Jobs.{ids_of}
 use Rattle.job_replies.specs.Jobs.{states_of}
 use Rattle.job_replies.proofs.jobs.states_of.Given as goal

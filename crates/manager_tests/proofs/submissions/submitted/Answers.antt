@@ -21,7 +21,7 @@ asking asks = record {
 pub returns-clause-drawn : goal.returns-clause-drawn
 returns-clause-drawn c =
     let inst = asking c.in_ok-ask.ask in
-    let five = beside_agrees c.in_ok-commands.commands inst [] (Ticked 5) (tick_beside inst 5) (c.in_ok-commands.ensures.agrees inst) in
+    let five = beside_agrees c.in_ok-commands.commands inst [] (Ticked 5) (tick_beside inst 5) (λ job. refl) (c.in_ok-commands.ensures.agrees inst) in
     (c.in_ok-issue.ensures.agrees inst (Ticked 5 ∷ []) five refl refl refl (omega arith) refl refl refl).drawn
 
 pub returns-clause-marked : goal.returns-clause-marked

@@ -9,7 +9,7 @@ use Rattle.instance.specs.Steps.{can_issue}
 use Rattle.instance.specs.View.{value_of}
 use Rattle.instance.proofs.Issuing.{issue_follows, issuing_at}
 use Rattle.instance.proofs.Owning.{own_of}
-use Rattle.instance.proofs.Starting.{begun_in, command_in, start_asks, start_author, start_below, start_broker, start_childless, start_known, start_next, start_orders, start_room, start_small, start_time, starting}
+use Rattle.instance.proofs.Starting.{begun_in, command_in, start_asks, start_author, start_below, start_broker, start_known, start_next, start_orders, start_room, start_small, start_time, starting}
 use Rattle.instance.proofs.actors.Instance.issue.Goals as goal
 
 pub bounds-lines-seat : goal.bounds-lines-seat
@@ -93,14 +93,6 @@ order-requires-clause-time c =
     let lines = c.args.lines.now in
     let s = starting (value_of c.self.inside) c.args.self.now lines c.args.actor seat c.self.view_is c.requires.lines c.requires.can c.index_mut-seat.ensures.value in
     start_time (value_of c.self.inside) lines c.args.actor seat s c.index-lines-seat.result c.begin.new.seat c.in_ok-asked.ensures.seat c.in_ok-asked.asked c.in_ok-asked.ensures.asked
-    c.in_ok-job_ask.field-0 c.in_ok-job_ask.ensures c.ask.new.services c.in_ok-ask.ensures.keeps c.in_ok-ask.ensures.agrees
-
-pub order-requires-clause-childless : goal.order-requires-clause-childless
-order-requires-clause-childless c =
-    let seat = c.index_mut-seat.result.now in
-    let lines = c.args.lines.now in
-    let s = starting (value_of c.self.inside) c.args.self.now lines c.args.actor seat c.self.view_is c.requires.lines c.requires.can c.index_mut-seat.ensures.value in
-    start_childless (value_of c.self.inside) lines c.args.actor seat s c.index-lines-seat.result c.begin.new.seat c.in_ok-asked.ensures.seat c.in_ok-asked.asked c.in_ok-asked.ensures.asked
     c.in_ok-job_ask.field-0 c.in_ok-job_ask.ensures c.ask.new.services c.in_ok-ask.ensures.keeps c.in_ok-ask.ensures.agrees
 
 pub returns-clause-makes : goal.returns-clause-makes

@@ -12,6 +12,7 @@ returns c = record {
         heard = c.still.ensures.heard;
         idle = c.still.ensures.idle;
         advanced = c.still.ensures.advanced;
+        childless = c.still.ensures.childless;
         left = c.still.ensures.left;
         results = c.still.ensures.results;
       } in

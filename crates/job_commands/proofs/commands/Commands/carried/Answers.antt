@@ -8,4 +8,4 @@ returns-clause-agrees c = λ inst log group authors groups ask h asks event carr
     event_agrees inst c.args.by group authors groups c.args.number carries log c.args.self.now _
     (ap (λ v. v.labels) c.self.view_is)
     (subst (λ l. AreCarried c.args.by c.args.number l c.carry.new.rows.items) (ap (λ v. v.rows) c.self.view_is) c.carry.ensures)
-    (ap (λ v. v.issued) c.self.view_is) (ap (λ v. v.marks) c.self.view_is) h ask asks event
+    (ap (λ v. v.issued) c.self.view_is) (ap (λ v. v.marks) c.self.view_is) (ap (λ v. v.children) c.self.view_is) h ask asks event

@@ -18,7 +18,7 @@ returns-then-submits-clause-agrees c = λ inst log h asks rank now since unissue
     let marks : map (λ (t : Tally). t.mark) tallies ≡ v.marks = ap (λ w. w.marks) c.self.view_is in
     let submits = sym c.is_submit-submits.ensures ∙ c.if-submits.true in
     let pushed : c.push.new.self.items ≡ c.self.inside.rows.items ++ row ∷ [] = search rules in
-    issue_agrees v _ row inst log (ap (λ w. w.labels) c.self.view_is) (pushed ∙ ap (λ w. w.rows ++ row ∷ []) c.self.view_is)
+    issue_agrees v _ row inst log (ap (λ w. w.labels) c.self.view_is) (pushed ∙ ap (λ w. w.rows ++ row ∷ []) c.self.view_is) (ap (λ w. w.children) c.self.view_is)
     (counted_set tallies v issued marks c.args.rank c.requires.within tally c.index-tally.ensures row refl c.mark_now-mark.result c.mark_now-mark.ensures submits)
     (marked_set tallies v issued marks c.args.rank c.requires.within tally c.index-tally.ensures row refl c.mark_now-mark.result c.mark_now-mark.ensures submits)
     c.requires.few c.requires.later (c.saturating_sub-sequence.ensures ∙ sequence_is tallies v issued marks c.args.rank c.requires.within tally c.index-tally.ensures row refl c.mark_now-mark.result c.mark_now-mark.ensures) refl h asks rank now since unissued unanswered undecided
@@ -44,7 +44,7 @@ returns-else-submits-clause-agrees c = λ inst log h asks rank now since unissue
     let marks : map (λ (t : Tally). t.mark) tallies ≡ v.marks = ap (λ w. w.marks) c.self.view_is in
     let submits = sym c.is_submit-submits.ensures ∙ c.if-submits.false in
     let pushed : c.push.new.self.items ≡ c.self.inside.rows.items ++ row ∷ [] = search rules in
-    issue_agrees v _ row inst log (ap (λ w. w.labels) c.self.view_is) (pushed ∙ ap (λ w. w.rows ++ row ∷ []) c.self.view_is)
+    issue_agrees v _ row inst log (ap (λ w. w.labels) c.self.view_is) (pushed ∙ ap (λ w. w.rows ++ row ∷ []) c.self.view_is) (ap (λ w. w.children) c.self.view_is)
     (subst (IsCounted row v.issued) (sym issued) (counted_same row v.issued submits))
     (subst (IsMarked row (mark_of v row) v.marks) (sym marks) (marked_same row (mark_of v row) v.marks submits))
     c.requires.few c.requires.later (c.saturating_sub-sequence.ensures ∙ sequence_is tallies v issued marks c.args.rank c.requires.within tally c.index-tally.ensures row refl c.mark_now-mark.result c.mark_now-mark.ensures) refl h asks rank now since unissued unanswered undecided

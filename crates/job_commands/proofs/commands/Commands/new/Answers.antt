@@ -11,7 +11,7 @@ unissued = record { issued = 0; mark = unmarked }
 
 pub returns-clause-agrees : goal.returns-clause-agrees
 returns-clause-agrees c = λ inst.
-    new_agrees _ inst c.new.ensures c.new-2.ensures.items
+    new_agrees _ inst c.new.ensures c.new-2.ensures.items c.new-3.ensures.items
     (λ k. ap (λ l. slice_index (map (λ (t : Tally). t.issued) l) k) c.in_ok-unissued.ensures ∙ read_unset (λ (t : Tally). t.issued) c.args.size unissued k)
     (λ k. ap (λ l. mark_at (map (λ (t : Tally). t.mark) l) k) c.in_ok-unissued.ensures ∙ read_unset (λ (t : Tally). t.mark) c.args.size unissued k)
 

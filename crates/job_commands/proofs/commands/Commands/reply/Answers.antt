@@ -9,4 +9,4 @@ returns-clause-agrees c = λ inst log reply number h.
     reply_agrees c.args.self.now _ inst log c.args.by reply number
     (ap (λ v. v.labels) c.self.view_is)
     (c.forget.ensures ∙ ap (λ v. filter (λ row. not (is_of c.args.by row)) v.rows) c.self.view_is)
-    (ap (λ v. v.issued) c.self.view_is) (ap (λ v. v.marks) c.self.view_is) h
+    (ap (λ v. v.issued) c.self.view_is) (ap (λ v. v.marks) c.self.view_is) (ap (λ v. v.children) c.self.view_is) h

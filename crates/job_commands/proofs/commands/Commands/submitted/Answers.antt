@@ -15,7 +15,7 @@ returns-clause-agrees c = λ inst log group authors groups label urgency needs t
     at_some (λ l. (other : List ℕ) → job_at other c.name.new.self ≡ cond (bytes_eq other l) (Some c.args.id) (job_at other c.self.inside.labels)) c.in_ok-label.label label found c.in_ok-name.ensures.put in
     submitted_agrees inst c.args.by group authors groups c.args.number carries log v _
     (subst (λ l. AreCarried c.args.by c.args.number l c.carry.new.rows.items) (ap (λ w. w.rows) c.self.view_is) c.carry.ensures)
-    (ap (λ w. w.issued) c.self.view_is) (ap (λ w. w.marks) c.self.view_is) h label urgency needs text asks c.args.id begins
+    (ap (λ w. w.issued) c.self.view_is) (ap (λ w. w.marks) c.self.view_is) (ap (λ w. w.children) c.self.view_is) h label urgency needs text asks c.args.id begins
     (λ other b. sole group c.args.id other c.ranges.id.fits begins b)
     (λ other. put other ∙ ap (λ w. cond (bytes_eq other label) (Some c.args.id) (job_at other w.labels)) c.self.view_is)
     unique pending.undecided made.row made.known made.named made.waits made.made

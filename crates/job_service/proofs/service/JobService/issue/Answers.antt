@@ -12,12 +12,13 @@ use Rattle.job_commands.specs.Asks.{told}
 use Rattle.job_commands.specs.Rows.{issued_row}
 use Rattle.job_manager.specs.Posts.{post_of}
 use Rattle.job_service.specs.Agrees.{AgreesJobs, HasRoom, IsAgreed, MayIssue}
+use Rattle.job_service.specs.Children.{IsBearing}
 use Rattle.job_service.specs.Judged.{AreJudged}
 use Rattle.job_service.specs.View.{value_of}
 use Rattle.job_service.specs.Refusals.{IsFaultOf}
 use Rattle.job_service.proofs.Calls.{is_soon, spanned, with_parts}
 use Rattle.job_service.proofs.Held.{held_next}
-use Rattle.job_service.proofs.Issuing.{counted_more, issue_all, issued_asking, issued_commands, issued_drawn, issued_facts, issued_time, named_more, new_within, room_left, short_next, time_left}
+use Rattle.job_service.proofs.Issuing.{counted_more, issue_all, issued_commands, issued_drawn, issued_facts, issued_time, named_more, new_within, room_left, short_next, time_left}
 use Rattle.job_service.proofs.Judging.{judged_issued}
 use Rattle.job_service.proofs.Owing.{can-look}
 use Rattle.job_service.proofs.service.JobService.issue.Goals as goal
@@ -47,18 +48,18 @@ invariant_of-self-2 c = λ _.
     let commands = issued_commands v m.inst m.log m.agrees false c.issue.new.self c.args.by c.args.rank c.args.ask m.new c.keeps.ensures newest c.what_is_lacking_is_so_by_the_log.ensures c.in_ok-fault.fault fault i.order c.in_ok-issue.ensures.agrees in
     let row = issued_row c.self.inside.commands c.args.by c.args.rank c.self.inside.second c.args.ask in
     let room = subst (λ w. is_submission (Some (told c.args.ask)) ≡ true → HasRoom w) (sym c.self.view_is) c.requires.room in
-    held_next c.self.inside held false c.issue.new.self c.remember.new.list c.in_ok-self-inside.field-0 (c.self.inside.submitted + c.from.result) (c.self.inside.span + c.seconds_asked.result) c.in_ok-issue.ensures.size
+    held_next c.self.inside held false c.issue.new.self c.remember.new.list c.in_ok-self-inside.field-0 (c.self.inside.submitted + c.from.result) (c.self.inside.span + c.seconds_asked.result) c.self.inside.bearing c.in_ok-issue.ensures.size
     (named_more c.self.inside.commands c.issue.new.self c.self.inside.birth row c.self.inside.manager.posted c.in_ok-issue.ensures.rows i.posted)
     (counted_more (length c.self.inside.manager.book.jobs) c.self.inside.submitted c.from.result c.self.inside.commands c.issue.new.self c.args.by c.args.rank c.self.inside.second c.args.ask c.is_submit.result c.in_ok-issue.ensures.rows c.is_submit.ensures c.from.ensures i.counted)
     (room_left v c.args.ask c.from.result c.is_submit.result c.is_submit.ensures c.from.ensures room i.bounded)
     (subst (λ n. AreInTime c.issue.new.self c.self.inside.birth c.self.inside.second (c.self.inside.span + n)) (sym c.seconds_asked.ensures) (issued_time c.self.inside.commands c.issue.new.self c.args.by c.args.rank c.self.inside.second c.self.inside.birth c.self.inside.span c.args.ask c.in_ok-issue.ensures.rows i.timed))
     (subst (λ n. c.self.inside.span + n ≤ 1000000000) (sym c.seconds_asked.ensures) (time_left v c.args.ask (subst (λ w. HasTime w c.args.ask) (sym c.self.view_is) c.requires.time) i.near))
-    (issued_asking c.self.inside.commands c.issue.new.self row c.in_ok-issue.ensures.rows i.asking c.requires.childless)
+    (subst (λ l. IsBearing (record c.self.inside.commands { children = l }) c.self.inside.manager.book c.self.inside.bearing) (sym c.in_ok-issue.ensures.children) i.bearing)
     (issued_drawn v m.inst m.log m.agrees.commands c.issue.new.self c.args.by c.args.ask c.from.result c.is_submit.result m.new.asks commands c.in_ok-issue.ensures.size c.is_submit.ensures c.from.ensures i.drawn)
     (c.in_ok-issue.ensures.marked i.marked)
     (subst (AreJudged c.issue.new.self c.self.inside.manager.book.jobs) (sym c.in_ok-remember.ensures) (judged_issued c.self.inside.commands c.issue.new.self c.self.inside.manager.book.jobs c.self.inside.refused.items c.args.by c.args.rank c.self.inside.second c.args.ask c.in_ok-fault.fault c.in_ok-issue.ensures.rows c.in_ok-issue.ensures.labels fault i.judged))
     c.in_ok-self-inside.ensures
-    (subst (λ l. IsAgreed (spanned (with_parts v false c.self.inside.manager c.issue.new.self l (option_map post_of c.in_ok-self-inside.field-0) (c.self.inside.submitted + c.from.result)) (c.self.inside.span + c.seconds_asked.result))) (sym c.in_ok-remember.ensures)
+    (subst (λ l. IsAgreed (spanned (with_parts v false c.self.inside.manager c.issue.new.self l (option_map post_of c.in_ok-self-inside.field-0) (c.self.inside.submitted + c.from.result)) (c.self.inside.span + c.seconds_asked.result) c.self.inside.bearing)) (sym c.in_ok-remember.ensures)
     (record {
       inst = m.inst;
       log = m.log ++ Issued c.args.by ∷ [];
@@ -76,7 +77,7 @@ returns-clause-agrees c = λ inst log a new.
     let fault = subst (λ b. IsFaultOf c.self.inside.commands b.jobs c.args.ask c.in_ok-fault.fault) c.book-2.ensures c.in_ok-fault.ensures in
     let smalls = subst (λ b. Each (λ j. j.id < 2 ^ 64) b.jobs) c.book.ensures c.keeps-2.ensures.small in
     let short = short_next v i c.issue.new.self c.in_ok-issue.ensures.size in
-    subst (λ l. AgreesJobs (spanned (with_parts v false c.self.inside.manager c.issue.new.self l (option_map post_of c.in_ok-self-inside.field-0) (c.self.inside.submitted + c.from.result)) (c.self.inside.span + c.seconds_asked.result)) inst (log ++ Issued c.args.by ∷ [])) (sym c.in_ok-remember.ensures)
+    subst (λ l. AgreesJobs (spanned (with_parts v false c.self.inside.manager c.issue.new.self l (option_map post_of c.in_ok-self-inside.field-0) (c.self.inside.submitted + c.from.result)) (c.self.inside.span + c.seconds_asked.result) c.self.inside.bearing) inst (log ++ Issued c.args.by ∷ [])) (sym c.in_ok-remember.ensures)
     (issue_all v inst log b false c.issue.new.self c.args.by c.args.rank c.args.ask new c.keeps.ensures newest c.what_is_lacking_is_so_by_the_log.ensures c.in_ok-fault.fault fault i.order c.in_ok-issue.ensures.agrees
     smalls (is_soon v i) short c.what_is_made_is_due.ensures.some c.what_is_made_is_due.ensures.none c.what_waits_stays_due.ensures (option_map post_of c.in_ok-self-inside.field-0) (c.self.inside.submitted + c.from.result) c.in_ok-self-inside.ensures (c.self.inside.span + c.seconds_asked.result))
 

@@ -4,7 +4,7 @@ use Rattle.job_service.specs.Agrees.{AgreesJobs, IsAgreed}
 use Rattle.job_service.specs.Judged.{AreJudged}
 use Rattle.job_service.specs.Posted.{IsNamed, id_posted}
 use Rattle.job_service.specs.Value.{JobServiceValue}
-use Rattle.job_service.proofs.Calls.{begun_agreed, begun_agrees, begun_asking, begun_childless, begun_count, begun_drawn, begun_judged, begun_sought, begun_timed}
+use Rattle.job_service.proofs.Calls.{begun_agreed, begun_agrees, begun_bearing, begun_count, begun_drawn, begun_judged, begun_sought, begun_timed}
 use Rattle.job_service.proofs.service.JobService.new.Goals as goal
 
 pub invariant_of-result : goal.invariant_of-result
@@ -27,9 +27,8 @@ invariant_of-result c = λ _.
         drawn = begun_drawn false c.args.birth c.args.setting.size c.args.setting.fanout c.args.grant.now c.in_ok-manager.manager c.in_ok-commands.commands m.book m.posted c.in_ok-commands.ensures.agrees m.agrees;
         marked = c.in_ok-commands.ensures.marked c.args.birth;
         judged = subst (AreJudged c.in_ok-commands.commands c.in_ok-manager.manager.book.jobs) (sym c.new-3.ensures.items) (begun_judged false c.args.birth c.args.setting.size c.args.setting.fanout c.args.grant.now c.in_ok-manager.manager c.in_ok-commands.commands m.book m.posted c.in_ok-commands.ensures.agrees m.agrees);
-        childless = begun_childless false c.args.birth c.args.setting.size c.args.setting.fanout c.args.grant.now c.in_ok-manager.manager c.in_ok-commands.commands m.book m.posted c.in_ok-commands.ensures.agrees m.agrees;
-        asking = begun_asking false c.args.birth c.args.setting.size c.args.setting.fanout c.args.grant.now c.in_ok-manager.manager c.in_ok-commands.commands m.book m.posted c.in_ok-commands.ensures.agrees m.agrees;
-        agreed = subst (λ l. IsAgreed (let v : JobServiceValue = record { spent = false; birth = c.args.birth; second = c.args.birth; manager = c.in_ok-manager.manager; commands = c.in_ok-commands.commands; refused = l; found = None; submitted = 0; span = 0 } in v)) (sym c.new-3.ensures.items) (begun_agreed false c.args.birth c.args.setting.size c.args.setting.fanout c.args.grant.now c.in_ok-manager.manager c.in_ok-commands.commands m.book m.posted c.in_ok-commands.ensures.agrees m.agrees
+        bearing = begun_bearing false c.args.birth c.args.setting.size c.args.setting.fanout c.args.grant.now c.in_ok-manager.manager c.in_ok-commands.commands m.book m.posted c.in_ok-commands.ensures.agrees m.agrees;
+        agreed = subst (λ l. IsAgreed (let v : JobServiceValue = record { spent = false; birth = c.args.birth; second = c.args.birth; manager = c.in_ok-manager.manager; commands = c.in_ok-commands.commands; refused = l; found = None; bearing = None; submitted = 0; span = 0 } in v)) (sym c.new-3.ensures.items) (begun_agreed false c.args.birth c.args.setting.size c.args.setting.fanout c.args.grant.now c.in_ok-manager.manager c.in_ok-commands.commands m.book m.posted c.in_ok-commands.ensures.agrees m.agrees
             (subst (λ b. IsGrant b.grant.nodes) (c.book.ensures ∙ m.book) c.keeps.ensures.sets));
       };
       submits = subst (λ p. None ≡ id_posted p) (sym m.posted) refl;
@@ -38,7 +37,7 @@ invariant_of-result c = λ _.
 pub returns-clause-agrees : goal.returns-clause-agrees
 returns-clause-agrees c = λ inst of.
     let m = c.in_ok-manager.ensures in
-    subst (λ l. AgreesJobs (let v : JobServiceValue = record { spent = false; birth = c.args.birth; second = c.args.birth; manager = c.in_ok-manager.manager; commands = c.in_ok-commands.commands; refused = l; found = None; submitted = 0; span = 0 } in v) inst []) (sym c.new-3.ensures.items)
+    subst (λ l. AgreesJobs (let v : JobServiceValue = record { spent = false; birth = c.args.birth; second = c.args.birth; manager = c.in_ok-manager.manager; commands = c.in_ok-commands.commands; refused = l; found = None; bearing = None; submitted = 0; span = 0 } in v) inst []) (sym c.new-3.ensures.items)
     (begun_agrees false c.args.birth c.args.setting.size c.args.setting.fanout c.args.grant.now c.in_ok-manager.manager c.in_ok-commands.commands m.book m.posted c.in_ok-commands.ensures.agrees m.agrees inst of)
 
 pub returns-clause-grant : goal.returns-clause-grant

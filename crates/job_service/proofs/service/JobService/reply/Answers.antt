@@ -7,12 +7,13 @@ use Rattle.job_commands.specs.Rows.{is_of, mark_at}
 use Rattle.job_commands.specs.declared.tally.Mark.{Mark}
 use Rattle.job_manager.specs.Posts.{post_of}
 use Rattle.job_service.specs.Agrees.{AgreesJobs, IsAgreed}
+use Rattle.job_service.specs.Children.{IsBearing}
 use Rattle.job_service.specs.Judged.{AreJudged}
 use Rattle.job_service.specs.View.{value_of}
 use Rattle.job_service.specs.Replies.{Answers, can_reply}
 use Rattle.job_service.proofs.Calls.{is_soon, with_parts}
 use Rattle.job_service.proofs.Held.{held_next}
-use Rattle.job_service.proofs.Issuing.{counted_less, is_free, named_less, not_kept, replied_facts, reply_all, short_next, told_asking}
+use Rattle.job_service.proofs.Issuing.{counted_less, is_free, named_less, not_kept, replied_facts, reply_all, short_next}
 use Rattle.job_service.proofs.Judging.{judged_told}
 use Rattle.job_service.proofs.Owing.{can-look}
 use Rattle.job_service.proofs.service.JobService.reply.Goals as goal
@@ -41,11 +42,11 @@ invariant_of-self-2 c = λ _.
     let short = short_next v i c.reply.new.self (ap length c.reply.ensures.size) in
     let all = reply_all v g.inst g.log g.agrees false c.reply.new.self c.args.by c.in-Ok.told.reply c.in-Ok.told.number t c.reply.ensures.agrees
     smalls (is_soon v i) short c.what_is_made_is_due.ensures.some c.what_is_made_is_due.ensures.none c.what_waits_stays_due.ensures free (option_map post_of c.in_ok-self-inside.field-0) c.in_ok-self-inside.ensures in
-    held_next c.self.inside held false c.reply.new.self c.forget.new.list c.in_ok-self-inside.field-0 c.self.inside.submitted c.self.inside.span (ap length c.reply.ensures.size)
+    held_next c.self.inside held false c.reply.new.self c.forget.new.list c.in_ok-self-inside.field-0 c.self.inside.submitted c.self.inside.span c.self.inside.bearing (ap length c.reply.ensures.size)
     (named_less c.self.inside.commands c.reply.new.self c.self.inside.birth c.args.by c.self.inside.manager.posted c.reply.ensures.rows (not_kept v g.inst g.log g.agrees c.args.by free) i.posted)
     (counted_less (length c.self.inside.manager.book.jobs) c.self.inside.submitted c.self.inside.commands c.reply.new.self c.args.by c.reply.ensures.rows i.counted)
     i.bounded (fewer_in_time c.self.inside.commands c.reply.new.self (λ row. not (is_of c.args.by row)) c.self.inside.birth c.self.inside.second c.self.inside.span c.reply.ensures.rows i.timed) i.near
-    (told_asking c.self.inside.commands c.reply.new.self c.args.by c.reply.ensures.rows i.asking)
+    (subst (λ l. IsBearing (record c.self.inside.commands { children = l }) c.self.inside.manager.book c.self.inside.bearing) (sym c.reply.ensures.children) i.bearing)
     (subst (λ issued. (rank : ℕ) → rank < length issued → slice_index issued rank ≤ c.self.inside.submitted) (sym c.reply.ensures.size) i.drawn)
     (subst (λ (marks : List Mark). (rank : ℕ) → (mark_at marks rank).second ≤ c.self.inside.second) (sym c.reply.ensures.marks) i.marked)
     (subst (AreJudged c.reply.new.self c.self.inside.manager.book.jobs) (sym c.forget.ensures) (judged_told c.self.inside.commands c.reply.new.self c.self.inside.manager.book.jobs c.self.inside.refused.items c.args.by c.reply.ensures.rows c.reply.ensures.labels i.judged))

@@ -9,9 +9,10 @@ use Rattle.kvs_rules.specs.Namespaces.{newest_store, primary}
 use Rattle.job_service.specs.Agrees.{AgreesJobs}
 use Rattle.job_service.specs.Still.{IsStill, awaited}
 use Rattle.job_service.specs.View.{value_of}
+use Rattle.job_service.proofs.Bearing.{childless_bears}
 use Rattle.job_service.proofs.Left.{left_open}
 use Rattle.job_service.proofs.Resting.{late_still, left_result, unposted_still}
-use Rattle.job_service.proofs.Ticking.{idle_now, none_left}
+use Rattle.job_service.proofs.Ticking.{idle_now, none_left, none_left_alone}
 use Rattle.job_service.proofs.service.JobService.still.Goals as goal
 
 pub returns-clause-idle : goal.returns-clause-idle
@@ -24,10 +25,10 @@ returns-clause-idle c = λ inst log a rest.
     let unposted = unposted_still c.self.inside.manager c.keeps.ensures nothing in
     let b = subst (λ w. AgreesJobs w inst log) (sym c.self.view_is) a in
     let newest = subst (λ k. newest_store inst.service (service_of log) primary ≡ Some (newest_of k)) c.core.ensures (c.standing.ensures.newest inst.service (service_of log) (subst (λ k. Agrees k inst.service (service_of log)) (sym c.core.ensures) b.core)) in
-    idle_now v inst log b c.keeps.ensures newest i.childless unposted still.unfound
+    idle_now v inst log b c.keeps.ensures newest i.bearing unposted still.unfound still.unborn
 
 pub returns-clause-advanced : goal.returns-clause-advanced
-returns-clause-advanced c = λ inst log l a rest top target t.
+returns-clause-advanced c = λ inst log l a rest lives target t.
     let held = c.self.invariant (ap (λ v. v.spent) c.self.view_is ∙ c.requires) in
     let i = held.fit in
     let v = value_of c.self.inside in
@@ -36,7 +37,25 @@ returns-clause-advanced c = λ inst log l a rest top target t.
     let unposted = unposted_still c.self.inside.manager c.keeps.ensures nothing in
     let b = subst (λ w. AgreesJobs w inst log) (sym c.self.view_is) a in
     let newest = subst (λ k. newest_store inst.service (service_of log) primary ≡ Some (newest_of k)) c.core.ensures (c.standing.ensures.newest inst.service (service_of log) (subst (λ k. Agrees k inst.service (service_of log)) (sym c.core.ensures) b.core)) in
-    none_left v inst log b c.keeps.ensures newest i.childless unposted still.unfound (late_still v still unposted) still.untold l top target t
+    none_left v inst log b c.keeps.ensures newest i.bearing unposted still.unfound still.unborn (late_still v still unposted) still.untold l lives target t
+
+pub returns-clause-alone : goal.returns-clause-alone
+returns-clause-alone c = λ inst log l a rest top target t.
+    let held = c.self.invariant (ap (λ v. v.spent) c.self.view_is ∙ c.requires) in
+    let i = held.fit in
+    let v = value_of c.self.inside in
+    let still = subst IsStill (sym c.self.view_is) rest in
+    let nothing = subst (λ k. posted k ≡ []) c.core.ensures (c.standing.ensures.landed (subst CoreIsStill (sym c.core.ensures) still.core)) in
+    let unposted = unposted_still c.self.inside.manager c.keeps.ensures nothing in
+    let b = subst (λ w. AgreesJobs w inst log) (sym c.self.view_is) a in
+    let newest = subst (λ k. newest_store inst.service (service_of log) primary ≡ Some (newest_of k)) c.core.ensures (c.standing.ensures.newest inst.service (service_of log) (subst (λ k. Agrees k inst.service (service_of log)) (sym c.core.ensures) b.core)) in
+    none_left_alone v inst log b c.keeps.ensures newest i.bearing unposted still.unfound still.unborn (late_still v still unposted) still.untold l top target t
+
+pub returns-clause-childless : goal.returns-clause-childless
+returns-clause-childless c = λ inst log a none.
+    let i = (c.self.invariant (ap (λ v. v.spent) c.self.view_is ∙ c.requires)).fit in
+    let b = subst (λ w. AgreesJobs w inst log) (sym c.self.view_is) a in
+    sym (ap (λ w. w.bearing) c.self.view_is) ∙ childless_bears c.self.inside.commands c.self.inside.manager.book c.self.inside.bearing (b.childless none) i.bearing
 
 pub returns-clause-left : goal.returns-clause-left
 returns-clause-left c = λ inst log a rest told by some other waits.
@@ -50,8 +69,8 @@ returns-clause-left c = λ inst log a rest told by some other waits.
     subst (λ w. IsSome (awaited w by)) c.self.view_is (left_open v held.fit inst log b still unposted told hears by some other waits)
 
 pub returns-clause-results : goal.returns-clause-results
-returns-clause-results c = λ inst log l a top by where_ e.
+returns-clause-results c = λ inst log l a lives by where_ e.
     let v = value_of c.self.inside in
     let b = subst (λ w. AgreesJobs w inst log) (sym c.self.view_is) a in
     let newest = subst (λ k. newest_store inst.service (service_of log) primary ≡ Some (newest_of k)) c.core.ensures (c.standing.ensures.newest inst.service (service_of log) (subst (λ k. Agrees k inst.service (service_of log)) (sym c.core.ensures) b.core)) in
-    left_result v c.keeps.ensures l by where_ inst log b.commands newest top (subst (λ w. awaited w by ≡ Some where_) (sym c.self.view_is) e)
+    left_result v c.keeps.ensures l by where_ inst log b.commands newest lives (subst (λ w. awaited w by ≡ Some where_) (sym c.self.view_is) e)

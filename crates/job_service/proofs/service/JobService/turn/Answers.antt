@@ -8,12 +8,13 @@ use Rattle.kvs_core.specs.Agrees.{Agrees}
 use Rattle.kvs_core.specs.Posted.{newest_of}
 use Rattle.kvs_rules.specs.Namespaces.{newest_store, primary}
 use Rattle.job_service.specs.Agrees.{AgreesJobs}
+use Rattle.job_service.specs.Children.{IsBearing}
 use Rattle.job_service.specs.View.{IsHeld, value_of}
-use Rattle.job_service.proofs.Calls.{is_soon, turn_agrees, turn_legal}
+use Rattle.job_service.proofs.Calls.{is_soon, respan, turn_agrees, turn_legal, with_parts}
 use Rattle.job_service.proofs.Held.{held_landed, held_still}
 use Rattle.job_service.proofs.Issuing.{short_next}
 use Rattle.job_service.proofs.Owing.{can-look}
-use Rattle.job_service.proofs.Turning.{turned_agrees, turned_asking, turned_childless, turned_counted, turned_drawn, turned_facts, turned_grant, turned_judged, turned_legal, turned_marked, turned_posted, turned_size, turned_time, unnumbered_stays}
+use Rattle.job_service.proofs.Turning.{turned_agrees, turned_counted, turned_drawn, turned_facts, turned_grant, turned_judged, turned_legal, turned_marked, turned_posted, turned_size, turned_time, unnumbered_stays}
 use Rattle.job_service.proofs.service.JobService.turn.Goals as goal
 
 pub invariant_of-self-in_default : goal.invariant_of-self-in_default
@@ -85,19 +86,19 @@ invariant_of-self-2 c = λ _.
     let size = ap length (turned_size v g.inst g.log g.agrees c.keeps.ensures newest c.turn.new.self c.args.step c.in_ok-events.events e.makes e.follows c.what_is_posted_lands_as_it_is_due.ensures c.in-Some.number numbered c.land.new.commands c.land.new.refused.items c.command_posted-by.result c.take.result c.command_posted-by.ensures is_id i.posted c.in_ok-land.ensures) in
     let fewer = turned_counted v g.inst g.log g.agrees c.keeps.ensures newest c.turn.new.self c.args.step c.in_ok-events.events e.makes e.follows c.what_is_posted_lands_as_it_is_due.ensures c.in-Some.number numbered c.land.new.commands c.land.new.refused.items c.command_posted-by.result c.take.result c.command_posted-by.ensures is_id i.posted c.in_ok-land.ensures in
     let counted = i.counted in
-    subst (λ o. IsHeld (record c.self.inside { spent = false; manager = c.turn.new.self; commands = c.land.new.commands; refused = c.land.new.refused; found = c.in_ok-self-inside.field-0; submitting = o })) (sym c.take.ensures.after)
-    (held_landed c.self.inside held false c.turn.new.self c.land.new.commands c.land.new.refused c.in_ok-self-inside.field-0 e.ready e.makes.size posted size (omega (arith, fewer, counted))
+    subst (λ o. IsHeld (record c.self.inside { spent = false; manager = c.turn.new.self; commands = c.land.new.commands; refused = c.land.new.refused; found = c.in_ok-self-inside.field-0; bearing = c.in_ok-self-inside-2.field-0; submitting = o })) (sym c.take.ensures.after)
+    (held_landed c.self.inside held false c.turn.new.self c.land.new.commands c.land.new.refused c.in_ok-self-inside.field-0 c.in_ok-self-inside-2.field-0 e.ready e.makes.size posted size (omega (arith, fewer, counted))
     (turned_time v g.inst g.log g.agrees c.keeps.ensures newest c.turn.new.self c.args.step c.in_ok-events.events e.makes e.follows c.what_is_posted_lands_as_it_is_due.ensures c.in-Some.number numbered c.land.new.commands c.land.new.refused.items c.command_posted-by.result c.take.result c.command_posted-by.ensures is_id i.posted c.in_ok-land.ensures c.self.inside.span i.timed)
-    (turned_childless v g.inst g.log g.agrees c.keeps.ensures newest c.turn.new.self c.args.step c.in_ok-events.events e.makes e.follows c.what_is_posted_lands_as_it_is_due.ensures c.in-Some.number numbered c.land.new.commands c.land.new.refused.items c.command_posted-by.result c.take.result c.command_posted-by.ensures is_id i.posted c.in_ok-land.ensures i.childless i.asking)
-    (turned_asking v g.inst g.log g.agrees c.keeps.ensures newest c.turn.new.self c.args.step c.in_ok-events.events e.makes e.follows c.what_is_posted_lands_as_it_is_due.ensures c.in-Some.number numbered c.land.new.commands c.land.new.refused.items c.command_posted-by.result c.take.result c.command_posted-by.ensures is_id i.posted c.in_ok-land.ensures i.asking)
+    (subst (λ b. IsBearing c.land.new.commands b c.in_ok-self-inside-2.field-0) c.book-2.ensures c.in_ok-self-inside-2.ensures)
     (turned_drawn v g.inst g.log g.agrees c.keeps.ensures newest c.turn.new.self c.args.step c.in_ok-events.events e.makes e.follows c.what_is_posted_lands_as_it_is_due.ensures c.in-Some.number numbered c.land.new.commands c.land.new.refused.items c.command_posted-by.result c.take.result c.command_posted-by.ensures is_id i.posted c.in_ok-land.ensures c.self.inside.submitted i.drawn)
     (turned_marked v g.inst g.log g.agrees c.keeps.ensures newest c.turn.new.self c.args.step c.in_ok-events.events e.makes e.follows c.what_is_posted_lands_as_it_is_due.ensures c.in-Some.number numbered c.land.new.commands c.land.new.refused.items c.command_posted-by.result c.take.result c.command_posted-by.ensures is_id i.posted c.in_ok-land.ensures c.self.inside.second i.marked)
     (turned_judged v g.inst g.log g.agrees c.keeps.ensures newest c.turn.new.self c.args.step c.in_ok-events.events e.makes e.follows c.what_is_posted_lands_as_it_is_due.ensures c.in-Some.number numbered c.land.new.commands c.land.new.refused.items c.command_posted-by.result c.take.result c.command_posted-by.ensures is_id i.posted c.in_ok-land.ensures i.judged) c.in_ok-self-inside.ensures
     (record {
       inst = g.inst;
       log = g.log ++ map happening c.in_ok-events.events;
-      agrees = turned_agrees v g.inst g.log g.agrees c.keeps.ensures newest c.turn.new.self c.args.step c.in_ok-events.events e.makes e.follows c.what_is_posted_lands_as_it_is_due.ensures c.in-Some.number numbered c.land.new.commands c.land.new.refused.items c.command_posted-by.result c.take.result c.command_posted-by.ensures is_id i.posted c.in_ok-land.ensures
-          false (option_map post_of c.in_ok-self-inside.field-0) smalls (is_soon v i) short c.what_is_made_is_due.ensures.some c.what_is_made_is_due.ensures.none c.in_ok-self-inside.ensures;
+      agrees = respan (with_parts v false c.turn.new.self c.land.new.commands c.land.new.refused.items (option_map post_of c.in_ok-self-inside.field-0) c.self.inside.submitted) g.inst (g.log ++ map happening c.in_ok-events.events) c.self.inside.span c.in_ok-self-inside-2.field-0
+          (turned_agrees v g.inst g.log g.agrees c.keeps.ensures newest c.turn.new.self c.args.step c.in_ok-events.events e.makes e.follows c.what_is_posted_lands_as_it_is_due.ensures c.in-Some.number numbered c.land.new.commands c.land.new.refused.items c.command_posted-by.result c.take.result c.command_posted-by.ensures is_id i.posted c.in_ok-land.ensures
+          false (option_map post_of c.in_ok-self-inside.field-0) smalls (is_soon v i) short c.what_is_made_is_due.ensures.some c.what_is_made_is_due.ensures.none c.in_ok-self-inside.ensures);
     }))
 
 pub returns-clause-makes : goal.returns-clause-makes
@@ -120,6 +121,7 @@ returns-clause-makes c =
           let b = subst (λ w. AgreesJobs w inst log) (sym c.self.view_is) a in
           let newest = subst (λ k. newest_store inst.service (service_of log) primary ≡ Some (newest_of k)) c.core.ensures (c.standing.ensures.newest inst.service (service_of log) (subst (λ k. Agrees k inst.service (service_of log)) (sym c.core.ensures) b.core)) in
           let short = short_next v i c.land.new.commands (ap length (turned_size v inst log b c.keeps.ensures newest c.turn.new.self c.args.step c.in_ok-events.events e.makes e.follows c.what_is_posted_lands_as_it_is_due.ensures c.in-Some.number numbered c.land.new.commands c.land.new.refused.items c.command_posted-by.result c.take.result c.command_posted-by.ensures is_id i.posted c.in_ok-land.ensures)) in
-          turned_agrees v inst log b c.keeps.ensures newest c.turn.new.self c.args.step c.in_ok-events.events e.makes e.follows c.what_is_posted_lands_as_it_is_due.ensures c.in-Some.number numbered c.land.new.commands c.land.new.refused.items c.command_posted-by.result c.take.result c.command_posted-by.ensures is_id i.posted c.in_ok-land.ensures
-          false (option_map post_of c.in_ok-self-inside.field-0) smalls (is_soon v i) short c.what_is_made_is_due.ensures.some c.what_is_made_is_due.ensures.none c.in_ok-self-inside.ensures;
+          respan (with_parts v false c.turn.new.self c.land.new.commands c.land.new.refused.items (option_map post_of c.in_ok-self-inside.field-0) c.self.inside.submitted) inst (log ++ map happening c.in_ok-events.events) c.self.inside.span c.in_ok-self-inside-2.field-0
+          (turned_agrees v inst log b c.keeps.ensures newest c.turn.new.self c.args.step c.in_ok-events.events e.makes e.follows c.what_is_posted_lands_as_it_is_due.ensures c.in-Some.number numbered c.land.new.commands c.land.new.refused.items c.command_posted-by.result c.take.result c.command_posted-by.ensures is_id i.posted c.in_ok-land.ensures
+          false (option_map post_of c.in_ok-self-inside.field-0) smalls (is_soon v i) short c.what_is_made_is_due.ensures.some c.what_is_made_is_due.ensures.none c.in_ok-self-inside.ensures);
     }

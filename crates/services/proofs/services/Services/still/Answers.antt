@@ -36,6 +36,11 @@ returns-clause-advanced c = λ inst log l a₀ still₀.
     let a = subst (λ v. AgreesServices v inst log) (sym c.self.view_is) a₀ in
     c.still-3.ensures.advanced inst log l a.jobs (jobs_still (value_of c.self.inside) (subst IsStill (sym c.self.view_is) still₀))
 
+pub returns-clause-childless : goal.returns-clause-childless
+returns-clause-childless c = λ inst log a₀ none.
+    let a = subst (λ v. AgreesServices v inst log) (sym c.self.view_is) a₀ in
+    sym (ap (λ v. v.jobs.bearing) c.self.view_is) ∙ c.still-3.ensures.childless inst log a.jobs none
+
 pub returns-clause-left : goal.returns-clause-left
 returns-clause-left c = λ inst log a₀ still₀ by some other waits.
     let a = subst (λ v. AgreesServices v inst log) (sym c.self.view_is) a₀ in
