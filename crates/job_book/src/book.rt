@@ -1,3 +1,4 @@
+//! The book of an instance's jobs.
 ghost use Rattle.std.specs.Prelude.{◌≡◌, [], ℕ, All, Contains, IfNone, IfOk, IfSome, OnErr, OnOk, option_map};
 ghost use Rattle.std.specs.Option.{option_copied};
 ghost use Rattle.std.specs.Fn.{FnReturnsAt};

@@ -1,3 +1,4 @@
+//! The laws, each the contract of a function.
 ghost use Rattle.std.specs.Prelude.{◌≡◌, ◌+◌, ◌≤◌, IsSome, List};
 ghost use Rattle.workload.specs.Laws.{KeepsTallies};
 ghost use Rattle.workload.specs.Tallies.{seconds_in};
