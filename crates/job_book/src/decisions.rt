@@ -53,6 +53,16 @@ fn goes_first(head: Option<u64>, id: u64) -> bool
     head == Some(id)
 }
 
+/// Whether a job goes first, and there is room for it.
+fn goes_now(desk: &Desk<'_>, row: &Row) -> bool
+    requires { IsSpec row.now.spec }
+    ensures { IsTrue result ↔ ((desk.now.head ≡ Some row.now.id)
+        × CanFit row.now.spec desk.now.graph.now.grant
+        (free_of desk.now.graph.now.grant desk.now.graph.now.live)) }
+{
+    goes_first(desk.head, row.id) && desk.graph.has_room(&row.spec)
+}
+
 /// The resources of a job that goes first, where they are free.
 fn first_fit(
     alloc: Global,
@@ -99,10 +109,10 @@ fn of_ranked(
         return Ok(Some(Action::NeverFits));
     }
     desk.graph.keeps();
-    if goes_first(desk.head, row.id) && desk.graph.has_room(&row.spec) {
-        return first_fit(alloc, desk, row);
+    if !goes_now(desk, row) {
+        return Ok(None);
     }
-    Ok(None)
+    first_fit(alloc, desk, row)
 }
 
 /// What is due for a job in SCHED: another priority, an exception where it never fits, and its
