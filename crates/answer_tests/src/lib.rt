@@ -1,4 +1,5 @@
-//! Tests of what a run reads beside its workload, and of what it prints: of `run_options` and `answers`.
+//! Tests of what a run reads beside its workload, and of what it prints: of `run_options` and
+//! `answers`.
 #![tactic(auto)]
 
 #[cfg(test)]

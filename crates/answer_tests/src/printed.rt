@@ -52,7 +52,8 @@ const REPLIES: [(u32, Option<u64>, &str); 34] = [
     (33, None, "refused 2 RootOp\n"),
 ];
 
-/// Replies about jobs, time and children by their place in `job_reply_of`, each with its number and its line.
+/// Replies about jobs, time and children by their place in `job_reply_of`, each with its number and
+/// its line.
 const JOB_REPLIES: [(u32, Option<u64>, &str); 24] = [
     (0, Some(1), "submitted f1\n"),
     (1, Some(2), "submitted fSZYcoq\n"),
@@ -381,7 +382,8 @@ fn mixed(alloc: Global) -> Result<Chronicle, AllocError> {
     Ok(chronicle)
 }
 
-/// Whether the answers stand in the workload's order, the newest of each command, and empty where it has none.
+/// Whether the answers stand in the workload's order, the newest of each command, and empty where
+/// it has none.
 fn prints_in_order(alloc: Global) -> Result<bool, AllocError> {
     let chronicle = mixed(alloc)?;
     let work = lines_of(alloc, &[0, 1, 2, 0, 1])?;

@@ -1,5 +1,5 @@
--- An instance with its jobs, its children and its time: what its commands on jobs ask, which replies are
--- theirs, and its log.
+-- An instance with its jobs, its children and its time: what its commands on jobs ask, which
+-- replies are theirs, and its log.
 use Rattle.std.specs.Prelude.{◌≡◌, ◌<◌, ◌^◌, ◌==◌, ℕ, List, [], ◌∷◌, ◌++◌, Option, Some, None, IfSome, false, is_some, map, max, min, option_and_then, option_map, if◌then◌else◌}
 use Rattle.std.specs.List.{AllByRecursion as Each, cons_option}
 use Rattle.std.specs.Option.{option_map_or}
@@ -80,8 +80,8 @@ job_reply_of _ = None
 
 -- ---- the instance and its log
 
--- the priority that a job is given, as long as no run keeps a callback that says more: its urgency, within the range of
--- priorities
+-- the priority that a job is given, as long as no run keeps a callback that says more: its urgency,
+-- within the range of priorities
 abbrev pub default_priority : Ask → ℕ
 default_priority ask = min (max ask.urgency 1) 4294967294
 
@@ -128,8 +128,8 @@ abbrev pub IsLegalHappening : Setup → List Entry → Entry → Type 0
 IsLegalHappening set c e = IfSome (happening_of set.work c e)
     (IsLegalMoment (instance_of set) (log_in set.work c))
 
--- what an instance is given fits together: the text is that of the resources, and the numbers and texts of
--- commands on jobs are within their ranges
+-- what an instance is given fits together: the text is that of the resources, and the numbers and
+-- texts of commands on jobs are within their ranges
 pub record IsSetup (set : Setup) : Type 0 where
   pub text : set.grant ≡ r_text set.resources
   pub grant : IsGrant set.resources.nodes

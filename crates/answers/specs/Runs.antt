@@ -11,8 +11,8 @@ use Rattle.answers.specs.Jobs.{living_of, second_of}
 abbrev pub family_of : Setup → List Entry → List Living
 family_of set c = living_of set c ∷ []
 
--- time goes on only where nothing is due and an advance is open, and to the least second that anybody
--- waits for. A run of one instance has no births and no ends
+-- time goes on only where nothing is due and an advance is open, and to the least second that
+-- anybody waits for. A run of one instance has no births and no ends
 abbrev pub ComesInTime : Setup → List Entry → Entry → Type 0
 ComesInTime set c (entry.Ticked second) = MayTick (family_of set c) (second_of set c) [] second
 ComesInTime set c (entry.Born child parent job label second grant) = ⊥

@@ -22,7 +22,8 @@ held_at second live = map held (filter (is_held_at second) live)
 abbrev pub free_at : ℕ → List Node → List Hold → List Node
 free_at second grant live = free_of grant (held_at second live)
 
--- live jobs whose units lie in the grant, by rank and name, and no two of which hold a unit in common
+-- live jobs whose units lie in the grant, by rank and name, and no two of which hold a unit in
+-- common
 pub record AreHeld (grant : List Node) (live : List Hold) : Type 0 where
   pub within : Each (λ hold. AreWithin hold.units.nodes grant) live
   pub apart : AllApart (map held live)

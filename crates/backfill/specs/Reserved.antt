@@ -11,7 +11,8 @@ abbrev pub FitsAt : JobSpec → List Node → List Hold → ℕ → Type 0
 FitsAt spec grant live second = CanFit spec grant (free_at second grant live)
 
 -- the least second from now on at which the job fits
-pub record IsReserved (spec : JobSpec) (grant : List Node) (live : List Hold) (now second : ℕ) : Type 0 where
+pub record IsReserved (spec : JobSpec) (grant : List Node)
+    (live : List Hold) (now second : ℕ) : Type 0 where
   pub from : now ≤ second
   pub fits : FitsAt spec grant live second
   pub least : (sooner : ℕ) → now ≤ sooner → sooner < second → FitsAt spec grant live sooner → ⊥
@@ -22,7 +23,8 @@ Reserves spec grant live now (Some second) = IsReserved spec grant live now seco
 Reserves spec grant live now None = (second : ℕ) → now ≤ second → FitsAt spec grant live second → ⊥
 
 -- the head has a reserved second, and has the same one with one more live job
-pub record KeepsReservation (head : JobSpec) (grant : List Node) (live : List Hold) (offer : Hold) (now : ℕ) : Type 0 where
+pub record KeepsReservation (head : JobSpec) (grant : List Node)
+    (live : List Hold) (offer : Hold) (now : ℕ) : Type 0 where
   pub second : ℕ
   pub without : IsReserved head grant live now second
   pub beside : IsReserved head grant (live ++ offer ∷ []) now second

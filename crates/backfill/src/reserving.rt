@@ -39,7 +39,8 @@ fn graph_at(
     requires grant { AreHosts grant.now.nodes }
     requires held { AreHeld grant.now.nodes live.now }
     ensures grant { IfOk result (λ graph. graph.grant ≡ grant.now.nodes) }
-    ensures nodes { IfOk result (λ graph. nodes_of graph.live ≡ nodes_of (held_at second live.now)) }
+    ensures nodes { IfOk result (λ graph. nodes_of graph.live
+        ≡ nodes_of (held_at second live.now)) }
     ensures ids { IfOk result (λ graph. Each (λ h. h.id < length live.now) graph.live) }
 {
     let mut graph = Graph::new(alloc, grant)?;
@@ -78,8 +79,8 @@ fn last_end(live: &[Hold], now: u64) -> u64
     last
 }
 
-/// The least second at which a job fits, where it fits at the last one. What fits at a second fits later too, so each
-/// look at a second halves those that are left.
+/// The least second at which a job fits, where it fits at the last one. What fits at a second fits
+/// later too, so each look at a second halves those that are left.
 fn least_fitting(
     alloc: Global,
     grant: &Resources,
@@ -108,8 +109,9 @@ fn least_fitting(
     Ok(low)
 }
 
-/// The reserved second of a job: the least one from now on at which the units that live jobs leave satisfy it; None
-/// exactly where there is none. The holds lie in the grant, by rank and name, and no two have a unit in common.
+/// The reserved second of a job: the least one from now on at which the units that live jobs leave
+/// satisfy it; None exactly where there is none. The holds lie in the grant, by rank and name, and
+/// no two have a unit in common.
 pub fn reserve(
     alloc: Global,
     grant: &Resources,
@@ -129,8 +131,9 @@ pub fn reserve(
     Ok(Some(least_fitting(alloc, grant, live, spec, now, last)?))
 }
 
-/// Whether the head of a queue has a reserved second and keeps it where the offer is one more live job. The holds, the
-/// offer among them, lie in the grant, by rank and name, and no two have a unit in common.
+/// Whether the head of a queue has a reserved second and keeps it where the offer is one more live
+/// job. The holds, the offer among them, lie in the grant, by rank and name, and no two have a unit
+/// in common.
 pub fn passes(
     alloc: Global,
     grant: &Resources,

@@ -30,8 +30,11 @@ HandsOther bytes (Clash kept) = kept ≢ bytes
 HandsOther bytes NoMemory = Unit {0}
 HandsOther bytes Failed = Unit {0}
 
--- a put clashes with the kept bytes exactly where the writes keep other bytes under the reference, unless memory is
--- wanting for them
-pub record ClashesWith {T : Type 0} (writes : List Write) (reference : BlobRef) (bytes : List ℕ) (result : Result T KeepFault) : Type 0 where
-  pub only : (kept : List ℕ) → result ≡ Err (Clash kept) → (blob_in reference writes ≡ Some kept) × (kept ≢ bytes)
-  pub always : (kept : List ℕ) → blob_in reference writes ≡ Some kept → kept ≢ bytes → (result ≡ Err (Clash kept)) ⊎ (result ≡ Err NoMemory)
+-- a put clashes with the kept bytes exactly where the writes keep other bytes under the reference,
+-- unless memory is wanting for them
+pub record ClashesWith {T : Type 0} (writes : List Write)
+    (reference : BlobRef) (bytes : List ℕ) (result : Result T KeepFault) : Type 0 where
+  pub only : (kept : List ℕ) → result ≡ Err (Clash kept)
+      → (blob_in reference writes ≡ Some kept) × (kept ≢ bytes)
+  pub always : (kept : List ℕ) → blob_in reference writes ≡ Some kept
+      → kept ≢ bytes → (result ≡ Err (Clash kept)) ⊎ (result ≡ Err NoMemory)

@@ -9,7 +9,8 @@ use Rattle.fl_digest.specs.Reference.{same_reference}
 -- the bytes that are kept under a reference: those that were first put there
 abbrev pub blob_in : BlobRef → List Write → Option (List ℕ)
 blob_in reference [] = None
-blob_in reference (Put other bytes ∷ writes) = if same_reference reference other then Some bytes else blob_in reference writes
+blob_in reference (Put other bytes ∷ writes) =
+    if same_reference reference other then Some bytes else blob_in reference writes
 blob_in reference (Mark check ∷ writes) = blob_in reference writes
 
 -- the check that was marked last
@@ -20,7 +21,8 @@ check_in (Mark check ∷ writes) = Some (unwrap_or (check_in writes) check)
 
 -- other bytes are kept under the reference
 abbrev pub HasOther : List Write → BlobRef → List ℕ → Type 0
-HasOther writes reference bytes = (kept : List ℕ) × (blob_in reference writes ≡ Some kept) × (kept ≢ bytes)
+HasOther writes reference bytes = (kept : List ℕ) × (blob_in reference writes ≡ Some kept)
+    × (kept ≢ bytes)
 
 -- the list with one more write, where it is told
 abbrev pub with_write : Write → Option (List Write) → Option (List Write)

@@ -27,8 +27,8 @@ impl From<AllocError> for KeepFault {
     }
 }
 
-/// The writes so far, where the keeper tells them, and a count of faults that never falls. After a refusal the writes are
-/// as before.
+/// The writes so far, where the keeper tells them, and a count of faults that never falls. After a
+/// refusal the writes are as before.
 pub trait Keeper {
     ghost told: { Self → Option (List Written) };
 
@@ -36,22 +36,26 @@ pub trait Keeper {
 
     /// Keeps bytes under a reference.
     fn put(&mut self, reference: BlobRef, bytes: &Bytes) -> Result<(), KeepFault>
-        ensures written { OnOk result (told self.new ≡ with_write (Write.Put reference bytes.now) (told self.old)) }
+        ensures written { OnOk result
+            (told self.new ≡ with_write (Write.Put reference bytes.now) (told self.old)) }
         ensures kept { OnErr result (told self.new ≡ told self.old) }
         ensures cause { HasKeepCause (faults self.old) (faults self.new) result }
         ensures other { IfErr result (HandsOther bytes.now) }
-        ensures clash { IfSome (told self.old) (λ writes. ClashesWith writes reference bytes.now result) };
+        ensures clash { IfSome (told self.old)
+            (λ writes. ClashesWith writes reference bytes.now result) };
 
     /// The bytes that were first put under a reference, if there are any.
     fn get(&mut self, reference: &BlobRef) -> Result<Option<Bytes>, KeepFault>
         ensures kept { told self.new ≡ told self.old }
         ensures cause { HasKeepCause (faults self.old) (faults self.new) result }
         ensures no_clash { IfErr result IsNoClash }
-        ensures found { IfSome (told self.old) (λ writes. IfOk result (λ found. found ≡ blob_in reference.now writes)) };
+        ensures found { IfSome (told self.old)
+            (λ writes. IfOk result (λ found. found ≡ blob_in reference.now writes)) };
 
     /// Keeps a check as the last one.
     fn mark(&mut self, check: Check) -> Result<(), KeepFault>
-        ensures written { OnOk result (told self.new ≡ with_write (Write.Mark check) (told self.old)) }
+        ensures written { OnOk result
+            (told self.new ≡ with_write (Write.Mark check) (told self.old)) }
         ensures kept { OnErr result (told self.new ≡ told self.old) }
         ensures cause { HasKeepCause (faults self.old) (faults self.new) result }
         ensures no_clash { IfErr result IsNoClash };
@@ -61,5 +65,6 @@ pub trait Keeper {
         ensures kept { told self.new ≡ told self.old }
         ensures cause { HasKeepCause (faults self.old) (faults self.new) result }
         ensures no_clash { IfErr result IsNoClash }
-        ensures found { IfSome (told self.old) (λ writes. IfOk result (λ found. found ≡ check_in writes)) };
+        ensures found { IfSome (told self.old)
+            (λ writes. IfOk result (λ found. found ≡ check_in writes)) };
 }

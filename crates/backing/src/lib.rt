@@ -1,5 +1,6 @@
-//! A backing store: where contents and checks are kept beyond a run. A check is what a later run starts from: a root and
-//! the second at which it was the newest (the content backing store and the checkpoints of Flux RFC 10 and 11).
+//! A backing store: where contents and checks are kept beyond a run. A check is what a later run
+//! starts from: a root and the second at which it was the newest (the content backing store and the
+//! checkpoints of Flux RFC 10 and 11).
 #![tactic(auto)]
 
 mod keeper;

@@ -19,8 +19,9 @@ const BLOBS: &str =
 const MARKS: &str = "CREATE TABLE IF NOT EXISTS mark (place INTEGER PRIMARY KEY CHECK (place = 1), \
 reference BLOB NOT NULL, number INTEGER NOT NULL, second INTEGER NOT NULL) STRICT";
 
-/// A keeper over a file of SQLite: one table of blobs, and one of the last check. It tells nothing, and counts each refusal
-/// but want of memory as a fault. That a file holds what was written is trusted.
+/// A keeper over a file of SQLite: one table of blobs, and one of the last check. It tells nothing,
+/// and counts each refusal but want of memory as a fault. That a file holds what was written is
+/// trusted.
 #[derive(Drop)]
 pub struct SqlKeeper {
     /// None where the file couldn't be opened.
@@ -41,8 +42,8 @@ impl Model for SqlKeeper {
     } };
 }
 
-// Each call of SQLite stands in a function of its own without clauses, so that no proof carries the state of a database,
-// and each call's types are gone through once.
+// Each call of SQLite stands in a function of its own without clauses, so that no proof carries the
+// state of a database, and each call's types are gone through once.
 
 /// Runs a statement that gives no rows.
 fn run(database: &mut Database, sql: &str, values: &[ValueRef<'_>]) -> Result<(), Error> {
@@ -95,7 +96,8 @@ fn add_blob(database: &mut Database, name: &[u8], bytes: &[u8]) -> Result<(), Er
     )
 }
 
-/// Puts the check in the place of the one before, in one statement. A number of 2^63 or more has no place in a table.
+/// Puts the check in the place of the one before, in one statement. A number of 2^63 or more has no
+/// place in a table.
 fn set_check(database: &mut Database, name: &[u8], check: Check) -> Result<(), Error> {
     let too_big = Error::SqliteFailure(ErrorCode::TooBig);
     let number = i64::try_from(check.root.number).map_err(|_| too_big)?;
@@ -144,7 +146,8 @@ fn keep(database: &mut Database, name: &[u8], bytes: &[u8]) -> Result<Option<Vec
 }
 
 impl SqlKeeper {
-    /// A keeper over the file at a path, which is made where there is none. Where it can't be opened every call fails.
+    /// A keeper over the file at a path, which is made where there is none. Where it can't be
+    /// opened every call fails.
     pub fn open(rt: &HostRuntime, alloc: Global, path: &str) -> Result<SqlKeeper, AllocError>
         ensures { IfOk result (λ keeper. keeper.faults ≡ 0) }
     {

@@ -15,11 +15,13 @@ blob_at reference store = lookup (same_reference reference) store
 
 -- a store with these bytes under a reference: what stands there stays, and what is new goes last
 abbrev pub stored : List (BlobRef × List ℕ) → BlobRef → List ℕ → List (BlobRef × List ℕ)
-stored store reference bytes = option_map_or (λ kept. store) (blob_at reference store) (store ++ (reference, bytes) ∷ [])
+stored store reference bytes =
+    option_map_or (λ kept. store) (blob_at reference store) (store ++ (reference, bytes) ∷ [])
 
 -- whether other bytes stand under a reference
 abbrev pub HasOther : List (BlobRef × List ℕ) → BlobRef → List ℕ → Type 0
-HasOther store reference bytes = (kept : List ℕ) × (blob_at reference store ≡ Some kept) × (kept ≢ bytes)
+HasOther store reference bytes = (kept : List ℕ) × (blob_at reference store ≡ Some kept)
+    × (kept ≢ bytes)
 
 -- the bytes that a refusal hands back
 abbrev pub handed_back : PutFault → List ℕ

@@ -26,7 +26,8 @@ pub struct BlobPair<'a> {
     pub bytes: &'a Bytes,
 }
 
-/// The contents with their references, which contracts see as a list of pairs in the order of their first puts.
+/// The contents with their references, which contracts see as a list of pairs in the order of their
+/// first puts.
 #[derive(Drop)]
 pub struct BlobStore {
     blobs: IndexMap<BlobRef, Bytes>,

@@ -7,7 +7,8 @@ use Rattle.fl_digest.specs.Reference.{same_reference}
 use Rattle.cache_node.specs.declared.content.Held.{Held}
 use Rattle.cache_node.specs.Order.{Names, unpinned_bytes}
 
--- each reference once and the digest of its bytes, and the sums of all bytes and of the unpinned ones
+-- each reference once and the digest of its bytes, and the sums of all bytes and of the unpinned
+-- ones
 pub record IsKept (entries : List (BlobRef × Held)) (total loose : ℕ) : Type 0 where
   pub once : IsDistinct same_reference (keys_of entries)
   pub named : AllByRecursion (λ e. Names e.0 e.1.bytes) entries

@@ -20,7 +20,10 @@ pinned held = record { bytes = held.bytes; pins = min (held.pins + 1) (2 ^ 64 - 
 
 -- a content with one pin less, where it has one; the last count stays
 abbrev pub released : Held → Held
-released held = record { bytes = held.bytes; pins = (if held.pins == 2 ^ 64 - 1 then held.pins else held.pins - 1) }
+released held = record {
+  bytes = held.bytes;
+  pins = (if held.pins == 2 ^ 64 - 1 then held.pins else held.pins - 1);
+}
 
 -- whether a content is pinned
 abbrev pub is_pinned : Held → Bool
@@ -40,28 +43,37 @@ used reference held entries = (reference, held) ∷ remove_entry (same_reference
 
 -- the same where the content may be new
 abbrev pub filled : BlobRef → List ℕ → List (BlobRef × Held) → List (BlobRef × Held)
-filled reference bytes entries = used reference (unwrap_or (lookup (same_reference reference) entries) (unpinned bytes)) entries
+filled reference bytes entries =
+    used reference (unwrap_or (lookup (same_reference reference) entries) (unpinned bytes)) entries
 
--- whether an entry stays before these, which were used after it: where it is pinned, or its bytes and the unpinned ones of these are within the limit
+-- whether an entry stays before these, which were used after it: where it is pinned, or its bytes
+-- and the unpinned ones of these are within the limit
 abbrev pub stays_within : ℕ → BlobRef × Held → List (BlobRef × Held) → Bool
-stays_within limit entry later = is_pinned entry.1 || nat_le (length entry.1.bytes + unpinned_bytes later) limit
+stays_within limit entry later =
+    is_pinned entry.1 || nat_le (length entry.1.bytes + unpinned_bytes later) limit
 
 -- the entries that stay, of some with the least recently used first
-unfoldable pub staying : (BlobRef × Held → List (BlobRef × Held) → Bool) → List (BlobRef × Held) → List (BlobRef × Held)
+unfoldable pub staying : (BlobRef × Held → List (BlobRef × Held) → Bool)
+    → List (BlobRef × Held) → List (BlobRef × Held)
 staying stays [] = []
-staying stays (entry ∷ later) = if stays entry later then entry ∷ staying stays later else staying stays later
+staying stays (entry ∷ later) =
+    if stays entry later then entry ∷ staying stays later else staying stays later
 
 -- and those that don't
-unfoldable pub leaving : (BlobRef × Held → List (BlobRef × Held) → Bool) → List (BlobRef × Held) → List (BlobRef × Held)
+unfoldable pub leaving : (BlobRef × Held → List (BlobRef × Held) → Bool)
+    → List (BlobRef × Held) → List (BlobRef × Held)
 leaving stays [] = []
-leaving stays (entry ∷ later) = if stays entry later then leaving stays later else entry ∷ leaving stays later
+leaving stays (entry ∷ later) =
+    if stays entry later then leaving stays later else entry ∷ leaving stays later
 
 -- what stays of entries, the most recently used first
-abbrev pub remaining : (BlobRef × Held → List (BlobRef × Held) → Bool) → List (BlobRef × Held) → List (BlobRef × Held)
+abbrev pub remaining : (BlobRef × Held → List (BlobRef × Held) → Bool)
+    → List (BlobRef × Held) → List (BlobRef × Held)
 remaining stays entries = reverse (staying stays (reverse entries))
 
 -- the references of those that don't stay, the least recently used first
-abbrev pub dropped : (BlobRef × Held → List (BlobRef × Held) → Bool) → List (BlobRef × Held) → List BlobRef
+abbrev pub dropped : (BlobRef × Held → List (BlobRef × Held) → Bool)
+    → List (BlobRef × Held) → List BlobRef
 dropped stays entries = keys_of (leaving stays (reverse entries))
 
 -- entries without those under these references

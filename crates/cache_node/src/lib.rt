@@ -1,4 +1,5 @@
-//! A broker's cache of contents (Flux RFC 10): dirty ones, which its parent hasn't acknowledged, and clean ones.
+//! A broker's cache of contents (Flux RFC 10): dirty ones, which its parent hasn't acknowledged,
+//! and clean ones.
 #![tactic(auto)]
 
 ghost use Rattle.std.specs.Prelude.{◌≡◌, ◌≢◌, ◌≤◌, ◌↔◌, [], None, IfOk, OnOk, OnErr, IfSome, IsSome, IsTrue, is_some, option_copied, filter, not, reverse};
@@ -23,7 +24,8 @@ use use_order::UseOrder;
 /// The most bytes of clean contents that aren't pinned, after each fill.
 pub const UNPINNED_LIMIT: u64 = 4 * 1024 * 1024;
 
-/// The contents of a broker. Contracts see the dirty ones, the last put first, and the clean ones, the most recently used first.
+/// The contents of a broker. Contracts see the dirty ones, the last put first, and the clean ones,
+/// the most recently used first.
 #[derive(Drop)]
 pub struct CacheNode {
     dirty: LruCache<BlobRef, Bytes>,
@@ -48,7 +50,8 @@ fn exchange(
     bytes: Bytes,
 ) -> Option<Bytes>
     ensures was { result ≡ lookup (same_reference reference.now) dirty.old.entries }
-    ensures entries { dirty.new ≡ lru_cache (set_value (same_reference reference.now) dirty.old.entries bytes) dirty.old.cap }
+    ensures entries { dirty.new ≡ lru_cache
+        (set_value (same_reference reference.now) dirty.old.entries bytes) dirty.old.cap }
 {
     let kept = dirty.peek_mut(reference)?;
     Some(mem::replace(kept, bytes))
@@ -117,14 +120,18 @@ impl CacheNode {
         self.dirty.pop(reference)
     }
 
-    /// Keeps bytes as clean, in place of dirty ones, which is a use. A clean content that is there stays.
-    /// Then the least recently used unpinned contents go that are over the limit, and are listed as they go.
+    /// Keeps bytes as clean, in place of dirty ones, which is a use. A clean content that is there
+    /// stays. Then the least recently used unpinned contents go that are over the limit, and are
+    /// listed as they go.
     pub fn fill(&mut self, reference: BlobRef, bytes: Bytes) -> Result<RefList, AllocError>
         requires { Names reference bytes }
-        ensures gone { IfOk result (λ gone. gone ≡ dropped (stays_within UNPINNED_LIMIT) (filled reference bytes self.old.clean)) }
-        ensures rest { OnOk result (self.new ≡ with_clean (remaining (stays_within UNPINNED_LIMIT) (filled reference bytes self.old.clean)) (refused reference self.old)) }
+        ensures gone { IfOk result (λ gone. gone
+            ≡ dropped (stays_within UNPINNED_LIMIT) (filled reference bytes self.old.clean)) }
+        ensures rest { OnOk result (self.new ≡ with_clean (remaining (stays_within UNPINNED_LIMIT)
+            (filled reference bytes self.old.clean)) (refused reference self.old)) }
         ensures limit { OnOk result (unpinned_bytes self.new.clean ≤ UNPINNED_LIMIT) }
-        ensures left { IfOk result (λ gone. HasDropped (filled reference bytes self.old.clean) self.new.clean gone) }
+        ensures left { IfOk result
+            (λ gone. HasDropped (filled reference bytes self.old.clean) self.new.clean gone) }
         ensures kept { OnErr result (self.new ≡ self.old) }
     {
         self.clean.are_once();
@@ -169,7 +176,8 @@ impl CacheNode {
         self.clean.pin(reference)
     }
 
-    /// Takes a pin of a clean content back, if it has one, and says whether the content was there. It takes no memory.
+    /// Takes a pin of a clean content back, if it has one, and says whether the content was there.
+    /// It takes no memory.
     pub fn unpin(&mut self, reference: &BlobRef) -> bool
         ensures found { result ≡ is_some (held_at reference.now self.old) }
         ensures released { self.new ≡ without_pin reference.now self.old }
@@ -179,8 +187,10 @@ impl CacheNode {
 
     /// Drops each clean content that isn't pinned, and lists them, the least recently used first.
     pub fn drop_clean(&mut self) -> Result<RefList, AllocError>
-        ensures gone { IfOk result (λ gone. gone ≡ keys_of (filter (λ e. not (is_pinned e.1)) (reverse self.old.clean))) }
-        ensures rest { OnOk result (self.new ≡ with_clean (filter (λ e. is_pinned e.1) self.old.clean) self.old) }
+        ensures gone { IfOk result
+            (λ gone. gone ≡ keys_of (filter (λ e. not (is_pinned e.1)) (reverse self.old.clean))) }
+        ensures rest { OnOk result
+            (self.new ≡ with_clean (filter (λ e. is_pinned e.1) self.old.clean) self.old) }
         ensures left { IfOk result (λ gone. HasDropped self.old.clean self.new.clean gone) }
         ensures kept { OnErr result (self.new ≡ self.old) }
     {

@@ -14,7 +14,8 @@ use lru::LruCache;
 use std::alloc::{AllocError, AllocFailed, Global};
 use std::marker::Model;
 
-/// The clean contents and the sums of their bytes, which contracts see as a list, the most recently used first.
+/// The clean contents and the sums of their bytes, which contracts see as a list, the most recently
+/// used first.
 #[derive(Drop)]
 pub(crate) struct UseOrder {
     entries: LruCache<BlobRef, Held>,
@@ -33,7 +34,8 @@ impl Model for UseOrder {
 
     ghost view = { λ o. o.entries.entries };
 
-    ghost invariant = { λ o. IsKept o.entries.entries o.total o.loose × (o.entries.cap ≡ 2 ^ 64 - 1) };
+    ghost invariant = { λ o. IsKept o.entries.entries o.total o.loose
+        × (o.entries.cap ≡ 2 ^ 64 - 1) };
 }
 
 impl UseOrder {
@@ -103,7 +105,8 @@ impl UseOrder {
 
     /// Makes a content the most recently used one.
     fn touch(&mut self, reference: &BlobRef)
-        ensures { self.new ≡ option_map_or (λ held. used reference.now held self.old) (lookup (same_reference reference.now) self.old) self.old }
+        ensures { self.new ≡ option_map_or (λ held. used reference.now held self.old)
+            (lookup (same_reference reference.now) self.old) self.old }
     {
         self.entries.promote(reference);
     }
@@ -111,7 +114,8 @@ impl UseOrder {
     /// Pins a content, which is a use.
     pub(crate) fn pin(&mut self, reference: &BlobRef) -> bool
         ensures found { result ≡ is_some (lookup (same_reference reference.now) self.old) }
-        ensures pinned { self.new ≡ option_map_or (λ held. used reference.now (pinned held) self.old) (lookup (same_reference reference.now) self.old) self.old }
+        ensures pinned { self.new ≡ option_map_or (λ held. used reference.now
+            (pinned held) self.old) (lookup (same_reference reference.now) self.old) self.old }
     {
         let Some(held) = self.entries.get_mut(reference) else {
             return false;
@@ -125,7 +129,9 @@ impl UseOrder {
     /// Takes a pin of a content back, which is no use.
     pub(crate) fn unpin(&mut self, reference: &BlobRef) -> bool
         ensures found { result ≡ is_some (lookup (same_reference reference.now) self.old) }
-        ensures released { self.new ≡ option_map_or (λ held. set_value (same_reference reference.now) self.old (released held)) (lookup (same_reference reference.now) self.old) self.old }
+        ensures released { self.new ≡ option_map_or
+            (λ held. set_value (same_reference reference.now) self.old (released held))
+            (lookup (same_reference reference.now) self.old) self.old }
     {
         let Some(held) = self.entries.peek_mut(reference) else {
             return false;
@@ -137,10 +143,12 @@ impl UseOrder {
         true
     }
 
-    /// The references that go once a content is used, where so many unpinned bytes are there then. The content may be new.
+    /// The references that go once a content is used, where so many unpinned bytes are there then.
+    /// The content may be new.
     fn surplus(&self, reference: &BlobRef, held: &Held, loose: u64) -> Result<RefList, AllocError>
         requires { loose ≡ unpinned_bytes (used reference.now held.now self.now) }
-        ensures { IfOk result (λ gone. gone ≡ dropped (stays_within UNPINNED_LIMIT) (used reference.now held.now self.now)) }
+        ensures { IfOk result (λ gone. gone
+            ≡ dropped (stays_within UNPINNED_LIMIT) (used reference.now held.now self.now)) }
     {
         let mut gone = RefList::new(*self.entries.allocator());
         let mut left = loose;
@@ -167,11 +175,14 @@ impl UseOrder {
         }
     }
 
-    /// Uses the content under a reference, which is new where there is none. What is over the limit then goes.
+    /// Uses the content under a reference, which is new where there is none. What is over the limit
+    /// then goes.
     pub(crate) fn fill(&mut self, reference: &BlobRef, bytes: Bytes) -> Result<RefList, AllocError>
         requires { Names reference.now bytes }
-        ensures gone { IfOk result (λ gone. gone ≡ dropped (stays_within UNPINNED_LIMIT) (filled reference.now bytes self.old)) }
-        ensures rest { OnOk result (self.new ≡ remaining (stays_within UNPINNED_LIMIT) (filled reference.now bytes self.old)) }
+        ensures gone { IfOk result (λ gone. gone
+            ≡ dropped (stays_within UNPINNED_LIMIT) (filled reference.now bytes self.old)) }
+        ensures rest { OnOk result (self.new
+            ≡ remaining (stays_within UNPINNED_LIMIT) (filled reference.now bytes self.old)) }
         ensures kept { OnErr result (self.new ≡ self.old) }
     {
         if let Some(held) = self.entries.peek(reference) {
@@ -192,7 +203,8 @@ impl UseOrder {
 
     /// Drops what isn't pinned, and lists it, the least recently used first.
     pub(crate) fn drop_unpinned(&mut self) -> Result<RefList, AllocError>
-        ensures gone { IfOk result (λ gone. gone ≡ keys_of (filter (λ e. not (is_pinned e.1)) (reverse self.old))) }
+        ensures gone { IfOk result
+            (λ gone. gone ≡ keys_of (filter (λ e. not (is_pinned e.1)) (reverse self.old))) }
         ensures rest { OnOk result (self.new ≡ filter (λ e. is_pinned e.1) self.old) }
         ensures kept { OnErr result (self.new ≡ self.old) }
     {

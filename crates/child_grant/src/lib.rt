@@ -1,4 +1,5 @@
-//! The resources of a child instance: those of the job that starts it, at ranks from 0 on (Flux RFC 20).
+//! The resources of a child instance: those of the job that starts it, at ranks from 0 on (Flux RFC
+//! 20).
 #![tactic(auto)]
 
 ghost use Rattle.std.specs.Prelude.{◌≡◌, IfOk};
@@ -22,7 +23,8 @@ fn at_rank(node: &Node, rank: u32) -> Result<Node, AllocError>
     })
 }
 
-/// The resources of a child of the job that has these: its hosts in their order at the ranks from 0 on, with their cores and GPUs, from the same second on and until the same.
+/// The resources of a child of the job that has these: its hosts in their order at the ranks from 0
+/// on, with their cores and GPUs, from the same second on and until the same.
 pub fn child(alloc: Global, r: &Resources) -> Result<Resources, AllocError>
     requires { IsR r.now }
     ensures value { IfOk result (λ granted. granted

@@ -24,7 +24,8 @@ IsSafe v set log broker (answer.Stored reference) = IsKept v set log broker refe
 IsSafe v set log broker _ = Unit {0}
 
 -- a command may be told so, now and later
-pub record MayTell (v : ContentValue) (set : Setting) (log : Log) (by : By) (request : Request) (given : KvsAnswer) : Type 0 where
+pub record MayTell (v : ContentValue) (set : Setting)
+    (log : Log) (by : By) (request : Request) (given : KvsAnswer) : Type 0 where
   pub about : IsContentAnswer given
   pub grounds : HasGrounds set log by request given None
   pub safe : IsSafe v set log request.broker given
@@ -46,15 +47,19 @@ pub record RowAgrees (v : ContentValue) (set : Setting) (log : Log) (row : Row) 
   pub home : request.broker ≡ row.broker
   pub staged : StageAgrees v set log row.by request row.stage
 
--- a content service stands where the log leaves it, the service having this setting: its contents do, each command that
--- waits for something of contents has its one request, what was told to be stored is kept, and no landing and no denial
--- was of a command that asks something of contents
+-- a content service stands where the log leaves it, the service having this setting: its contents
+-- do, each command that waits for something of contents has its one request, what was told to be
+-- stored is kept, and no landing and no denial was of a command that asks something of contents
 pub record AgreesService (v : ContentServiceValue) (set : Setting) (log : Log) : Type 0 where
   pub content : AgreesContent v.content set log
-  pub rows : (k : ℕ) (d : Row) → k < length v.rows → RowAgrees v.content set log (slice_index_or v.rows k d)
+  pub rows : (k : ℕ) (d : Row) → k < length v.rows
+      → RowAgrees v.content set log (slice_index_or v.rows k d)
   pub apart : AreApart v.rows
-  pub open_rows : (by : By) → asks_content set by ≡ true → IsOpen by log → (k : ℕ) × (k < length v.rows) × ((d : Row) → (slice_index_or v.rows k d).by ≡ by)
-  pub kept : (broker : ℕ) (reference : BlobRef) → broker < set.size → IsStoredAt set log broker reference → IsKept v.content set log broker reference
-  pub strange : (by : By) → asks_content set by ≡ true → is_asked by log ≡ false → is_answered by log ≡ false
+  pub open_rows : (by : By) → asks_content set by ≡ true → IsOpen by log
+      → (k : ℕ) × (k < length v.rows) × ((d : Row) → (slice_index_or v.rows k d).by ≡ by)
+  pub kept : (broker : ℕ) (reference : BlobRef) → broker < set.size
+      → IsStoredAt set log broker reference → IsKept v.content set log broker reference
+  pub strange : (by : By) → asks_content set by ≡ true
+      → is_asked by log ≡ false → is_answered by log ≡ false
   pub unlanded : (by : By) → asks_content set by ≡ true → is_landed by log ≡ false
   pub undenied : (by : By) → asks_content set by ≡ true → is_denied by log ≡ false

@@ -32,7 +32,8 @@ IsContentAnswer (answer.Clashed reference) = Unit {0}
 IsContentAnswer answer.Dropped = Unit {0}
 IsContentAnswer _ = ⊥
 
--- the moment is not about contents: no broker gets or drops one, and no command asks or is told something of them
+-- the moment is not about contents: no broker gets or drops one, and no command asks or is told
+-- something of them
 abbrev pub IsOthers : Setting → Moment → Type 0
 IsOthers set (Asked by floor) = asks_content set by ≡ false
 IsOthers set (Happened (event.Answered by number given)) = asks_content set by ≡ false

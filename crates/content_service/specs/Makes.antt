@@ -18,13 +18,16 @@ IsOfContents (event.Got broker reference) = Unit {0}
 IsOfContents (event.Dropped broker reference) = Unit {0}
 IsOfContents _ = ⊥
 
--- the events of a step: after whatever log agrees with the service they are those that the step may make, of contents
--- alone, they are legal, and the service agrees with both
-pub record Makes (step : KvsStep) (old new : ContentServiceValue) (events : List KvsEvent) : Type 0 where
+-- the events of a step: after whatever log agrees with the service they are those that the step may
+-- make, of contents alone, they are legal, and the service agrees with both
+pub record Makes (step : KvsStep) (old new : ContentServiceValue)
+    (events : List KvsEvent) : Type 0 where
   pub ready : new.spent ≡ false
   pub size : new.size ≡ old.size
   pub does : DoesStep step old new
   pub own : Each IsOfContents events
   pub made : (log : Log) → AreMadeBy log step events
-  pub legal : (set : Setting) (log : Log) → AgreesService old set log → IsLegalAfter set log (map Happened events)
-  pub agrees : (set : Setting) (log : Log) → AgreesService old set log → AgreesService new set (log ++ map Happened events)
+  pub legal : (set : Setting) (log : Log) → AgreesService old set log
+      → IsLegalAfter set log (map Happened events)
+  pub agrees : (set : Setting) (log : Log) → AgreesService old set log
+      → AgreesService new set (log ++ map Happened events)

@@ -31,7 +31,8 @@ with_stage stage row = record { by = row.by; broker = row.broker; stage = stage 
 
 -- the request of this place is at another stage, and the others are as they were
 abbrev pub IsPut : List Row → List Row → ℕ → Stage → Type 0
-IsPut old new i stage = (d : Row) → new ≡ slice_set old i (with_stage stage (slice_index_or old i d))
+IsPut old new i stage = (d : Row)
+    → new ≡ slice_set old i (with_stage stage (slice_index_or old i d))
 
 -- no command has two requests
 abbrev pub AreApart : List Row → Type 0
@@ -95,7 +96,9 @@ flushed_stage flush.Waits = stage.Flushing
 flushed_stage (flush.Clashed reference) = stage.Held (answer.Clashed reference)
 flushed_stage flush.Flushed = stage.Held answer.Flushed
 
--- the load that a delivery answers is told so, if it answers one, and the other requests are as they were
+-- the load that a delivery answers is told so, if it answers one, and the other requests are as
+-- they were
 abbrev pub IsHanded : Option Answer → List Row → List Row → Type 0
 IsHanded None old new = new ≡ old
-IsHanded (Some told) old new = (i : ℕ) × (position (is_loading told.by) old ≡ Some i) × IsPut old new i (stage.Held (told_so told.bytes))
+IsHanded (Some told) old new = (i : ℕ) × (position (is_loading told.by) old ≡ Some i)
+    × IsPut old new i (stage.Held (told_so told.bytes))

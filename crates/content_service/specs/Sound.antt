@@ -8,7 +8,8 @@ use Rattle.content_service.specs.declared.rows.Row.{Row}
 use Rattle.content_service.specs.Rows.{loading}
 use Rattle.content_service.specs.Value.{ContentServiceValue}
 
--- a content service that isn't spent: each request is of a broker, and as many loads wait in the contents as in the rows
+-- a content service that isn't spent: each request is of a broker, and as many loads wait in the
+-- contents as in the rows
 pub record IsSound (v : ContentServiceValue) : Type 0 where
   pub content : IsSoundContent v.content
   pub size : size_of v.content ≡ v.size

@@ -19,11 +19,12 @@ are_none (x ∷ xs) = false
 abbrev pub is_flushed : ContentValue → ℕ → Bool
 is_flushed v broker = are_none (node_at v broker).cache.dirty
 
--- whether the step can be made: a message is on the link, or a request at the broker has just come or is a flush there
--- that nothing dirty keeps waiting; nothing lands
+-- whether the step can be made: a message is on the link, or a request at the broker has just come
+-- or is a flush there that nothing dirty keeps waiting; nothing lands
 abbrev pub can_step : ContentServiceValue → KvsStep → Bool
 can_step v (kvs.Deliver from to) = can_deliver v.content from to
-can_step v (kvs.Serve broker) = nat_lt broker v.size && list_any (may_serve broker (is_flushed v.content broker)) v.rows
+can_step v (kvs.Serve broker) =
+    nat_lt broker v.size && list_any (may_serve broker (is_flushed v.content broker)) v.rows
 can_step v (kvs.Land number) = false
 
 -- whether the command's answer waits to be taken
@@ -39,8 +40,10 @@ pub record IsStill (v : ContentServiceValue) : Type 0 where
 abbrev pub deliveries_of : ContentServiceValue → ℕ
 deliveries_of v = deliveries_left (size_of v.content) v.content.offers v.content.wants
 
--- each service leaves fewer of them, and each delivery as many of them and fewer deliveries: so every run of steps ends
+-- each service leaves fewer of them, and each delivery as many of them and fewer deliveries: so
+-- every run of steps ends
 abbrev pub DoesStep : KvsStep → ContentServiceValue → ContentServiceValue → Type 0
-DoesStep (kvs.Deliver from to) old new = (deliveries_of new < deliveries_of old) × (all_services new.rows ≡ all_services old.rows)
+DoesStep (kvs.Deliver from to) old new =
+    (deliveries_of new < deliveries_of old) × (all_services new.rows ≡ all_services old.rows)
 DoesStep (kvs.Serve broker) old new = all_services new.rows < all_services old.rows
 DoesStep (kvs.Land number) old new = ⊥

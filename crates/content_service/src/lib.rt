@@ -1,4 +1,5 @@
-//! The content service of one instance (Flux RFC 10): what commands ask of contents, each with its one answer.
+//! The content service of one instance (Flux RFC 10): what commands ask of contents, each with its
+//! one answer.
 #![tactic(auto)]
 
 pub mod laws;

@@ -176,7 +176,8 @@ fn asked_at(stage: Stage) -> ContentAsk
     }
 }
 
-/// Takes what is asked out of a request that can be served, and leaves the stage of a flush in its place.
+/// Takes what is asked out of a request that can be served, and leaves the stage of a flush in its
+/// place.
 pub fn take_ask(rows: &mut Vec<Row>, i: usize) -> ContentAsk
     requires within { i < length rows.old.items }
     requires due { (d : Row) → is_due true (slice_index_or rows.old.items i d).stage ≡ true }

@@ -94,7 +94,8 @@ impl ContentService {
         })
     }
 
-    /// Takes what a command asks of contents that has asked nothing before. After an error the service is spent.
+    /// Takes what a command asks of contents that has asked nothing before. After an error the
+    /// service is spent.
     pub fn request(&mut self, by: By, broker: u32, ask: KvsAsk) -> Result<(), AllocError>
         requires ready { self.old.spent ≡ false }
         requires within { broker < self.old.size }

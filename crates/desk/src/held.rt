@@ -7,8 +7,8 @@ use crate::Machine;
 use std::alloc::{AllocError, Global};
 use std::marker::Model;
 
-/// A machine with the list of the steps that it has made. After want of memory it is spent: from then on each call that can
-/// answer want of memory does so.
+/// A machine with the list of the steps that it has made. After want of memory it is spent: from
+/// then on each call that can answer want of memory does so.
 #[derive(Drop)]
 pub struct Held<M: Machine + Drop> {
     machine: M,
@@ -24,7 +24,8 @@ impl<M: Machine + Drop> Model for Held<M> {
 
     ghost view = { λ h. record { machine = h.machine; steps = h.steps.items; spent = h.spent } };
 
-    ghost invariant = { λ h. h.spent ≡ false → (M.made h.machine ≡ h.steps.items) × (M.spent h.machine ≡ false) };
+    ghost invariant = { λ h. h.spent ≡ false
+        → (M.made h.machine ≡ h.steps.items) × (M.spent h.machine ≡ false) };
 }
 
 /// A machine with the steps that it has made, in order.
@@ -60,10 +61,13 @@ impl<M: Machine + Drop> Held<M> {
         Ok(())
     }
 
-    /// Makes one step of the lane and keeps it. False exactly where the lane has no step that can be made; nothing changes
-    /// then.
+    /// Makes one step of the lane and keeps it. False exactly where the lane has no step that can
+    /// be made; nothing changes then.
     pub fn turn(&mut self, lane: u32) -> Result<bool, AllocError>
-        ensures made { IfOk result (λ some. MatchBool some ((step : M.Step) × M.can_in_lane self.old.machine lane step × (self.new.steps ≡ self.old.steps ++ step ∷ [])) (((step : M.Step) → ¬ M.can_in_lane self.old.machine lane step) × (self.new ≡ self.old))) }
+        ensures made { IfOk result
+            (λ some. MatchBool some ((step : M.Step) × M.can_in_lane self.old.machine lane step
+            × (self.new.steps ≡ self.old.steps ++ step ∷ [])) (((step : M.Step)
+            → ¬ M.can_in_lane self.old.machine lane step) × (self.new ≡ self.old))) }
         ensures live { OnOk result ((self.old.spent ≡ false) × (self.new.spent ≡ false)) }
         ensures spent { OnErr result (self.new.spent ≡ true) }
         ensures later { self.old.spent ≡ true → IsErr result }
@@ -81,13 +85,14 @@ impl<M: Machine + Drop> Held<M> {
         Ok(true)
     }
 
-    /// Hands an input to the machine and keeps the step that it makes. False exactly where the machine doesn't want the
-    /// input; nothing changes then.
+    /// Hands an input to the machine and keeps the step that it makes. False exactly where the
+    /// machine doesn't want the input; nothing changes then.
     pub fn accept(&mut self, input: M::Input) -> Result<bool, AllocError>
     where
         M::Input: Drop,
         ensures made { IfOk result (λ some. M.wants self.old.machine input ≡ some) }
-        ensures kept { IfOk result (λ some. MatchBool some ((step : M.Step) × (self.new.steps ≡ self.old.steps ++ step ∷ [])) (self.new ≡ self.old)) }
+        ensures kept { IfOk result (λ some. MatchBool some ((step : M.Step)
+            × (self.new.steps ≡ self.old.steps ++ step ∷ [])) (self.new ≡ self.old)) }
         ensures live { OnOk result ((self.old.spent ≡ false) × (self.new.spent ≡ false)) }
         ensures spent { OnErr result (self.new.spent ≡ true) }
         ensures later { self.old.spent ≡ true → IsErr result }
@@ -104,8 +109,8 @@ impl<M: Machine + Drop> Held<M> {
         Ok(true)
     }
 
-    /// Makes the steps of lane 0 until there is none. It makes at most 2^64 - 1 steps, whose end is want of memory, since
-    /// each step is kept.
+    /// Makes the steps of lane 0 until there is none. It makes at most 2^64 - 1 steps, whose end is
+    /// want of memory, since each step is kept.
     pub fn drain(&mut self) -> Result<(), AllocError>
         ensures done { OnOk result ((step : M.Step) → ¬ M.can_in_lane self.new.machine 0 step) }
         ensures kept { OnOk result (IsPrefix self.old.steps self.new.steps) }

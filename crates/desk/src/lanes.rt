@@ -13,12 +13,13 @@ fn times(lanes: &[u32], lane: u32) -> u64
     lanes.iter().filter(|other| **other == lane).count() as u64
 }
 
-/// How often a worker of these lanes has passed the gate for the lane at a place among them, where it has gone round so
-/// often; at most 2^64 - 1.
+/// How often a worker of these lanes has passed the gate for the lane at a place among them, where
+/// it has gone round so often; at most 2^64 - 1.
 fn passes(lanes: &[u32], place: usize, rounds: u64) -> u64
     requires { place < length lanes.now }
     ensures { result
-        ≡ min (2 ^ 64 - 1) (rounds * count_by (λ lane. lane == slice_index lanes.now place) lanes.now
+        ≡ min (2 ^ 64 - 1)
+        (rounds * count_by (λ lane. lane == slice_index lanes.now place) lanes.now
         + count_by (λ lane. lane == slice_index lanes.now place) (take place lanes.now)) }
 {
     let lane = lanes[place];
@@ -27,9 +28,10 @@ fn passes(lanes: &[u32], place: usize, rounds: u64) -> u64
         .saturating_add(times(&lanes[..place], lane))
 }
 
-/// Takes turns for its lanes, one lane after another, until the machine is quiet, or spent by want of memory. Before each
-/// turn it passes the gate, without the lock, with the lane and the number of its earlier passes for that lane, which stays
-/// at 2^64 - 1 once it is there. It may wait, and nothing says that it returns.
+/// Takes turns for its lanes, one lane after another, until the machine is quiet, or spent by want
+/// of memory. Before each turn it passes the gate, without the lock, with the lane and the number
+/// of its earlier passes for that lane, which stays at 2^64 - 1 once it is there. It may wait, and
+/// nothing says that it returns.
 pub fn work<R: Wait, M: Machine + Drop, G: Gate>(
     rt: &R,
     lock: &Mutex<Held<M>>,

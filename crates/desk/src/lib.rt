@@ -1,4 +1,5 @@
-//! A machine under a lock with the steps that it has made, and workers that make the steps of their lanes.
+//! A machine under a lock with the steps that it has made, and workers that make the steps of their
+//! lanes.
 #![tactic(auto)]
 
 mod held;

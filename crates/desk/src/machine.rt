@@ -3,7 +3,8 @@ ghost use Rattle.std.specs.Prelude.{◌≡◌, ◌↔◌, ◌∷◌, ◌++◌, �
 
 use std::alloc::AllocError;
 
-/// Makes steps, one at a turn. Its meaning is the list of the steps made, in order, and whether it is spent.
+/// Makes steps, one at a turn. Its meaning is the list of the steps made, in order, and whether it
+/// is spent.
 pub trait Machine {
     type Step: Copy;
     /// What is handed to it from outside, for a step of its own.
@@ -36,7 +37,8 @@ pub trait Machine {
     fn turn(&mut self, step: Self::Step) -> Result<(), AllocError>
         requires can { can self.old step }
         requires live { spent self.old ≡ false }
-        ensures made { OnOk result ((made self.new ≡ made self.old ++ step ∷ []) × (spent self.new ≡ false)) };
+        ensures made { OnOk result ((made self.new ≡ made self.old ++ step ∷ [])
+            × (spent self.new ≡ false)) };
 
     /// Whether it wants this input now.
     fn takes(&self, input: &Self::Input) -> bool
@@ -46,7 +48,8 @@ pub trait Machine {
     fn accept(&mut self, input: Self::Input) -> Result<Self::Step, AllocError>
         requires wanted { wants self.old input ≡ true }
         requires live { spent self.old ≡ false }
-        ensures made { IfOk result (λ step. (made self.new ≡ made self.old ++ step ∷ []) × (spent self.new ≡ false)) };
+        ensures made { IfOk result (λ step. (made self.new ≡ made self.old ++ step ∷ [])
+            × (spent self.new ≡ false)) };
 
     /// Whether nothing is left to do.
     fn quiet(&self) -> bool

@@ -41,7 +41,8 @@ object_text (json.array ds) = Err WrongKind
 object_text (json.object ms) = Ok (compact_text (json.object ms))
 
 -- what is made of a field that may be missing
-abbrev pub if_there : {A B : Type 0} → (A → Result B JsonFault) → Result A JsonFault → Result (Option B) JsonFault
+abbrev pub if_there : {A B : Type 0} → (A → Result B JsonFault)
+    → Result A JsonFault → Result (Option B) JsonFault
 if_there f (Ok x) = f x >>= λ y. Ok (Some y)
 if_there f (Err NoMemory) = Err NoMemory
 if_there f (Err (BadNumber place)) = Err (BadNumber place)
@@ -55,7 +56,8 @@ context_of d = if_there object_text (field_as as_any (codes "context") d)
 
 -- no key but the three of an event
 abbrev pub is_event_key : List ℕ → Bool
-is_event_key key = bytes_eq key (codes "timestamp") || bytes_eq key (codes "name") || bytes_eq key (codes "context")
+is_event_key key = bytes_eq key (codes "timestamp")
+    || bytes_eq key (codes "name") || bytes_eq key (codes "context")
 
 abbrev pub keys_of : Members → List (List ℕ)
 keys_of json.no_members = []
@@ -89,7 +91,8 @@ context_text (Some context) = codes "\"context\":" ++ context ++ codes ","
 
 -- the line of an event: compact, with its keys in order, and a newline
 abbrev pub line_text : Event → List ℕ
-line_text event = codes "{" ++ context_text event.context ++ codes "\"name\":" ++ quoted event.name ++ codes ",\"timestamp\":" ++ decimal event.timestamp ++ (codes "}" ++ 10 ∷ [])
+line_text event = codes "{" ++ context_text event.context ++ codes "\"name\":" ++ quoted event.name
+    ++ codes ",\"timestamp\":" ++ decimal event.timestamp ++ (codes "}" ++ 10 ∷ [])
 
 -- the canonical text of an object, which nests less deep than what is read
 pub record IsObjectText (text : List ℕ) : Type 0 where

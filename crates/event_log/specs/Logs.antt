@@ -13,10 +13,12 @@ abbrev pub at_line : {A : Type 0} → ℕ → Result A JsonFault → Result A Lo
 at_line line (Ok x) = Ok x
 at_line line (Err fault) = Err (BadLine line fault)
 
--- the events of the lines from this number on, which stand between newlines; nothing stands behind the last newline
+-- the events of the lines from this number on, which stand between newlines; nothing stands behind
+-- the last newline
 abbrev pub events_from : ℕ → List (List ℕ) → Result (List Event) LogFault
 events_from line [] = Ok []
-events_from line (last ∷ []) = if length last == 0 then Ok [] else (at_line line (told last) >>= λ event. Err NoNewline)
+events_from line (last ∷ []) =
+    if length last == 0 then Ok [] else (at_line line (told last) >>= λ event. Err NoNewline)
 events_from line (first ∷ next ∷ more) = do
   event ← at_line line (told first)
   events ← events_from (line + 1) (next ∷ more)
@@ -26,9 +28,11 @@ events_from line (first ∷ next ∷ more) = do
 unfoldable pub log_reading : List ℕ → Result (List Event) LogFault
 log_reading text = events_from 1 (slice_split (λ b. b == 10) text)
 
--- the event of the first line of what is left of a log: a line whose newline is missing counts where it tells an event
+-- the event of the first line of what is left of a log: a line whose newline is missing counts
+-- where it tells an event
 abbrev pub first_told : ℕ → List ℕ → List ℕ → Result Event LogFault
-first_told line first behind = at_line line (told first) >>= λ event. if length behind == 0 then Err NoNewline else Ok event
+first_told line first behind =
+    at_line line (told first) >>= λ event. if length behind == 0 then Err NoNewline else Ok event
 
 -- the text of a log: the lines of its events, one after another
 abbrev pub log_text : List Event → List ℕ

@@ -121,7 +121,8 @@ fn fault_at(line: u64, fault: JsonFault) -> LogFault
     }
 }
 
-/// The event of the first line of what is left of a log, which stands before its newline and what is behind that.
+/// The event of the first line of what is left of a log, which stands before its newline and what
+/// is behind that.
 fn first_event(alloc: Global, line: u64, first: &[u8], behind: &[u8]) -> Result<Event, LogFault>
     ensures event { Gives (λ e. e) result (first_told line first.now behind.now) }
     ensures valid { IfOk result IsEvent }
@@ -137,8 +138,8 @@ fn first_event(alloc: Global, line: u64, first: &[u8], behind: &[u8]) -> Result<
     Ok(event)
 }
 
-/// The events of a log (Flux RFC 18). `BadLine` at the first line that tells none, and else `NoNewline` where the last
-/// line has none.
+/// The events of a log (Flux RFC 18). `BadLine` at the first line that tells none, and else
+/// `NoNewline` where the last line has none.
 pub fn read(alloc: Global, text: &[u8]) -> Result<Vec<Event>, LogFault>
     ensures log { Gives (λ v. v.items) result (log_reading text.now) }
     ensures valid { IfOk result (λ v. All IsEvent v.items) }

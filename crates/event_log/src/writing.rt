@@ -94,7 +94,8 @@ fn add_context(out: &mut Vec<u8>, context: &Option<Bytes>) -> Result<(), AllocEr
 pub fn line(alloc: Global, event: &Event) -> Result<Vec<u8>, AllocError>
     ensures text { IfOk result (λ t. t.items ≡ line_text event.now) }
     // What is written of an event of a log is read again as that event.
-    ensures reads_back { IfOk result (λ t. IsEvent event.now → log_reading t.items ≡ Ok (event.now ∷ [])) }
+    ensures reads_back { IfOk result (λ t. IsEvent event.now
+        → log_reading t.items ≡ Ok (event.now ∷ [])) }
 {
     let mut out = Vec::new(alloc);
     out.extend_from_slice(b"{")?;
@@ -115,5 +116,6 @@ pub fn a_line_adds_an_event()
 
 /// The text of a log is read again as its events.
 pub fn a_log_is_read_again()
-    ensures { (events : List Event) → All IsEvent events → log_reading (log_text events) ≡ Ok events }
+    ensures { (events : List Event) → All IsEvent events
+        → log_reading (log_text events) ≡ Ok events }
 {}

@@ -14,9 +14,11 @@ begins_number b = b == minus || is_ascii_digit b
 
 -- and extends over digits, `+`, `-`, `.`, `e` and `E`
 abbrev pub continues_number : ℕ → Bool
-continues_number b = is_ascii_digit b || b == plus || b == minus || b == dot || b == lower_e || b == upper_e
+continues_number b =
+    is_ascii_digit b || b == plus || b == minus || b == dot || b == lower_e || b == upper_e
 
--- how far a string reaches behind its first quote, with its last quote; whether the next byte is escaped
+-- how far a string reaches behind its first quote, with its last quote; whether the next byte is
+-- escaped
 abbrev pub string_len : Bool → List ℕ → ℕ
 string_len escaped [] = 0
 string_len true (b ∷ bs) = suc (string_len false bs)
@@ -32,7 +34,8 @@ piece_len (b ∷ bs) = if b == quote then suc (string_len false bs)
 -- the pieces that a text is cut into, behind its first bytes
 unfoldable pub pieces_behind : ℕ → List ℕ → List (List ℕ)
 pieces_behind passed [] = []
-pieces_behind zero (b ∷ bs) = take (piece_len (b ∷ bs)) (b ∷ bs) ∷ pieces_behind (piece_len (b ∷ bs) - 1) bs
+pieces_behind zero (b ∷ bs) =
+    take (piece_len (b ∷ bs)) (b ∷ bs) ∷ pieces_behind (piece_len (b ∷ bs) - 1) bs
 pieces_behind (suc passed) (b ∷ bs) = pieces_behind passed bs
 
 -- the text cut into strings, number tokens and other bytes, from the left
@@ -47,7 +50,8 @@ is_number token = option_map_or (λ rest. length rest == 0) (after_number token)
 
 -- the number below 2^64 that decimal digits write
 unfoldable pub natural : List ℕ → Option ℕ
-natural digits = if not (length digits == 0) && all_ascii_digits digits && nat_lt (digits_value 10 digits) (2 ^ 64) then Some (digits_value 10 digits) else None
+natural digits = if not (length digits == 0) && all_ascii_digits digits
+    && nat_lt (digits_value 10 digits) (2 ^ 64) then Some (digits_value 10 digits) else None
 
 -- how far below 0 a whole number may be
 abbrev pub is_magnitude : ℕ → Bool
@@ -55,7 +59,8 @@ is_magnitude n = nat_lt 0 n && nat_le n (2 ^ 63)
 
 -- the token is a whole number from -2^63 to 2^64 - 1 other than -0
 unfoldable pub is_whole : List ℕ → Bool
-is_whole token = is_number token && (if head token == minus then option_map_or is_magnitude (natural (after_minus token)) false else is_some (natural (after_minus token)))
+is_whole token = is_number token && (if head token == minus then option_map_or is_magnitude
+    (natural (after_minus token)) false else is_some (natural (after_minus token)))
 
 -- what stands before the first point, and what stands from it on
 abbrev pub point_at : List ℕ → ℕ
@@ -76,7 +81,8 @@ is_no_fraction rest = length rest == 0 || (nat_lt 1 (length rest) && are_zeros (
 
 -- what is kept of a number token; nothing of a JSON number that isn't whole
 unfoldable pub kept_number : List ℕ → Option (List ℕ)
-kept_number token = if is_whole (whole_part token) && is_no_fraction (fraction token) then Some (whole_part token)
+kept_number token = if is_whole (whole_part token) && is_no_fraction (fraction token)
+    then Some (whole_part token)
     else if is_number token then None
     else Some token
 
@@ -86,10 +92,12 @@ kept piece = if begins_number (head piece) then kept_number piece else Some piec
 
 -- ---- what becomes of a text
 
--- the place of the first piece of which nothing is kept; the first of all pieces stands at this place
+-- the place of the first piece of which nothing is kept; the first of all pieces stands at this
+-- place
 unfoldable pub first_lost : ℕ → List (List ℕ) → Option ℕ
 first_lost place [] = None
-first_lost place (piece ∷ more) = if is_none (kept piece) then Some place else first_lost (place + length piece) more
+first_lost place (piece ∷ more) =
+    if is_none (kept piece) then Some place else first_lost (place + length piece) more
 
 -- the place of the first number that isn't whole
 abbrev pub first_bad_number : List ℕ → Option ℕ

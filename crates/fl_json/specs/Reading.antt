@@ -47,7 +47,8 @@ of_kind kind (Some d) absent = ok_or (kind d) WrongKind
 
 -- what an object has under a key, seen as one kind of value; only of an object it can be missing
 abbrev pub field_as : {Y : Type 0} → (Data → Option Y) → List ℕ → Data → Result Y JsonFault
-field_as kind key d = of_kind kind (get key d) (if is_some (as_object d) then Missing else WrongKind)
+field_as kind key d =
+    of_kind kind (get key d) (if is_some (as_object d) then Missing else WrongKind)
 
 -- any value
 abbrev pub as_any : Data → Option Data

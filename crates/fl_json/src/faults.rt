@@ -9,7 +9,8 @@ use thiserror::Error;
 pub enum JsonFault {
     #[error("out of memory")]
     NoMemory,
-    /// A JSON number that isn't whole or isn't from -2^63 to 2^64 - 1, and the place of its first byte.
+    /// A JSON number that isn't whole or isn't from -2^63 to 2^64 - 1, and the place of its first
+    /// byte.
     #[error("no whole number of 64 bits at byte {place}")]
     BadNumber { place: usize },
     #[error("not JSON")]

@@ -8,7 +8,8 @@ ghost use Rattle.fl_json.specs.Valid.{IsValid, AreValid};
 use crate::faults::JsonFault;
 use serde_json::Value;
 
-/// What an object has under a key. `Missing` where it has nothing there, `WrongKind` where the value is no object.
+/// What an object has under a key. `Missing` where it has nothing there, `WrongKind` where the
+/// value is no object.
 pub fn field<'a>(value: &'a Value, key: &str) -> Result<&'a Value, JsonFault>
     ensures value { Finds (λ v. view v.now) result (field_as as_any key.now (view value.now)) }
     ensures valid { IsValid (view value.now) → IfOk result (λ v. IsValid (view v.now)) }
@@ -21,7 +22,8 @@ pub fn field<'a>(value: &'a Value, key: &str) -> Result<&'a Value, JsonFault>
     }
 }
 
-/// The whole number from 0 to 2^64 - 1 that an object has under a key; `WrongKind` where it is something else.
+/// The whole number from 0 to 2^64 - 1 that an object has under a key; `WrongKind` where it is
+/// something else.
 pub fn number(value: &Value, key: &str) -> Result<u64, JsonFault>
     ensures { Finds (λ n. n) result (field_as as_natural key.now (view value.now)) }
 {
@@ -37,7 +39,8 @@ pub fn word<'a>(value: &'a Value, key: &str) -> Result<&'a str, JsonFault>
 
 /// The list that an object has under a key; `WrongKind` where it is something else.
 pub fn list<'a>(value: &'a Value, key: &str) -> Result<&'a [Value], JsonFault>
-    ensures value { Finds (λ vs. items_view vs.now) result (field_as as_array key.now (view value.now)) }
+    ensures value { Finds (λ vs. items_view vs.now) result
+        (field_as as_array key.now (view value.now)) }
     ensures valid { IsValid (view value.now) → IfOk result (λ vs. AreValid (items_view vs.now)) }
     ensures inside { IfOk result (λ vs. items_depth (items_view vs.now) < depth (view value.now)) }
 {

@@ -198,7 +198,8 @@ fn kept_of(piece: &[u8]) -> Option<&[u8]>
 
 /// The text in which whole numbers have no fraction.
 pub fn with_whole_numbers(alloc: Global, text: &[u8]) -> Result<Vec<u8>, JsonFault>
-    ensures { Gives (λ out. out.items) result (unless_bad (first_bad_number text.now) (Ok (rewritten text.now))) }
+    ensures { Gives (λ out. out.items) result
+        (unless_bad (first_bad_number text.now) (Ok (rewritten text.now))) }
 {
     let mut out = Vec::with_capacity(alloc, text.len())?;
     let mut rest = text;

@@ -11,8 +11,10 @@ use crate::numbers::with_whole_numbers;
 use serde_json::Value;
 use std::alloc::{AllocError, Global};
 
-/// The value of a JSON text whose numbers are whole, from -2^63 to 2^64 - 1. A fraction of zeros is read over.
-/// `BadNumber` at the first other number, and else `NotJson` where the text is no JSON for `serde_json`.
+/// The value of a JSON text whose numbers are whole, from -2^63 to 2^64 - 1. A fraction of zeros is
+/// read over.
+/// `BadNumber` at the first other number, and else `NotJson` where the text is no JSON for
+/// `serde_json`.
 pub fn read(alloc: Global, text: &[u8]) -> Result<Value, JsonFault>
     ensures value { Gives (λ v. view v) result (reading text.now) }
     ensures valid { IfOk result (λ v. IsValid (view v)) }
@@ -28,10 +30,13 @@ pub fn read(alloc: Global, text: &[u8]) -> Result<Value, JsonFault>
 
 /// The canonical text of a value with whole numbers: compact, with keys sorted by their bytes.
 pub fn text(alloc: Global, value: &Value) -> Result<Vec<u8>, AllocError>
-    ensures compact { IfOk result (λ t. has_float (view value.now) ≡ false → t.items ≡ compact_text (view value.now)) }
-    ensures canonical { IfOk result (λ t. IsValid (view value.now) → t.items ≡ compact_text (view value.now)) }
+    ensures compact { IfOk result (λ t. has_float (view value.now) ≡ false
+        → t.items ≡ compact_text (view value.now)) }
+    ensures canonical { IfOk result (λ t. IsValid (view value.now)
+        → t.items ≡ compact_text (view value.now)) }
     // What is written of a valid value is read again as that value.
-    ensures reads_back { IfOk result (λ t. IsValid (view value.now) → depth (view value.now) ≤ max_depth
+    ensures reads_back { IfOk result (λ t. IsValid (view value.now)
+        → depth (view value.now) ≤ max_depth
         → reading t.items ≡ Ok (view value.now)) }
 {
     value.to_vec(alloc)

@@ -1,4 +1,5 @@
--- FLUIDs and their generator (Flux RFC 19): 40 bits of milliseconds, 14 bits of generator id and 10 bits of sequence number.
+-- FLUIDs and their generator (Flux RFC 19): 40 bits of milliseconds, 14 bits of generator id and 10
+-- bits of sequence number.
 use Rattle.std.specs.Prelude.{◌≡◌, ℕ, ◌+◌, ◌-◌, ◌*◌, ◌/◌, ◌%◌, ◌^◌, ◌<◌, ◌≤◌, ◌==◌, nat_lt, if◌then◌else◌}
 
 -- what a generator has drawn
@@ -22,9 +23,27 @@ last_id g = id_of g.millis g.rank (g.used - 1)
 
 -- the state after an id more, which takes the first sequence number that is free from now on
 abbrev pub next_state : State → ℕ → State
-next_state g now = if nat_lt g.millis (1000 * now) then record { rank = g.rank; millis = 1000 * now; used = 1; seconds = now; drawn = g.drawn + 1 }
-    else if g.used == 1024 then record { rank = g.rank; millis = g.millis + 1; used = 1; seconds = now; drawn = g.drawn + 1 }
-    else record { rank = g.rank; millis = g.millis; used = g.used + 1; seconds = now; drawn = g.drawn + 1 }
+next_state g now = if nat_lt g.millis (1000 * now) then record {
+  rank = g.rank;
+  millis = 1000 * now;
+  used = 1;
+  seconds = now;
+  drawn = g.drawn + 1;
+}
+    else if g.used == 1024 then record {
+      rank = g.rank;
+      millis = g.millis + 1;
+      used = 1;
+      seconds = now;
+      drawn = g.drawn + 1;
+    }
+    else record {
+      rank = g.rank;
+      millis = g.millis;
+      used = g.used + 1;
+      seconds = now;
+      drawn = g.drawn + 1;
+    }
 
 -- what every generator keeps
 pub record IsState (g : State) : Type 0 where

@@ -56,7 +56,8 @@ impl Generator {
         }
     }
 
-    /// The next id, at so many seconds since the instance's start. It is greater than each one before.
+    /// The next id, at so many seconds since the instance's start. It is greater than each one
+    /// before.
     pub fn next(&mut self, now: u64) -> u64
         requires later { self.old.seconds ≤ now }
         requires soon { now ≤ 1000000000 }

@@ -83,7 +83,8 @@ fn is_dotted(text: &[u8]) -> bool
 
 /// What stands behind the `f` or `ƒ` that a text begins with.
 fn behind_mark(text: &[u8]) -> Option<&[u8]>
-    ensures { MatchOption result (after_mark text.now ≡ None) (λ digits. after_mark text.now ≡ Some digits.now) }
+    ensures { MatchOption result (after_mark text.now ≡ None)
+        (λ digits. after_mark text.now ≡ Some digits.now) }
 {
     let (first, rest) = text.split_first()?;
     if *first == b'f' {
@@ -106,7 +107,8 @@ fn plain(text: &[u8]) -> Result<u64, FluidFault>
     }
 }
 
-/// The id that a text spells. With a dot it is dothex, behind `f` or `ƒ` F58, and else decimal; leading zeros are read in the last two.
+/// The id that a text spells. With a dot it is dothex, behind `f` or `ƒ` F58, and else decimal;
+/// leading zeros are read in the last two.
 pub fn read(text: &[u8]) -> Result<u64, FluidFault>
     ensures { result ≡ meaning text.now }
 {

@@ -45,9 +45,11 @@ abbrev pub IsToolFault : List (List ℕ) → Side → Fault → Type 0
 IsToolFault words input (fault.Tool f) = RefusesTool words input.before input.after f
 IsToolFault words input _ = ⊥
 
--- why a command was refused: the text that a run read is no workload's, or a tool refuses the text that it is given
+-- why a command was refused: the text that a run read is no workload's, or a tool refuses the text
+-- that it is given
 abbrev pub IsRefused : List (List ℕ) → Side → Fault → Type 0
-IsRefused words input (fault.Line f) = (o : Options) × (run_options words ≡ Some o) × HasFirstFault o.size input f
+IsRefused words input (fault.Line f) = (o : Options)
+    × (run_options words ≡ Some o) × HasFirstFault o.size input f
 IsRefused words input fault = IsToolFault words input fault
 
 -- where neither the source nor the sink failed, a command ends well, is refused, or lacks memory

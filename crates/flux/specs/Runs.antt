@@ -42,7 +42,8 @@ setup_of o work = record {
   work = work;
 }
 
--- a run makes every step that can be made before the next command is issued, unless its words ask for a drawn order
+-- a run makes every step that can be made before the next command is issued, unless its words ask
+-- for a drawn order
 abbrev pub is_settled : Options → Bool
 is_settled o = not (is_some o.shuffle)
 
@@ -62,9 +63,10 @@ pub record IsSpelled (size : ℕ) (input : Side) (work : Workload) : Type 0 wher
   pub sound : first_fault size text ≡ None
   pub means : work ≡ spelled text
 
--- the source was read to its end, its text is a workload's, the chronicle of that workload is legal and whole, in time, and
--- settled where no drawn order is asked for, the text prints it, and the steps made tell the whole of it; after each first
--- part of it jobs stand well in the grant, and no event of a job is lost or changed
+-- the source was read to its end, its text is a workload's, the chronicle of that workload is legal
+-- and whole, in time, and settled where no drawn order is asked for, the text prints it, and the
+-- steps made tell the whole of it; after each first part of it jobs stand well in the grant, and no
+-- event of a job is lost or changed
 pub record HasRun (o : Options) (input : Side) (run : Run) (text : List ℕ) : Type 0 where
   pub work : Workload
   pub spelled_so : IsSpelled o.size input work
@@ -73,7 +75,8 @@ pub record HasRun (o : Options) (input : Side) (run : Run) (text : List ℕ) : T
   pub sound : JobsStaySound (setup_of o work) run.chronicle
   pub grows : LogsOnlyGrow (setup_of o work) run.chronicle
 
--- what a command writes: a run what its options ask for of its one chronicle, a tool the text that it prints
+-- what a command writes: a run what its options ask for of its one chronicle, a tool the text that
+-- it prints
 pub record IsOutput
     (words : List (List ℕ)) (input : Side) (run : Run) (text : List ℕ) : Type 0 where
   pub answers : (o : Options) → run_options words ≡ Some o → HasRun o input run text

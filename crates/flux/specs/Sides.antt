@@ -4,7 +4,8 @@ use Rattle.std.specs.Io.KnownBytes.{Consumes, Appends, IsAtEnd}
 use Rattle.outside.specs.Causes.{Rose}
 use Rattle.workload.specs.Limits.{most_text}
 
--- the bytes that a source has left or a sink holds, where they are told, and the count of its faults
+-- the bytes that a source has left or a sink holds, where they are told, and the count of its
+-- faults
 pub record Side : Type 0 where
   pub before : Option (List ℕ)
   pub after : Option (List ℕ)

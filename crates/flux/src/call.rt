@@ -34,7 +34,8 @@ pub enum Fault {
     Write { written: u64 },
 }
 
-/// What a run comes to: its status and fault, the steps made, where each ended in the chronicle, and the chronicle.
+/// What a run comes to: its status and fault, the steps made, where each ended in the chronicle,
+/// and the chronicle.
 #[derive(Drop)]
 pub struct Run {
     pub status: u8,
@@ -192,16 +193,16 @@ fn run_tool<S: Source, K: Sink>(
     Run::without_steps(alloc, tell(sink, &line))
 }
 
-/// Carries out the command of the words. `run` reads a workload from the source, runs it in an instance as its options
-/// say, and writes its answers to the sink: one line for each command, in the workload's order, and with `--journal`
-/// the chronicle behind a line `--`. Each command is issued once nothing else can be made, or, with `--shuffle`, the
-/// next step is drawn. A tool writes one line: `idset`, `hostlist` and `fluid` of
-/// the text in the words, `R` and `replay` of the text that the source has. The whole output is made before the first
-/// byte is written.
+/// Carries out the command of the words. `run` reads a workload from the source, runs it in an
+/// instance as its options say, and writes its answers to the sink: one line for each command, in
+/// the workload's order, and with `--journal` the chronicle behind a line `--`. Each command is
+/// issued once nothing else can be made, or, with `--shuffle`, the next step is drawn. A tool
+/// writes one line: `idset`, `hostlist` and `fluid` of the text in the words, `R` and `replay` of
+/// the text that the source has. The whole output is made before the first byte is written.
 ///
-/// The status is 0 where all went well; 1 where the text was read whole, or is too long, and is refused; 2 exactly
-/// where the words are no command's, and then nothing was read; 3 where the source failed; 4 for want of memory; 5
-/// where the sink failed.
+/// The status is 0 where all went well; 1 where the text was read whole, or is too long, and is
+/// refused; 2 exactly where the words are no command's, and then nothing was read; 3 where the
+/// source failed; 4 for want of memory; 5 where the sink failed.
 pub fn flux<S: Source, K: Sink>(
     alloc: Global,
     words: &[String],
@@ -209,8 +210,8 @@ pub fn flux<S: Source, K: Sink>(
     sink: &mut K,
 ) -> Run
     ensures status { result.status ≡ status_of result.fault }
-    // the headline: what was written prints the one chronicle, which is legal and whole, and settled where the words ask
-    // for no shuffle, or is a tool's line
+    // the headline: what was written prints the one chronicle, which is legal and whole, and
+    // settled where the words ask for no shuffle, or is a tool's line
     ensures true_run { result.status ≡ 0 → (text : List ℕ)
         × IsOutput
         (map string_bytes words.now)
@@ -236,11 +237,13 @@ pub fn flux<S: Source, K: Sink>(
         (map string_bytes words.now)
         (side S.left S.faults source.old source.new)
         result.fault }
-    // a source that failed is told at status 3, and a sink that failed at status 5, and neither is told else
+    // a source that failed is told at status 3, and a sink that failed at status 5, and neither is
+    // told else
     ensures source { FailsAt 3 (side S.left S.faults source.old source.new) result.status }
     ensures sink { FailsAt 5 (side K.held K.faults sink.old sink.new) result.status }
     ensures unwritten { (1 ≤ result.status) → (result.status ≤ 4) → sink.new ≡ sink.old }
-    // only a refused text, a fault of the source or the sink, or want of memory keep a command from status 0
+    // only a refused text, a fault of the source or the sink, or want of memory keep a command from
+    // status 0
     ensures complete { AreWords (map string_bytes words.now) → IsComplete
         (side S.left S.faults source.old source.new)
         (side K.held K.faults sink.old sink.new)

@@ -7,7 +7,8 @@ use crate::call::{Fault, Run};
 use crate::notices::notice;
 use std::alloc::{AllocError, Global};
 
-/// The words of the command: all that the program was started with but the first, which is its name.
+/// The words of the command: all that the program was started with but the first, which is its
+/// name.
 pub fn command_words(all: &[String]) -> &[String]
     ensures { result.now ≡ drop 1 all.now }
 {
@@ -32,7 +33,8 @@ pub fn exit_status(run: &Run) -> u8
     run.status
 }
 
-/// What the program says on standard error in the end: the notice of the fault, and nothing at status 0.
+/// What the program says on standard error in the end: the notice of the fault, and nothing at
+/// status 0.
 pub fn closing_notice(alloc: Global, run: &Run) -> Result<Option<String>, AllocError>
     ensures { IfOk result (λ text. option_map string_bytes text ≡ closing_text run.now) }
 {

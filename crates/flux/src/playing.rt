@@ -63,7 +63,8 @@ fn output(
     work: &Workload,
     chronicle: &Chronicle,
 ) -> Result<Vec<u8>, AllocError>
-    ensures { IfOk result (λ text. text.items ≡ output_text options.journal (setup_of options work.now) chronicle.now) }
+    ensures { IfOk result (λ text. text.items
+        ≡ output_text options.journal (setup_of options work.now) chronicle.now) }
 {
     let mut text = print_answers(alloc, work, chronicle)?;
     if options.journal {
@@ -73,7 +74,8 @@ fn output(
     Ok(text)
 }
 
-/// The world of a workload with its options, before anything has happened. It is one of an instance.
+/// The world of a workload with its options, before anything has happened. It is one of an
+/// instance.
 fn begun(alloc: Global, options: Options, work: Workload) -> Result<World, CoreFault>
     requires options { AreWithin options }
     requires within { IsWithin options.size work }
@@ -103,8 +105,10 @@ fn run(alloc: Global, options: Options, work: Workload) -> Result<Played, CoreFa
     requires built { All (λ line. IsBuilt line.command) work.lines }
     requires labels { HasOwnLabels work.lines }
     requires few { KeepsTallies work.lines }
-    ensures run { IfOk result (λ played. IsTrueRun (setup_of options work) (is_settled options) options.journal played.ended.chronicle played.text.items) }
-    ensures stretches { IfOk result (λ played. AreStretches work played.ended.steps.items played.ended.ends.items played.ended.chronicle) }
+    ensures run { IfOk result (λ played. IsTrueRun (setup_of options work)
+        (is_settled options) options.journal played.ended.chronicle played.text.items) }
+    ensures stretches { IfOk result (λ played.
+        AreStretches work played.ended.steps.items played.ended.ends.items played.ended.chronicle) }
     ensures valid { OnOk result (IsInstance (instance_of (setup_of options work))) }
 {
     let mut world = begun(alloc, options, work)?;
@@ -137,10 +141,14 @@ pub fn play(alloc: Global, options: Options, work: Workload) -> Result<Played, C
     requires built { All (λ line. IsBuilt line.command) work.lines }
     requires labels { HasOwnLabels work.lines }
     requires few { KeepsTallies work.lines }
-    ensures run { IfOk result (λ played. IsTrueRun (setup_of options work) (is_settled options) options.journal played.ended.chronicle played.text.items) }
-    ensures stretches { IfOk result (λ played. AreStretches work played.ended.steps.items played.ended.ends.items played.ended.chronicle) }
-    ensures sound { IfOk result (λ played. JobsStaySound (setup_of options work) played.ended.chronicle) }
-    ensures grows { IfOk result (λ played. LogsOnlyGrow (setup_of options work) played.ended.chronicle) }
+    ensures run { IfOk result (λ played. IsTrueRun (setup_of options work)
+        (is_settled options) options.journal played.ended.chronicle played.text.items) }
+    ensures stretches { IfOk result (λ played.
+        AreStretches work played.ended.steps.items played.ended.ends.items played.ended.chronicle) }
+    ensures sound { IfOk result
+        (λ played. JobsStaySound (setup_of options work) played.ended.chronicle) }
+    ensures grows { IfOk result
+        (λ played. LogsOnlyGrow (setup_of options work) played.ended.chronicle) }
 {
     time_stays_within();
     jobs_stay_sound();

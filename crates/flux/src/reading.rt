@@ -17,8 +17,8 @@ use workload::{LineFault, Workload, read};
 /// The most bytes of an input.
 const MOST_TEXT: usize = 16_777_216;
 
-/// Reads the source to its end, for the workload that it spells for so many brokers. A text of more than 16 MiB is refused at the first byte
-/// past them.
+/// Reads the source to its end, for the workload that it spells for so many brokers. A text of more
+/// than 16 MiB is refused at the first byte past them.
 pub fn read_work<S: Source>(alloc: Global, size: u32, source: &mut S) -> Result<Workload, Fault>
     requires { (1 ≤ size) × (size ≤ 32) }
     ensures work { IfOk result (λ work.

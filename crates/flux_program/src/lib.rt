@@ -8,7 +8,8 @@ use std::env;
 use std::io::ErrorKind;
 use std::process::ExitCode;
 
-/// All words that the program was started with. Words that aren't UTF-8 are no command's, and there are none then.
+/// All words that the program was started with. Words that aren't UTF-8 are no command's, and there
+/// are none then.
 fn all_words(rt: &HostRuntime) -> Result<Vec<String>, AllocError> {
     let mut words = Vec::new(rt.alloc());
     let args = match env::args(rt) {
@@ -22,8 +23,8 @@ fn all_words(rt: &HostRuntime) -> Result<Vec<String>, AllocError> {
     Ok(words)
 }
 
-/// Carries out the command of the program's words, says on standard error why it ended otherwise than well, and gives
-/// its exit status.
+/// Carries out the command of the program's words, says on standard error why it ended otherwise
+/// than well, and gives its exit status.
 pub fn program(rt: &HostRuntime) -> ExitCode {
     let alloc = rt.alloc();
     let mut source = StdSource::new(rt.stdin());

@@ -1,4 +1,5 @@
--- The tools: which words ask for one, what it prints of the text that it is given, and why it refuses a text.
+-- The tools: which words ask for one, what it prints of the text that it is given, and why it
+-- refuses a text.
 use Rattle.std.specs.Prelude.{◌≡◌, ◌≢◌, ◌⊎◌, ℕ, List, [], ◌∷◌, ◌++◌, ◌+◌, Option, Some, None, Result, Ok, Err, codes, length, option_map, if◌then◌else◌}
 use Rattle.std.specs.Option.{option_map_or}
 use Rattle.std.specs.Str.{bytes_eq}
@@ -69,15 +70,18 @@ line text = text ++ 10 ∷ []
 
 -- the canonical idset, or the leftmost fault (Flux RFC 22)
 abbrev pub idset_answer : List ℕ → Result (List ℕ) ToolFault
-idset_answer text = option_map_or (λ fault. Err (Id fault)) (idset.first_fault text) (Ok (line (runs.printed (idset.spelled text))))
+idset_answer text = option_map_or (λ fault. Err (Id fault))
+    (idset.first_fault text) (Ok (line (runs.printed (idset.spelled text))))
 
 -- the canonical hostlist, or the first fault (Flux RFC 29)
 abbrev pub hostlist_answer : List ℕ → Result (List ℕ) ToolFault
-hostlist_answer text = option_map_or (λ fault. Err (Host fault)) (hostlist.first_fault text) (Ok (line (canonical (hostlist.spelled text))))
+hostlist_answer text = option_map_or (λ fault. Err (Host fault))
+    (hostlist.first_fault text) (Ok (line (canonical (hostlist.spelled text))))
 
 -- the three texts of an id, with a space between
 abbrev pub fluid_line : ℕ → List ℕ
-fluid_line id = line (fluid.printed F58 id ++ 32 ∷ fluid.printed Dothex id ++ 32 ∷ fluid.printed Decimal id)
+fluid_line id =
+    line (fluid.printed F58 id ++ 32 ∷ fluid.printed Dothex id ++ 32 ∷ fluid.printed Decimal id)
 
 -- the three texts of the id that is told, or why there is none (Flux RFC 19)
 abbrev pub fluid_told : Result ℕ FluidFault → Result (List ℕ) ToolFault
@@ -118,7 +122,8 @@ Fails (Log fault) found = found ≡ Err (Log fault)
 Fails (Replay fault) found = found ≡ Err (Replay fault)
 Fails (Read fault) found = ⊥
 
-abbrev pub Gives : {X : Type 0} → (X → List ℕ) → Result X ToolFault → Result (List ℕ) ToolFault → Type 0
+abbrev pub Gives : {X : Type 0} → (X → List ℕ) → Result X ToolFault
+    → Result (List ℕ) ToolFault → Type 0
 Gives seen (Ok x) found = found ≡ Ok (seen x)
 Gives seen (Err fault) found = Fails fault found
 
@@ -135,7 +140,8 @@ IsGiven (name ∷ []) before after text = Consumes before after text × IsAtEnd 
 IsGiven (name ∷ word ∷ words) before after text = text ≡ word
 
 -- what the words' tool prints of the text that it is given, or why it refuses it
-pub record HasAnswer (words : List (List ℕ)) (before after : Option (List ℕ)) (found : Result (List ℕ) ToolFault) : Type 0 where
+pub record HasAnswer (words : List (List ℕ)) (before after : Option (List ℕ))
+    (found : Result (List ℕ) ToolFault) : Type 0 where
   pub name : ToolName
   pub is : asked words ≡ Some name
   pub text : List ℕ
@@ -144,7 +150,8 @@ pub record HasAnswer (words : List (List ℕ)) (before after : Option (List ℕ)
 
 -- the source went on past the most bytes
 abbrev pub GoesOn : Option (List ℕ) → Option (List ℕ) → Type 0
-GoesOn before after = (bytes : List ℕ) × Consumes before after bytes × (length bytes ≡ most_text + 1)
+GoesOn before after = (bytes : List ℕ) × Consumes before after bytes
+    × (length bytes ≡ most_text + 1)
 
 -- a tool that reads the source finds too much there
 abbrev pub IsLong : List (List ℕ) → Option (List ℕ) → Option (List ℕ) → ReadFault → Type 0
@@ -169,7 +176,8 @@ HasCause words before after old new NoMemory = Unit {0}
 HasCause words before after old new (Read read.Failed) = AreReaderWords words × Rose old new
 HasCause words before after old new fault = IsRefused words before after fault
 
--- the source's count of faults behind a tool's call: it rose where the source failed, and else it stayed
+-- the source's count of faults behind a tool's call: it rose where the source failed, and else it
+-- stayed
 abbrev pub HasCount : {T : Type 0} → ℕ → ℕ → Result T ToolFault → Type 0
 HasCount old new (Ok x) = new ≡ old
 HasCount old new (Err (Read fault)) = HasReadCount {T = ℕ} old new (Err fault)

@@ -1,5 +1,5 @@
-//! The tools: an idset, a hostlist or a FLUID that stands in the words, or an R from the source, is printed canonically;
-//! the state that an eventlog tells is named.
+//! The tools: an idset, a hostlist or a FLUID that stands in the words, or an R from the source, is
+//! printed canonically; the state that an eventlog tells is named.
 #![tactic(auto)]
 
 pub mod faults;

@@ -54,24 +54,26 @@ fn asked(words: &[String]) -> Option<ToolName>
     }
 }
 
-/// Whether the words are a tool's: `idset`, `hostlist` or `fluid` and one text, which may be empty; or `R` or `replay`
-/// alone.
+/// Whether the words are a tool's: `idset`, `hostlist` or `fluid` and one text, which may be empty;
+/// or `R` or `replay` alone.
 pub fn is_tool(words: &[String]) -> bool
     ensures { IsTrue result ↔ AreToolWords (map string_bytes words.now) }
 {
     asked(words).is_some()
 }
 
-/// What a tool prints of the text that it is given: one line, or why it prints nothing. `R` and `replay` read the
-/// source to its end for their text, of at most 16 MiB.
+/// What a tool prints of the text that it is given: one line, or why it prints nothing. `R` and
+/// `replay` read the source to its end for their text, of at most 16 MiB.
 pub fn tool<S: Source>(
     alloc: Global,
     words: &[String],
     source: &mut S,
 ) -> Result<Vec<u8>, ToolFault>
     requires { AreToolWords (map string_bytes words.now) }
-    ensures answer { IfOk result (λ line. HasAnswer (map string_bytes words.now) (S.left source.old) (S.left source.new) (Ok line.items)) }
-    ensures cause { IfErr result (λ fault. HasCause (map string_bytes words.now) (S.left source.old) (S.left source.new) (S.faults source.old) (S.faults source.new) fault) }
+    ensures answer { IfOk result (λ line. HasAnswer
+        (map string_bytes words.now) (S.left source.old) (S.left source.new) (Ok line.items)) }
+    ensures cause { IfErr result (λ fault. HasCause (map string_bytes words.now)
+        (S.left source.old) (S.left source.new) (S.faults source.old) (S.faults source.new) fault) }
     ensures unread { ¬ AreReaderWords (map string_bytes words.now) → source.new ≡ source.old }
     ensures count { HasCount (S.faults source.old) (S.faults source.new) result }
 {

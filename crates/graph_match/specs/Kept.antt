@@ -1,4 +1,5 @@
--- What a graph keeps: its hosts are a grant, its live jobs hold units of it, and each unit is marked free exactly where none of them has it.
+-- What a graph keeps: its hosts are a grant, its live jobs hold units of it, and each unit is
+-- marked free exactly where none of them has it.
 use Rattle.std.specs.Prelude.{◌≡◌, ℕ, List, not, map}
 use Rattle.std.specs.List.{AllByRecursion as Each}
 use Rattle.job_rules.specs.declared.hold.Hold.{Hold}
@@ -12,7 +13,8 @@ abbrev pub AreMarked : (Node → List ℕ) → List Node → List ℕ → List S
 AreMarked kind taken host spots = Each (λ s. s.free ≡ not (has_unit kind taken host s.id)) spots
 
 abbrev pub IsMarked : List Node → Place → Type 0
-IsMarked taken place = AreMarked (λ n. n.cores) taken place.host place.cores × AreMarked (λ n. n.gpus) taken place.host place.gpus
+IsMarked taken place = AreMarked (λ n. n.cores) taken place.host place.cores
+    × AreMarked (λ n. n.gpus) taken place.host place.gpus
 
 pub record IsKept (places : List Place) (holds : List Hold) : Type 0 where
   pub grant : IsGrant (map node_of places)

@@ -15,4 +15,5 @@ free_spot id = record { id = id; free = true }
 
 -- a spot once these ids are free, or held
 abbrev pub marked_at : Bool → List ℕ → Spot → Spot
-marked_at free ids spot = record { id = spot.id; free = if has ids spot.id then free else spot.free }
+marked_at free ids spot =
+    record { id = spot.id; free = if has ids spot.id then free else spot.free }

@@ -44,7 +44,11 @@ impl Model for Graph {
     ghost use Rattle.graph_match.specs.Places.{node_of};
     ghost use Rattle.graph_match.specs.Kept.{IsKept};
 
-    ghost view = { λ g. record { grant = map node_of g.places; expiration = g.expiration; live = g.live.items } };
+    ghost view = { λ g. record {
+      grant = map node_of g.places;
+      expiration = g.expiration;
+      live = g.live.items;
+    } };
 
     ghost invariant = { λ g. IsKept g.places g.live.items };
 }
@@ -92,7 +96,8 @@ fn hold_of(live: &[Hold], id: u64) -> usize
 fn find_hold(live: &[Hold], id: u64) -> Option<usize>
     requires { IsStrictlyIncreasing (map (λ hold. hold.id) live.now) }
     ensures none { IfNone result (IsNew id live.now) }
-    ensures some { IfSome result (λ at. (at < length live.now) × HoldsAt (λ hold. hold.id ≡ id) live.now at) }
+    ensures some { IfSome result (λ at. (at < length live.now)
+        × HoldsAt (λ hold. hold.id ≡ id) live.now at) }
 {
     let at = hold_of(live, id);
     match live.get(at) {
@@ -117,7 +122,8 @@ fn mark_nodes(places: &mut Cluster, nodes: &[Node], free: bool)
 fn is_small(places: &[Place], spec: &JobSpec) -> bool
     requires spec { IsSpec spec.now }
     requires grant { IsGrant (map node_of places.now) }
-    ensures { result ≡ nat_lt (total (worth_of spec.now (map node_of places.now)) (map node_of places.now)) (wanted_of spec.now) }
+    ensures { result ≡ nat_lt (total (worth_of spec.now (map node_of places.now))
+        (map node_of places.now)) (wanted_of spec.now) }
 {
     let mut lacking = wanted(spec);
     for place in places {
@@ -133,7 +139,8 @@ fn is_small(places: &[Place], spec: &JobSpec) -> bool
 fn is_busy(places: &Cluster, spec: &JobSpec) -> bool
     requires spec { IsSpec spec.now }
     requires grant { IsGrant (map node_of places.now) }
-    ensures { result ≡ nat_lt (total (worth_of spec.now (map node_of places.now)) (map free_node places.now)) (wanted_of spec.now) }
+    ensures { result ≡ nat_lt (total (worth_of spec.now (map node_of places.now))
+        (map free_node places.now)) (wanted_of spec.now) }
 {
     let hosts = places.hosts();
     let mut lacking = wanted(spec);
@@ -149,8 +156,10 @@ fn is_busy(places: &Cluster, spec: &JobSpec) -> bool
 fn take_first(alloc: Global, places: &Cluster, spec: &JobSpec) -> Result<NodeList, AllocError>
     requires spec { IsSpec spec.now }
     requires grant { IsGrant (map node_of places.now) }
-    requires enough { wanted_of spec.now ≤ total (worth_of spec.now (map node_of places.now)) (map free_node places.now) }
-    ensures { IfOk result (λ nodes. first_fit spec.now (map node_of places.now) (map free_node places.now) ≡ Some nodes) }
+    requires enough { wanted_of spec.now
+        ≤ total (worth_of spec.now (map node_of places.now)) (map free_node places.now) }
+    ensures { IfOk result (λ nodes.
+        first_fit spec.now (map node_of places.now) (map free_node places.now) ≡ Some nodes) }
 {
     let hosts = places.hosts();
     let mut nodes = NodeList::new(alloc);
@@ -183,7 +192,8 @@ fn rooms(alloc: Global, places: &[Place]) -> Result<Vec<Room>, AllocError>
 fn brings(places: &[Place], spec: &JobSpec) -> u64
     requires spec { IsSpec spec.now }
     requires grant { IsGrant (map node_of places.now) }
-    ensures { result ≡ total (worth_of spec.now (map node_of places.now)) (map free_node places.now) }
+    ensures { result
+        ≡ total (worth_of spec.now (map node_of places.now)) (map free_node places.now) }
 {
     let mut sum = 0u64;
     for place in places {
@@ -240,7 +250,8 @@ fn moved(place: &Place, spec: &JobSpec, sum: u64, old: Room, new: Room) -> u64
     sum - u64::from(worth(spec, whole, old)) + u64::from(worth(spec, whole, new))
 }
 
-/// Frees a job's units in the rooms of hosts where other nodes' units stay taken, and gives what they bring then.
+/// Frees a job's units in the rooms of hosts where other nodes' units stay taken, and gives what
+/// they bring then.
 fn add(places: &[Place], spec: &JobSpec, rooms: &mut [Room], sum: u64, nodes: &[Node]) -> u64
     requires spec { IsSpec spec.now }
     requires grant { IsGrant (map node_of places.now) }
@@ -264,7 +275,8 @@ fn add(places: &[Place], spec: &JobSpec, rooms: &mut [Room], sum: u64, nodes: &[
     sum
 }
 
-/// Takes a job's units in the rooms of hosts where other nodes' units are taken, and gives what they bring then.
+/// Takes a job's units in the rooms of hosts where other nodes' units are taken, and gives what
+/// they bring then.
 fn take_back(places: &[Place], spec: &JobSpec, rooms: &mut [Room], sum: u64, nodes: &[Node]) -> u64
     requires spec { IsSpec spec.now }
     requires grant { IsGrant (map node_of places.now) }
@@ -295,8 +307,8 @@ fn is_enough(spec: &JobSpec, sum: u64) -> bool
     u64::from(wanted(spec)) <= sum
 }
 
-/// The live jobs that stand in a job's way, where the rooms and what they bring are those that all of them leave.
-/// Each is left out, in order of id, without which the rest still leaves no room.
+/// The live jobs that stand in a job's way, where the rooms and what they bring are those that all
+/// of them leave. Each is left out, in order of id, without which the rest still leaves no room.
 fn sift(
     alloc: Global,
     places: &[Place],
@@ -328,7 +340,8 @@ fn sift(
 fn busy(alloc: Global, places: &[Place], live: &[Hold], spec: &JobSpec) -> Result<Fit, AllocError>
     requires spec { IsSpec spec.now }
     requires kept { IsKept places.now live.now }
-    requires few { total (worth_of spec.now (map node_of places.now)) (map free_node places.now) < wanted_of spec.now }
+    requires few { total (worth_of spec.now (map node_of places.now)) (map free_node places.now)
+        < wanted_of spec.now }
     ensures { IfOk result (NamesBlockers spec.now (map node_of places.now) live.now) }
 {
     let mut rooms = rooms(alloc, places)?;
@@ -362,7 +375,11 @@ fn sooner_of(a: u64, b: u64) -> u64
 
 /// The units of a job that starts now, until it ends or the grant does.
 fn units_from(nodes: NodeList, spec: &JobSpec, now: u64, expiration: u64) -> Resources
-    ensures { result ≡ record { nodes = nodes; starttime = now; expiration = sooner (end_of spec.now now) expiration } }
+    ensures { result ≡ record {
+      nodes = nodes;
+      starttime = now;
+      expiration = sooner (end_of spec.now now) expiration;
+    } }
 {
     Resources {
         nodes,
@@ -386,7 +403,8 @@ impl Graph {
     /// A grant, all of it free. Its ranks rise and are below 65,536, and its hosts differ.
     pub fn new(alloc: Global, grant: &Resources) -> Result<Graph, AllocError>
         requires { AreHosts grant.now.nodes }
-        ensures { IfOk result (λ g. g ≡ record { grant = grant.now.nodes; expiration = grant.now.expiration; live = [] }) }
+        ensures { IfOk result (λ g. g
+            ≡ record { grant = grant.now.nodes; expiration = grant.now.expiration; live = [] }) }
     {
         let places = fresh(alloc, grant.nodes.as_slice())?;
         Ok(Graph {
@@ -396,8 +414,9 @@ impl Graph {
         })
     }
 
-    /// What the grant has for a job at this second: units by first fit, the live jobs that stand in its way, or that it never fits.
-    /// Its slots, cores and hosts are at least 1, and it asks for at most 65,536 of each.
+    /// What the grant has for a job at this second: units by first fit, the live jobs that stand in
+    /// its way, or that it never fits. Its slots, cores and hosts are at least 1, and it asks for
+    /// at most 65,536 of each.
     pub fn fit(&self, spec: &JobSpec, now: u64) -> Result<Fit, AllocError>
         requires { IsSpec spec.now }
         ensures { IfOk result (Answers self.now spec.now now) }
@@ -424,7 +443,8 @@ impl Graph {
     /// Whether free units satisfy a job. It takes no memory, and lists no jobs in the way.
     pub fn has_room(&self, spec: &JobSpec) -> bool
         requires { IsSpec spec.now }
-        ensures { IsTrue result ↔ CanFit spec.now self.now.grant (free_of self.now.grant self.now.live) }
+        ensures { IsTrue result
+            ↔ CanFit spec.now self.now.grant (free_of self.now.grant self.now.live) }
     {
         !is_busy(&self.places, spec)
     }
@@ -437,7 +457,8 @@ impl Graph {
         self.places.rack_free(rack)
     }
 
-    /// What every graph keeps: its hosts are a grant's, and the live jobs hold units of it, no two of them one in common.
+    /// What every graph keeps: its hosts are a grant's, and the live jobs hold units of it, no two
+    /// of them one in common.
     pub fn keeps(&self)
         ensures grant { IsGrant self.now.grant }
         ensures live { AreLive self.now.grant self.now.live }
@@ -450,7 +471,8 @@ impl Graph {
         requires free { AreWithin units.now.nodes (free_of self.old.grant self.old.live) }
         requires new { IsNew id self.old.live }
         ensures taken { OnOk result (self.new
-            ≡ record self.old { live = with_hold (record { id = id; nodes = units.now.nodes }) self.old.live }) }
+            ≡ record self.old
+            { live = with_hold (record { id = id; nodes = units.now.nodes }) self.old.live }) }
         ensures kept { OnErr result (self.new ≡ self.old) }
     {
         let nodes = units.nodes.copy()?;

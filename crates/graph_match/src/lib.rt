@@ -1,4 +1,5 @@
-//! The matcher: which free units of a grant a job takes (first fit), and which live jobs stand in its way (Flux RFC 14 and 27).
+//! The matcher: which free units of a grant a job takes (first fit), and which live jobs stand in
+//! its way (Flux RFC 14 and 27).
 #![tactic(auto)]
 
 pub mod fit;

@@ -59,7 +59,8 @@ impl Place {
     pub fn brings(&self, spec: &JobSpec) -> u32
         requires spec { 1 ≤ spec.now.cores }
         requires sets { HasIdSets (node_of self.now) }
-        ensures { result ≡ worth_of spec.now (room_of (node_of self.now)) (room_of (free_node self.now)) }
+        ensures { result
+            ≡ worth_of spec.now (room_of (node_of self.now)) (room_of (free_node self.now)) }
     {
         worth(spec, self.whole(), self.room())
     }
@@ -68,7 +69,8 @@ impl Place {
     pub fn could_bring(&self, spec: &JobSpec) -> u32
         requires spec { 1 ≤ spec.now.cores }
         requires sets { HasIdSets (node_of self.now) }
-        ensures { result ≡ worth_of spec.now (room_of (node_of self.now)) (room_of (node_of self.now)) }
+        ensures { result
+            ≡ worth_of spec.now (room_of (node_of self.now)) (room_of (node_of self.now)) }
     {
         let whole = self.whole();
         worth(spec, whole, whole)
@@ -107,8 +109,10 @@ impl Place {
         requires spec { IsSpec spec.now }
         requires sets { HasIdSets (node_of self.now) }
         requires some { 1 ≤ here }
-        requires room { here ≤ worth_of spec.now (room_of (node_of self.now)) (room_of (free_node self.now)) }
-        ensures { IfOk result (λ node. node ≡ give_as spec.now.nodes spec.now here (free_node self.now)) }
+        requires room { here
+            ≤ worth_of spec.now (room_of (node_of self.now)) (room_of (free_node self.now)) }
+        ensures { IfOk result
+            (λ node. node ≡ give_as spec.now.nodes spec.now here (free_node self.now)) }
     {
         match spec.nodes {
             None => self.lowest(spec, here),

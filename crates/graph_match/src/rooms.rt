@@ -24,7 +24,8 @@ pub fn slots_in(spec: &JobSpec, room: Room) -> u32
     }
 }
 
-/// What a host brings to a job: slots with room, or itself where the job asks for hosts and it serves.
+/// What a host brings to a job: slots with room, or itself where the job asks for hosts and it
+/// serves.
 pub fn worth(spec: &JobSpec, whole: Room, room: Room) -> u32
     requires { 1 ≤ spec.now.cores }
     ensures { result ≡ worth_of spec.now whole room }

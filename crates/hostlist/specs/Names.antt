@@ -34,7 +34,8 @@ number_prefix name = take (length name - digits_len name) name
 
 -- a host has a number where that run has 1 to 9 digits and something stands before it
 abbrev pub is_numbered : List ℕ → Bool
-is_numbered name = nat_lt 0 (digits_len name) && nat_le (digits_len name) 9 && nat_lt (digits_len name) (length name)
+is_numbered name = nat_lt 0 (digits_len name) && nat_le (digits_len name) 9
+    && nat_lt (digits_len name) (length name)
 
 -- the number that decimal digits write
 abbrev pub value_of : List ℕ → ℕ
@@ -50,4 +51,5 @@ shares_prefix a b = is_numbered a && is_numbered b && bytes_eq (number_prefix a)
 
 -- besides, the digits of b are the number of a plus one, padded to the digits of a
 abbrev pub follows : List ℕ → List ℕ → Bool
-follows a b = shares_prefix a b && bytes_eq (number_digits b) (padded (length (number_digits a)) (value_of (number_digits a) + 1))
+follows a b = shares_prefix a b && bytes_eq (number_digits b)
+    (padded (length (number_digits a)) (value_of (number_digits a) + 1))

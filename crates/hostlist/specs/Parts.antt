@@ -16,13 +16,16 @@ pub record IsRange (text : List ℕ) (range : Range) : Type 0 where
 
 -- the hosts of a part
 unfoldable pub part_hosts : Part → List (List ℕ)
-part_hosts part = option_map_or (λ range. map (λ number. part.prefix.now ++ padded range.width number) (range_with_len range.first (range.last + 1 - range.first)))
+part_hosts part = option_map_or (λ range. map (λ number. part.prefix.now
+    ++ padded range.width number) (range_with_len range.first (range.last + 1 - range.first)))
     part.range (part.prefix.now ∷ [])
 
 -- the bracket in which the next piece stands, seen by its prefix
 unfoldable pub part_bracket : Part → Option (List ℕ)
-part_bracket part = option_map_or (λ range. if range.is_last then None else Some part.prefix.now) part.range None
+part_bracket part =
+    option_map_or (λ range. if range.is_last then None else Some part.prefix.now) part.range None
 
--- the pieces of what is left of a text: none where nothing is left, and one at least where it is cut on
+-- the pieces of what is left of a text: none where nothing is left, and one at least where it is
+-- cut on
 abbrev pub left : Option (List ℕ) → List (List ℕ)
 left rest = option_map_or (λ text. slice_split (λ c. c == 44) text) rest []

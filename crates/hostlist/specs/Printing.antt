@@ -7,7 +7,8 @@ use Rattle.hostlist.specs.Names.{number_digits, number_prefix, shares_prefix, fo
 abbrev pub onto_chunks : {X : Type 0} → (X → X → Bool) → X → List (List X) → List (List X)
 onto_chunks goes x [] = (x ∷ []) ∷ []
 onto_chunks goes x ([] ∷ more) = (x ∷ []) ∷ more
-onto_chunks goes x ((y ∷ ys) ∷ more) = if goes x y then (x ∷ y ∷ ys) ∷ more else (x ∷ []) ∷ (y ∷ ys) ∷ more
+onto_chunks goes x ((y ∷ ys) ∷ more) =
+    if goes x y then (x ∷ y ∷ ys) ∷ more else (x ∷ []) ∷ (y ∷ ys) ∷ more
 
 -- a list cut into its longest parts in which each element goes with the one before it
 abbrev pub chunks_by : {X : Type 0} → (X → X → Bool) → List X → List (List X)
@@ -25,10 +26,12 @@ unfoldable pub run_text : List (List ℕ) → List ℕ
 run_text run = if length run == 1 then number_digits (first_name run)
     else number_digits (first_name run) ++ 45 ∷ number_digits (last_name run)
 
--- a group of neighbours that share a prefix: one host as it stands, several as the prefix and their runs in a bracket
+-- a group of neighbours that share a prefix: one host as it stands, several as the prefix and their
+-- runs in a bracket
 unfoldable pub group_text : List (List ℕ) → List ℕ
 group_text group = if length group == 1 then first_name group
-    else number_prefix (first_name group) ++ 91 ∷ join_with_byte 44 (map run_text (chunks_by follows group)) ++ 93 ∷ []
+    else number_prefix (first_name group) ++ 91
+    ∷ join_with_byte 44 (map run_text (chunks_by follows group)) ++ 93 ∷ []
 
 -- the canonical text
 unfoldable pub canonical : List (List ℕ) → List ℕ

@@ -14,7 +14,8 @@ use crate::reading::{count_hosts, read_hosts};
 use std::alloc::{AllocError, Global};
 use std::marker::Model;
 
-/// Hosts in an order, each as often as it stands there, which contracts see as the list of their names.
+/// Hosts in an order, each as often as it stands there, which contracts see as the list of their
+/// names.
 #[derive(Drop)]
 pub struct HostList {
     names: Vec<HostName>,
@@ -43,8 +44,8 @@ impl HostList {
         }
     }
 
-    /// The list of hosts that a text spells (Flux RFC 29), or the text's first fault with its place in bytes. `TooMany`
-    /// where it spells more than 65,536 hosts.
+    /// The list of hosts that a text spells (Flux RFC 29), or the text's first fault with its place
+    /// in bytes. `TooMany` where it spells more than 65,536 hosts.
     pub fn read(alloc: Global, text: &[u8]) -> Result<HostList, HostFault>
         ensures read { Reads (first_fault text.now) (λ hosts. hosts ≡ spelled text.now) result }
         ensures named { IfOk result AreHostNames }
@@ -101,7 +102,8 @@ impl HostList {
     /// The first place at which a host of this name stands, counted from 0.
     pub fn find(&self, name: &[u8]) -> Option<usize>
         ensures found { IfSome result (λ place. slice_get self.now place ≡ Some name.now) }
-        ensures first { IfSome result (λ place. (k : ℕ) → k < place → slice_get self.now k ≢ Some name.now) }
+        ensures first { IfSome result (λ place. (k : ℕ)
+            → k < place → slice_get self.now k ≢ Some name.now) }
         ensures absent { IsNone result → (k : ℕ) → slice_get self.now k ≢ Some name.now }
     {
         for (place, own) in self.names.as_slice().iter().enumerate() {
@@ -116,7 +118,8 @@ impl HostList {
     pub fn print(&self) -> Result<Vec<u8>, AllocError>
         ensures canonical { IfOk result (λ text. text.items ≡ canonical self.now) }
         ensures read_again { IfOk result (λ text. spelled text.items ≡ self.now) }
-        ensures fault { IfOk result (λ text. first_fault text.items ≡ (if nat_lt 65536 (length self.now) then Some TooMany else None)) }
+        ensures fault { IfOk result (λ text. first_fault text.items
+            ≡ (if nat_lt 65536 (length self.now) then Some TooMany else None)) }
     {
         let mut text = Vec::new(*self.names.allocator());
         let names = self.as_slice();

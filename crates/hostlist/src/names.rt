@@ -85,7 +85,8 @@ fn are_of_name(bytes: &[u8]) -> bool
     bytes.iter().all(|byte| is_of_name(*byte))
 }
 
-/// Whether these bytes are the name of one host of a hostlist: one or more letters, digits, `-`, `.` and `_`.
+/// Whether these bytes are the name of one host of a hostlist: one or more letters, digits, `-`,
+/// `.` and `_`.
 pub fn is_host_name(name: &[u8]) -> bool
     ensures { IsTrue result ↔ IsHostName name.now }
 {
@@ -172,8 +173,11 @@ pub(crate) fn split_digits(name: &[u8]) -> (&[u8], &[u8])
 
 /// What stands before the number of a host, and the number's digits, if the host has a number.
 fn number_of(name: &[u8]) -> Option<(&[u8], &[u8])>
-    ensures parts { MatchOption result (is_numbered name.now ≡ false) (λ parts. (is_numbered name.now ≡ true) × (parts.0.now ≡ number_prefix name.now) × (parts.1.now ≡ number_digits name.now)) }
-    ensures digits { IfSome result (λ parts. (all_ascii_digits parts.1.now ≡ true) × (length parts.1.now ≤ 9)) }
+    ensures parts { MatchOption result (is_numbered name.now ≡ false)
+        (λ parts. (is_numbered name.now ≡ true) × (parts.0.now ≡ number_prefix name.now)
+        × (parts.1.now ≡ number_digits name.now)) }
+    ensures digits { IfSome result (λ parts. (all_ascii_digits parts.1.now ≡ true)
+        × (length parts.1.now ≤ 9)) }
 {
     let digits = digits_len(name);
     if 0 < digits && digits <= 9 && digits < name.len() {

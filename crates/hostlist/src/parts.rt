@@ -5,8 +5,8 @@ ghost use Rattle.hostlist.specs.Names.{padded};
 use crate::names::{HostName, Padded};
 use std::alloc::AllocError;
 
-/// A range of numbers in a bracket: the digits that its first number is written with, its first and last number,
-/// and whether the bracket ends behind it.
+/// A range of numbers in a bracket: the digits that its first number is written with, its first and
+/// last number, and whether the bracket ends behind it.
 #[derive(Clone, Copy)]
 pub(crate) struct Range {
     pub(crate) width: usize,
@@ -67,7 +67,8 @@ impl<'a> Part<'a> {
 
 /// Adds the hosts of a range behind a prefix to a list.
 fn add_range(prefix: &[u8], range: Range, names: &mut Vec<HostName>) -> Result<(), AllocError>
-    ensures { OnOk result (names.new.items ≡ names.old.items ++ map (λ number. prefix.now ++ padded range.width number) (range_with_len range.first (range.last + 1 - range.first))) }
+    ensures { OnOk result (names.new.items ≡ names.old.items ++ map (λ number. prefix.now
+        ++ padded range.width number) (range_with_len range.first (range.last + 1 - range.first))) }
 {
     let alloc = *names.allocator();
     for number in range.first..range.last + 1 {

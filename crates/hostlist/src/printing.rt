@@ -7,7 +7,8 @@ ghost use Rattle.hostlist.specs.Ties.{goes};
 use crate::names::{HostName, follows, shares_prefix, split_digits};
 use std::alloc::AllocError;
 
-/// What holds a part of a list of hosts together: the same prefix makes a group, and followers make a run.
+/// What holds a part of a list of hosts together: the same prefix makes a group, and followers make
+/// a run.
 #[derive(Clone, Copy)]
 pub(crate) enum Tie {
     Prefix,
@@ -31,7 +32,8 @@ impl Tie {
 /// The first part of a list that such a tie holds together, and what stands behind it.
 fn first_chunk(tie: Tie, names: &[HostName]) -> (&[HostName], &[HostName])
     requires { 0 < length names.now }
-    ensures chunks { chunks_by (goes tie) names.now ≡ result.0.now ∷ chunks_by (goes tie) result.1.now }
+    ensures chunks { chunks_by (goes tie) names.now
+        ≡ result.0.now ∷ chunks_by (goes tie) result.1.now }
     ensures some { 0 < length result.0.now }
     ensures less { length result.1.now < length names.now }
 {
@@ -61,7 +63,8 @@ fn print_run(text: &mut Vec<u8>, run: &[HostName]) -> Result<(), AllocError>
 /// Writes the runs of a group.
 fn print_runs(text: &mut Vec<u8>, group: &[HostName]) -> Result<(), AllocError>
     requires { 0 < length group.now }
-    ensures { OnOk result (text.new.items ≡ text.old.items ++ join_with_byte 44 (map run_text (chunks_by follows group.now))) }
+    ensures { OnOk result (text.new.items
+        ≡ text.old.items ++ join_with_byte 44 (map run_text (chunks_by follows group.now))) }
 {
     let (run, mut rest) = first_chunk(Tie::Follower, group);
     print_run(text, run)?;

@@ -41,8 +41,10 @@ fn name_count(text: &[u8]) -> usize
 /// The digits of the number that a text begins with, and what stands behind them.
 fn number(place: usize, text: &[u8]) -> Result<(&[u8], &[u8]), HostFault>
     requires { place + length text.now < 2 ^ 64 }
-    ensures read { Reads (number_fault place text.now) (λ parts. (parts.0.now ≡ digits_at text.now) × (parts.1.now ≡ behind_digits text.now)) result }
-    ensures digits { IfOk result (λ parts. (all_ascii_digits parts.0.now ≡ true) × (length parts.0.now ≤ 9) × (0 < length parts.0.now)) }
+    ensures read { Reads (number_fault place text.now) (λ parts. (parts.0.now ≡ digits_at text.now)
+        × (parts.1.now ≡ behind_digits text.now)) result }
+    ensures digits { IfOk result (λ parts. (all_ascii_digits parts.0.now ≡ true)
+        × (length parts.0.now ≤ 9) × (0 < length parts.0.now)) }
 {
     let count = digits_count(text);
     if count == 0 {
@@ -93,7 +95,9 @@ fn read_range(place: usize, text: &[u8]) -> Result<Range, HostFault>
 /// The part that a piece outside of brackets spells: a host, or a name with a bracket behind it.
 fn read_item<'a>(place: usize, piece: &'a [u8]) -> Result<Part<'a>, HostFault>
     requires { place + length piece.now < 2 ^ 64 }
-    ensures read { Reads (piece_fault place None piece.now) (λ part. (part_hosts part ≡ piece_hosts None piece.now) × (part_bracket part ≡ bracket_behind None piece.now)) result }
+    ensures read { Reads (piece_fault place None piece.now)
+        (λ part. (part_hosts part ≡ piece_hosts None piece.now)
+        × (part_bracket part ≡ bracket_behind None piece.now)) result }
     ensures named { IfOk result (λ part. IsHostName part.prefix.now) }
 {
     let count = name_count(piece);
@@ -126,8 +130,11 @@ fn read_part<'a>(
     piece: &'a [u8],
 ) -> Result<Part<'a>, HostFault>
     requires { place + length piece.now < 2 ^ 64 }
-    ensures read { Reads (piece_fault place (option_copied bracket.entry) piece.now) (λ part. (part_hosts part ≡ piece_hosts (option_copied bracket.entry) piece.now) × (part_bracket part ≡ bracket_behind (option_copied bracket.entry) piece.now)) result }
-    ensures named { IfOk result (λ part. IfSome (option_copied bracket.entry) IsHostName → IsHostName part.prefix.now) }
+    ensures read { Reads (piece_fault place (option_copied bracket.entry) piece.now)
+        (λ part. (part_hosts part ≡ piece_hosts (option_copied bracket.entry) piece.now)
+        × (part_bracket part ≡ bracket_behind (option_copied bracket.entry) piece.now)) result }
+    ensures named { IfOk result (λ part. IfSome (option_copied bracket.entry) IsHostName
+        → IsHostName part.prefix.now) }
 {
     let Some(prefix) = bracket else {
         return read_item(place, piece);
@@ -157,8 +164,10 @@ fn before_comma(text: &[u8]) -> usize
 
 /// What stands before the first comma of a text, and what stands behind it if there is one.
 fn cut(text: &[u8]) -> (&[u8], Option<&[u8]>)
-    ensures pieces { slice_split (λ c. c == 44) text.now ≡ result.0.now ∷ left (option_copied result.1) }
-    ensures behind { IfSome (option_copied result.1) (λ rest. length result.0.now + 1 + length rest ≡ length text.now) }
+    ensures pieces { slice_split (λ c. c == 44) text.now
+        ≡ result.0.now ∷ left (option_copied result.1) }
+    ensures behind { IfSome (option_copied result.1)
+        (λ rest. length result.0.now + 1 + length rest ≡ length text.now) }
     ensures within { length result.0.now ≤ length text.now }
 {
     let (piece, rest) = text.split_at(before_comma(text));
@@ -170,7 +179,8 @@ fn cut(text: &[u8]) -> (&[u8], Option<&[u8]>)
 
 /// How many hosts a text spells, up to the greatest number of its type.
 pub(crate) fn count_hosts(text: &[u8]) -> Result<u64, HostFault>
-    ensures { Reads (text_fault text.now) (λ count. count ≡ min (length (spelled text.now)) (2 ^ 64 - 1)) result }
+    ensures { Reads (text_fault text.now)
+        (λ count. count ≡ min (length (spelled text.now)) (2 ^ 64 - 1)) result }
 {
     let mut rest = uncut(text);
     let mut bracket = None;

@@ -4,7 +4,8 @@ use Rattle.std.specs.List.{join_with_byte}
 use Rattle.std.specs.Fmt.{decimal}
 use Rattle.idset.specs.declared.ranges.IdRange.{IdRange}
 
--- the runs with one id more before them, which lengthens the first run where it is the id before that
+-- the runs with one id more before them, which lengthens the first run where it is the id before
+-- that
 abbrev pub onto_runs : ℕ → List IdRange → List IdRange
 onto_runs id [] = record { first = id; last = id } ∷ []
 onto_runs id (r ∷ rs) = if r.first == id + 1 then record { first = id; last = r.last } ∷ rs

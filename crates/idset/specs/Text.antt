@@ -38,7 +38,8 @@ number_value digits = digits_value 10 digits
 
 -- the range of two numbers: the digits of the first, and what stands behind the dash
 abbrev pub pair_of : List ℕ → List ℕ → IdRange
-pair_of first tail = record { first = number_value first; last = number_value (leading_digits tail) }
+pair_of first tail =
+    record { first = number_value first; last = number_value (leading_digits tail) }
 
 abbrev pub range_behind : List ℕ → List ℕ → IdRange
 range_behind first [] = record { first = number_value first; last = number_value first }
@@ -48,7 +49,8 @@ range_behind first (b ∷ tail) = pair_of first tail
 abbrev pub range_of : List ℕ → IdRange
 range_of item = range_behind (leading_digits item) (behind_digits item)
 
--- what stands between the brackets, or all where there are none; its place; what it is cut into at commas
+-- what stands between the brackets, or all where there are none; its place; what it is cut into at
+-- commas
 abbrev pub body : List ℕ → List ℕ
 body [] = []
 body (b ∷ bs) = if b == 91 then before_first is_close bs else b ∷ bs
@@ -75,11 +77,19 @@ first_of (t ∷ ts) = if t.0 then Some t.1 else first_of ts
 
 -- the faults of a range of two numbers that begins at a place, from left to right, Backwards first
 abbrev pub pair_faults : ℕ → List ℕ → List ℕ → List (Bool × IdFault)
-pair_faults place first tail = (not (is_empty (leading_digits tail)) && nat_lt (number_value (leading_digits tail)) (number_value first), fault.Backwards place)
+pair_faults place first tail = (
+  not (is_empty (leading_digits tail))
+      && nat_lt (number_value (leading_digits tail)) (number_value first),
+  fault.Backwards place,
+)
     ∷ (nat_le 65536 (number_value first), fault.TooLarge place)
     ∷ (is_empty (leading_digits tail), fault.BadText (place + length first + 1))
     ∷ (nat_le 65536 (number_value (leading_digits tail)), fault.TooLarge (place + length first + 1))
-    ∷ (not (is_empty (behind_digits tail)), fault.BadText (place + length first + 1 + length (leading_digits tail)))
+    ∷ (
+      not (is_empty (behind_digits tail)),
+      fault.BadText
+          (place + length first + 1 + length (leading_digits tail)),
+    )
     ∷ []
 
 -- the faults behind an item's first digits
@@ -92,7 +102,8 @@ behind_faults place first (b ∷ tail) = if b == 45 then pair_faults place first
 
 -- the faults of an item that begins at a place, from left to right
 abbrev pub item_faults : ℕ → List ℕ → List (Bool × IdFault)
-item_faults place item = (is_empty (leading_digits item), fault.BadText place) ∷ behind_faults place (leading_digits item) (behind_digits item)
+item_faults place item = (is_empty (leading_digits item), fault.BadText place)
+    ∷ behind_faults place (leading_digits item) (behind_digits item)
 
 -- the first of two faults, if there is one
 abbrev pub or_else : Option IdFault → Option IdFault → Option IdFault
@@ -102,25 +113,29 @@ or_else (Some e) later = Some e
 -- the first fault of items, the first of which begins at a place
 abbrev pub faults_in : ℕ → List (List ℕ) → Option IdFault
 faults_in place [] = None
-faults_in place (item ∷ more) = or_else (first_of (item_faults place item)) (faults_in (place + length item + 1) more)
+faults_in place (item ∷ more) =
+    or_else (first_of (item_faults place item)) (faults_in (place + length item + 1) more)
 
 -- the faults behind the items: the closing bracket is missing, or something stands behind it
 abbrev pub end_faults : List ℕ → List (Bool × IdFault)
-end_faults text = if is_bracketed text then (length (body text) + 1 == length text, fault.BadText (length (body text) + 1))
+end_faults text = if is_bracketed text
+    then (length (body text) + 1 == length text, fault.BadText (length (body text) + 1))
     ∷ (nat_lt (length (body text) + 2) (length text), fault.BadText (length (body text) + 2))
     ∷ []
     else []
 
 -- the leftmost fault of a text, if it has one
 unfoldable pub first_fault : List ℕ → Option IdFault
-first_fault text = or_else (faults_in (body_place text) (items (body text))) (first_of (end_faults text))
+first_fault text =
+    or_else (faults_in (body_place text) (items (body text))) (first_of (end_faults text))
 
 -- the fault that a reader answered is this one, want of memory apart
 abbrev pub Faults : IdFault → Option IdFault → Type 0
 Faults fault.NoMemory first = Unit {0}
 Faults e first = first ≡ Some e
 
--- what a reader gives where the first fault is this: there is none and the value is so, or it is the fault
+-- what a reader gives where the first fault is this: there is none and the value is so, or it is
+-- the fault
 abbrev pub Reads : {X : Type 0} → Option IdFault → (X → Type 0) → Result X IdFault → Type 0
 Reads first P (Ok x) = (first ≡ None) × P x
 Reads first P (Err e) = Faults e first

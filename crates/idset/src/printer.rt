@@ -20,7 +20,8 @@ fn add(text: &mut String, range: IdRange) -> Result<(), AllocError>
 
 /// The text of ranges, with a comma between each two.
 pub fn text_of(alloc: Global, ranges: &[IdRange]) -> Result<String, AllocError>
-    ensures { IfOk result (λ text. string_bytes text ≡ join_with_byte 44 (map range_text ranges.now)) }
+    ensures { IfOk result (λ text. string_bytes text
+        ≡ join_with_byte 44 (map range_text ranges.now)) }
 {
     let mut text = String::new(alloc);
     for (place, range) in ranges.iter().enumerate() {

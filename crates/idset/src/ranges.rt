@@ -18,7 +18,8 @@ pub struct IdRange {
 fn join_sorted(alloc: Global, ranges: &[IdRange]) -> Result<Vec<IdRange>, AllocError>
     requires { AreSorted 0 ranges.now }
     ensures apart { IfOk result (λ joined. AreApart 0 joined.items) }
-    ensures same { IfOk result (λ joined. (id : ℕ) → are_in joined.items id ≡ are_in ranges.now id) }
+    ensures same { IfOk result (λ joined. (id : ℕ)
+        → are_in joined.items id ≡ are_in ranges.now id) }
 {
     let mut done = Vec::new(alloc);
     let Some((first, rest)) = ranges.split_first() else {
@@ -41,7 +42,8 @@ fn join_sorted(alloc: Global, ranges: &[IdRange]) -> Result<Vec<IdRange>, AllocE
 pub fn joined(mut ranges: Vec<IdRange>) -> Result<Vec<IdRange>, AllocError>
     requires { All IsRange ranges.items }
     ensures apart { IfOk result (λ joined. AreApart 0 joined.items) }
-    ensures same { IfOk result (λ joined. (id : ℕ) → are_in joined.items id ≡ are_in ranges.items id) }
+    ensures same { IfOk result (λ joined. (id : ℕ)
+        → are_in joined.items id ≡ are_in ranges.items id) }
 {
     ranges.sort_unstable_by_key(|r| r.first);
     let joined = join_sorted(*ranges.allocator(), &ranges)?;
@@ -65,7 +67,8 @@ fn add_gap(gaps: &mut Vec<IdRange>, next: u32, first: u32) -> Result<(), AllocEr
 pub fn gaps(alloc: Global, ranges: &[IdRange]) -> Result<Vec<IdRange>, AllocError>
     requires { AreApart 0 ranges.now }
     ensures apart { IfOk result (λ gaps. AreApart 0 gaps.items) }
-    ensures others { IfOk result (λ gaps. (id : ℕ) → id < 65536 → are_in gaps.items id ≡ not (are_in ranges.now id)) }
+    ensures others { IfOk result (λ gaps. (id : ℕ)
+        → id < 65536 → are_in gaps.items id ≡ not (are_in ranges.now id)) }
 {
     let mut gaps = Vec::new(alloc);
     let mut next = 0;

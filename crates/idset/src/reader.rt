@@ -79,7 +79,8 @@ fn is_below(digits: &[u8], others: &[u8]) -> bool
 fn pair(first: &[u8], tail: &[u8], place: usize) -> Result<IdRange, IdFault>
     requires digits { AllDigits 10 first.now }
     requires place { place + length first.now + 1 + length tail.now < 2 ^ 64 }
-    ensures { Reads (first_of (pair_faults place first.now tail.now)) (λ r. (r ≡ pair_of first.now tail.now) × IsRange r) result }
+    ensures { Reads (first_of (pair_faults place first.now tail.now))
+        (λ r. (r ≡ pair_of first.now tail.now) × IsRange r) result }
 {
     let (second, rest) = digits(tail);
     let start = place + first.len() + 1;
@@ -106,7 +107,8 @@ fn pair(first: &[u8], tail: &[u8], place: usize) -> Result<IdRange, IdFault>
 /// The range of an item that begins at a place of the text.
 fn range(item: &[u8], place: usize) -> Result<IdRange, IdFault>
     requires { place + length item.now < 2 ^ 64 }
-    ensures { Reads (first_of (item_faults place item.now)) (λ r. (r ≡ range_of item.now) × IsRange r) result }
+    ensures { Reads (first_of (item_faults place item.now)) (λ r. (r ≡ range_of item.now)
+        × IsRange r) result }
 {
     let (first, behind) = digits(item);
     if first.is_empty() {
@@ -131,8 +133,10 @@ fn range(item: &[u8], place: usize) -> Result<IdRange, IdFault>
 
 /// What stands before a text's first comma, and what stands behind it if there is one.
 fn cut(text: &[u8]) -> (&[u8], Option<&[u8]>)
-    ensures parts { MatchOption result.1 (slice_split is_comma text.now ≡ result.0.now ∷ []) (λ more. slice_split is_comma text.now ≡ result.0.now ∷ slice_split is_comma more.now) }
-    ensures len { MatchOption result.1 (length result.0.now ≡ length text.now) (λ more. length result.0.now + length more.now + 1 ≡ length text.now) }
+    ensures parts { MatchOption result.1 (slice_split is_comma text.now ≡ result.0.now ∷ [])
+        (λ more. slice_split is_comma text.now ≡ result.0.now ∷ slice_split is_comma more.now) }
+    ensures len { MatchOption result.1 (length result.0.now ≡ length text.now)
+        (λ more. length result.0.now + length more.now + 1 ≡ length text.now) }
 {
     let count = count_before(text, b',');
     if count == text.len() {
@@ -145,7 +149,8 @@ fn cut(text: &[u8]) -> (&[u8], Option<&[u8]>)
 /// The ranges of a text's items. The text is what ends at a place of a longer one.
 fn ranges(alloc: Global, text: &[u8], end: usize) -> Result<Vec<IdRange>, IdFault>
     requires { length text.now ≤ end }
-    ensures { Reads (faults_in (end - length text.now) (slice_split is_comma text.now)) (λ rs. (rs.items ≡ map range_of (slice_split is_comma text.now)) × All IsRange rs.items) result }
+    ensures { Reads (faults_in (end - length text.now) (slice_split is_comma text.now)) (λ rs.
+        (rs.items ≡ map range_of (slice_split is_comma text.now)) × All IsRange rs.items) result }
 {
     let mut ranges = Vec::new(alloc);
     let mut rest = text;
@@ -160,10 +165,12 @@ fn ranges(alloc: Global, text: &[u8], end: usize) -> Result<Vec<IdRange>, IdFaul
     }
 }
 
-/// The ranges of a text's items, where an empty text has none. The text is what ends at a place of a longer one.
+/// The ranges of a text's items, where an empty text has none. The text is what ends at a place of
+/// a longer one.
 fn item_ranges(alloc: Global, text: &[u8], end: usize) -> Result<Vec<IdRange>, IdFault>
     requires { length text.now ≤ end }
-    ensures { Reads (faults_in (end - length text.now) (items text.now)) (λ rs. (rs.items ≡ map range_of (items text.now)) × All IsRange rs.items) result }
+    ensures { Reads (faults_in (end - length text.now) (items text.now))
+        (λ rs. (rs.items ≡ map range_of (items text.now)) × All IsRange rs.items) result }
 {
     if text.is_empty() {
         return Ok(Vec::new(alloc));
@@ -171,7 +178,8 @@ fn item_ranges(alloc: Global, text: &[u8], end: usize) -> Result<Vec<IdRange>, I
     ranges(alloc, text, end)
 }
 
-/// What stands between a text's brackets, or all of it where it has none, and the place behind that.
+/// What stands between a text's brackets, or all of it where it has none, and the place behind
+/// that.
 fn inside(text: &[u8]) -> (&[u8], usize)
     ensures body { result.0.now ≡ body text.now }
     ensures end { result.1 ≡ body_place text.now + length (body text.now) }
@@ -205,7 +213,9 @@ fn close(text: &[u8], end: usize) -> Result<(), IdFault>
 }
 
 impl IdSet {
-    /// The set that a text spells: numbers and ranges joined by commas, which may stand in brackets. Numbers may have leading zeros, and items stand in any order and may overlap. Of several faults the leftmost is answered, and at one place Backwards before TooLarge.
+    /// The set that a text spells: numbers and ranges joined by commas, which may stand in
+    /// brackets. Numbers may have leading zeros, and items stand in any order and may overlap. Of
+    /// several faults the leftmost is answered, and at one place Backwards before TooLarge.
     pub fn read(alloc: Global, text: &[u8]) -> Result<IdSet, IdFault>
         ensures { Reads (first_fault text.now) (λ s. s ≡ spelled text.now) result }
     {

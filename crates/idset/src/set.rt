@@ -9,7 +9,8 @@ use crate::ranges::{IdRange, are_same, count_in, gaps, has_in, joined, list, sin
 use std::alloc::{AllocError, Global};
 use std::marker::Model;
 
-/// A set of ids, which are numbers below 65,536. It is kept as ranges in order, with an id between each two that is in none.
+/// A set of ids, which are numbers below 65,536. It is kept as ranges in order, with an id between
+/// each two that is in none.
 #[derive(Drop)]
 pub struct IdSet {
     ranges: Vec<IdRange>,
@@ -148,10 +149,12 @@ impl IdSet {
         Ok(IdSet { ranges })
     }
 
-    /// The canonical text: the maximal runs of neighbours in order, joined by commas, with no brackets. It is read again as the same set.
+    /// The canonical text: the maximal runs of neighbours in order, joined by commas, with no
+    /// brackets. It is read again as the same set.
     pub fn print(&self) -> Result<Vec<u8>, AllocError>
         ensures text { IfOk result (λ text. text.items ≡ printed self.now) }
-        ensures read { IfOk result (λ text. (first_fault text.items ≡ None) × (spelled text.items ≡ self.now)) }
+        ensures read { IfOk result (λ text. (first_fault text.items ≡ None)
+            × (spelled text.items ≡ self.now)) }
     {
         let text = text_of(self.alloc(), &self.ranges)?;
         Ok(text.into_bytes())

@@ -35,18 +35,29 @@ pub record Stands (log : Log) (c : List Entry) (actor issued replied : ℕ) : Ty
   pub counted : count_by (issues_of actor) c ≡ issued
   pub begun : (k : ℕ) → k < issued → is_issued (command_of actor k) c ≡ true
   pub ended : (k : ℕ) → count_by (replies_to (command_of actor k)) c ≡ cond (nat_lt k replied) 1 0
-  pub answered : (k : ℕ) → is_asked (command_of actor k) log ≡ true → k < replied → is_answered (command_of actor k) log ≡ true
+  pub answered : (k : ℕ) → is_asked (command_of actor k) log ≡ true
+      → k < replied → is_answered (command_of actor k) log ≡ true
 
 -- what the log says of what the actor waits for, so many of its commands being issued
 abbrev pub Waits : Setup → Log → ℕ → ℕ → Waiting → Type 0
 Waits set log actor issued waiting.Nothing = Unit {0}
-Waits set log actor issued waiting.Staged = (0 < issued) × (is_asked (command_of actor (issued - 1)) log ≡ false) × IsStaging set (command_of actor (issued - 1)) (λ n. n < most_staged)
-Waits set log actor issued waiting.TxnFull = (0 < issued) × (is_asked (command_of actor (issued - 1)) log ≡ false) × IsStaging set (command_of actor (issued - 1)) (λ n. n ≡ most_staged)
-Waits set log actor issued (waiting.Tell to) = (0 < issued) × (is_asked (command_of actor (issued - 1)) log ≡ false) × (command_at set.work (command_of actor (issued - 1)) ≡ Some (command.Tell to))
-Waits set log actor issued waiting.Using = (0 < issued) × (is_asked (command_of actor (issued - 1)) log ≡ false)
-    × ((name : Name) × (command_at set.work (command_of actor (issued - 1)) ≡ Some (command.NsUse name)))
-Waits set log actor issued waiting.Service = (0 < issued) × (is_asked (command_of actor (issued - 1)) log ≡ true)
-Waits set log actor issued waiting.Jobs = (0 < issued) × (is_asked (command_of actor (issued - 1)) log ≡ false)
+Waits set log actor issued waiting.Staged =
+    (0 < issued) × (is_asked (command_of actor (issued - 1)) log ≡ false)
+    × IsStaging set (command_of actor (issued - 1)) (λ n. n < most_staged)
+Waits set log actor issued waiting.TxnFull =
+    (0 < issued) × (is_asked (command_of actor (issued - 1)) log ≡ false)
+    × IsStaging set (command_of actor (issued - 1)) (λ n. n ≡ most_staged)
+Waits set log actor issued (waiting.Tell to) =
+    (0 < issued) × (is_asked (command_of actor (issued - 1)) log ≡ false)
+    × (command_at set.work (command_of actor (issued - 1)) ≡ Some (command.Tell to))
+Waits set log actor issued waiting.Using =
+    (0 < issued) × (is_asked (command_of actor (issued - 1)) log ≡ false)
+    × ((name : Name)
+    × (command_at set.work (command_of actor (issued - 1)) ≡ Some (command.NsUse name)))
+Waits set log actor issued waiting.Service =
+    (0 < issued) × (is_asked (command_of actor (issued - 1)) log ≡ true)
+Waits set log actor issued waiting.Jobs =
+    (0 < issued) × (is_asked (command_of actor (issued - 1)) log ≡ false)
     × IsSome (job_ask_at set.work (command_of actor (issued - 1)))
 
 -- whether a line is the actor's
@@ -57,25 +68,30 @@ is_of actor line = line.actor == actor
 pub record IsPlaced (lines : List Line) (actor : ℕ) (seat : Seat) : Type 0 where
   pub within : seat.next ≤ length lines
   pub passed : count_by (is_of actor) (take seat.next lines) ≡ seat.issued
-  pub here : (d : Line) → seat.next < length lines → (slice_index_or lines seat.next d).actor ≡ actor
+  pub here : (d : Line) → seat.next < length lines
+      → (slice_index_or lines seat.next d).actor ≡ actor
 
 -- what the chronicle and its log say of an actor's seat
-pub record IsSeat (set : Setup) (log : Log) (c : List Entry) (actor : ℕ) (seat : Seat) : Type 0 where
+pub record IsSeat (set : Setup) (log : Log) (c : List Entry)
+    (actor : ℕ) (seat : Seat) : Type 0 where
   pub home : seat.broker ≡ broker_of set.work actor
   pub inside : seat.broker < set.size
   pub author : seat.staged.author ≡ author.User actor
   pub placed : IsPlaced set.work.lines actor seat
-  pub opened : 0 < seat.issued → command_at set.work (command_of actor (seat.issued - 1)) ≡ option_map (λ line. line.command) (slice_get set.work.lines seat.last)
+  pub opened : 0 < seat.issued → command_at set.work (command_of actor (seat.issued - 1))
+      ≡ option_map (λ line. line.command) (slice_get set.work.lines seat.last)
   pub staged : seat.staged.ops ≡ staged_at set.work (command_of actor seat.issued)
   pub works : namespace_at set.work (command_of actor seat.issued) ≡ seat.space
-  pub about : 0 < seat.issued → subject_at set.work (command_of actor (seat.issued - 1)) ≡ seat.subject
+  pub about : 0 < seat.issued
+      → subject_at set.work (command_of actor (seat.issued - 1)) ≡ seat.subject
   pub floored : (space : Name) → floor set.work c actor space ≡ floor_in seat.floors space
   pub waits : Waits set log actor seat.issued seat.waiting
 
 -- an actor, and one that the workload does not have
 abbrev pub ActorStands : Setup → Log → List Entry → ℕ → Option Seat → Type 0
 ActorStands set log c actor None = Stands log c actor 0 0
-ActorStands set log c actor (Some seat) = Stands log c actor seat.issued (replied_of seat) × IsSeat set log c actor seat
+ActorStands set log c actor (Some seat) =
+    Stands log c actor seat.issued (replied_of seat) × IsSeat set log c actor seat
 
 -- whether the line at this place isn't issued yet
 abbrev pub is_ahead : List Seat → ℕ × Line → Bool
@@ -87,11 +103,12 @@ lines_ahead seats lines = map (λ at. at.1) (filter (is_ahead seats) (enumerate_
 
 -- what was issued and what is ahead submit as many jobs as all lines, and let as many seconds pass
 pub record IsTallied (v : InstanceValue) (lines : List Line) : Type 0 where
-  pub submits : v.services.jobs.submitted + submits_in (lines_ahead v.seats lines) ≡ submits_in lines
+  pub submits : v.services.jobs.submitted + submits_in (lines_ahead v.seats lines)
+      ≡ submits_in lines
   pub seconds : v.services.jobs.span + seconds_in (lines_ahead v.seats lines) ≡ seconds_in lines
 
--- an instance stands where this chronicle of its own leaves it, of a run that is given this and has not ended;
--- the chronicle has 0 for the number of the instance
+-- an instance stands where this chronicle of its own leaves it, of a run that is given this and has
+-- not ended; the chronicle has 0 for the number of the instance
 pub record AgreesOwn (v : InstanceValue) (set : Setup) (own : List Entry) : Type 0 where
   pub within : IsWithin set.size set.work
   pub known : All (λ l. IsBuilt l.command) set.work.lines
@@ -101,8 +118,10 @@ pub record AgreesOwn (v : InstanceValue) (set : Setup) (own : List Entry) : Type
   pub early : Each IsEarlierEntry own
   pub seated : length v.seats ≡ length set.work.actors
   pub agrees : AgreesServices v.services (instance_of set) (log_in set.work own)
-  pub actors : (actor : ℕ) → ActorStands set (log_of set.work top own) own actor (slice_get v.seats actor)
+  pub actors : (actor : ℕ)
+      → ActorStands set (log_of set.work top own) own actor (slice_get v.seats actor)
 
 -- the lines are those of a workload with which the instance stands
 abbrev pub AreLinesOf : InstanceValue → List Line → Type 0
-AreLinesOf v lines = (set : Setup) × (own : List Entry) × AgreesOwn v set own × (set.work.lines ≡ lines)
+AreLinesOf v lines = (set : Setup) × (own : List Entry)
+    × AgreesOwn v set own × (set.work.lines ≡ lines)

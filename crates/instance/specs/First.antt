@@ -24,4 +24,5 @@ pub record IsFirstSeat (work : Workload) (actor : ℕ) (rank : ℕ) (seat : Seat
 -- a seat for each actor of the workload
 pub record AreFirstSeats (work : Workload) (seats : List Seat) : Type 0 where
   pub seated : length seats ≡ length work.actors
-  pub each : (a : ℕ) (d : Seat) (e : Actor) → a < length seats → IsFirstSeat work a (slice_index_or work.actors a e).rank (slice_index_or seats a d)
+  pub each : (a : ℕ) (d : Seat) (e : Actor) → a < length seats
+      → IsFirstSeat work a (slice_index_or work.actors a e).rank (slice_index_or seats a d)

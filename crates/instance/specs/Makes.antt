@@ -14,9 +14,11 @@ use Rattle.instance.specs.Agrees.{AgreesOwn}
 use Rattle.instance.specs.Steps.{IsIssue}
 use Rattle.instance.specs.Value.{InstanceValue}
 
--- the entries are those that the step may make after the chronicle, each is legal, and the instance agrees with both;
--- they keep a chronicle settled, if the run has come to rest where the step issues a command
-pub record Follows (set : Setup) (own : List Entry) (s : Step) (new : InstanceValue) (entries : List Entry) : Type 0 where
+-- the entries are those that the step may make after the chronicle, each is legal, and the instance
+-- agrees with both; they keep a chronicle settled, if the run has come to rest where the step
+-- issues a command
+pub record Follows (set : Setup) (own : List Entry)
+    (s : Step) (new : InstanceValue) (entries : List Entry) : Type 0 where
   pub made : IsStretch set.work own s entries
   pub legal : EachAfter (IsLegalEntry set) own entries
   pub agrees : AgreesOwn new set (own ++ entries)
@@ -24,11 +26,13 @@ pub record Follows (set : Setup) (own : List Entry) (s : Step) (new : InstanceVa
 
 -- the entries follow every chronicle that agrees
 abbrev pub Makes : InstanceValue → Step → InstanceValue → List Entry → Type 0
-Makes old s new entries = (set : Setup) (own : List Entry) → AgreesOwn old set own → Follows set own s new entries
+Makes old s new entries = (set : Setup) (own : List Entry)
+    → AgreesOwn old set own → Follows set own s new entries
 
 -- the entries follow every chronicle that agrees, where the workload has these lines
 abbrev pub MakesOf : List Line → InstanceValue → Step → InstanceValue → List Entry → Type 0
-MakesOf lines old s new entries = (set : Setup) (own : List Entry) → AgreesOwn old set own → set.work.lines ≡ lines → Follows set own s new entries
+MakesOf lines old s new entries = (set : Setup) (own : List Entry)
+    → AgreesOwn old set own → set.work.lines ≡ lines → Follows set own s new entries
 
 -- closing replies and the end follow the chronicle, and make it whole
 pub record Ends (set : Setup) (own left : List Entry) : Type 0 where

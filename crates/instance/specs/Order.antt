@@ -1,5 +1,5 @@
--- The actors that can be replied to or issued a command, in the order in which these steps are made, and the steps of the job
--- manager and of time.
+-- The actors that can be replied to or issued a command, in the order in which these steps are
+-- made, and the steps of the job manager and of time.
 use Rattle.std.specs.Prelude.{ℕ, ◌==◌, ◌&&◌, List, [], ◌∷◌, Bool, false, Option, Some, None, length, filter_map, slice_get, option_and_then, if◌then◌else◌}
 use Rattle.std.specs.List.{filter, range_with_len}
 use Rattle.std.specs.Option.{option_map_or}
@@ -25,11 +25,13 @@ ticks v = if can_tick v then step.Tick ∷ [] else []
 
 -- whether the actor's next command stands in this line, and the actor waits for nothing
 abbrev pub is_next_line : List Seat → ℕ → ℕ → Bool
-is_next_line seats actor line = option_map_or (λ seat. is_free seat.waiting && (seat.next == line)) (slice_get seats actor) false
+is_next_line seats actor line = option_map_or (λ seat. is_free seat.waiting && (seat.next == line))
+    (slice_get seats actor) false
 
 -- the actor of this line, if its command can be issued
 abbrev pub issue_of : List Line → List Seat → ℕ → Option ℕ
-issue_of lines seats at = option_and_then (λ line. if is_next_line seats line.actor at then Some line.actor else None) (slice_get lines at)
+issue_of lines seats at = option_and_then (λ line. if is_next_line seats line.actor at
+    then Some line.actor else None) (slice_get lines at)
 
 -- the actors whose next command can be issued, in the order of the workload's lines
 abbrev pub issues : List Line → InstanceValue → List ℕ

@@ -13,21 +13,27 @@ use Rattle.instance.specs.declared.seats.Waiting.{Waiting}
 use Rattle.instance.specs.declared.seats.Waiting.TheVariants as waiting
 
 -- an answer that the services handed over
-pub record IsTaken (old new : ServicesValue) (by : By) (given : Reply) (number : Option ℕ) : Type 0 where
+pub record IsTaken (old new : ServicesValue) (by : By)
+    (given : Reply) (number : Option ℕ) : Type 0 where
   pub answer : KvsAnswer
   pub handed : given ≡ reply_of answer
   pub tells : Tells old new by number answer
 
 -- what became of a job command, as the services told it
 abbrev pub IsToldOf : ServicesValue → ServicesValue → By → Reply → Option ℕ → Type 0
-IsToldOf old new by given number = (inst : Instance) (log : Log) → AgreesServices old inst log → Answers new inst log by given number
+IsToldOf old new by given number = (inst : Instance) (log : Log)
+    → AgreesServices old inst log → Answers new inst log by given number
 
 -- what the actor is told, who waits so
 abbrev pub IsGiven : ServicesValue → ServicesValue → By → Waiting → Reply → Option ℕ → Type 0
 IsGiven old new by waiting.Nothing given number = ⊥
-IsGiven old new by waiting.Staged given number = (given ≡ reply.Staged) × (number ≡ None) × (new ≡ old)
-IsGiven old new by waiting.TxnFull given number = (given ≡ reply.TxnFull) × (number ≡ None) × (new ≡ old)
-IsGiven old new by (waiting.Tell to) given number = ⊥  -- one that tells another is replied to in that step
-IsGiven old new by waiting.Using given number = (given ≡ reply.Using) × (number ≡ None) × (new ≡ old)
+IsGiven old new by waiting.Staged given number =
+    (given ≡ reply.Staged) × (number ≡ None) × (new ≡ old)
+IsGiven old new by waiting.TxnFull given number =
+    (given ≡ reply.TxnFull) × (number ≡ None) × (new ≡ old)
+-- one that tells another is replied to in that step
+IsGiven old new by (waiting.Tell to) given number = ⊥
+IsGiven old new by waiting.Using given number =
+    (given ≡ reply.Using) × (number ≡ None) × (new ≡ old)
 IsGiven old new by waiting.Service given number = IsTaken old new by given number
 IsGiven old new by waiting.Jobs given number = IsToldOf old new by given number

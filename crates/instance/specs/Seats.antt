@@ -57,7 +57,11 @@ seat_floor seat = floor_in seat.floors seat.subject
 -- the setting says that the last command of the actor at this seat asks this, if it asks
 abbrev pub IsTheAsk : Setting → By → Seat → Option KvsAsk → Type 0
 IsTheAsk set by seat None = Unit {0}
-IsTheAsk set by seat (Some asked) = set.asks by ≡ Some (record { broker = seat.broker; namespace = seat.subject; ask = asked })
+IsTheAsk set by seat (Some asked) = set.asks by ≡ Some (record {
+  broker = seat.broker;
+  namespace = seat.subject;
+  ask = asked;
+})
 
 -- whether the actor waits for nothing
 abbrev pub is_free : Waiting → Bool
@@ -78,14 +82,17 @@ with_floors floors seat = record seat { floors = floors }
 
 -- the seats, once this actor has seen so far
 abbrev pub raised : List Seat → ℕ → Floors → List Seat
-raised seats to floors = option_map_or (λ seat. slice_set seats to (with_floors floors seat)) (slice_get seats to) seats
+raised seats to floors =
+    option_map_or (λ seat. slice_set seats to (with_floors floors seat)) (slice_get seats to) seats
 
 -- an actor has told another, which has seen as far as both since, in every namespace
 pub record AreTold (from to : ℕ) (old new : List Seat) : Type 0 where
   pub floors : Floors
   pub seats : new ≡ raised old to floors
-  pub joined : (teller seat : Seat) → slice_get old from ≡ Some teller → slice_get old to ≡ Some seat →
-      (space : Name) → floor_in floors space ≡ max (floor_in seat.floors space) (floor_in teller.floors space)
+  pub joined : (teller seat : Seat) → slice_get old from ≡ Some teller
+      → slice_get old to ≡ Some seat →
+      (space : Name)
+      → floor_in floors space ≡ max (floor_in seat.floors space) (floor_in teller.floors space)
 
 -- whether the actor waits to have told another
 abbrev pub is_telling : Waiting → Bool

@@ -14,7 +14,8 @@ use Rattle.instance.specs.Value.{InstanceValue}
 
 -- whether the actor at this seat can be issued its next command, of so many lines
 abbrev pub has_issue : ℕ → List Seat → ℕ → Bool
-has_issue lines seats actor = option_map_or (λ seat. is_free seat.waiting && nat_lt seat.next lines) (slice_get seats actor) false
+has_issue lines seats actor = option_map_or (λ seat. is_free seat.waiting && nat_lt seat.next lines)
+    (slice_get seats actor) false
 
 -- the line of the actor's next command
 abbrev pub next_of : List Seat → ℕ → ℕ
@@ -22,7 +23,8 @@ next_of seats actor = option_map_or (λ seat. seat.next) (slice_get seats actor)
 
 -- whether the open command of the actor at this seat can be replied
 abbrev pub has_answer : ServicesValue → List Seat → ℕ → Bool
-has_answer services seats actor = option_map_or (λ seat. has_come services (last_command actor seat) seat.waiting) (slice_get seats actor) false
+has_answer services seats actor = option_map_or
+    (λ seat. has_come services (last_command actor seat) seat.waiting) (slice_get seats actor) false
 
 -- whether the actor's next command can be issued
 abbrev pub can_issue : List Line → InstanceValue → ℕ → Bool

@@ -45,8 +45,9 @@ use std::alloc::{AllocError, Global};
 use std::marker::Model;
 use workload::{Line, Workload};
 
-/// Actors, whose commands the services of one instance carry out. Which lines of a workload are theirs and what has
-/// happened is its caller's to keep: the clauses speak of every chronicle of the instance's own that agrees with it.
+/// Actors, whose commands the services of one instance carry out. Which lines of a workload are
+/// theirs and what has happened is its caller's to keep: the clauses speak of every chronicle of
+/// the instance's own that agrees with it.
 #[derive(Drop)]
 pub struct Instance {
     alloc: Global,
@@ -135,7 +136,8 @@ fn reply_to(services: &mut Services, by: By, waiting: Waiting) -> Result<Given, 
     })
 }
 
-/// Raises the floor of an actor in the namespace that its open command is about to the number of the reply, if it has one.
+/// Raises the floor of an actor in the namespace that its open command is about to the number of
+/// the reply, if it has one.
 fn see(floors: &mut Floors, subject: &Bytes, number: Option<u64>) -> Result<(), AllocError>
     ensures { OnOk result ((space : Name)
         → floor_in floors.new space ≡ risen_in floors.old subject.now number space) }
@@ -180,8 +182,8 @@ impl Instance {
         self.services.core()
     }
 
-    /// An instance of some brokers with the actors of a workload that is born at this second, before anything has
-    /// happened. Its first store has the text of the grant.
+    /// An instance of some brokers with the actors of a workload that is born at this second,
+    /// before anything has happened. Its first store has the text of the grant.
     pub fn new(
         alloc: Global,
         setting: Setting,
@@ -282,7 +284,8 @@ impl Instance {
         Ok(made)
     }
 
-    /// Replies to the open command of an actor, and gives what happened. After an error the instance is spent.
+    /// Replies to the open command of an actor, and gives what happened. After an error the
+    /// instance is spent.
     pub fn answer(&mut self, actor: u32) -> Result<Chronicle, AllocError>
         requires ready { self.old.spent ≡ false }
         requires can { can_answer self.old actor ≡ true }
@@ -296,8 +299,8 @@ impl Instance {
         }
     }
 
-    /// Issues the next command of an actor, of the workload with these lines, and gives what happened. After an error
-    /// the instance is spent.
+    /// Issues the next command of an actor, of the workload with these lines, and gives what
+    /// happened. After an error the instance is spent.
     pub fn issue(&mut self, lines: &[Line], actor: u32) -> Result<Chronicle, AllocError>
         requires ready { self.old.spent ≡ false }
         requires lines { AreLinesOf self.old lines.now }
@@ -327,8 +330,8 @@ impl Instance {
         Ok(made)
     }
 
-    /// Posts what is due of the job manager: nothing has happened then; it lands in a step of the services. After an error the
-    /// instance is spent.
+    /// Posts what is due of the job manager: nothing has happened then; it lands in a step of the
+    /// services. After an error the instance is spent.
     pub fn post(&mut self) -> Result<(), CoreFault>
         requires ready { self.old.spent ≡ false }
         requires can { can_post self.old ≡ true }
@@ -343,8 +346,8 @@ impl Instance {
         Ok(())
     }
 
-    /// Lets time go on to the next second at which something happens, and gives what happened: it comes in time in a run of
-    /// this instance alone. After an error the instance is spent.
+    /// Lets time go on to the next second at which something happens, and gives what happened: it
+    /// comes in time in a run of this instance alone. After an error the instance is spent.
     pub fn tick(&mut self) -> Result<Chronicle, AllocError>
         requires ready { self.old.spent ≡ false }
         requires can { can_tick self.old ≡ true }
@@ -423,7 +426,8 @@ impl Instance {
         first_answer(&self.services, &self.seats)
     }
 
-    /// The actor whose next line comes first among those that wait for nothing, of the workload with these lines.
+    /// The actor whose next line comes first among those that wait for nothing, of the workload
+    /// with these lines.
     pub fn first_issue(&self, lines: &[Line]) -> Option<u32>
         requires ready { self.now.spent ≡ false }
         requires lines { AreLinesOf self.now lines.now }
@@ -434,8 +438,9 @@ impl Instance {
         issue_from(lines.len(), &self.seats, 0)
     }
 
-    /// What the commands that didn't finish are told at the end, by actor, of the workload with these lines. Where no
-    /// step can be made, these replies and the end make each chronicle whole that agrees.
+    /// What the commands that didn't finish are told at the end, by actor, of the workload with
+    /// these lines. Where no step can be made, these replies and the end make each chronicle whole
+    /// that agrees.
     pub fn closings(&self, lines: &[Line]) -> Result<Chronicle, AllocError>
         requires ready { self.now.spent ≡ false }
         requires lines { AreLinesOf self.now lines.now }
@@ -457,8 +462,8 @@ impl Instance {
         close_off(self.alloc, core, jobs, lines, &self.seats)
     }
 
-    /// Where nothing but an issue or the end can be made, the instance has come to rest: all its brokers are told, and nothing
-    /// is due.
+    /// Where nothing but an issue or the end can be made, the instance has come to rest: all its
+    /// brokers are told, and nothing is due.
     pub fn still(&self)
         requires { self.now.spent ≡ false }
         ensures rests { (set : Setup) (own : List EntryValue) → AgreesOwn self.now set own

@@ -8,7 +8,8 @@ use std::alloc::{AllocError, Global};
 use std::collections::BTreeMap;
 use std::marker::Model;
 
-/// The greatest number that an actor has seen in each namespace, or was told of, which contracts see as pairs.
+/// The greatest number that an actor has seen in each namespace, or was told of, which contracts
+/// see as pairs.
 #[derive(Drop)]
 pub struct Floors {
     numbers: BTreeMap<Bytes, u64>,

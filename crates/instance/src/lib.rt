@@ -1,4 +1,5 @@
-//! One instance: actors at its brokers, who stage operations and see how far it has come, its key-value service, and its jobs.
+//! One instance: actors at its brokers, who stage operations and see how far it has come, its
+//! key-value service, and its jobs.
 #![tactic(auto)]
 
 mod actors;

@@ -20,8 +20,9 @@ use std::alloc::{AllocError, Global};
 use std::mem;
 use workload::{Command, Line};
 
-/// What an actor waits for: for nothing, to be told what became of its operation, to have told another actor what it
-/// saw, to be told that it uses another namespace, for the service's answer, or for what becomes of a job or for time.
+/// What an actor waits for: for nothing, to be told what became of its operation, to have told
+/// another actor what it saw, to be told that it uses another namespace, for the service's answer,
+/// or for what becomes of a job or for time.
 #[derive(Clone, Copy, Debug, PartialEq, Eq)]
 pub enum Waiting {
     Nothing,
@@ -33,9 +34,9 @@ pub enum Waiting {
     Jobs,
 }
 
-/// An actor: its broker, the places of its next and its last line in the workload, how many of its commands are issued,
-/// what it waits for, its staged operations, the namespace in which it works, the one that its last command is about, and
-/// how far it has seen.
+/// An actor: its broker, the places of its next and its last line in the workload, how many of its
+/// commands are issued, what it waits for, its staged operations, the namespace in which it works,
+/// the one that its last command is about, and how far it has seen.
 #[derive(Drop)]
 pub struct Seat {
     pub broker: u32,
@@ -49,7 +50,8 @@ pub struct Seat {
     pub floors: Floors,
 }
 
-/// The place of the actor's first line from a place on, or the number of lines where it has none there.
+/// The place of the actor's first line from a place on, or the number of lines where it has none
+/// there.
 pub fn next_line(lines: &[Line], from: usize, actor: u32) -> usize
     requires { from ≤ length lines.now }
     ensures within { (from ≤ result) × (result ≤ length lines.now) }
@@ -164,7 +166,8 @@ fn subject_of(alloc: Global, command: &Command, own: &Bytes) -> Result<Bytes, Al
     }
 }
 
-/// Turns an actor to the namespace that a command of its is about, and to the one in which it works from then on.
+/// Turns an actor to the namespace that a command of its is about, and to the one in which it works
+/// from then on.
 fn turn(alloc: Global, seat: &mut Seat, command: &Command) -> Result<(), AllocError>
     ensures { OnOk result (seat.new ≡ record seat.old {
       subject = subject_of command.now seat.old.space;
@@ -178,7 +181,8 @@ fn turn(alloc: Global, seat: &mut Seat, command: &Command) -> Result<(), AllocEr
     Ok(())
 }
 
-/// Begins a command of an actor: says what it then waits for, and what it asks of the key-value service.
+/// Begins a command of an actor: says what it then waits for, and what it asks of the key-value
+/// service.
 pub fn begin(
     alloc: Global,
     seat: &mut Seat,
@@ -338,7 +342,8 @@ pub fn first_answer(services: &Services, seats: &[Seat]) -> Option<u32>
     None
 }
 
-/// The actor whose next line comes first from a line on, among those that wait for nothing, of so many lines.
+/// The actor whose next line comes first from a line on, among those that wait for nothing, of so
+/// many lines.
 pub fn issue_from(lines: usize, seats: &[Seat], from: usize) -> Option<u32>
     requires few { length seats.now ≤ 256 }
     ensures some { IfSome result (λ a. (has_issue lines seats.now a ≡ true)

@@ -89,8 +89,8 @@ fn pass_over(chronicle: &mut Chronicle, actor: u32, from: u32, to: u32) -> Resul
     Ok(())
 }
 
-/// What an actor is told at the end that waits for the key-value service: how many have come of the members of its fence, or
-/// which number its broker has heard of those for which it waits.
+/// What an actor is told at the end that waits for the key-value service: how many have come of the
+/// members of its fence, or which number its broker has heard of those for which it waits.
 fn left_reply(lines: &[Line], seats: &[Seat], seat: &Seat, heard: u64) -> Option<Reply>
     requires { length seats.now ≤ 256 }
     ensures { result ≡ option_and_then
@@ -110,7 +110,8 @@ fn left_reply(lines: &[Line], seats: &[Seat], seat: &Seat, heard: u64) -> Option
     }
 }
 
-/// What an actor is told at the end of its open command, if that didn't finish: of a result, the state of its job.
+/// What an actor is told at the end of its open command, if that didn't finish: of a result, the
+/// state of its job.
 fn unfinished(
     lines: &[Line],
     seats: &[Seat],

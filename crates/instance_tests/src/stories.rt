@@ -332,7 +332,8 @@ fn settle(alloc: Global, instance: &mut Instance, lines: &[Line]) -> Result<(), 
     Ok(())
 }
 
-/// Replies to the first actor, or else issues its next command, or else lets time go on, and tells whether one could be done.
+/// Replies to the first actor, or else issues its next command, or else lets time go on, and tells
+/// whether one could be done.
 fn go_ahead(
     alloc: Global,
     instance: &mut Instance,

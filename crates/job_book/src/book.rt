@@ -84,7 +84,8 @@ impl Book {
         })
     }
 
-    /// Adds a job whose submission has landed (Flux RFC 21 and 26). After want of memory the book is as before.
+    /// Adds a job whose submission has landed (Flux RFC 21 and 26). After want of memory the book
+    /// is as before.
     pub fn submitted(&mut self, id: u64, spec: JobSpec, event: &Event) -> Result<(), AllocError>
         requires new { Contains (ids_of self.old.jobs) id → ⊥ }
         requires spec { IsSpec spec }
@@ -99,8 +100,8 @@ impl Book {
         Ok(())
     }
 
-    /// An event that is due at this second (Flux RFC 21, 26 and 27), if there is one: of the job with the least id that has
-    /// one, a command's before the manager's own.
+    /// An event that is due at this second (Flux RFC 21, 26 and 27), if there is one: of the job
+    /// with the least id that has one, a command's before the manager's own.
     pub fn due<F: Fn(&Ask) -> u32>(
         &self,
         now: u64,
@@ -128,7 +129,8 @@ impl Book {
         Ok(None)
     }
 
-    /// Does an event that was due and has landed (Flux RFC 21). After want of memory the book is as before.
+    /// Does an event that was due and has landed (Flux RFC 21). After want of memory the book is as
+    /// before.
     pub fn landed(&mut self, due: &Due) -> Result<(), AllocError>
         requires { WasDue self.old due.now }
         ensures done { OnOk result (self.new ≡ after_event due.now self.old) }
@@ -141,8 +143,8 @@ impl Book {
         Ok(())
     }
 
-    /// Why a job doesn't run at this second: no such job, its state, that it is held, the job before it, or those whose
-    /// resources are in its way.
+    /// Why a job doesn't run at this second: no such job, its state, that it is held, the job
+    /// before it, or those whose resources are in its way.
     pub fn why(&self, job: u64, now: u64) -> Result<Why, AllocError>
         ensures { IfOk result (IsWhy self.now.grant.nodes self.now.jobs job) }
     {
@@ -153,7 +155,8 @@ impl Book {
         }
     }
 
-    /// The first job whose child is to be born: it has started with a command that begins an instance, and has had none.
+    /// The first job whose child is to be born: it has started with a command that begins an
+    /// instance, and has had none.
     pub fn birth(&self, asked: &OpenList) -> Option<u64>
         ensures some { IfSome result (IsFirstBirth self.now asked.now) }
         ensures none { IfNone result (NoBirth self.now asked.now) }

@@ -30,7 +30,8 @@ fn can_end(job: &Job) -> bool
     }
 }
 
-/// Whether an exception of this severity may be raised: one of severity 0 ends the job, which it does once.
+/// Whether an exception of this severity may be raised: one of severity 0 ends the job, which it
+/// does once.
 fn can_except(job: &Job, severity: u32) -> bool
     ensures { IsTrue result ↔ (IsTrue (may_stand (change.Except severity) job.now)
         × (severity ≡ 0 → job.now.state ≢ state.Cleanup)) }

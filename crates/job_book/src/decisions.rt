@@ -99,7 +99,8 @@ fn of_ranked(
     Ok(None)
 }
 
-/// What is due for a job in SCHED: another priority, an exception where it never fits, and its resources where it goes first.
+/// What is due for a job in SCHED: another priority, an exception where it never fits, and its
+/// resources where it goes first.
 fn of_sched<F: Fn(&Ask) -> u32>(
     alloc: Global,
     desk: &Desk<'_>,

@@ -96,7 +96,8 @@ fn units_in(alloc: Global, text: &Bytes) -> Result<Resources, AllocError>
     }
 }
 
-/// What a job holds once an event has landed: nothing unless it is live then, and what the event gives, if it does.
+/// What a job holds once an event has landed: nothing unless it is live then, and what the event
+/// gives, if it does.
 fn held_after(alloc: Global, job: &Job, due: &Due) -> Result<Held, AllocError>
     requires { IfSome due.now.r IsTold }
     ensures { IfOk result (λ held. held ≡ held_by due.now job.now) }

@@ -1,4 +1,5 @@
-//! The job manager's book: the state of each job of an instance, and the event that is due (Flux RFC 16, 21, 26 and 27).
+//! The job manager's book: the state of each job of an instance, and the event that is due (Flux
+//! RFC 16, 21, 26 and 27).
 #![tactic(auto)]
 
 mod action;

@@ -37,7 +37,8 @@ fn ask_about(row: &Row) -> Ask
     }
 }
 
-/// The priority that is defined for a job: urgency 0 holds it, 31 expedites it, and for every other the callback answers.
+/// The priority that is defined for a job: urgency 0 holds it, 31 expedites it, and for every other
+/// the callback answers.
 pub fn priority<F: Fn(&Ask) -> u32>(row: &Row, tap: &Tap<F>) -> u32
     requires spec { IsSpec row.now.spec }
     requires callable { F.IsAlwaysCallable tap.now }

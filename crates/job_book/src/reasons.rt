@@ -15,7 +15,8 @@ use job_states::State;
 use manager_rules::{JobList, Why};
 use std::alloc::{AllocError, Global};
 
-/// Why the first job in the queue doesn't run: the jobs in its way, none where it never fits, or that its resources are due.
+/// Why the first job in the queue doesn't run: the jobs in its way, none where it never fits, or
+/// that its resources are due.
 fn of_first(alloc: Global, graph: &Graph, row: &Row, now: u64) -> Result<Why, AllocError>
     requires spec { IsSpec row.now.spec }
     requires grant { IsGrant graph.now.grant }

@@ -10,8 +10,8 @@ use job_states::Job;
 use resource_set::Resources;
 use std::marker::Model;
 
-/// A job with its jobspec, its dependencies, what its log says of it, the second of its start, and its resources while
-/// it is live.
+/// A job with its jobspec, its dependencies, what its log says of it, the second of its start, and
+/// its resources while it is live.
 #[derive(Drop)]
 pub struct Row {
     pub id: u64,

@@ -42,7 +42,8 @@ fn is_childs(spec: &JobSpec, start: u64) -> bool
 /// Whether a job has begun with a child's command.
 fn begins_child(row: &Row) -> bool
     ensures { result
-        ≡ option_map_or (λ start. begins_child_at (ending_of row.now.spec start)) row.now.start false }
+        ≡ option_map_or (λ start. begins_child_at (ending_of row.now.spec start))
+        row.now.start false }
 {
     match row.start {
         Some(start) => is_childs(&row.spec, start),
@@ -105,7 +106,8 @@ fn sooner(now: u64, next: Option<u64>, second: Option<u64>) -> Option<u64>
     }
 }
 
-/// The sooner of a second and those ahead at which a job's command and resources end, which they do while it runs.
+/// The sooner of a second and those ahead at which a job's command and resources end, which they do
+/// while it runs.
 fn sooner_with(now: u64, next: Option<u64>, row: &Row) -> Option<u64>
     ensures { (seconds : List ℕ) → IsSoonest seconds next
         → IsSoonest (seconds ++ filter (λ second. nat_lt now second) (seconds_of row.now)) result }

@@ -46,7 +46,8 @@ fn has_shut(asked: &[Asked], id: u64) -> bool
     asked.iter().any(|asked| is_shut(asked, id))
 }
 
-/// The status with which a job's command ends at this second, if it does: by itself, or with its child.
+/// The status with which a job's command ends at this second, if it does: by itself, or with its
+/// child.
 fn status_at(now: u64, asked: &[Asked], row: &Row) -> Option<u64>
     ensures { (s : Scene) → s.now ≡ now → s.asked ≡ asked.now → result ≡ status_now s row.now }
 {
@@ -92,7 +93,8 @@ pub fn of_run(now: u64, asked: &[Asked], row: &Row) -> Option<Action<'static>>
     }
 }
 
-/// What is due for a job in CLEANUP: its command's end, the release of its resources once no child has them, and its own.
+/// What is due for a job in CLEANUP: its command's end, the release of its resources once no child
+/// has them, and its own.
 pub fn of_cleanup(asked: &[Asked], row: &Row) -> Option<Action<'static>>
     requires { row.now.job.state ≡ state.Cleanup }
     ensures found { (s : Scene) → s.asked ≡ asked.now → Finds s row.now result }

@@ -57,7 +57,8 @@ fn first_of(rows: &[Row]) -> Option<First>
     first
 }
 
-/// The job that goes first: the greatest priority, then the smallest id; none where each priority is 0.
+/// The job that goes first: the greatest priority, then the smallest id; none where each priority
+/// is 0.
 pub fn head(rows: &[Row]) -> Option<u64>
     requires { IsStrictlyIncreasing (ids_of rows.now) }
     ensures some { IfSome result (IsHead rows.now) }

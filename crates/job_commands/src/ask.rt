@@ -28,7 +28,8 @@ pub enum Key {
 /// What a job command asks: most name a job by its label (Flux RFC 14, 21 and 25).
 #[derive(Drop)]
 pub enum JobAsk {
-    /// A job of this label, with an urgency of 0 to 31, behind other jobs, and the text of its jobspec.
+    /// A job of this label, with an urgency of 0 to 31, behind other jobs, and the text of its
+    /// jobspec.
     Submit {
         label: Bytes,
         urgency: u32,

@@ -15,8 +15,8 @@ pub enum Stage {
     Landed { number: u64 },
 }
 
-/// An open command: its broker, what it asks, the second of its issue, how many submissions were issued at its broker in that
-/// second before it, and how far it has come.
+/// An open command: its broker, what it asks, the second of its issue, how many submissions were
+/// issued at its broker in that second before it, and how far it has come.
 #[derive(Drop)]
 pub struct Row {
     pub by: By,

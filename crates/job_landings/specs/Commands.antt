@@ -6,7 +6,8 @@ use Rattle.instance_rules.specs.Replies.{AsksForEvent}
 use Rattle.kvs_txn.specs.declared.txn.By.{By}
 use Rattle.manager_rules.specs.Posts.{Submission, Submits, group_of}
 
--- the command of the submission waits and submits its text, and the transaction puts a jobspec and a log for its id
+-- the command of the submission waits and submits its text, and the transaction puts a jobspec and
+-- a log for its id
 pub record IsOfSubmit (inst : Instance) (log : Log) (x : Submission) : Type 0 where
   pub label : List ℕ
   pub urgency : ℕ

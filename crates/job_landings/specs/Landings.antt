@@ -35,14 +35,17 @@ number_of_post events = option_and_then number_in (find lands_post events)
 
 -- ---- what it carries out
 
--- the landing carries out this command by the transaction of the post, and no other job command; without one it is about none
+-- the landing carries out this command by the transaction of the post, and no other job command;
+-- without one it is about none
 abbrev pub CarriesFor : Instance → Post → ℕ → List (Option By) → List Group → Option By → Type 0
-CarriesFor inst post number authors groups (Some by) = CarriesOut inst by (group_of post) authors groups
+CarriesFor inst post number authors groups (Some by) =
+    CarriesOut inst by (group_of post) authors groups
 CarriesFor inst post number authors groups None = IsBeside inst (landing number authors groups)
 
 -- so for the command of the post, if it has one
 abbrev pub Carries : Instance → Post → ℕ → List (Option By) → List Group → Type 0
-Carries inst post number authors groups = CarriesFor inst post number authors groups (command_of post)
+Carries inst post number authors groups =
+    CarriesFor inst post number authors groups (command_of post)
 
 -- the post lands at one of the events, in `primary`, and the others are about no job command
 pub record LandsPost (inst : Instance) (post : Post) (events : List KvsEvent) : Type 0 where

@@ -1,4 +1,5 @@
-//! What the landing of a job manager's transaction is to the log of its instance (Flux RFC 16 and 21).
+//! What the landing of a job manager's transaction is to the log of its instance (Flux RFC 16 and
+//! 21).
 #![tactic(auto)]
 
 pub mod laws;

@@ -1,4 +1,5 @@
--- What a job manager keeps: its book tells the jobs of the newest store, and what it has posted was due.
+-- What a job manager keeps: its book tells the jobs of the newest store, and what it has posted was
+-- due.
 use Rattle.std.specs.Prelude.{◌≡◌, [], ◌∷◌, Option, Some, None, false}
 use Rattle.kvs_core.specs.Posted.{newest_of, posted}
 use Rattle.kvs_core.specs.Value.{CoreValue}

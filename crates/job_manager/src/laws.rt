@@ -7,8 +7,8 @@ ghost use Rattle.kvs_txn.specs.declared.txn.Group.{Group};
 ghost use Rattle.manager_rules.specs.Posts.{Desk, IsDuePost, Post, group_of};
 ghost use Rattle.store_laws.specs.Posts.{posts_in};
 
-/// Of transactions that land together the job manager's is due at the store on which it works, where it was due before
-/// them: users' transactions leave the jobs.
+/// Of transactions that land together the job manager's is due at the store on which it works,
+/// where it was due before them: users' transactions leave the jobs.
 pub fn what_lands_is_due()
     ensures none { (inst : Instance) (log : Log) (groups : List Group) (st : Store)
         → posts_in groups ≡ [] → AreDueFrom inst log groups st }

@@ -1,5 +1,5 @@
-//! The job manager of an instance over its key-value service: what it posts, and its book, which follows what lands (Flux
-//! RFC 16, 20, 21 and 25).
+//! The job manager of an instance over its key-value service: what it posts, and its book, which
+//! follows what lands (Flux RFC 16, 20, 21 and 25).
 #![tactic(auto)]
 
 pub mod keys;

@@ -5,8 +5,8 @@ use kvs_txn::By;
 use lists::Bytes;
 use manager_rules::Due;
 
-/// A job that is submitted: its id, its jobspec and the text of that, the first event of its log, its dependencies, and the
-/// command that submits it (Flux RFC 21 and 25).
+/// A job that is submitted: its id, its jobspec and the text of that, the first event of its log,
+/// its dependencies, and the command that submits it (Flux RFC 21 and 25).
 #[derive(Drop)]
 pub struct Submission {
     pub id: u64,

@@ -12,7 +12,8 @@ use Rattle.job_queue.specs.declared.dependencies.Outcome.TheVariants.{Started, E
 use Rattle.job_queue.specs.declared.dependencies.Open.{Open}
 use Rattle.job_queue.specs.declared.dependencies.Settled.{Settled}
 
--- whether a dependency is met once the other job started, or ended (ok, started); none where that is open (RFC 26, dependencies)
+-- whether a dependency is met once the other job started, or ended (ok, started); none where that
+-- is open (RFC 26, dependencies)
 abbrev pub verdict : Scheme → Outcome → Option Bool
 verdict After Started = Some true
 verdict After (Ended ok started) = Some started
@@ -25,7 +26,12 @@ verdict AfterNotOk (Ended ok started) = Some (not ok)
 
 -- what the outcome of a job makes of an open dependency, none where it stays open
 abbrev pub settled_of : ℕ → Outcome → Open → Option Settled
-settled_of job outcome o = cond (o.on == job) (option_map (λ met. record { id = o.id; on = o.on; scheme = o.scheme; met = met }) (verdict o.scheme outcome)) None
+settled_of job outcome o = cond (o.on == job) (option_map (λ met. record {
+  id = o.id;
+  on = o.on;
+  scheme = o.scheme;
+  met = met;
+}) (verdict o.scheme outcome)) None
 
 -- the outcome of the job leaves the dependency open
 abbrev pub stays_open : ℕ → Outcome → Open → Bool
@@ -45,7 +51,8 @@ Table = List (ℕ × List Open)
 abbrev pub open_on : Table → ℕ → List Open
 open_on table job = unwrap_or (lookup (is_at (nat_cmp job)) table) []
 
--- the open dependencies that the outcome of the job decides, as it decides them, in order of their arrival
+-- the open dependencies that the outcome of the job decides, as it decides them, in order of their
+-- arrival
 abbrev pub decided_by : Table → ℕ → Outcome → List Settled
 decided_by table job outcome = filter_map (settled_of job outcome) (open_on table job)
 
@@ -55,4 +62,5 @@ is_of_another id o = not (o.id == id)
 
 -- these are the open dependencies on the job afterwards, and those on each other job stay
 abbrev pub ChangesOpen : Table → Table → ℕ → List Open → Type 0
-ChangesOpen old new job list = (other : ℕ) → open_on new other ≡ cond (job == other) list (open_on old other)
+ChangesOpen old new job list = (other : ℕ)
+    → open_on new other ≡ cond (job == other) list (open_on old other)

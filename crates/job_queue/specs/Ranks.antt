@@ -12,11 +12,13 @@ rank_of id priority = (priority, record { 0 = id })
 
 -- each job's rank is in the heap
 abbrev pub IsRanked : BTreeMap ℕ ℕ → List (ℕ × Reverse ℕ) → Type 0
-IsRanked priorities ranks = (id priority : ℕ) → get nat_cmp priorities id ≡ Some priority → Contains ranks (rank_of id priority)
+IsRanked priorities ranks = (id priority : ℕ) → get nat_cmp priorities id ≡ Some priority
+    → Contains ranks (rank_of id priority)
 
 -- each job's rank is in the heap, but perhaps this one's
 abbrev pub IsRankedBut : ℕ → BTreeMap ℕ ℕ → List (ℕ × Reverse ℕ) → Type 0
-IsRankedBut new priorities ranks = (id priority : ℕ) → id ≢ new → get nat_cmp priorities id ≡ Some priority → Contains ranks (rank_of id priority)
+IsRankedBut new priorities ranks = (id priority : ℕ)
+    → id ≢ new → get nat_cmp priorities id ≡ Some priority → Contains ranks (rank_of id priority)
 
 -- the rank is its job's own, and not an outdated one
 abbrev pub IsLive : BTreeMap ℕ ℕ → ℕ × Reverse ℕ → Type 0

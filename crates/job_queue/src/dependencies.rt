@@ -37,7 +37,8 @@ pub struct Settled {
     pub met: bool,
 }
 
-/// Whether the outcome of the job that is waited for meets the dependency; `None` where it decides nothing.
+/// Whether the outcome of the job that is waited for meets the dependency; `None` where it decides
+/// nothing.
 pub(crate) fn judge(scheme: Scheme, outcome: Outcome) -> Option<bool>
     ensures { result ≡ verdict scheme outcome }
 {
@@ -74,7 +75,8 @@ pub(crate) fn decided(
     job: u64,
     outcome: Outcome,
 ) -> Result<Vec<Settled>, AllocError>
-    ensures { IfOk result (λ list. list.items ≡ filter_map (settled_of job outcome) dependencies.now) }
+    ensures { IfOk result (λ list. list.items
+        ≡ filter_map (settled_of job outcome) dependencies.now) }
 {
     dependencies
         .iter()

@@ -1,4 +1,5 @@
-//! The queue of waiting jobs in order of their priorities, and the dependencies that hold jobs back (Flux RFC 26).
+//! The queue of waiting jobs in order of their priorities, and the dependencies that hold jobs back
+//! (Flux RFC 26).
 #![tactic(auto)]
 
 pub mod dependencies;

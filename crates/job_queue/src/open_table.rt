@@ -27,7 +27,8 @@ pub(crate) fn waiting_on<'a>(table: &'a OpenTable, job: u64) -> &'a [Open]
 /// Adds a dependency behind others that wait for the same job.
 fn append(table: &mut OpenTable, dependency: Open) -> Result<(), AllocError>
     requires { IsSome (lookup (is_at (nat_cmp dependency.on)) table.old.entries) }
-    ensures added { OnOk result (ChangesOpen table.old.entries table.new.entries dependency.on (open_on table.old.entries dependency.on ++ dependency ∷ [])) }
+    ensures added { OnOk result (ChangesOpen table.old.entries table.new.entries dependency.on
+        (open_on table.old.entries dependency.on ++ dependency ∷ [])) }
     ensures kept { OnErr result (table.new.entries ≡ table.old.entries) }
 {
     let Some(list) = table.get_mut(&dependency.on) else {
@@ -38,7 +39,8 @@ fn append(table: &mut OpenTable, dependency: Open) -> Result<(), AllocError>
 
 /// Puts a dependency as the only one on its job.
 fn begin(alloc: Global, table: &mut OpenTable, dependency: Open) -> Result<(), AllocError>
-    ensures added { OnOk result (ChangesOpen table.old.entries table.new.entries dependency.on (dependency ∷ [])) }
+    ensures added { OnOk result
+        (ChangesOpen table.old.entries table.new.entries dependency.on (dependency ∷ [])) }
     ensures kept { OnErr result (table.new.entries ≡ table.old.entries) }
 {
     let mut list = ListOf::new(alloc);
@@ -49,7 +51,8 @@ fn begin(alloc: Global, table: &mut OpenTable, dependency: Open) -> Result<(), A
 
 /// Adds a dependency.
 pub(crate) fn add(alloc: Global, table: &mut OpenTable, dependency: Open) -> Result<(), AllocError>
-    ensures added { OnOk result (ChangesOpen table.old.entries table.new.entries dependency.on (open_on table.old.entries dependency.on ++ dependency ∷ [])) }
+    ensures added { OnOk result (ChangesOpen table.old.entries table.new.entries dependency.on
+        (open_on table.old.entries dependency.on ++ dependency ∷ [])) }
     ensures kept { OnErr result (table.new.entries ≡ table.old.entries) }
 {
     if table.contains_key(&dependency.on) {
@@ -70,7 +73,8 @@ fn shorten(alloc: Global, list: &mut ListOf<Open>, job: u64, outcome: Outcome)
 
 /// Drops the dependencies on a job that its outcome decides.
 fn drop_decided_on(alloc: Global, table: &mut OpenTable, job: u64, outcome: Outcome)
-    ensures { ChangesOpen table.old.entries table.new.entries job (filter (stays_open job outcome) (open_on table.old.entries job)) }
+    ensures { ChangesOpen table.old.entries table.new.entries job
+        (filter (stays_open job outcome) (open_on table.old.entries job)) }
 {
     let Some(list) = table.get_mut(&job) else {
         return;
@@ -113,7 +117,8 @@ fn drop_empty(table: &mut OpenTable, job: u64)
 
 /// Keeps those dependencies on a job that its outcome leaves open. It takes no memory.
 pub(crate) fn keep_undecided(alloc: Global, table: &mut OpenTable, job: u64, outcome: Outcome)
-    ensures { ChangesOpen table.old.entries table.new.entries job (filter (stays_open job outcome) (open_on table.old.entries job)) }
+    ensures { ChangesOpen table.old.entries table.new.entries job
+        (filter (stays_open job outcome) (open_on table.old.entries job)) }
 {
     drop_decided_on(alloc, table, job, outcome);
     drop_empty(table, job);

@@ -12,7 +12,8 @@ use std::marker::Model;
 
 /// The waiting jobs with their priorities, and the open dependencies.
 ///
-/// Contracts see the list of the jobs, each with its priority, and the open dependencies by the job that is waited for.
+/// Contracts see the list of the jobs, each with its priority, and the open dependencies by the job
+/// that is waited for.
 #[derive(Drop)]
 pub struct Queue {
     priorities: Priorities,
@@ -33,7 +34,9 @@ impl Model for Queue {
 
     ghost view = { λ q. (q.priorities.entries, q.dependencies.entries) };
 
-    ghost invariant = { λ q. (btree_map_len q.priorities ≤ heap_capacity q.ranks) × IsRanked q.priorities (heap_items q.ranks) × IsInOrder (heap_items q.ranks) × IsTopLive q.priorities (heap_items q.ranks) };
+    ghost invariant = { λ q. (btree_map_len q.priorities ≤ heap_capacity q.ranks)
+        × IsRanked q.priorities (heap_items q.ranks)
+        × IsInOrder (heap_items q.ranks) × IsTopLive q.priorities (heap_items q.ranks) };
 }
 
 impl Queue {
@@ -64,7 +67,8 @@ impl Queue {
         Ok(())
     }
 
-    /// The job that goes first: the greatest priority, then the smallest id; none where each priority is 0.
+    /// The job that goes first: the greatest priority, then the smallest id; none where each
+    /// priority is 0.
     pub fn head(&self) -> Option<u64>
         ensures first { IfSome result (IsHead self.now.0) }
         ensures none { IsNone result ↔ AreHeld self.now.0 }
@@ -105,14 +109,16 @@ impl Queue {
 
     /// Notes that the job `id` waits for the job `on`.
     pub fn depend(&mut self, id: u64, on: u64, scheme: Scheme) -> Result<(), AllocError>
-        ensures added { OnOk result (ChangesOpen self.old.1 self.new.1 on (open_on self.old.1 on ++ record { id = id; on = on; scheme = scheme } ∷ [])) }
+        ensures added { OnOk result (ChangesOpen self.old.1 self.new.1 on
+            (open_on self.old.1 on ++ record { id = id; on = on; scheme = scheme } ∷ [])) }
         ensures kept { OnErr result (self.new.1 ≡ self.old.1) }
         ensures jobs { self.new.0 ≡ self.old.0 }
     {
         add(self.alloc, &mut self.dependencies, Open { id, on, scheme })
     }
 
-    /// Forgets the open dependencies of the job `id` on the job `on`, as where it ends while it waits. It takes no memory.
+    /// Forgets the open dependencies of the job `id` on the job `on`, as where it ends while it
+    /// waits. It takes no memory.
     pub fn forget(&mut self, id: u64, on: u64)
         ensures gone { ChangesOpen self.old.1 self.new.1 on
             (filter (is_of_another id) (open_on self.old.1 on)) }
@@ -121,12 +127,13 @@ impl Queue {
         forget(self.alloc, &mut self.dependencies, id, on);
     }
 
-    /// Removes and lists the open dependencies that the outcome of a job decides: by id, and those of one job in the order
-    /// in which they were added.
+    /// Removes and lists the open dependencies that the outcome of a job decides: by id, and those
+    /// of one job in the order in which they were added.
     pub fn settle(&mut self, job: u64, outcome: Outcome) -> Result<Vec<Settled>, AllocError>
         ensures listed { IfOk result (λ list.
             AreInOrder (decided_by self.old.1 job outcome) list.items) }
-        ensures rest { OnOk result (ChangesOpen self.old.1 self.new.1 job (filter (stays_open job outcome) (open_on self.old.1 job))) }
+        ensures rest { OnOk result (ChangesOpen self.old.1 self.new.1 job
+            (filter (stays_open job outcome) (open_on self.old.1 job))) }
         ensures kept { OnErr result (self.new.1 ≡ self.old.1) }
         ensures jobs { self.new.0 ≡ self.old.0 }
     {

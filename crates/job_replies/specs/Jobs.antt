@@ -53,7 +53,8 @@ abbrev pub IsTextAt : ManagerValue → Key → ℕ → Option (List ℕ) → Typ
 IsTextAt manager key id text = (set : Setting) (log : Service) → Agrees manager.core set log
     → value_at (newest_of manager.core) (key_by key id) ≡ text
 
--- a command that would change the urgency of a job that runs is told that it doesn't wait, and else that it has ended
+-- a command that would change the urgency of a job that runs is told that it doesn't wait, and else
+-- that it has ended
 abbrev pub late_urge : State → Reply
 late_urge state.Run = reply.NotWaiting state.Run
 late_urge state.Cleanup = reply.NotWaiting state.Cleanup
@@ -69,7 +70,8 @@ IsSaidOfJob manager (ask.StateOf label) id job given = given ≡ reply.StateIs j
 IsSaidOfJob manager (ask.Info label key) id job given =
     (text : Option (List ℕ)) × (given ≡ reply.Info text) × IsTextAt manager key id text
 IsSaidOfJob manager (ask.Why label) id job given =
-    (said : Why) × (given ≡ reply_of_why said) × IsWhy manager.book.grant.nodes manager.book.jobs id said
+    (said : Why) × (given ≡ reply_of_why said)
+    × IsWhy manager.book.grant.nodes manager.book.jobs id said
 IsSaidOfJob manager (ask.ResultOf label) id job given = given ≡ reply.EndedWith job.status
 IsSaidOfJob manager asks id job given = given ≡ too_late asks job.state
 
@@ -79,7 +81,8 @@ IsSaidIf manager asks None given = given ≡ reply.NoJob
 IsSaidIf manager asks (Some j) given = IsSaidOfJob manager asks j.id j.job given
 
 abbrev pub IsSaidOf : Labels → ManagerValue → JobAsk → List ℕ → Reply → Type 0
-IsSaidOf labels manager asks label given = IsSaidIf manager asks (job_in labels manager.book.jobs label) given
+IsSaidOf labels manager asks label given =
+    IsSaidIf manager asks (job_in labels manager.book.jobs label) given
 
 -- so it is, with the number of the last landing
 abbrev pub IsSaidNow : Labels → ManagerValue → JobAsk → List ℕ → Reply → Option ℕ → Type 0
@@ -89,27 +92,38 @@ IsSaidNow labels manager asks label given number =
 -- what a command is told that no landing has carried out, and that was issued at this second
 abbrev pub IsToldOpen : Labels → ManagerValue → ℕ → JobAsk → Reply → Option ℕ → Type 0
 IsToldOpen labels manager issued (ask.Submit label urgency needs text) given number = ⊥
-IsToldOpen labels manager issued (ask.Cancel label) given number = IsSaidNow labels manager (ask.Cancel label) label given number
+IsToldOpen labels manager issued (ask.Cancel label) given number =
+    IsSaidNow labels manager (ask.Cancel label) label given number
 IsToldOpen labels manager issued (ask.Raise label kind severity note) given number =
     IsSaidNow labels manager (ask.Raise label kind severity note) label given number
-IsToldOpen labels manager issued (ask.Urge label urgency) given number = IsSaidNow labels manager (ask.Urge label urgency) label given number
-IsToldOpen labels manager issued (ask.StateOf label) given number = IsSaidNow labels manager (ask.StateOf label) label given number
-IsToldOpen labels manager issued (ask.Info label key) given number = IsSaidNow labels manager (ask.Info label key) label given number
+IsToldOpen labels manager issued (ask.Urge label urgency) given number =
+    IsSaidNow labels manager (ask.Urge label urgency) label given number
+IsToldOpen labels manager issued (ask.StateOf label) given number =
+    IsSaidNow labels manager (ask.StateOf label) label given number
+IsToldOpen labels manager issued (ask.Info label key) given number =
+    IsSaidNow labels manager (ask.Info label key) label given number
 IsToldOpen labels manager issued ask.Jobs given number =
-    (given ≡ reply.Jobs (states_of manager.book.jobs)) × (number ≡ Some (primary_heard manager.core 0))
-IsToldOpen labels manager issued (ask.Why label) given number = IsSaidNow labels manager (ask.Why label) label given number
-IsToldOpen labels manager issued (ask.ResultOf label) given number = IsSaidNow labels manager (ask.ResultOf label) label given number
-IsToldOpen labels manager issued (ask.Advance seconds) given number = (given ≡ reply.Advanced (issued + seconds)) × (number ≡ None)
+    (given ≡ reply.Jobs (states_of manager.book.jobs))
+    × (number ≡ Some (primary_heard manager.core 0))
+IsToldOpen labels manager issued (ask.Why label) given number =
+    IsSaidNow labels manager (ask.Why label) label given number
+IsToldOpen labels manager issued (ask.ResultOf label) given number =
+    IsSaidNow labels manager (ask.ResultOf label) label given number
+IsToldOpen labels manager issued (ask.Advance seconds) given number =
+    (given ≡ reply.Advanced (issued + seconds)) × (number ≡ None)
 
 -- what a command is told that the landing of this number carried out
 abbrev pub IsToldLanded : Labels → JobAsk → ℕ → Reply → Option ℕ → Type 0
 IsToldLanded labels (ask.Submit label urgency needs text) landed given number =
-    (id : ℕ) × (job_at label labels ≡ Some id) × (given ≡ reply.Submitted id) × (number ≡ Some landed)
+    (id : ℕ) × (job_at label labels ≡ Some id) × (given ≡ reply.Submitted id)
+    × (number ≡ Some landed)
 IsToldLanded labels _ landed given number = (given ≡ reply.Raised) × (number ≡ Some landed)
 
 abbrev pub IsToldAt : Labels → ManagerValue → Row → Stage → Reply → Option ℕ → Type 0
-IsToldAt labels manager row stage.Waits given number = IsToldOpen labels manager row.issued row.ask given number
-IsToldAt labels manager row (stage.Landed landing) given number = IsToldLanded labels row.ask landing given number
+IsToldAt labels manager row stage.Waits given number =
+    IsToldOpen labels manager row.issued row.ask given number
+IsToldAt labels manager row (stage.Landed landing) given number =
+    IsToldLanded labels row.ask landing given number
 
 abbrev pub IsTold : Labels → ManagerValue → Row → Reply → Option ℕ → Type 0
 IsTold labels manager row given number = IsToldAt labels manager row row.stage given number

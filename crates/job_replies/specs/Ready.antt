@@ -54,7 +54,8 @@ abbrev pub has_run : State → Bool
 has_run state.Run = true
 has_run other = is_ending other
 
--- whether a job in this state answers the command: it comes too late, or asks nothing of the job's future
+-- whether a job in this state answers the command: it comes too late, or asks nothing of the job's
+-- future
 abbrev pub fits : JobAsk → State → Bool
 fits (ask.Submit label urgency needs text) where_ = false
 fits (ask.Cancel label) where_ = is_ending where_
@@ -75,10 +76,13 @@ is_answered labels jobs asks label = option_map_or (fits asks) (state_in labels 
 abbrev pub is_open_ready : Labels → List StoredJob → ℕ → ℕ → JobAsk → Bool
 is_open_ready labels jobs now issued (ask.Submit label urgency needs text) = false
 is_open_ready labels jobs now issued ask.Jobs = true
-is_open_ready labels jobs now issued (ask.Advance seconds) = nat_le issued now && nat_le seconds (now - issued)
-is_open_ready labels jobs now issued asks = option_map_or (is_answered labels jobs asks) (label_of asks) false
+is_open_ready labels jobs now issued (ask.Advance seconds) =
+    nat_le issued now && nat_le seconds (now - issued)
+is_open_ready labels jobs now issued asks =
+    option_map_or (is_answered labels jobs asks) (label_of asks) false
 
--- whether a command that the landing of this number carried out can be told: a submission where its broker has heard it
+-- whether a command that the landing of this number carried out can be told: a submission where its
+-- broker has heard it
 abbrev pub is_carried_out : Labels → CoreValue → ℕ → ℕ → JobAsk → Bool
 is_carried_out labels core rank number (ask.Submit label urgency needs text) =
     is_some (job_at label labels) && nat_le number (primary_heard core rank)
@@ -88,8 +92,10 @@ is_carried_out labels core rank number (ask.Urge label urgency) = true
 is_carried_out labels core rank number _ = false
 
 abbrev pub is_ready_at : Labels → ManagerValue → ℕ → Row → Stage → Bool
-is_ready_at labels manager now row stage.Waits = is_open_ready labels manager.book.jobs now row.issued row.ask
-is_ready_at labels manager now row (stage.Landed number) = is_carried_out labels manager.core row.rank number row.ask
+is_ready_at labels manager now row stage.Waits =
+    is_open_ready labels manager.book.jobs now row.issued row.ask
+is_ready_at labels manager now row (stage.Landed number) =
+    is_carried_out labels manager.core row.rank number row.ask
 
 -- whether an open command can be told what became of it
 abbrev pub is_ready : Labels → ManagerValue → ℕ → Row → Bool

@@ -12,7 +12,8 @@ use Rattle.job_commands.specs.Rows.{CommandsValue}
 use Rattle.job_manager.specs.Value.{ManagerValue}
 
 -- the commands and the manager stand where the log of the instance leaves them, at this second
-pub record Stands (v : CommandsValue) (manager : ManagerValue) (now : ℕ) (inst : Instance) (log : Log) : Type 0 where
+pub record Stands (v : CommandsValue) (manager : ManagerValue)
+    (now : ℕ) (inst : Instance) (log : Log) : Type 0 where
   pub commands : AgreesCommands v inst log
   pub service : Agrees manager.core inst.service (service_of log)
   pub legal : service_rules.IsLegalLog inst.service (service_of log)
@@ -20,7 +21,8 @@ pub record Stands (v : CommandsValue) (manager : ManagerValue) (now : ℕ) (inst
   pub second : now_of inst log ≡ now
 
 -- the command may be told so
-pub record MayTell (inst : Instance) (log : Log) (by : By) (given : Reply) (number : Option ℕ) : Type 0 where
+pub record MayTell (inst : Instance) (log : Log) (by : By)
+    (given : Reply) (number : Option ℕ) : Type 0 where
   pub reply : JobReply
   pub hands : job_reply_of given ≡ Some reply
   pub legal : IsLegalReply inst log by reply number

@@ -14,7 +14,8 @@ ghost use Rattle.job_replies.specs.Told.{MayTell, Stands};
 pub fn what_is_told_is_legal()
     ensures { (v : CommandsValue) (manager : ManagerValue) (now : ℕ) (inst : Instance) (log : Log)
         (row : Row) (given : Reply) (number : Option ℕ) → IsManaged manager
-        → KnowsNewest manager.core row.rank inst log → Stands v manager now inst log → Contains v.rows row
+        → KnowsNewest manager.core row.rank inst log
+        → Stands v manager now inst log → Contains v.rows row
         → is_ready v.labels manager now row ≡ true → IsTold v.labels manager row given number
         → MayTell inst log row.by given number }
 {}

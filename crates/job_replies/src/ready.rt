@@ -33,7 +33,8 @@ fn state_in(commands: &Commands, book: &Book, label: &Bytes) -> Option<State>
     Some(job.state)
 }
 
-/// Whether a job in this state answers the command: it comes too late, or asks nothing of the job's future.
+/// Whether a job in this state answers the command: it comes too late, or asks nothing of the job's
+/// future.
 fn fits(ask: &JobAsk, state: State) -> bool
     ensures { result ≡ fits ask.now state }
 {
@@ -53,7 +54,8 @@ fn fits(ask: &JobAsk, state: State) -> bool
 
 /// Whether a command that no landing has carried out can be told.
 fn is_open_ready(commands: &Commands, book: &Book, now: u64, row: &Row) -> bool
-    ensures { result ≡ is_open_ready commands.now.labels book.now.jobs now row.now.issued row.now.ask }
+    ensures { result
+        ≡ is_open_ready commands.now.labels book.now.jobs now row.now.issued row.now.ask }
 {
     match &row.ask {
         JobAsk::Submit { .. } => false,
@@ -69,11 +71,12 @@ fn is_open_ready(commands: &Commands, book: &Book, now: u64, row: &Row) -> bool
     }
 }
 
-/// Whether a command that the landing of this number carried out can be told: a submission where its broker has heard the
-/// landing.
+/// Whether a command that the landing of this number carried out can be told: a submission where
+/// its broker has heard the landing.
 fn is_carried_out(commands: &Commands, manager: &Manager, row: &Row, number: u64) -> bool
     requires { manager.now.spent ≡ false }
-    ensures { result ≡ is_carried_out commands.now.labels manager.now.core row.now.rank number row.now.ask }
+    ensures { result
+        ≡ is_carried_out commands.now.labels manager.now.core row.now.rank number row.now.ask }
 {
     match &row.ask {
         JobAsk::Submit { label, .. } => {

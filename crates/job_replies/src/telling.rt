@@ -24,8 +24,8 @@ pub struct Told {
     pub number: Option<u64>,
 }
 
-/// What a command is told that comes too late for a job in this state: that it has ended, or, where it would change the
-/// urgency of one that runs, that it doesn't wait.
+/// What a command is told that comes too late for a job in this state: that it has ended, or, where
+/// it would change the urgency of one that runs, that it doesn't wait.
 fn too_late(ask: &JobAsk, state: State) -> Reply
     ensures { result ≡ too_late ask.now state }
 {
@@ -86,7 +86,8 @@ fn tell_open(
     row: &Row,
 ) -> Result<Told, AllocError>
     requires ready { manager.now.spent ≡ false }
-    requires can { is_open_ready commands.now.labels manager.now.book.jobs now row.now.issued row.now.ask
+    requires can { is_open_ready commands.now.labels
+        manager.now.book.jobs now row.now.issued row.now.ask
         ≡ true }
     ensures { IfOk result (λ told. IsToldOpen commands.now.labels manager.now row.now.issued
         row.now.ask told.reply told.number) }

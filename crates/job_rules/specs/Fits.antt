@@ -32,25 +32,30 @@ pub record IsGrant (nodes : List Node) : Type 0 where
 
 -- the host has exactly the units of so many slots
 abbrev pub HasSlots : JobSpec → ℕ → Node → Type 0
-HasSlots spec count node = (length node.cores ≡ count * spec.cores) × (length node.gpus ≡ count * spec.gpus)
+HasSlots spec count node = (length node.cores ≡ count * spec.cores)
+    × (length node.gpus ≡ count * spec.gpus)
 
 -- the hosts have the units of so many slots in all
 abbrev pub HaveSlots : JobSpec → ℕ → List Node → Type 0
 HaveSlots spec count [] = count ≡ 0
-HaveSlots spec count (node ∷ nodes) = (here : ℕ) × (rest : ℕ) × (count ≡ here + rest) × HasSlots spec here node × HaveSlots spec rest nodes
+HaveSlots spec count (node ∷ nodes) = (here : ℕ) × (rest : ℕ)
+    × (count ≡ here + rest) × HasSlots spec here node × HaveSlots spec rest nodes
 
 -- the host is wholly taken and has room for so many slots
 abbrev pub IsWholeHost : JobSpec → List Node → Node → Type 0
-IsWholeHost spec grant node = Contains grant node × (spec.slots * spec.cores ≤ length node.cores) × (spec.slots * spec.gpus ≤ length node.gpus)
+IsWholeHost spec grant node = Contains grant node × (spec.slots * spec.cores ≤ length node.cores)
+    × (spec.slots * spec.gpus ≤ length node.gpus)
 
 -- a host of a job that asks for whole nodes, or for slots on each
 abbrev pub IsNodeFor : JobSpec → List Node → Node → Type 0
-IsNodeFor spec grant node = MatchBool spec.exclusive (IsWholeHost spec grant node) (HasSlots spec spec.slots node)
+IsNodeFor spec grant node =
+    MatchBool spec.exclusive (IsWholeHost spec grant node) (HasSlots spec spec.slots node)
 
 -- the units satisfy the job: slots spread over hosts, or the same on each of so many nodes
 abbrev pub SatisfiesAs : Option ℕ → JobSpec → List Node → List Node → Type 0
 SatisfiesAs None spec grant nodes = HaveSlots spec spec.slots nodes
-SatisfiesAs (Some count) spec grant nodes = (length nodes ≡ count) × Each (IsNodeFor spec grant) nodes
+SatisfiesAs (Some count) spec grant nodes =
+    (length nodes ≡ count) × Each (IsNodeFor spec grant) nodes
 
 -- the units satisfy the job
 abbrev pub Satisfies : JobSpec → List Node → List Node → Type 0
@@ -69,11 +74,17 @@ NeverFits spec grant = CanFit spec grant grant → ⊥
 
 -- how many slots have room on a host
 abbrev pub room_on : JobSpec → Node → ℕ
-room_on spec node = if spec.gpus == 0 then length node.cores / spec.cores else min (length node.cores / spec.cores) (length node.gpus / spec.gpus)
+room_on spec node = if spec.gpus == 0 then length node.cores / spec.cores
+    else min (length node.cores / spec.cores) (length node.gpus / spec.gpus)
 
 -- the lowest units of a host for so many slots
 abbrev pub lowest : JobSpec → ℕ → Node → Node
-lowest spec count node = record { rank = node.rank; host = node.host; cores = take (count * spec.cores) node.cores; gpus = take (count * spec.gpus) node.gpus }
+lowest spec count node = record {
+  rank = node.rank;
+  host = node.host;
+  cores = take (count * spec.cores) node.cores;
+  gpus = take (count * spec.gpus) node.gpus;
+}
 
 -- a host with its units, unless it has none of them
 abbrev pub with_host : ℕ → Node → List Node → List Node
@@ -82,15 +93,18 @@ with_host count node nodes = if count == 0 then nodes else node ∷ nodes
 -- slots taken from host to host, as many on each as have room
 abbrev pub spread : JobSpec → ℕ → List Node → Option (List Node)
 spread spec wanted [] = if wanted == 0 then Some [] else None
-spread spec wanted (node ∷ nodes) = let here = min wanted (room_on spec node) in option_map (with_host here (lowest spec here node)) (spread spec (wanted - here) nodes)
+spread spec wanted (node ∷ nodes) = let here = min wanted (room_on spec node) in
+    option_map (with_host here (lowest spec here node)) (spread spec (wanted - here) nodes)
 
 -- whether a host is as free as the grant has it
 abbrev pub is_wholly_free : List Node → Node → Bool
-is_wholly_free grant node = list_any (λ g. bytes_eq g.host node.host && (length g.cores == length node.cores) && (length g.gpus == length node.gpus)) grant
+is_wholly_free grant node = list_any (λ g. bytes_eq g.host node.host
+    && (length g.cores == length node.cores) && (length g.gpus == length node.gpus)) grant
 
 -- whether a host serves a job that asks for nodes, and the units that it gives
 abbrev pub serves : JobSpec → List Node → Node → Bool
-serves spec grant node = nat_le spec.slots (room_on spec node) && (not spec.exclusive || is_wholly_free grant node)
+serves spec grant node =
+    nat_le spec.slots (room_on spec node) && (not spec.exclusive || is_wholly_free grant node)
 
 abbrev pub given_by : JobSpec → Node → Node
 given_by spec node = if spec.exclusive then node else lowest spec spec.slots node
@@ -102,7 +116,8 @@ first_of count xs = if nat_le count (length xs) then Some (take count xs) else N
 -- first fit over the free units, host by host in rank order
 abbrev pub first_fit_as : Option ℕ → JobSpec → List Node → List Node → Option (List Node)
 first_fit_as None spec grant free = spread spec spec.slots free
-first_fit_as (Some count) spec grant free = option_map (λ nodes. map (given_by spec) nodes) (first_of count (filter (serves spec grant) free))
+first_fit_as (Some count) spec grant free = option_map
+    (λ nodes. map (given_by spec) nodes) (first_of count (filter (serves spec grant) free))
 
 -- the units that a job takes
 abbrev pub first_fit : JobSpec → List Node → List Node → Option (List Node)
@@ -118,7 +133,12 @@ left_on kind taken node = filter (λ id. not (has_unit kind taken node.host id))
 
 -- a host without the units that the nodes have there
 abbrev pub without_nodes : List Node → Node → Node
-without_nodes taken node = record { rank = node.rank; host = node.host; cores = left_on (λ n. n.cores) taken node; gpus = left_on (λ n. n.gpus) taken node }
+without_nodes taken node = record {
+  rank = node.rank;
+  host = node.host;
+  cores = left_on (λ n. n.cores) taken node;
+  gpus = left_on (λ n. n.gpus) taken node;
+}
 
 -- the units of live jobs, and the grant without them
 abbrev pub nodes_of : List Hold → List Node
@@ -135,12 +155,15 @@ with_ids ids live = filter (λ h. has ids h.id) live
 abbrev pub others_at : ℕ → List ℕ → List Hold → List Hold
 others_at id ids live = filter (λ h. (nat_lt h.id id && has ids h.id) || nat_lt id h.id) live
 
--- the minimal list of live jobs in whose way a job can't fit: one is listed exactly where the listed ones below it and all live ones above it leave room
-pub record AreBlockers (spec : JobSpec) (grant : List Node) (live : List Hold) (ids : List ℕ) : Type 0 where
+-- the minimal list of live jobs in whose way a job can't fit: one is listed exactly where the
+-- listed ones below it and all live ones above it leave room
+pub record AreBlockers (spec : JobSpec) (grant : List Node)
+    (live : List Hold) (ids : List ℕ) : Type 0 where
   pub rising : IsStrictlyIncreasing ids
   pub alive : (id : ℕ) → Contains ids id → Contains (map (λ h. h.id) live) id
   pub block : CanFit spec grant (free_of grant (with_ids ids live)) → ⊥
-  pub exact : (hold : Hold) → Contains live hold → Contains ids hold.id ↔ CanFit spec grant (free_of grant (others_at hold.id ids live))
+  pub exact : (hold : Hold) → Contains live hold
+      → Contains ids hold.id ↔ CanFit spec grant (free_of grant (others_at hold.id ids live))
 
 -- the second at which a job ends that starts now, or 0 where it has no duration
 abbrev pub end_of : JobSpec → ℕ → ℕ
@@ -167,7 +190,9 @@ pub record AreWithin (part whole : List Node) : Type 0 where
 
 -- no core and no GPU of a host is in both
 abbrev pub AreApart : List Node → List Node → Type 0
-AreApart a b = (host : List ℕ) (id : ℕ) → (has_unit (λ n. n.cores) a host id ≡ true → has_unit (λ n. n.cores) b host id ≡ false) × (has_unit (λ n. n.gpus) a host id ≡ true → has_unit (λ n. n.gpus) b host id ≡ false)
+AreApart a b = (host : List ℕ) (id : ℕ)
+    → (has_unit (λ n. n.cores) a host id ≡ true → has_unit (λ n. n.cores) b host id ≡ false)
+    × (has_unit (λ n. n.gpus) a host id ≡ true → has_unit (λ n. n.gpus) b host id ≡ false)
 
 -- no two jobs hold a unit in common
 abbrev pub AllApart : List Hold → Type 0

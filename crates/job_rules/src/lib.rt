@@ -1,5 +1,6 @@
-//! Rules of jobs: which units satisfy a jobspec (Flux RFC 14), which are taken first, and which jobs stand in its way.
-//! The definitions stand in `specs/`, and the functions of `laws` state their laws.
+//! Rules of jobs: which units satisfy a jobspec (Flux RFC 14), which are taken first, and which
+//! jobs stand in its way. The definitions stand in `specs/`, and the functions of `laws` state
+//! their laws.
 #![tactic(auto)]
 
 pub mod hold;

@@ -17,12 +17,14 @@ pub record WasRefused (list : List Refused) (by : By) : Type 0 where
   pub named : one.by ≡ by
 
 -- the text tells an accepted jobspec, and all dependencies are on jobs
-pub record CanBeMade (labels : Labels) (jobs : List StoredJob) (named : List Named) (text : List ℕ) : Type 0 where
+pub record CanBeMade (labels : Labels) (jobs : List StoredJob)
+    (named : List Named) (text : List ℕ) : Type 0 where
   pub spec : JobSpec
   pub needs : List Depend
   pub accepted : IsAccepted labels jobs named text spec needs
 
 -- each submission that waits was refused at its issue, or is accepted
 abbrev pub AreJudged : CommandsValue → List StoredJob → List Refused → Type 0
-AreJudged v jobs list = (row : Row) (urgency : ℕ) (named : List Named) (text : List ℕ) → Contains v.rows row
+AreJudged v jobs list = (row : Row) (urgency : ℕ) (named : List Named) (text : List ℕ)
+    → Contains v.rows row
     → Submits row urgency named text → WasRefused list row.by ⊎ CanBeMade v.labels jobs named text

@@ -12,11 +12,14 @@ use Rattle.job_landings.specs.Landings.{happening}
 use Rattle.job_service.specs.Agrees.{AgreesJobs}
 use Rattle.job_service.specs.Value.{JobServiceValue}
 
--- the events are about keys, those that the step may make, each may follow those before it in the log of the instance, what the
--- job manager lands being due there, and the service stands behind them
-pub record Makes (step : KvsStep) (old new : JobServiceValue) (events : List KvsEvent) : Type 0 where
+-- the events are about keys, those that the step may make, each may follow those before it in the
+-- log of the instance, what the job manager lands being due there, and the service stands behind
+-- them
+pub record Makes (step : KvsStep) (old new : JobServiceValue)
+    (events : List KvsEvent) : Type 0 where
   pub own : Each IsOfKeys events
-  pub made : (inst : Instance) (log : Log) → AgreesJobs old inst log → AreMadeBy (service_of log) step events
+  pub made : (inst : Instance) (log : Log) → AgreesJobs old inst log
+      → AreMadeBy (service_of log) step events
   pub legal : (inst : Instance) (log : Log) → AgreesJobs old inst log
       → EachAfter (IsLegalMoment inst) log (map happening events)
   pub agrees : (inst : Instance) (log : Log) → AgreesJobs old inst log

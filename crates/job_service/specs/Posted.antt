@@ -9,7 +9,8 @@ abbrev pub IsAlone : Option Post → Option Post → Type 0
 IsAlone (Some post) found = found ≡ None
 IsAlone None found = Unit {0}
 
--- a submission has the id that was made for its command, in an instance that was born at this second
+-- a submission has the id that was made for its command, in an instance that was born at this
+-- second
 abbrev pub IsNamed : CommandsValue → ℕ → Option Post → Type 0
 IsNamed v birth (Some (Submits x)) = IsIdOf v birth x.command x.id
 IsNamed v birth (Some (Does due)) = Unit {0}

@@ -17,7 +17,8 @@ use Rattle.job_service.specs.Value.{JobServiceValue}
 
 -- whether what the command waits for has come
 abbrev pub is_ready_in : JobServiceValue → By → Bool
-is_ready_in v by = option_map_or (is_ready v.commands.labels v.manager v.second) (row_in v.commands by) false
+is_ready_in v by =
+    option_map_or (is_ready v.commands.labels v.manager v.second) (row_in v.commands by) false
 
 -- whether a post carries out commands that ask so: for a job or for an event
 abbrev pub asks_manager : JobAsk → Bool
@@ -35,13 +36,14 @@ is_undone row = is_waiting row.stage && asks_manager row.ask
 abbrev pub is_kept_back : JobServiceValue → By → Bool
 is_kept_back v by = is_some v.manager.posted && option_map_or is_undone (row_in v.commands by) false
 
--- whether the command can be told what became of it: it was refused, or what it waits for has come, and nothing that is
--- posted may carry it out
+-- whether the command can be told what became of it: it was refused, or what it waits for has come,
+-- and nothing that is posted may carry it out
 abbrev pub can_reply : JobServiceValue → By → Bool
 can_reply v by = not (is_kept_back v by) && (is_some (fault_for v.refused by) || is_ready_in v by)
 
 -- the command is told so, which its rules allow, and the service stands behind that
-pub record Answers (new : JobServiceValue) (inst : Instance) (log : Log) (by : By) (given : Reply) (number : Option ℕ) : Type 0 where
+pub record Answers (new : JobServiceValue) (inst : Instance)
+    (log : Log) (by : By) (given : Reply) (number : Option ℕ) : Type 0 where
   pub reply : JobReply
   pub hands : job_reply_of given ≡ Some reply
   pub legal : IsLegalReply inst log by reply number

@@ -27,7 +27,8 @@ pub fn default_priority(ask: &Ask) -> u32
     ask.urgency.max(1).min(MOST_PRIORITY)
 }
 
-/// An event that is due at this second, if one is, where the tap gives everyone's job the default priority.
+/// An event that is due at this second, if one is, where the tap gives everyone's job the default
+/// priority.
 pub fn event_due<F: Fn(&Ask) -> u32>(
     commands: &Commands,
     book: &Book,
@@ -54,8 +55,8 @@ pub fn as_post(event: Option<Due>) -> Option<Post>
     }
 }
 
-/// What is due at this second of an instance that was born at another, if anything is: the first submission that is
-/// accepted, and else an event.
+/// What is due at this second of an instance that was born at another, if anything is: the first
+/// submission that is accepted, and else an event.
 pub fn find(
     alloc: Global,
     commands: &Commands,

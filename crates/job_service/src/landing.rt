@@ -21,7 +21,8 @@ fn is_managers(group: &Group) -> bool
 
 /// The first transaction of the job manager that lands at the event.
 fn post_in(event: &KvsEvent) -> Option<&Group>
-    ensures { option_copied result ≡ find (λ group. is_manager group.txn.author) (groups_in event.now) }
+    ensures { option_copied result
+        ≡ find (λ group. is_manager group.txn.author) (groups_in event.now) }
 {
     match event {
         KvsEvent::Landed { groups, .. } => {
@@ -31,7 +32,8 @@ fn post_in(event: &KvsEvent) -> Option<&Group>
     }
 }
 
-/// The command that the first transaction of the job manager carries out which lands at these events, if it carries out one.
+/// The command that the first transaction of the job manager carries out which lands at these
+/// events, if it carries out one.
 pub fn command_posted(events: &KvsEvents) -> Option<By>
     ensures { result ≡ command_of_first (posts_landed events.now) }
 {
@@ -43,7 +45,8 @@ pub fn command_posted(events: &KvsEvents) -> Option<By>
     None
 }
 
-/// A command is carried out by the landing of this number, which gives the job of a submission its id.
+/// A command is carried out by the landing of this number, which gives the job of a submission its
+/// id.
 fn carry_out(
     commands: &mut Commands,
     by: By,
@@ -61,7 +64,8 @@ fn carry_out(
     }
 }
 
-/// The command, if there is one, is carried out by the landing of this number: nothing is left of a refusal.
+/// The command, if there is one, is carried out by the landing of this number: nothing is left of a
+/// refusal.
 pub fn land(
     commands: &mut Commands,
     refused: &mut Vec<Refused>,

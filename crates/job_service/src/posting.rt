@@ -38,8 +38,8 @@ fn post_event(manager: &mut Manager, commands: &Commands, now: u64) -> Result<()
     }
 }
 
-/// Posts what was found to be due, or an event that is due as well where it is an event, and gives the id of the job that is
-/// submitted.
+/// Posts what was found to be due, or an event that is due as well where it is an event, and gives
+/// the id of the job that is submitted.
 pub fn post(
     manager: &mut Manager,
     commands: &Commands,

@@ -55,7 +55,8 @@ pub fn remember(list: &mut Vec<Refused>, by: By, fault: Option<Fault>) -> Result
     }
 }
 
-/// Why a command is refused at its issue, if it is: a submission whose text tells no jobspec, or with a dependency on no job.
+/// Why a command is refused at its issue, if it is: a submission whose text tells no jobspec, or
+/// with a dependency on no job.
 pub fn fault_in(
     alloc: Global,
     commands: &Commands,

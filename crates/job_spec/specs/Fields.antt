@@ -61,7 +61,8 @@ abbrev pub field : {Y : Type 0} → (Data → Option Y) → Place → List ℕ �
 field kind place key d = ok_or (option_and_then kind (get key d)) (BadField place)
 
 -- a field of one kind that may be missing
-abbrev pub field_or : {Y : Type 0} → Y → (Data → Option Y) → Place → Option Data → Result Y SpecFault
+abbrev pub field_or : {Y : Type 0} → Y → (Data → Option Y)
+    → Place → Option Data → Result Y SpecFault
 field_or absent kind place None = Ok absent
 field_or absent kind place (Some d) = of_kind kind place d
 
@@ -73,7 +74,8 @@ only place (d ∷ e ∷ ds) = Err (BadShape place)
 
 -- a number from 1 to 65,536
 abbrev pub as_count : Num → Option ℕ
-as_count number = option_and_then (λ n. if nat_le 1 n && nat_le n 65536 then Some n else None) (as_u64 number)
+as_count number =
+    option_and_then (λ n. if nat_le 1 n && nat_le n 65536 then Some n else None) (as_u64 number)
 
 -- a count: a number, and one of these
 abbrev pub count_of : Place → Data → Result ℕ SpecFault

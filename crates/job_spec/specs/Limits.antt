@@ -29,7 +29,8 @@ attributes_of d = field_or json.null as_attributes Attributes (get (codes "attri
 
 -- the attributes of the system; null, in which there is nothing, where they are missing
 unfoldable pub system_of : Data → Result Data SpecFault
-system_of d = attributes_of d >>= λ attributes. field_or json.null as_map Attributes (get (codes "system") attributes)
+system_of d = attributes_of d >>= λ attributes.
+    field_or json.null as_map Attributes (get (codes "system") attributes)
 
 -- in seconds; 0 is no limit
 unfoldable pub duration_of : Data → Result ℕ SpecFault
@@ -56,7 +57,8 @@ need_of d = do
   Ok (record { scheme = scheme; on = id })
 
 unfoldable pub needs_of : Data → Result (List Depend) SpecFault
-needs_of system = field_or [] as_list Dependencies (get (codes "dependencies") system) >>= each need_of
+needs_of system =
+    field_or [] as_list Dependencies (get (codes "dependencies") system) >>= each need_of
 
 -- how long a job may run, and on which jobs it depends
 pub record Limits : Type 0 where

@@ -17,7 +17,8 @@ type_of place d = field as_str place (codes "type") d
 unfoldable pub is_core : Data → Result Bool SpecFault
 is_core d = do
   type ← type_of Slot d
-  if bytes_eq type (codes "core") then Ok true else if bytes_eq type (codes "gpu") then Ok false else Err (BadShape Slot)
+  if bytes_eq type (codes "core") then Ok true else if bytes_eq type (codes "gpu")
+      then Ok false else Err (BadShape Slot)
 
 -- the units of a slot
 pub record Units : Type 0 where
@@ -102,4 +103,5 @@ wanted_of d = do
   vertices ← field as_list Resources (codes "resources") d
   vertex ← only Resources vertices
   type ← type_of Resources vertex
-  if bytes_eq type (codes "slot") then spread_of vertex else if bytes_eq type (codes "node") then nodes_of vertex else Err (BadShape Resources)
+  if bytes_eq type (codes "slot") then spread_of vertex
+      else if bytes_eq type (codes "node") then nodes_of vertex else Err (BadShape Resources)

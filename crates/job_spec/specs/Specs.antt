@@ -1,4 +1,5 @@
--- The jobspec of a text (Flux RFC 14 and 25, version 1): its parts in the order in which they are read.
+-- The jobspec of a text (Flux RFC 14 and 25, version 1): its parts in the order in which they are
+-- read.
 use Rattle.std.specs.Prelude.{◌==◌, ℕ, nat_le, List, Bool, false, option_and_then, Result, Ok, Err, codes, length}
 use Rattle.std.specs.Option.{option_map_or}
 use Rattle.serde_json.specs.Data.{Data}
@@ -15,7 +16,8 @@ use Rattle.job_spec.specs.Works.{work_of}
 use Rattle.job_spec.specs.Limits.{limits_of}
 
 abbrev pub is_version_1 : Data → Bool
-is_version_1 d = option_map_or (λ n. n == 1) (option_and_then as_natural (get (codes "version") d)) false
+is_version_1 d =
+    option_map_or (λ n. n == 1) (option_and_then as_natural (get (codes "version") d)) false
 
 -- the jobspec that the value of a text tells, or the first fault
 unfoldable pub spec_of : List ℕ → Data → Result JobSpec SpecFault

@@ -71,9 +71,10 @@ fn fits(text: &[u8]) -> bool
     text.len() <= MAX_TEXT
 }
 
-/// The jobspec of a text, or the first fault: `TooLarge`, `NotJson`, `BadVersion`, and then the first in the order of
-/// `resources`, `tasks` and `attributes`, and in each of its fields in the order of its type. Other keys are read over.
-/// A job without `attributes.system` has no limit and no dependencies.
+/// The jobspec of a text, or the first fault: `TooLarge`, `NotJson`, `BadVersion`, and then the
+/// first in the order of
+/// `resources`, `tasks` and `attributes`, and in each of its fields in the order of its type. Other
+/// keys are read over. A job without `attributes.system` has no limit and no dependencies.
 #[tactic(auto, unfolding(crate::specs::Specs::spec_reading))]
 pub fn read(alloc: Global, text: &[u8]) -> Result<JobSpec, SpecFault>
     ensures found { Gives (λ spec. spec) result (spec_reading text.now) }

@@ -33,7 +33,8 @@ fn word_in(value: &Value) -> Result<&str, SpecFault>
 
 /// The words of a command.
 fn words_in(alloc: Global, values: &[Value]) -> Result<WordList, SpecFault>
-    ensures found { Gives (λ words. words) result (each (of_kind as_str Command) (map view values.now)) }
+    ensures found { Gives (λ words. words) result
+        (each (of_kind as_str Command) (map view values.now)) }
     ensures same { IfOk result (λ words. length words ≡ length values.now) }
 {
     let mut words = ListOf::new(alloc);

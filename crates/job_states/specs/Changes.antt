@@ -92,7 +92,11 @@ abbrev pub change_by : List ℕ → Data → Option Change
 change_by name context = named name (
     (codes "submit", submission context)
     ∷ (codes "dependency-add", option_map AddDependency (text_at (codes "description") context))
-    ∷ (codes "dependency-remove", option_map RemoveDependency (text_at (codes "description") context))
+    ∷ (
+      codes "dependency-remove",
+      option_map RemoveDependency
+          (text_at (codes "description") context),
+    )
     ∷ (codes "priority", option_map Prioritize (number_to (2 ^ 32 - 1) (codes "priority") context))
     ∷ (codes "urgency", urging context)
     ∷ (codes "finish", option_map Finish (number_at (codes "status") context))

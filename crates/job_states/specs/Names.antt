@@ -17,5 +17,7 @@ state_name Inactive = codes "INACTIVE"
 -- the text of a fault: the event's place, and the state that refuses it
 abbrev pub fault_text : ReplayFault → List ℕ
 fault_text NoMemory = codes "out of memory"
-fault_text (NotAllowed index None) = codes "event " ++ decimal index ++ codes " is not allowed in no state"
-fault_text (NotAllowed index (Some state)) = codes "event " ++ decimal index ++ codes " is not allowed in " ++ state_name state
+fault_text (NotAllowed index None) =
+    codes "event " ++ decimal index ++ codes " is not allowed in no state"
+fault_text (NotAllowed index (Some state)) =
+    codes "event " ++ decimal index ++ codes " is not allowed in " ++ state_name state

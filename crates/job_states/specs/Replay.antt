@@ -20,12 +20,14 @@ begun event = allowed 0 None (option_and_then begun_by (change_of event))
 
 -- the job after the event at this place
 abbrev pub stepped : ℕ → Job → Event → Result Job ReplayFault
-stepped index job event = allowed index (Some job.state) (option_and_then (λ change. changed change job) (change_of event))
+stepped index job event = allowed index (Some job.state)
+    (option_and_then (λ change. changed change job) (change_of event))
 
 -- the job after further events, of which the first stands at this place
 abbrev pub replay_on : ℕ → Job → List Event → Result Job ReplayFault
 replay_on index job [] = Ok job
-replay_on index job (event ∷ events) = stepped index job event >>= λ next. replay_on (index + 1) next events
+replay_on index job (event ∷ events) =
+    stepped index job event >>= λ next. replay_on (index + 1) next events
 
 -- the job after all events
 abbrev pub replayed : List Event → Result Job ReplayFault

@@ -29,11 +29,13 @@ stands_in (RemoveDependency on) job = state.New ∷ state.Depend ∷ []
 stands_in Depend job = state.Depend ∷ []
 stands_in (Prioritize priority) job = state.Priority ∷ state.Sched ∷ []
 stands_in (Urge urgency) job = state.Depend ∷ state.Priority ∷ state.Sched ∷ []
-stands_in Alloc job = if job.allocated || job.freed then state.Sched ∷ [] else state.Sched ∷ state.Cleanup ∷ []
+stands_in Alloc job = if job.allocated || job.freed
+    then state.Sched ∷ [] else state.Sched ∷ state.Cleanup ∷ []
 stands_in Restart job = state.Sched ∷ []
 stands_in Start job = state.Run ∷ state.Cleanup ∷ []
 stands_in (Finish status) job = state.Run ∷ state.Cleanup ∷ []
-stands_in (Except severity) job = state.Depend ∷ state.Priority ∷ state.Sched ∷ state.Run ∷ state.Cleanup ∷ []
+stands_in (Except severity) job =
+    state.Depend ∷ state.Priority ∷ state.Sched ∷ state.Run ∷ state.Cleanup ∷ []
 stands_in (Release last) job = if last then state.Cleanup ∷ [] else state.Run ∷ state.Cleanup ∷ []
 stands_in Free job = state.Cleanup ∷ []
 stands_in Clean job = state.Cleanup ∷ []
@@ -80,7 +82,8 @@ made change job = record (marked change job) { state = leads_to change job.state
 
 -- the same, if the change may stand there
 abbrev pub changed : Change → Job → Option Job
-changed change job = if list_any (is_state job.state) (stands_in change job) then Some (made change job) else None
+changed change job = if list_any (is_state job.state) (stands_in change job)
+    then Some (made change job) else None
 
 -- a job that is just submitted
 abbrev pub submitted_job : ℕ → ℕ → Job

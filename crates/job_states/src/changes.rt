@@ -157,7 +157,8 @@ fn change_in(alloc: Global, name: &[u8], context: &Value) -> Result<Option<Chang
     }
 }
 
-/// What an event asks of its job; none where its name is unknown or its context lacks what is needed.
+/// What an event asks of its job; none where its name is unknown or its context lacks what is
+/// needed.
 pub fn asked(alloc: Global, event: &Event) -> Result<Option<Change>, AllocError>
     ensures { IfOk result (λ change. change ≡ change_of event.now) }
 {

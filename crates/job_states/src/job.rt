@@ -115,7 +115,8 @@ pub enum Change {
 #[derive(Clone, Copy, Debug, PartialEq, Eq)]
 pub enum ReplayFault {
     NoMemory,
-    /// The event at this place, counted from 0, may not stand in this state; before the first event there is none.
+    /// The event at this place, counted from 0, may not stand in this state; before the first event
+    /// there is none.
     NotAllowed { index: u64, state: Option<State> },
 }
 

@@ -7,7 +7,8 @@ ghost use Rattle.job_states.specs.Replay.{replayed, stepped};
 
 /// A beginning of a log that replays does so too, if it has an event.
 pub fn beginnings_of_logs_replay()
-    ensures { (events more : List Event) → 0 < length events → IsOk (replayed (events ++ more)) → IsOk (replayed events) }
+    ensures { (events more : List Event) → 0 < length events
+        → IsOk (replayed (events ++ more)) → IsOk (replayed events) }
 {}
 
 /// The replay of a log with one event more is one step.
@@ -18,6 +19,7 @@ pub fn one_event_more_is_one_step()
 
 /// An event that is refused is refused whatever follows.
 pub fn a_refusal_stays()
-    ensures { (events more : List Event) (fault : ReplayFault) → 0 < length events → replayed events ≡ Err fault
+    ensures { (events more : List Event) (fault : ReplayFault)
+        → 0 < length events → replayed events ≡ Err fault
         → replayed (events ++ more) ≡ Err fault }
 {}

@@ -8,7 +8,8 @@ use crate::table::{can_stand, make, submitted};
 use event_log::Event;
 use std::alloc::Global;
 
-/// The job that the first event of a log begins (Flux RFC 21). `NotAllowed` where it is no submission.
+/// The job that the first event of a log begins (Flux RFC 21). `NotAllowed` where it is no
+/// submission.
 pub fn begin(alloc: Global, event: &Event) -> Result<Job, ReplayFault>
     ensures { Gives result (begun event.now) }
 {
@@ -21,8 +22,9 @@ pub fn begin(alloc: Global, event: &Event) -> Result<Job, ReplayFault>
     }
 }
 
-/// Does the event at this place of a log, counted from 0. `NotAllowed` where its name is unknown, its context lacks what
-/// is needed, or it may not stand in the job's state. A job whose event isn't done stays as it was.
+/// Does the event at this place of a log, counted from 0. `NotAllowed` where its name is unknown,
+/// its context lacks what is needed, or it may not stand in the job's state. A job whose event
+/// isn't done stays as it was.
 pub fn step(alloc: Global, job: &mut Job, event: &Event, index: u64) -> Result<(), ReplayFault>
     ensures done { OnOk result (stepped index job.old event.now ≡ Ok job.new) }
     ensures refused { IfErr result (λ fault. Fails fault (stepped index job.old event.now)) }
@@ -42,8 +44,8 @@ pub fn step(alloc: Global, job: &mut Job, event: &Event, index: u64) -> Result<(
     Ok(())
 }
 
-/// The job that a log tells (Flux RFC 21). `NotAllowed` at the first event that may not stand where it does, and
-/// at the first place where there is no event.
+/// The job that a log tells (Flux RFC 21). `NotAllowed` at the first event that may not stand where
+/// it does, and at the first place where there is no event.
 pub fn replay(alloc: Global, events: &[Event]) -> Result<Job, ReplayFault>
     ensures { Gives result (replayed events.now) }
 {

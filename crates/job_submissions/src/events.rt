@@ -69,7 +69,8 @@ fn context(alloc: Global, userid: u32, urgency: u32, needs: &[Depend]) -> Result
     listing_context(alloc, depends, userid, urgency)
 }
 
-/// The event by which a user submits a job at a second, with an urgency and dependencies on other jobs.
+/// The event by which a user submits a job at a second, with an urgency and dependencies on other
+/// jobs.
 pub fn submit_event(
     alloc: Global,
     now: u64,

@@ -50,8 +50,9 @@ fn lacks_job(
     }
 }
 
-/// Why a submission with these dependencies and this text is refused, if it is: its text tells no jobspec, or a dependency is
-/// on no job of the book, one of the jobspec or one on the job of a label.
+/// Why a submission with these dependencies and this text is refused, if it is: its text tells no
+/// jobspec, or a dependency is on no job of the book, one of the jobspec or one on the job of a
+/// label.
 pub fn fault_of(
     alloc: Global,
     commands: &Commands,

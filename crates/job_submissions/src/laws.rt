@@ -16,7 +16,8 @@ ghost use Rattle.manager_rules.specs.Jobs.{StoredJob};
 
 use job_commands::{new_ids_are_new, open_commands_are_open_at_their_issue};
 
-/// A dependency that is on no job by the labels of the commands is on none by the log of their instance.
+/// A dependency that is on no job by the labels of the commands is on none by the log of their
+/// instance.
 pub fn what_is_lacking_is_so_by_the_log()
     ensures { (v : CommandsValue) (inst : Instance) (log : Log) (jobs : List StoredJob)
         (depends : List Depend) (named : List Named) → AgreesCommands v inst log
@@ -24,8 +25,8 @@ pub fn what_is_lacking_is_so_by_the_log()
         → LacksSome inst log jobs depends (map named_of named) }
 {}
 
-/// A submission that is made of the open commands at the present second is due, where each job has a label; and where none
-/// can be made none is due.
+/// A submission that is made of the open commands at the present second is due, where each job has
+/// a label; and where none can be made none is due.
 pub fn what_is_made_is_due()
     ensures some { (v : CommandsValue) (inst : Instance) (log : Log) (jobs : List StoredJob)
         (x : Submission) → AgreesCommands v inst log → IsInstance inst

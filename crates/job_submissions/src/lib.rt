@@ -1,4 +1,5 @@
-//! Job submissions that wait: which of them are refused, and why; which are due, and what they post.
+//! Job submissions that wait: which of them are refused, and why; which are due, and what they
+//! post.
 #![tactic(auto)]
 
 mod depends;

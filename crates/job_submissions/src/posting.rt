@@ -37,8 +37,8 @@ struct Accepted {
     needs: Needs,
 }
 
-/// The jobspec that a text tells with the dependencies on the jobs of labels, where it is accepted and all its dependencies are
-/// on jobs of the book.
+/// The jobspec that a text tells with the dependencies on the jobs of labels, where it is accepted
+/// and all its dependencies are on jobs of the book.
 fn take_up(
     alloc: Global,
     commands: &Commands,
@@ -66,8 +66,8 @@ fn take_up(
     Ok(Some(Accepted { spec, needs }))
 }
 
-/// What is submitted by a command that waits, with the urgency and the text that it asks for. The id is that of the second of
-/// its issue.
+/// What is submitted by a command that waits, with the urgency and the text that it asks for. The
+/// id is that of the second of its issue.
 fn make(
     alloc: Global,
     now: u64,
@@ -136,8 +136,9 @@ fn of_row(
     Ok(Some(x))
 }
 
-/// The first submission that is due at this second, of an instance that was born at another: of the commands that wait in their
-/// order, the first whose jobspec is accepted and whose dependencies are all on jobs of the book.
+/// The first submission that is due at this second, of an instance that was born at another: of the
+/// commands that wait in their order, the first whose jobspec is accepted and whose dependencies
+/// are all on jobs of the book.
 pub fn submission(
     alloc: Global,
     commands: &Commands,

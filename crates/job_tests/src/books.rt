@@ -27,7 +27,8 @@ use tap::{Ask, Tap};
 const GRANT: &str =
     "{\"version\":1,\"execution\":{\"R_lite\":[{\"rank\":\"0-1\",\"children\":{\"core\":\"0-1\"}}],\"nodelist\":[\"a[0-1]\"],\"starttime\":0,\"expiration\":1000}}";
 
-/// What is done, and the events that follow. Jobs are submitted by id, urgency, slots, duration, command and dependencies.
+/// What is done, and the events that follow. Jobs are submitted by id, urgency, slots, duration,
+/// command and dependencies.
 const ROWS: [(&str, &str); 38] = [
     // Validation, priorities and resources.
     (
@@ -384,7 +385,8 @@ fn is_text(bytes: &[u8]) -> bool
     std::str::from_utf8(bytes).is_ok()
 }
 
-/// Whether a command is that of the actor of these tests, with numbers within their ranges and with texts.
+/// Whether a command is that of the actor of these tests, with numbers within their ranges and with
+/// texts.
 fn is_asked(asked: &Asked) -> bool
     ensures { IsTrue result → IsAsked asked.now }
 {

@@ -2,7 +2,8 @@ use job_spec::JobSpec;
 use shells::{Ending, ending};
 use std::test::Fail;
 
-/// How commands end that start at second 5: a status and a second, or with a child. Commands are lists of JSON.
+/// How commands end that start at second 5: a status and a second, or with a child. Commands are
+/// lists of JSON.
 const COMMANDS: [&str; 23] = [
     "0 at 15 | \"sleep\",\"10\"",
     "0 at 5 | \"sleep\",\"0\"",

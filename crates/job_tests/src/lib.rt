@@ -1,4 +1,5 @@
-//! Tests of jobs and what tells what is due for them: of `shells`, `tap`, `job_states`, `job_queue`, `job_texts`, `job_book` and `job_watch`.
+//! Tests of jobs and what tells what is due for them: of `shells`, `tap`, `job_states`,
+//! `job_queue`, `job_texts`, `job_book` and `job_watch`.
 #![tactic(auto)]
 
 #[cfg(test)]

@@ -78,7 +78,8 @@ const ROWS: [(&str, &str, &str); 19] = [
     ("epilog-start", "", "-------"),
 ];
 
-/// How many events of `PATH` stand before an event, its name and context, and whether it may stand there.
+/// How many events of `PATH` stand before an event, its name and context, and whether it may stand
+/// there.
 const CONTEXTS: [(usize, &str, &str, bool); 49] = [
     (0, "submit", "", false),
     (0, "submit", "{}", false),
@@ -355,7 +356,8 @@ fn logs_tell_their_jobs(rt: HostRuntime) -> Result<(), Fail> {
     Ok(())
 }
 
-/// Where an event leads from the state at this place of `PATH`; `-` where it is refused there and nothing changes.
+/// Where an event leads from the state at this place of `PATH`; `-` where it is refused there and
+/// nothing changes.
 fn led(rt: &HostRuntime, event: &Event, depth: usize) -> Result<&'static str, Fail> {
     let depth = depth.min(PATH.len() - 1);
     let mut job = replay(rt.alloc(), &events_of(rt, &PATH[..depth + 1])?)?;

@@ -1,5 +1,5 @@
-//! What the events of jobs tell: the texts of those that the job manager writes, and the dependencies that a submission
-//! lists (Flux RFC 18, 21, 22 and 26).
+//! What the events of jobs tell: the texts of those that the job manager writes, and the
+//! dependencies that a submission lists (Flux RFC 18, 21, 22 and 26).
 #![tactic(auto)]
 
 mod needs;

@@ -195,7 +195,8 @@ fn add(needs: &mut Needs, more: &[Depend]) -> Result<(), AllocError>
     Ok(())
 }
 
-/// The dependencies of a job: those of its jobspec, and then those of its submission, equal ones once.
+/// The dependencies of a job: those of its jobspec, and then those of its submission, equal ones
+/// once.
 pub fn needs_of(alloc: Global, spec: &JobSpec, event: &Event) -> Result<Needs, AllocError>
     ensures { IfOk result (λ needs. (all : List Need)
         → AreNeeds spec.now event.now all → needs ≡ all) }

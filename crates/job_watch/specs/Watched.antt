@@ -16,10 +16,13 @@ with_answer answer name names = if answer == 1 then name ∷ names else names
 -- the names of the events that a callback shows, where it answers each of them once and in order
 abbrev pub AreShown : (Event → ℕ → Type 0) → List Event → List (List ℕ) → Type 0
 AreShown Answers [] names = names ≡ []
-AreShown Answers (event ∷ events) names = (answer : ℕ) × (rest : List (List ℕ)) × Answers event answer × (names ≡ with_answer answer event.name rest) × AreShown Answers events rest
+AreShown Answers (event ∷ events) names =
+    (answer : ℕ) × (rest : List (List ℕ)) × Answers event answer
+    × (names ≡ with_answer answer event.name rest) × AreShown Answers events rest
 
 -- the watcher was fed the log of these events, and each of them was answered once
-pub record WasFed (Answers : Event → ℕ → Type 0) (events : List Event) (watched : Watched) : Type 0 where
+pub record WasFed (Answers : Event → ℕ
+    → Type 0) (events : List Event) (watched : Watched) : Type 0 where
   pub log : watched.fed ≡ length (log_text events)
   pub names : AreShown Answers events watched.shown
 

@@ -5,8 +5,9 @@ ghost use Rattle.job_watch.specs.Answers.{IsShowing, ShowsOnce};
 use event_log::Event;
 use std::marker::Model;
 
-/// A kept callback that says which events are shown. Contracts see the callback itself. Each call asks again that it may
-/// be called and answers once and in range, since no type can keep that of a closure.
+/// A kept callback that says which events are shown. Contracts see the callback itself. Each call
+/// asks again that it may be called and answers once and in range, since no type can keep that of a
+/// closure.
 #[derive(Drop)]
 pub struct Show<W> {
     f: W,
@@ -28,8 +29,8 @@ impl<W: Fn(&Event) -> u32> Show<W> {
         Show { f }
     }
 
-    /// What the callback answers: 1 where the event is shown, and else 0. It is the only answer that it has, and takes no
-    /// memory of its own.
+    /// What the callback answers: 1 where the event is shown, and else 0. It is the only answer
+    /// that it has, and takes no memory of its own.
     pub fn answer(&self, event: &Event) -> u32
         requires callable { W.IsAlwaysCallable self.now }
         requires once { ShowsOnce (λ event n. FnReturnsAt W.Fn self.now event n) }

@@ -35,7 +35,8 @@ impl Model for Watcher {
 /// The events of a log.
 fn events_of(alloc: Global, log: &[u8]) -> Result<Vec<Event>, AllocError>
     requires { (events : List Told) × All IsEvent events × (log.now ≡ log_text events) }
-    ensures { IfOk result (λ read. (events : List Told) → All IsEvent events → log.now ≡ log_text events
+    ensures { IfOk result (λ read. (events : List Told)
+        → All IsEvent events → log.now ≡ log_text events
         → read.items ≡ events) }
 {
     match event_log::read(alloc, log) {
@@ -54,7 +55,8 @@ fn names_of<W: Fn(&Event) -> u32>(
 ) -> Result<Vec<Bytes>, AllocError>
     requires callable { W.IsAlwaysCallable show.now }
     requires once { ShowsOnce (λ event n. FnReturnsAt W.Fn show.now event n) }
-    ensures { IfOk result (λ names. AreShown (λ event n. FnReturnsAt W.Fn show.now event n) events.now names.items) }
+    ensures { IfOk result
+        (λ names. AreShown (λ event n. FnReturnsAt W.Fn show.now event n) events.now names.items) }
 {
     let mut names = Vec::new(alloc);
     for event in events {
@@ -89,8 +91,9 @@ impl Watcher {
         }
     }
 
-    /// Calls the callback on the events of a log that are new, in order, and answers how many they are. The log is one of
-    /// events, and begins with the one that was fed last. After want of memory the watch is unchanged.
+    /// Calls the callback on the events of a log that are new, in order, and answers how many they
+    /// are. The log is one of events, and begins with the one that was fed last. After want of
+    /// memory the watch is unchanged.
     pub fn feed<W: Fn(&Event) -> u32>(
         &mut self,
         log: &[u8],

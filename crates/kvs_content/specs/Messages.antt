@@ -12,7 +12,8 @@ use Rattle.kvs_content.specs.declared.wants.Want.{Want}
 use Rattle.kvs_content.specs.declared.wants.WantStage.{WantStage}
 use Rattle.kvs_content.specs.declared.wants.WantStage.TheVariants as wanted
 
--- whether a message on the link between a broker and the one above it is on this link, on its way up or down
+-- whether a message on the link between a broker and the one above it is on this link, on its way
+-- up or down
 abbrev pub rises_on : ℕ → ℕ → ℕ → ℕ → Bool
 rises_on fanout from to child = (from == child) && (to == parent fanout child)
 
@@ -24,7 +25,13 @@ abbrev pub offer_of : ℕ → BlobRef → OfferStage → Offer
 offer_of child reference stage = record { child = child; reference = reference; stage = stage }
 
 abbrev pub want_of : By → ℕ → ℕ → BlobRef → WantStage → Want
-want_of by broker child reference stage = record { by = by; broker = broker; child = child; reference = reference; stage = stage }
+want_of by broker child reference stage = record {
+  by = by;
+  broker = broker;
+  child = child;
+  reference = reference;
+  stage = stage;
+}
 
 -- whether an offer at this stage is on the link between two brokers
 abbrev pub is_offered_so : ℕ → ℕ → ℕ → ℕ → OfferStage → Bool
@@ -48,7 +55,8 @@ is_want_on fanout from to want = is_wanted_so fanout from to want.child want.sta
 
 -- whether a broker offers the reference
 abbrev pub is_offer_of : ℕ → BlobRef → Offer → Bool
-is_offer_of broker reference offer = (offer.child == broker) && same_reference reference offer.reference
+is_offer_of broker reference offer =
+    (offer.child == broker) && same_reference reference offer.reference
 
 -- whether an offer at this stage waits for what becomes of the content at the broker above
 abbrev pub is_waiting_stage : OfferStage → Bool
@@ -57,7 +65,8 @@ is_waiting_stage _ = false
 
 -- whether an offer waits at a broker for what becomes of the content there
 abbrev pub waits_at : ℕ → ℕ → BlobRef → Offer → Bool
-waits_at fanout broker reference offer = is_waiting_stage offer.stage && (parent fanout offer.child == broker) && same_reference offer.reference reference
+waits_at fanout broker reference offer = is_waiting_stage offer.stage
+    && (parent fanout offer.child == broker) && same_reference offer.reference reference
 
 -- what became of a content
 abbrev pub outcome : Bool → OfferStage
@@ -69,7 +78,8 @@ staged stage offer = record { child = offer.child; reference = offer.reference; 
 
 -- an offer, once it is known what became of the content at a broker
 abbrev pub settled : ℕ → ℕ → BlobRef → Bool → Offer → Offer
-settled fanout broker reference accepted offer = if waits_at fanout broker reference offer then staged (outcome accepted) offer else offer
+settled fanout broker reference accepted offer =
+    if waits_at fanout broker reference offer then staged (outcome accepted) offer else offer
 
 -- the broker so many links above another one
 abbrev pub ancestor : ℕ → ℕ → ℕ → ℕ
@@ -80,7 +90,8 @@ ancestor fanout (suc links) broker = parent fanout (ancestor fanout links broker
 abbrev pub IsAbove : ℕ → ℕ → ℕ → Type 0
 IsAbove fanout upper lower = (links : ℕ) × (ancestor fanout links lower ≡ upper)
 
--- the link on which a want of a broker is once the one above was asked, and asks on or has found something
+-- the link on which a want of a broker is once the one above was asked, and asks on or has found
+-- something
 abbrev pub link_now : ℕ → ℕ → WantStage → ℕ
 link_now child at wanted.Rising = at
 link_now child at (wanted.Falling gift) = child
@@ -110,6 +121,8 @@ abbrev pub deliveries_left : ℕ → List Offer → List Want → ℕ
 deliveries_left size offers wants = sum_by offers_left offers + sum_by (wants_left size) wants
 
 -- what became of a content at a broker is sent to all that wait there for it
-pub record AreSettled (fanout broker : ℕ) (reference : BlobRef) (accepted : Bool) (old new : List Offer) : Type 0 where
+pub record AreSettled (fanout broker : ℕ) (reference : BlobRef)
+    (accepted : Bool) (old new : List Offer) : Type 0 where
   pub same_len : length new ≡ length old
-  pub each : (k : ℕ) (d : Offer) → k < length old → slice_index_or new k d ≡ settled fanout broker reference accepted (slice_index_or old k d)
+  pub each : (k : ℕ) (d : Offer) → k < length old
+      → slice_index_or new k d ≡ settled fanout broker reference accepted (slice_index_or old k d)

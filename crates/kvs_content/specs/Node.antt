@@ -10,7 +10,8 @@ use Rattle.kvs_rules.specs.declared.events.KvsEvent.TheVariants as event
 use Rattle.kvs_content.specs.declared.node.Flush.{Flush}
 use Rattle.kvs_content.specs.declared.node.Flush.TheVariants as flush
 
--- a broker's cache, and the references that were refused it and no flush has told yet, the oldest first
+-- a broker's cache, and the references that were refused it and no flush has told yet, the oldest
+-- first
 pub record NodeValue : Type 0 where
   pub cache : Cache
   pub refused : List BlobRef
@@ -27,7 +28,8 @@ with_cache cache node = record { cache = cache; refused = node.refused }
 abbrev pub rejected : BlobRef → NodeValue → NodeValue
 rejected reference node = record {
   cache = refused reference node.cache;
-  refused = if is_some (dirty_at reference node.cache) then node.refused ++ reference ∷ [] else node.refused;
+  refused = if is_some (dirty_at reference node.cache)
+      then node.refused ++ reference ∷ [] else node.refused;
 }
 
 -- the event of a broker that gets a reference, where it does
@@ -45,9 +47,11 @@ GetsOrDrops broker (event.Dropped b reference) = b ≡ broker
 GetsOrDrops broker _ = ⊥
 
 -- a broker keeps a content as clean, and drops what goes for it
-pub record IsGetting (broker : ℕ) (reference : BlobRef) (bytes : List ℕ) (old new : NodeValue) (events : List KvsEvent) : Type 0 where
+pub record IsGetting (broker : ℕ) (reference : BlobRef)
+    (bytes : List ℕ) (old new : NodeValue) (events : List KvsEvent) : Type 0 where
   pub gone : List BlobRef
-  pub told : events ≡ getting broker reference (not (is_some (clean_at reference old.cache))) ++ dropping broker gone
+  pub told : events ≡ getting broker reference (not (is_some (clean_at reference old.cache)))
+      ++ dropping broker gone
   pub rest : HasDropped (filled reference bytes old.cache.clean) new.cache.clean gone
   pub dirty : new.cache.dirty ≡ remove_entry (same_reference reference) old.cache.dirty
   pub out : dirty_at reference new.cache ≡ None
@@ -61,8 +65,10 @@ pub record IsDropping (broker : ℕ) (old new : NodeValue) (events : List KvsEve
   pub pinned : new.cache ≡ with_clean (filter (λ e. is_pinned e.1) old.cache.clean) old.cache
   pub refused : new.refused ≡ old.refused
 
--- what a flush is told: nothing while a content is dirty, then the first reference that was refused, or that there is none
+-- what a flush is told: nothing while a content is dirty, then the first reference that was
+-- refused, or that there is none
 abbrev pub IsFlush : NodeValue → NodeValue → Flush → Type 0
 IsFlush old new flush.Waits = (old.cache.dirty ≢ []) × (new ≡ old)
-IsFlush old new (flush.Clashed reference) = (old.cache.dirty ≡ []) × (old.refused ≡ reference ∷ new.refused) × (new.cache ≡ old.cache)
+IsFlush old new (flush.Clashed reference) =
+    (old.cache.dirty ≡ []) × (old.refused ≡ reference ∷ new.refused) × (new.cache ≡ old.cache)
 IsFlush old new flush.Flushed = (old.cache.dirty ≡ []) × (old.refused ≡ []) × (new ≡ old)

@@ -13,7 +13,8 @@ use Rattle.kvs_content.specs.Value.{ContentValue, size_of}
 
 -- whether a message is on the link between two brokers
 abbrev pub can_deliver : ContentValue → ℕ → ℕ → Bool
-can_deliver v from to = list_any (is_offer_on v.fanout from to) v.offers || list_any (is_want_on v.fanout from to) v.wants
+can_deliver v from to = list_any (is_offer_on v.fanout from to) v.offers
+    || list_any (is_want_on v.fanout from to) v.wants
 
 -- no message is on any link
 abbrev pub AreLinksEmpty : ContentValue → Type 0
@@ -37,5 +38,8 @@ answered by (Some told) = if same_command told.by by then 1 else 0
 
 -- no more contents are dirty, and the same ones are offered
 pub record IsLighter (old new : ContentValue) : Type 0 where
-  pub dirty : (broker : ℕ) (reference : BlobRef) → IsDirty new broker reference → IsDirty old broker reference
-  pub offered : (broker : ℕ) (reference : BlobRef) → list_any (is_offer_of broker reference) new.offers ≡ list_any (is_offer_of broker reference) old.offers
+  pub dirty : (broker : ℕ) (reference : BlobRef) → IsDirty new broker reference
+      → IsDirty old broker reference
+  pub offered : (broker : ℕ) (reference : BlobRef)
+      → list_any (is_offer_of broker reference) new.offers
+      ≡ list_any (is_offer_of broker reference) old.offers

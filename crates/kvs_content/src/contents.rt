@@ -27,7 +27,8 @@ use lists::{Bytes, Copied, ListOf};
 use std::alloc::{AllocError, Global};
 use std::marker::Model;
 
-/// Rank 0's store, what each broker keeps, and the messages between brokers. After want of memory nothing is said of it.
+/// Rank 0's store, what each broker keeps, and the messages between brokers. After want of memory
+/// nothing is said of it.
 #[derive(Drop)]
 pub struct Contents {
     alloc: Global,
@@ -96,7 +97,8 @@ struct Taken {
     events: KvsEvents,
 }
 
-/// What a broker found under a reference: at rank 0 there may be nothing, and any other broker that has nothing asks on.
+/// What a broker found under a reference: at rank 0 there may be nothing, and any other broker that
+/// has nothing asks on.
 #[derive(Drop)]
 struct Found {
     stage: WantStage,
@@ -156,7 +158,8 @@ impl Contents {
         is_waiting(&self.wants, by)
     }
 
-    /// Stores bytes at a broker: rank 0 keeps them, and any other broker offers them to the one above.
+    /// Stores bytes at a broker: rank 0 keeps them, and any other broker offers them to the one
+    /// above.
     pub fn store(&mut self, broker: u32, bytes: Bytes) -> Result<Stored, AllocError>
         requires sound { IsSoundContent self.old }
         requires within { broker < size_of self.old }
@@ -228,7 +231,8 @@ impl Contents {
         }
     }
 
-    /// Keeps a content as dirty at a broker that has none under the reference, and offers it to the broker above.
+    /// Keeps a content as dirty at a broker that has none under the reference, and offers it to the
+    /// broker above.
     fn offer(&mut self, broker: u32, reference: BlobRef, bytes: Bytes) -> Result<(), AllocError>
         requires placed { ArePlaced self.old }
         requires below { 0 < broker }
@@ -260,7 +264,8 @@ impl Contents {
         Ok(())
     }
 
-    /// Keeps a content as clean at a broker. The offers that wait there for one under the reference are accepted then.
+    /// Keeps a content as clean at a broker. The offers that wait there for one under the reference
+    /// are accepted then.
     fn get(
         &mut self,
         broker: u32,
@@ -451,7 +456,8 @@ impl Contents {
         Ok(events)
     }
 
-    /// Delivers the oldest message on the link between two brokers: an offer, where there is one, or else a want.
+    /// Delivers the oldest message on the link between two brokers: an offer, where there is one,
+    /// or else a want.
     pub fn deliver(&mut self, from: u32, to: u32) -> Result<Delivery, AllocError>
         requires sound { IsSoundContent self.old }
         requires can { can_deliver self.old from to ≡ true }
@@ -529,7 +535,8 @@ impl Contents {
         Ok(events)
     }
 
-    /// A broker hears that rank 0 has other bytes under a reference, and so do those that wait there for it.
+    /// A broker hears that rank 0 has other bytes under a reference, and so do those that wait
+    /// there for it.
     fn reject(&mut self, at: u32, reference: BlobRef) -> Result<KvsEvents, AllocError>
         requires but { IsSoundBut at reference self.old }
         requires within { at < size_of self.old }
@@ -549,8 +556,8 @@ impl Contents {
         Ok(ListOf::new(self.alloc))
     }
 
-    /// Takes a content that a broker's child offers: rank 0 decides, and so does a broker that has it clean. Any other
-    /// broker keeps it as dirty too, and the child waits.
+    /// Takes a content that a broker's child offers: rank 0 decides, and so does a broker that has
+    /// it clean. Any other broker keeps it as dirty too, and the child waits.
     fn receive(
         &mut self,
         child: u32,
@@ -729,7 +736,8 @@ impl Contents {
         Ok(events)
     }
 
-    /// What was found comes down to a broker: to the command's own, which is told, or to one above it, which hands it on.
+    /// What was found comes down to a broker: to the command's own, which is told, or to one above
+    /// it, which hands it on.
     fn hand_down(
         &mut self,
         by: By,

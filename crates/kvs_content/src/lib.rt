@@ -1,4 +1,5 @@
-//! The contents of an instance (Flux RFC 10): a write-back cache at each broker, and the store at rank 0.
+//! The contents of an instance (Flux RFC 10): a write-back cache at each broker, and the store at
+//! rank 0.
 #![tactic(auto)]
 
 mod contents;

@@ -15,7 +15,8 @@ use std::marker::Model;
 /// What happens in the service, the oldest first.
 pub type KvsEvents = ListOf<KvsEvent>;
 
-/// A broker's cache, and the references that were refused it and no flush has told yet, the oldest first.
+/// A broker's cache, and the references that were refused it and no flush has told yet, the oldest
+/// first.
 #[derive(Drop)]
 pub struct Node {
     cache: CacheNode,
@@ -30,7 +31,8 @@ impl Model for Node {
     ghost view = { λ n. record { cache = n.cache; refused = n.refused.items } };
 }
 
-/// What a flush is told: nothing while a content is dirty, then the first reference that was refused, or that all went well.
+/// What a flush is told: nothing while a content is dirty, then the first reference that was
+/// refused, or that all went well.
 #[derive(Clone, Copy, Debug, PartialEq, Eq)]
 pub enum Flush {
     Waits,
@@ -106,7 +108,8 @@ impl Node {
         self.cache.put_dirty(reference, bytes)
     }
 
-    /// Keeps bytes as clean, which the broker gets where it hadn't them so, and drops what goes for them.
+    /// Keeps bytes as clean, which the broker gets where it hadn't them so, and drops what goes for
+    /// them.
     pub fn get(
         &mut self,
         alloc: Global,
@@ -115,7 +118,8 @@ impl Node {
         bytes: Bytes,
     ) -> Result<KvsEvents, AllocError>
         requires { Names reference bytes }
-        ensures { IfOk result (λ events. IsGetting broker reference bytes self.old self.new events) }
+        ensures { IfOk result
+            (λ events. IsGetting broker reference bytes self.old self.new events) }
     {
         self.cache.is_sound();
         let gets = self.cache.clean(&reference).is_none();

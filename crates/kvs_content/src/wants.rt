@@ -10,8 +10,8 @@ use fl_digest::BlobRef;
 use kvs_txn::By;
 use lists::Bytes;
 
-/// The bytes under a reference, and whether the broker that gave them had them clean: each broker on the way down keeps
-/// them then.
+/// The bytes under a reference, and whether the broker that gave them had them clean: each broker
+/// on the way down keeps them then.
 #[derive(Drop)]
 pub struct Gift {
     pub bytes: Bytes,
@@ -37,7 +37,8 @@ pub enum WantStage {
     Falling(Option<Gift>),
 }
 
-/// A load of a command at a broker, on the link between a broker on the way to rank 0 and the one above that.
+/// A load of a command at a broker, on the link between a broker on the way to rank 0 and the one
+/// above that.
 #[derive(Drop)]
 pub struct Want {
     pub by: By,

@@ -15,15 +15,16 @@ history_of v = option_map_or (λ s. s.history) (slice_get v.spaces 0) []
 
 -- the transactions of a landing in `primary`, if the event is one
 abbrev pub landing_in : KvsEvent → Option (List Group)
-landing_in (event.Landed space number authors groups) = if is_primary space then Some groups else None
+landing_in (event.Landed space number authors groups) =
+    if is_primary space then Some groups else None
 landing_in _ = None
 
 -- the landings in `primary` among events
 abbrev pub landings_in : List KvsEvent → List (List Group)
 landings_in events = filter_map landing_in events
 
--- the landings are those that were made before, and those that these events tell; the job manager's are all in `primary`,
--- and the grant is the same
+-- the landings are those that were made before, and those that these events tell; the job manager's
+-- are all in `primary`, and the grant is the same
 pub record Extends (old new : CoreValue) (events : List KvsEvent) : Type 0 where
   pub history : history_of new ≡ history_of old ++ landings_in events
   pub inside : posts_landed events ≡ posts_in (flat_map (λ groups. groups) (landings_in events))

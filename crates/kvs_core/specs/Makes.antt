@@ -25,8 +25,9 @@ IsOfKeys (event.Denied space authors group refusal) = Unit {0}
 IsOfKeys (event.Heard broker space number) = Unit {0}
 IsOfKeys _ = ⊥
 
--- the events of a step: they are of keys alone, the job manager's transactions land in the order in which they were taken, and after whatever
--- log agrees with the core the events are those that the step may make, they are legal, and the core agrees with both
+-- the events of a step: they are of keys alone, the job manager's transactions land in the order in
+-- which they were taken, and after whatever log agrees with the core the events are those that the
+-- step may make, they are legal, and the core agrees with both
 pub record Makes (s : KvsStep) (old new : CoreValue) (events : List KvsEvent) : Type 0 where
   pub ready : new.spent ≡ false
   pub size : new.size ≡ old.size
@@ -35,8 +36,10 @@ pub record Makes (s : KvsStep) (old new : CoreValue) (events : List KvsEvent) : 
   pub does : DoesStep s old new events
   pub own : Each IsOfKeys events
   pub made : (set : Setting) (log : Log) → Agrees old set log → AreMadeBy log s events
-  pub legal : (set : Setting) (log : Log) → Agrees old set log → IsLegalAfter set log (map Happened events)
-  pub agrees : (set : Setting) (log : Log) → Agrees old set log → Agrees new set (log ++ map Happened events)
+  pub legal : (set : Setting) (log : Log) → Agrees old set log
+      → IsLegalAfter set log (map Happened events)
+  pub agrees : (set : Setting) (log : Log) → Agrees old set log
+      → Agrees new set (log ++ map Happened events)
 
 -- a step that no log shows
 pub record Moves (s : KvsStep) (old new : CoreValue) : Type 0 where
@@ -57,7 +60,8 @@ IsOfKind v i kind = (d : Row) → kind_of (slice_index_or v.rows i d).stage ≡ 
 
 -- it is for the namespace of this place in the table
 abbrev pub IsFor : CoreValue → ℕ → ℕ → Type 0
-IsFor v i k = (d : Row) → Some k ≡ position (is_named (slice_index_or v.rows i d).namespace) v.spaces
+IsFor v i k = (d : Row)
+    → Some k ≡ position (is_named (slice_index_or v.rows i d).namespace) v.spaces
 
 -- it is for a namespace that was never opened
 abbrev pub IsForNew : CoreValue → ℕ → Type 0

@@ -59,19 +59,25 @@ IsMadeAnswer answer.IsPrimary = Unit {0}
 IsMadeAnswer (answer.CountDiffers kept) = Unit {0}
 IsMadeAnswer _ = ⊥
 
--- where a command is told that the counts differ, rank 0 has let the member with the other count wait, and not the command
-abbrev pub IsUpheld : Entrants → (set : Setting) (log : Log) (by : By) (number : Option ℕ) (given : KvsAnswer) → IsLegalAnswer set log by number given → Type 0
-IsUpheld entered set log by number (answer.CountDiffers kept) legal = (entered legal.grounds.5.held.rival ≡ true) × (entered by ≡ false)
+-- where a command is told that the counts differ, rank 0 has let the member with the other count
+-- wait, and not the command
+abbrev pub IsUpheld : Entrants
+    → (set : Setting) (log : Log) (by : By) (number : Option ℕ) (given : KvsAnswer)
+    → IsLegalAnswer set log by number given → Type 0
+IsUpheld entered set log by number (answer.CountDiffers kept) legal =
+    (entered legal.grounds.5.held.rival ≡ true) × (entered by ≡ false)
 IsUpheld entered set log by number _ legal = Unit {0}
 
 -- a command may be told so, now and later
 abbrev pub MayTell : Entrants → Setting → Log → By → Option ℕ → KvsAnswer → Type 0
-MayTell entered set log by number given = (legal : IsLegalAnswer set log by number given) × IsMadeAnswer given × IsUpheld entered set log by number given legal
+MayTell entered set log by number given = (legal : IsLegalAnswer set log by number given)
+    × IsMadeAnswer given × IsUpheld entered set log by number given legal
 
 -- a landing that carries this out carries out what is asked
 abbrev pub IsWorkOf : KvsAsk → Work → Type 0
 IsWorkOf asked work.Commit = (txn : Txn) × (asked ≡ ask.Commit txn)
-IsWorkOf asked work.Fence = (name : List ℕ) × (count : ℕ) × (txn : Txn) × (asked ≡ ask.Fence name count txn)
+IsWorkOf asked work.Fence = (name : List ℕ) × (count : ℕ)
+    × (txn : Txn) × (asked ≡ ask.Fence name count txn)
 IsWorkOf asked work.Create = asked ≡ ask.Create
 IsWorkOf asked work.Remove = asked ≡ ask.Remove
 
@@ -85,8 +91,8 @@ IsTransaction _ = ⊥
 abbrev pub heard_at : Log → By → Request → ℕ
 heard_at log by request = unwrap_or (heard (before_asked by log) request.broker request.namespace) 0
 
--- what a request needs its broker to have heard, if it reads or waits: at least what its actor had seen, what the broker
--- had heard when it asked, and the number that it waits for
+-- what a request needs its broker to have heard, if it reads or waits: at least what its actor had
+-- seen, what the broker had heard when it asked, and the number that it waits for
 pub record IsNeeded (log : Log) (by : By) (request : Request) (need : ℕ) : Type 0 where
   pub needs : need ≡ max (max (floor_at by log) (heard_at log by request)) (awaited request.ask)
   pub low : heard_at log by request ≤ landed log request.namespace
@@ -99,22 +105,33 @@ IsParkedAsk _ = ⊥
 
 -- what the log says of a request at this stage
 abbrev pub StageAgrees : Entrants → Setting → Log → List SpaceValue → By → Request → Stage → Type 0
-StageAgrees entered set log spaces by request (stage.Rising from to asked) = IsUndecided log by × (request.ask ≡ asked) × IsRisingAsk asked × (entered by ≡ false)
-StageAgrees entered set log spaces by request (stage.Arrived asked) = IsUndecided log by × (request.ask ≡ asked) × IsRisingAsk asked × (entered by ≡ false)
+StageAgrees entered set log spaces by request (stage.Rising from to asked) =
+    IsUndecided log by × (request.ask ≡ asked) × IsRisingAsk asked × (entered by ≡ false)
+StageAgrees entered set log spaces by request (stage.Arrived asked) =
+    IsUndecided log by × (request.ask ≡ asked) × IsRisingAsk asked × (entered by ≡ false)
 StageAgrees entered set log spaces by request (stage.Joined space work) =
-    IsUndecided log by × IsWorkOf request.ask work × (name_at spaces space ≡ Some request.namespace) × IsTransaction work × (entered by ≡ true)
+    IsUndecided log by × IsWorkOf request.ask work
+    × (name_at spaces space ≡ Some request.namespace) × IsTransaction work × (entered by ≡ true)
 StageAgrees entered set log spaces by request (stage.Landed space number work) =
-    IsWorkOf request.ask work × (is_denied by log ≡ false) × HasLanded log request.namespace by number × (name_at spaces space ≡ Some request.namespace)
-StageAgrees entered set log spaces by request (stage.Falling from to given) = MayTell entered set log by None given
-StageAgrees entered set log spaces by request (stage.Ended given) = MayTell entered set log by None given
+    IsWorkOf request.ask work × (is_denied by log ≡ false)
+    × HasLanded log request.namespace by number
+    × (name_at spaces space ≡ Some request.namespace)
+StageAgrees entered set log spaces by request (stage.Falling from to given) =
+    MayTell entered set log by None given
+StageAgrees entered set log spaces by request (stage.Ended given) =
+    MayTell entered set log by None given
 StageAgrees entered set log spaces by request (stage.Returning from to space asked) =
-    IsUndecided log by × (request.ask ≡ asked) × IsParkedAsk asked × (name_at spaces space ≡ Some request.namespace)
+    IsUndecided log by × (request.ask ≡ asked) × IsParkedAsk asked
+    × (name_at spaces space ≡ Some request.namespace)
 StageAgrees entered set log spaces by request (stage.Parked space asked) =
-    IsUndecided log by × (request.ask ≡ asked) × IsParkedAsk asked × (name_at spaces space ≡ Some request.namespace)
-StageAgrees entered set log spaces by request (stage.Held number given) = MayTell entered set log by number given
+    IsUndecided log by × (request.ask ≡ asked) × IsParkedAsk asked
+    × (name_at spaces space ≡ Some request.namespace)
+StageAgrees entered set log spaces by request (stage.Held number given) =
+    MayTell entered set log by number given
 
 -- what the log says of an open request; it waits to land exactly where the namespace carries it
-pub record RowAgrees (entered : Entrants) (set : Setting) (log : Log) (spaces : List SpaceValue) (row : Row) : Type 0 where
+pub record RowAgrees (entered : Entrants) (set : Setting)
+    (log : Log) (spaces : List SpaceValue) (row : Row) : Type 0 where
   pub asked : IsTrue (is_asked row.by log)
   pub unanswered : is_answered row.by log ≡ false
   pub request : Request
@@ -124,12 +141,16 @@ pub record RowAgrees (entered : Entrants) (set : Setting) (log : Log) (spaces : 
   pub inside : request.namespace ≡ row.namespace
   pub needed : IsNeeded log row.by request row.need
   pub staged : StageAgrees entered set log spaces row.by request row.stage
-  pub tied : (k : ℕ) (d : SpaceValue) → k < length spaces → joined_in k row.stage ≡ carries (slice_index_or spaces k d) row.by
+  pub tied : (k : ℕ) (d : SpaceValue) → k < length spaces
+      → joined_in k row.stage ≡ carries (slice_index_or spaces k d) row.by
 
 -- the open requests are those that the log leaves, of commands that don't ask about contents
-pub record RowsAgree (entered : Entrants) (set : Setting) (log : Log) (spaces : List SpaceValue) (items : List Row) : Type 0 where
-  pub rows : (k : ℕ) (d : Row) → k < length items → RowAgrees entered set log spaces (slice_index_or items k d)
+pub record RowsAgree (entered : Entrants) (set : Setting)
+    (log : Log) (spaces : List SpaceValue) (items : List Row) : Type 0 where
+  pub rows : (k : ℕ) (d : Row) → k < length items
+      → RowAgrees entered set log spaces (slice_index_or items k d)
   pub apart : AreApart items
   pub strange : (by : By) → IsSome (set.asks by) → is_asked by log ≡ false → IsStrange log by
   pub outside : (by : By) → is_asked by log ≡ false → entered by ≡ false
-  pub open_rows : (by : By) → asks_contents set by ≡ false → IsOpen by log → (k : ℕ) × (k < length items) × ((d : Row) → (slice_index_or items k d).by ≡ by)
+  pub open_rows : (by : By) → asks_contents set by ≡ false → IsOpen by log
+      → (k : ℕ) × (k < length items) × ((d : Row) → (slice_index_or items k d).by ≡ by)

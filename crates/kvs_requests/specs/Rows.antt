@@ -22,13 +22,21 @@ use Rattle.kvs_rules.specs.Brokers.{parent}
 
 -- the request at another stage
 abbrev pub with_stage : Stage → Row → Row
-with_stage stage row = record { by = row.by; broker = row.broker; namespace = row.namespace; need = row.need; stage = stage }
+with_stage stage row = record {
+  by = row.by;
+  broker = row.broker;
+  namespace = row.namespace;
+  need = row.need;
+  stage = stage;
+}
 
 -- the request of this place is at another stage, and the others are as they were
 abbrev pub IsPut : List Row → List Row → ℕ → Stage → Type 0
-IsPut old new i stage = (d : Row) → new ≡ slice_set old i (with_stage stage (slice_index_or old i d))
+IsPut old new i stage = (d : Row)
+    → new ≡ slice_set old i (with_stage stage (slice_index_or old i d))
 
--- what the core carries out: a user's commits and members of fences, reads and waits, openings and removals
+-- what the core carries out: a user's commits and members of fences, reads and waits, openings and
+-- removals
 abbrev pub IsKnownAsk : KvsAsk → Type 0
 IsKnownAsk (ask.Commit txn) = IsUser txn.author
 IsKnownAsk (ask.Fence name count txn) = IsUser txn.author × (1 ≤ count) × (count ≤ 256)
@@ -50,8 +58,8 @@ is_about_contents _ = false
 abbrev pub asks_contents : Setting → By → Bool
 asks_contents set by = option_map_or (λ request. is_about_contents request.ask) (set.asks by) false
 
--- what goes up to rank 0: a user's commit or member of a fence, what opens or removes a namespace, and what reads or waits
--- in one of which its broker has heard nothing
+-- what goes up to rank 0: a user's commit or member of a fence, what opens or removes a namespace,
+-- and what reads or waits in one of which its broker has heard nothing
 abbrev pub IsRisingAsk : KvsAsk → Type 0
 IsRisingAsk (ask.Commit txn) = IsUser txn.author
 IsRisingAsk (ask.Fence name count txn) = IsUser txn.author × (1 ≤ count) × (count ≤ 256)
@@ -61,29 +69,34 @@ IsRisingAsk ask.Create = Unit {0}
 IsRisingAsk ask.Remove = Unit {0}
 IsRisingAsk _ = ⊥
 
--- a request at a broker on its way up: to be taken up at rank 0, and elsewhere on the link to the broker above
+-- a request at a broker on its way up: to be taken up at rank 0, and elsewhere on the link to the
+-- broker above
 abbrev pub risen : ℕ → ℕ → KvsAsk → Stage
-risen fanout at asked = if at == 0 then stage.Arrived asked else stage.Rising at (parent fanout at) asked
+risen fanout at asked = if at == 0 then stage.Arrived asked
+    else stage.Rising at (parent fanout at) asked
 
 -- the number that a request waits for, whatever its actor saw
 abbrev pub awaited : KvsAsk → ℕ
 awaited (ask.Wait number) = number
 awaited _ = 0
 
--- where a new request is at its broker: a read or a wait stays there, if the broker has heard of the namespace, which is
--- at this place in the table then; all else goes up
+-- where a new request is at its broker: a read or a wait stays there, if the broker has heard of
+-- the namespace, which is at this place in the table then; all else goes up
 abbrev pub entered : ℕ → ℕ → Option ℕ → KvsAsk → Stage
 entered fanout broker (Some space) (ask.Read query path) = stage.Parked space (ask.Read query path)
 entered fanout broker (Some space) (ask.Wait number) = stage.Parked space (ask.Wait number)
 entered fanout broker place asked = risen fanout broker asked
 
--- what a stage says of brokers and numbers: a message is on a link of the tree, between a broker and
--- the one above it, and a landing has landed in a namespace of the table
+-- what a stage says of brokers and numbers: a message is on a link of the tree, between a broker
+-- and the one above it, and a landing has landed in a namespace of the table
 abbrev pub AtPlace : ℕ → ℕ → List SpaceValue → Stage → Type 0
-AtPlace fanout size spaces (stage.Rising from to asked) = (0 < from) × (to ≡ parent fanout from) × (from < size) × IsRisingAsk asked
+AtPlace fanout size spaces (stage.Rising from to asked) =
+    (0 < from) × (to ≡ parent fanout from) × (from < size) × IsRisingAsk asked
 AtPlace fanout size spaces (stage.Arrived asked) = IsRisingAsk asked
-AtPlace fanout size spaces (stage.Falling from to given) = (0 < to) × (from ≡ parent fanout to) × (to < size)
-AtPlace fanout size spaces (stage.Landed space number work) = (space < length spaces) × (number < known_at spaces space 0)
+AtPlace fanout size spaces (stage.Falling from to given) =
+    (0 < to) × (from ≡ parent fanout to) × (to < size)
+AtPlace fanout size spaces (stage.Landed space number work) =
+    (space < length spaces) × (number < known_at spaces space 0)
 AtPlace fanout size spaces (stage.Returning from to space asked) =
     (0 < to) × (from ≡ parent fanout to) × (to < size) × (space < length spaces)
 AtPlace fanout size spaces (stage.Parked space asked) = space < length spaces
@@ -97,7 +110,8 @@ pub record IsPlaced (fanout size : ℕ) (spaces : List SpaceValue) (row : Row) :
 
 -- each request is at its place
 abbrev pub ArePlaced : ℕ → ℕ → List SpaceValue → List Row → Type 0
-ArePlaced fanout size spaces rows = (k : ℕ) (d : Row) → k < length rows → IsPlaced fanout size spaces (slice_index_or rows k d)
+ArePlaced fanout size spaces rows = (k : ℕ) (d : Row)
+    → k < length rows → IsPlaced fanout size spaces (slice_index_or rows k d)
 
 -- no command has two requests
 abbrev pub AreApart : List Row → Type 0
@@ -110,7 +124,8 @@ carried_out work.Fence = answer.Fenced
 carried_out work.Create = answer.Created
 carried_out work.Remove = answer.Removed
 
--- the place in the table of the namespace from which a request is answered; where it needs none, the first
+-- the place in the table of the namespace from which a request is answered; where it needs none,
+-- the first
 abbrev pub place_of : Stage → ℕ
 place_of (stage.Landed space number work) = space
 place_of (stage.Parked space asked) = space
@@ -121,13 +136,15 @@ abbrev pub found_for : Store → KvsAsk → KvsAnswer
 found_for store (ask.Read query path) = answer.Read (walk store query path)
 found_for store _ = answer.Reached
 
--- the stage of a request that its broker answers, which knows of so many roots of the namespace, has this store, and may
--- have heard the namespace's removal
+-- the stage of a request that its broker answers, which knows of so many roots of the namespace,
+-- has this store, and may have heard the namespace's removal
 abbrev pub answered : ℕ → Bool → Store → Stage → Stage
-answered known ended store (stage.Landed space number work) = stage.Held (Some number) (carried_out work)
+answered known ended store (stage.Landed space number work) =
+    stage.Held (Some number) (carried_out work)
 answered known ended store (stage.Ended answer) = stage.Held None answer
 answered known true store (stage.Parked space asked) = stage.Held None answer.NoNamespace
-answered known false store (stage.Parked space asked) = stage.Held (Some (known - 1)) (found_for store asked)
+answered known false store (stage.Parked space asked) =
+    stage.Held (Some (known - 1)) (found_for store asked)
 answered known ended store other = other
 
 -- what becomes of a request whose transaction landed
@@ -137,4 +154,5 @@ landed_stage space number other = other
 
 -- a request, once these transactions have landed
 abbrev pub settled : ℕ → ℕ → List Group → Row → Row
-settled space number groups row = if list_any (is_authored row.by) groups then with_stage (landed_stage space number row.stage) row else row
+settled space number groups row = if list_any (is_authored row.by) groups
+    then with_stage (landed_stage space number row.stage) row else row

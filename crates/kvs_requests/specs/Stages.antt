@@ -50,9 +50,11 @@ abbrev pub other_than : Option ℕ → ℕ → Option ℕ
 other_than None count = None
 other_than (Some kept) count = if kept == count then None else Some kept
 
--- the count of the open fence that a request at this stage would join, if that is another than its own
+-- the count of the open fence that a request at this stage would join, if that is another than its
+-- own
 abbrev pub kept_count : SpaceValue → Stage → Option ℕ
-kept_count s (stage.Arrived (ask.Fence name count txn)) = other_than (option_map (λ f. f.count) (fence_of name s.merger.fences)) count
+kept_count s (stage.Arrived (ask.Fence name count txn)) =
+    other_than (option_map (λ f. f.count) (fence_of name s.merger.fences)) count
 kept_count s _ = None
 
 -- what rank 0 does with a request at this stage, by what is asked
@@ -69,7 +71,8 @@ has_ended spaces space broker = option_map_or (has_heard_end broker) (slice_get 
 
 -- whether a request at this stage, with this need, can be answered at its broker
 abbrev pub has_come : List SpaceValue → ℕ → ℕ → Stage → Bool
-has_come spaces broker need (stage.Landed space number work) = nat_lt number (known_at spaces space broker)
+has_come spaces broker need (stage.Landed space number work) =
+    nat_lt number (known_at spaces space broker)
 has_come spaces broker need (stage.Ended answer) = true
 has_come spaces broker need (stage.Parked space asked) =
     nat_lt need (known_at spaces space broker) || has_ended spaces space broker
@@ -77,7 +80,8 @@ has_come spaces broker need _ = false
 
 -- whether the broker can answer the request, or take it up
 abbrev pub may_serve : List SpaceValue → ℕ → Row → Bool
-may_serve spaces broker row = if is_arrived row then broker == 0 else (row.broker == broker) && has_come spaces broker row.need row.stage
+may_serve spaces broker row = if is_arrived row then broker == 0
+    else (row.broker == broker) && has_come spaces broker row.need row.stage
 
 -- whether an answer of this stage waits to be taken
 abbrev pub is_held_stage : Stage → Bool
@@ -87,7 +91,8 @@ is_held_stage _ = false
 abbrev pub is_held : Row → Bool
 is_held row = is_held_stage row.stage
 
--- how often a request at this stage is still served, at most: where it is taken up, and where it is answered
+-- how often a request at this stage is still served, at most: where it is taken up, and where it is
+-- answered
 abbrev pub services_left : Stage → ℕ
 services_left (stage.Arrived ask) = 2
 services_left (stage.Landed space number work) = 1

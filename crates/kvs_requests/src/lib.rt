@@ -1,5 +1,5 @@
-//! The open requests of a key-value service, each with the place where it is: on its way over the links of the broker tree,
-//! at rank 0, waiting to land, or at its broker.
+//! The open requests of a key-value service, each with the place where it is: on its way over the
+//! links of the broker tree, at rank 0, waiting to land, or at its broker.
 #![tactic(auto)]
 
 mod rows;

@@ -49,7 +49,8 @@ pub enum Stage {
         space: usize,
         work: Work,
     },
-    /// What a landing of the namespace carried out under this number; its broker answers once it has heard it.
+    /// What a landing of the namespace carried out under this number; its broker answers once it
+    /// has heard it.
     Landed {
         space: usize,
         number: u64,
@@ -61,7 +62,8 @@ pub enum Stage {
         to: u32,
         answer: KvsAnswer,
     },
-    /// A request on its way back down to its broker, to wait there for the namespace of this place in the table.
+    /// A request on its way back down to its broker, to wait there for the namespace of this place
+    /// in the table.
     Returning {
         from: u32,
         to: u32,
@@ -72,7 +74,8 @@ pub enum Stage {
     Ended {
         answer: KvsAnswer,
     },
-    /// A request that waits at its broker until that has heard the number that it needs, or the namespace's removal.
+    /// A request that waits at its broker until that has heard the number that it needs, or the
+    /// namespace's removal.
     Parked {
         space: usize,
         ask: KvsAsk,
@@ -84,8 +87,8 @@ pub enum Stage {
     },
 }
 
-/// An open request: its command, the command's broker, the namespace that it names, the number that its actor's broker
-/// needs to have heard where it reads or waits, and its stage.
+/// An open request: its command, the command's broker, the namespace that it names, the number that
+/// its actor's broker needs to have heard where it reads or waits, and its stage.
 #[derive(Drop)]
 pub struct Row {
     pub by: By,
@@ -301,8 +304,8 @@ pub fn awaited(ask: &KvsAsk) -> u64
     }
 }
 
-/// Where a new request is: a read or a wait stays at its broker, if that has heard of the namespace, which is at this
-/// place in the table then; anything else goes up to rank 0.
+/// Where a new request is: a read or a wait stays at its broker, if that has heard of the
+/// namespace, which is at this place in the table then; anything else goes up to rank 0.
 pub fn entry(ask: KvsAsk, place: Option<usize>, fanout: u32, broker: u32) -> Stage
     requires fanout { 0 < fanout }
     requires known { IsKnownAsk ask }
@@ -343,7 +346,8 @@ fn vacant() -> Stage
     }
 }
 
-/// Puts a request at another stage. It drops the old one by a call, which costs each proof above less than an assignment.
+/// Puts a request at another stage. It drops the old one by a call, which costs each proof above
+/// less than an assignment.
 fn set_stage(row: &mut Row, stage: Stage)
     ensures { row.new ≡ with_stage stage row.old }
 {
@@ -368,7 +372,8 @@ pub fn put_stage(rows: &mut Vec<Row>, i: usize, stage: Stage)
     set_stage(&mut rows[i], stage);
 }
 
-/// Puts a request that has come to rank 0 at another stage, and gives the transaction that it commits.
+/// Puts a request that has come to rank 0 at another stage, and gives the transaction that it
+/// commits.
 pub fn take_txn(rows: &mut Vec<Row>, i: usize, stage: Stage) -> Txn
     requires within { i < length rows.old.items }
     requires arrived { (d : Row)
@@ -405,7 +410,8 @@ pub struct Joiner {
     pub txn: Txn,
 }
 
-/// Puts a request that has come to rank 0 at another stage, and gives the member of a fence that it brings.
+/// Puts a request that has come to rank 0 at another stage, and gives the member of a fence that it
+/// brings.
 pub fn take_joiner(rows: &mut Vec<Row>, i: usize, stage: Stage) -> Joiner
     requires within { i < length rows.old.items }
     requires arrived { (d : Row) → is_fence_stage (slice_index_or rows.old.items i d).stage ≡ true }
@@ -503,8 +509,8 @@ fn found(ask: KvsAsk, store: &Store) -> Result<KvsAnswer, AllocError>
     }
 }
 
-/// The stage of a request that its broker answers, which knows of so many roots of the namespace, has this store, and may
-/// have heard the namespace's removal.
+/// The stage of a request that its broker answers, which knows of so many roots of the namespace,
+/// has this store, and may have heard the namespace's removal.
 fn answer(stage: Stage, known: u64, ended: bool, store: &Store) -> Result<Stage, AllocError>
     ensures { IfOk result (λ held. held ≡ answered known ended store.now stage) }
 {
@@ -529,8 +535,8 @@ fn answer(stage: Stage, known: u64, ended: bool, store: &Store) -> Result<Stage,
     })
 }
 
-/// Makes the answer of a request, whose broker knows of so many roots of the namespace, has this store, and may have heard
-/// the namespace's removal.
+/// Makes the answer of a request, whose broker knows of so many roots of the namespace, has this
+/// store, and may have heard the namespace's removal.
 pub fn give(
     rows: &mut Vec<Row>,
     i: usize,
@@ -663,7 +669,8 @@ fn sent_back(stage: Stage, fanout: u32, home: u32, space: usize) -> Stage
     }
 }
 
-/// Sends a request that has come to rank 0 back to its broker, to wait there for the namespace of a place in the table.
+/// Sends a request that has come to rank 0 back to its broker, to wait there for the namespace of a
+/// place in the table.
 pub fn send_back(rows: &mut Vec<Row>, i: usize, fanout: u32, space: usize)
     requires within { i < length rows.old.items }
     requires fanout { 0 < fanout }
@@ -676,7 +683,8 @@ pub fn send_back(rows: &mut Vec<Row>, i: usize, fanout: u32, space: usize)
     set_stage(row, sent_back(stage, fanout, home, space));
 }
 
-/// Tells the command of a request that waits to land in the namespace of a place in the table that it is gone.
+/// Tells the command of a request that waits to land in the namespace of a place in the table that
+/// it is gone.
 fn dismiss_row(row: &mut Row, fanout: u32, space: usize)
     requires { 0 < fanout }
     ensures { IsDismissedRow fanout space row.old row.new }
@@ -697,7 +705,8 @@ fn is_joined_in(stage: &Stage, place: usize) -> bool
     }
 }
 
-/// Tells the commands of all requests that wait to land in the namespace of a place in the table that it is gone.
+/// Tells the commands of all requests that wait to land in the namespace of a place in the table
+/// that it is gone.
 pub fn dismiss(rows: &mut Vec<Row>, fanout: u32, space: usize)
     requires { 0 < fanout }
     ensures { AreDismissed fanout space rows.old.items rows.new.items }

@@ -10,7 +10,8 @@ latest heard (n ∷ ns) = latest (max heard n) ns
 
 -- the link to a broker, after a broker has told its children a number
 abbrev pub told : ℕ → ℕ → ℕ → ℕ → List ℕ → List ℕ
-told fanout from number child link = if nat_lt 0 child && (parent fanout child == from) then link ++ number ∷ [] else link
+told fanout from number child link =
+    if nat_lt 0 child && (parent fanout child == from) then link ++ number ∷ [] else link
 
 -- each child of a broker is told a number
 pub record AreTold (fanout from number : ℕ) (old new : List (List ℕ)) : Type 0 where
@@ -20,15 +21,19 @@ pub record AreTold (fanout from number : ℕ) (old new : List (List ℕ)) : Type
 -- the newest number that a broker has heard or will hear is its parent's
 pub record IsAnnounced (fanout : ℕ) (heard : List ℕ) (links : List (List ℕ)) : Type 0 where
   pub same_len : length links ≡ length heard
-  pub newest : (b : ℕ) → 0 < b → b < length heard → latest (slice_index heard b) (link_at links b) ≡ slice_index heard (parent fanout b)
+  pub newest : (b : ℕ) → 0 < b → b < length heard
+      → latest (slice_index heard b) (link_at links b) ≡ slice_index heard (parent fanout b)
 
 -- the same, where one broker is about to hear a number
-pub record IsAnnouncedBut (broker number fanout : ℕ) (heard : List ℕ) (links : List (List ℕ)) : Type 0 where
+pub record IsAnnouncedBut (broker number fanout : ℕ)
+    (heard : List ℕ) (links : List (List ℕ)) : Type 0 where
   pub same_len : length links ≡ length heard
   pub within : broker < length heard
   pub higher : slice_index heard broker < number
-  pub others : (b : ℕ) → 0 < b → b < length heard → b ≢ broker → latest (slice_index heard b) (link_at links b) ≡ slice_index heard (parent fanout b)
-  pub here : 0 < broker → latest number (link_at links broker) ≡ slice_index heard (parent fanout broker)
+  pub others : (b : ℕ) → 0 < b → b < length heard → b ≢ broker
+      → latest (slice_index heard b) (link_at links b) ≡ slice_index heard (parent fanout b)
+  pub here : 0 < broker
+      → latest number (link_at links broker) ≡ slice_index heard (parent fanout broker)
 
 -- the numbers from the old one up to that of the parent
 pub record IsNext (fanout : ℕ) (heard : List ℕ) (broker number : ℕ) : Type 0 where

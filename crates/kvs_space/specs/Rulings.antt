@@ -19,7 +19,8 @@ use Rattle.kvs_space.specs.declared.space.Ruling.TheVariants as ruling
 abbrev pub IsOfFirst : Scope → List Group → Store → Store → Option Refusal → Type 0
 IsOfFirst scope [] old new refusal = ⊥
 IsOfFirst scope (group ∷ rest) old new None = effect old group.txn scope ≡ Ok new
-IsOfFirst scope (group ∷ rest) old new (Some refusal) = (effect old group.txn scope ≡ Err refusal) × (new ≡ old)
+IsOfFirst scope (group ∷ rest) old new (Some refusal) =
+    (effect old group.txn scope ≡ Err refusal) × (new ≡ old)
 
 -- the first of these groups is refused
 abbrev pub IsFirstRefused : Scope → List Group → Store → Refusal → Type 0
@@ -32,7 +33,8 @@ IsStopped scope rest st None = rest ≡ []
 IsStopped scope rest st (Some refusal) = IsFirstRefused scope rest st refusal
 
 -- these groups were taken from the front of those that were ready, and took effect
-pub record HasTaken (scope : Scope) (old new : MergerValue) (before after : Store) (groups : List Group) (refusal : Option Refusal) : Type 0 where
+pub record HasTaken (scope : Scope) (old new : MergerValue)
+    (before after : Store) (groups : List Group) (refusal : Option Refusal) : Type 0 where
   pub queue : old.ready ≡ groups ++ new.ready
   pub fences : new.fences ≡ old.fences
   pub made : after_groups scope groups before ≡ Some after
@@ -46,11 +48,13 @@ pub record IsLanding (number : ℕ) (groups : List Group) (old new : SpaceValue)
   pub next : number ≡ slice_index old.known 0
   pub queue : old.merger.ready ≡ groups ++ new.merger.ready
   pub fences : new.merger.fences ≡ old.merger.fences
-  pub made : (st : Store) × (after_groups (scope_of old.name) groups (slice_index_or old.stores 0 []) ≡ Some st)
+  pub made : (st : Store)
+      × (after_groups (scope_of old.name) groups (slice_index_or old.stores 0 []) ≡ Some st)
   pub history : new.history ≡ old.history ++ groups ∷ []
   pub known : new.known ≡ slice_set old.known 0 (number + 1)
 
--- the namespace is removed under the next number, nothing waits in it any more, and rank 0 has heard it
+-- the namespace is removed under the next number, nothing waits in it any more, and rank 0 has
+-- heard it
 pub record IsRemoving (number : ℕ) (old new : SpaceValue) : Type 0 where
   pub name : new.name ≡ old.name
   pub was : old.removed ≡ false

@@ -14,13 +14,17 @@ use Rattle.kvs_space.specs.Links.{IsAnnounced}
 use Rattle.kvs_space.specs.Space.{SpaceValue, seen, begun, roots_of, members_in}
 
 -- each broker has the store after the landings that it has heard
-pub record AreReplicas (scope : Scope) (first : Store) (history : List (List Group)) (known : List ℕ) (stores : List Store) : Type 0 where
+pub record AreReplicas (scope : Scope) (first : Store)
+    (history : List (List Group)) (known : List ℕ) (stores : List Store) : Type 0 where
   pub same_len : length stores ≡ length known
-  pub each : (b : ℕ) → b < length known → after scope history (seen (slice_index known b) (length history)) first ≡ Some (slice_index_or stores b [])
+  pub each : (b : ℕ) → b < length known → after scope history
+      (seen (slice_index known b) (length history)) first ≡ Some (slice_index_or stores b [])
 
--- the manager's transactions wait in `primary` alone, where each takes effect on rank 0's store, whatever users' come between
+-- the manager's transactions wait in `primary` alone, where each takes effect on rank 0's store,
+-- whatever users' come between
 abbrev pub ArePosted : Name → List Group → Store → Type 0
-ArePosted name ready st = (IsTrue (is_primary name) × AreTaken (posts_in ready) st) ⊎ ((is_primary name ≡ false) × (posts_in ready ≡ []))
+ArePosted name ready st = (IsTrue (is_primary name) × AreTaken (posts_in ready) st)
+    ⊎ ((is_primary name ≡ false) × (posts_in ready ≡ []))
 
 -- a namespace that nothing waits to land in
 abbrev pub idle : MergerValue

@@ -21,7 +21,8 @@ pub record SpaceValue : Type 0 where
   pub history : List (List Group)  -- the landings, each its transactions
   pub known : List ℕ  -- how many of its roots each broker has heard of
   pub stores : List Store  -- the store of each broker
-  pub links : List (List ℕ)  -- the announcements on the way to each broker from the one above it, the oldest first
+  -- the announcements on the way to each broker from the one above it, the oldest first
+  pub links : List (List ℕ)
   pub merger : MergerValue  -- what waits at rank 0 to land
 
 -- the number of the newest root, of so many that are known
@@ -29,7 +30,8 @@ abbrev pub number_of : ℕ → Option ℕ
 number_of zero = None
 number_of (suc number) = Some number
 
--- how many landings the store of a broker has that knows of so many roots; the last root may be a removal, which has none
+-- how many landings the store of a broker has that knows of so many roots; the last root may be a
+-- removal, which has none
 abbrev pub seen : ℕ → ℕ → ℕ
 seen known landed = min (known - 1) landed
 
@@ -51,7 +53,8 @@ name_at spaces space = option_map (λ s. s.name) (slice_get spaces space)
 
 -- how many roots the broker knows of the namespace of this place in the table
 abbrev pub known_at : List SpaceValue → ℕ → ℕ → ℕ
-known_at spaces space broker = option_map_or (λ s. slice_index s.known broker) (slice_get spaces space) 0
+known_at spaces space broker =
+    option_map_or (λ s. slice_index s.known broker) (slice_get spaces space) 0
 
 -- whether the broker has heard the namespace's removal, which is its last root
 abbrev pub has_heard_end : ℕ → SpaceValue → Bool

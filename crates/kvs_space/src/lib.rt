@@ -1,4 +1,5 @@
-//! One namespace of the key-value service at all brokers: rank 0's landings, each broker's store, and the numbers on their way down the tree.
+//! One namespace of the key-value service at all brokers: rank 0's landings, each broker's store,
+//! and the numbers on their way down the tree.
 #![tactic(auto)]
 
 mod links;

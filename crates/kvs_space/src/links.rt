@@ -89,7 +89,8 @@ pub fn hear(
     Ok(())
 }
 
-/// Delivers the oldest number on a link, which the broker hears where it is higher than its own. Gives the number that it has heard then.
+/// Delivers the oldest number on a link, which the broker hears where it is higher than its own.
+/// Gives the number that it has heard then.
 pub fn deliver(
     heard: &mut Vec<u64>,
     links: &mut Vec<Link>,

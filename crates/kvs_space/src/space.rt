@@ -51,8 +51,8 @@ impl<T: Drop> From<AllocFailed<T>> for SpaceFault {
     }
 }
 
-/// A namespace: its landings, how many of its roots each broker has heard of, each broker's store, the announcements on
-/// the way to each broker, and what waits to land.
+/// A namespace: its landings, how many of its roots each broker has heard of, each broker's store,
+/// the announcements on the way to each broker, and what waits to land.
 #[derive(Drop)]
 pub struct Space {
     name: Bytes,
@@ -80,14 +80,16 @@ impl Model for Space {
     } };
 }
 
-/// What rank 0 makes of the transactions that are ready: a landing of one or more, or a denial of the first.
+/// What rank 0 makes of the transactions that are ready: a landing of one or more, or a denial of
+/// the first.
 #[derive(Drop)]
 pub enum Ruling {
     Landed { number: u64, groups: GroupList },
     Denied { group: Group, refusal: Refusal },
 }
 
-/// The transactions that took effect, one behind another, and why the next one did not, if there is one.
+/// The transactions that took effect, one behind another, and why the next one did not, if there is
+/// one.
 #[derive(Drop)]
 struct Taken {
     groups: GroupList,
@@ -112,7 +114,8 @@ fn scope_of(name: &Bytes) -> Scope
     }
 }
 
-/// How many landings the store of a broker has that knows of so many roots. The last root may be a removal, which has none.
+/// How many landings the store of a broker has that knows of so many roots. The last root may be a
+/// removal, which has none.
 fn seen(known: u64, landed: usize) -> u64
     ensures { result ≡ seen known landed }
 {
@@ -205,7 +208,8 @@ fn pop(merger: &mut Merger) -> Group
     }
 }
 
-/// Takes out the groups that are ready, up to the first that is refused behind them, and does their transactions.
+/// Takes out the groups that are ready, up to the first that is refused behind them, and does their
+/// transactions.
 fn take_ready(
     alloc: Global,
     merger: &mut Merger,
@@ -269,8 +273,8 @@ impl Space {
         })
     }
 
-    /// A namespace that is opened, other than `primary`, at so many brokers: rank 0 has heard its first root, and the
-    /// announcements to the brokers below it are on the way.
+    /// A namespace that is opened, other than `primary`, at so many brokers: rank 0 has heard its
+    /// first root, and the announcements to the brokers below it are on the way.
     pub fn opened(alloc: Global, name: Bytes, size: u32, fanout: u32) -> Result<Space, SpaceFault>
         requires size { 1 ≤ size }
         requires fanout { 0 < fanout }
@@ -304,8 +308,9 @@ impl Space {
         })
     }
 
-    /// Removes a namespace other than `primary`: nothing waits in it any more, rank 0 has heard of a last root without a
-    /// store, and the announcements of it are on the way. Gives that root's number.
+    /// Removes a namespace other than `primary`: nothing waits in it any more, rank 0 has heard of
+    /// a last root without a store, and the announcements of it are on the way. Gives that root's
+    /// number.
     pub fn remove(&mut self, alloc: Global, fanout: u32) -> Result<u64, SpaceFault>
         requires sound { (grant : List ℕ) × IsSoundSpace fanout grant self.old }
         requires fanout { 0 < fanout }
@@ -425,7 +430,8 @@ impl Space {
         self.merger.count_of(fence)
     }
 
-    /// Takes a member of the fence of a name that waits for so many. With the last one all of them are ready to land.
+    /// Takes a member of the fence of a name that waits for so many. With the last one all of them
+    /// are ready to land.
     pub fn join(&mut self, fence: &Bytes, count: u32, member: Member) -> Result<(), SpaceFault>
         requires count { (1 ≤ count) × (count ≤ 256) }
         requires same { option_map_or

@@ -33,7 +33,8 @@ enum Asked {
     Wait(u64),
 }
 
-/// What actors ask of `primary`, each in its first command: at which broker, from which number on, and what.
+/// What actors ask of `primary`, each in its first command: at which broker, from which number on,
+/// and what.
 type Posed = (u32, u64, Asked);
 
 const CHAIN: [Posed; 3] = [
@@ -234,7 +235,8 @@ fn begin(alloc: Global, size: u32, fanout: u32) -> Result<Core, Fail>
     Ok(Core::new(alloc, setting, &grant)?)
 }
 
-/// What a commit makes happen: it lands, each broker hears it in order of rank, and its actor is told.
+/// What a commit makes happen: it lands, each broker hears it in order of rank, and its actor is
+/// told.
 fn commit_heard_by(alloc: Global, size: u32) -> Result<Vec<u8>, Fail> {
     let mut text = Vec::new(alloc);
     text.extend_from_slice(b"landed 1, ".as_slice())?;
@@ -356,7 +358,8 @@ fn serve(core: &mut Core) -> Result<(), Fail>
     Ok(())
 }
 
-/// The step of this number, or how many are lacking, once these rows are asked and rank 0 has served one if it is to.
+/// The step of this number, or how many are lacking, once these rows are asked and rank 0 has
+/// served one if it is to.
 fn nth_behind(
     alloc: Global,
     rows: &[Posed],
@@ -411,7 +414,8 @@ fn words_of_held(alloc: Global, held: &kvs_core::Held) -> Result<String, Fail> {
     }
 }
 
-/// What is asked of a namespace by an actor of its own at a broker, and what it is told, with the number.
+/// What is asked of a namespace by an actor of its own at a broker, and what it is told, with the
+/// number.
 type Asking = (u32, &'static str, Asked, &'static str);
 
 const ASKED: [Asking; 18] = [
@@ -531,7 +535,8 @@ fn drawn(seed: &mut u64, bound: u64) -> u64
     (*seed >> 33) % bound
 }
 
-/// An opening, a removal, a commit, a wait, a member of a fence of three, or a read, as it is drawn.
+/// An opening, a removal, a commit, a wait, a member of a fence of three, or a read, as it is
+/// drawn.
 fn drawn_ask(alloc: Global, actor: u32, seed: &mut u64) -> Result<KvsAsk, Fail>
     ensures { IfOk result (λ ask. IsKnownAsk ask) }
 {
@@ -585,7 +590,8 @@ fn turn_some(core: &mut Core, seed: &mut u64) -> Result<(), Fail>
     Ok(())
 }
 
-/// Asks something drawn, of a namespace and at a broker that are drawn, and makes steps that are drawn.
+/// Asks something drawn, of a namespace and at a broker that are drawn, and makes steps that are
+/// drawn.
 fn ask_drawn(alloc: Global, core: &mut Core, actor: u32, seed: &mut u64) -> Result<(), Fail>
     requires ready { core.old.spent ≡ false }
     requires size { core.old.size ≡ 7 }
@@ -666,8 +672,8 @@ fn count_left(core: &mut Core) -> Result<u32, Fail>
     Ok(left)
 }
 
-/// How many of the first commands of forty actors have no answer in the end, the steps being drawn from a seed. A fence
-/// that lacks members gets two more in each namespace.
+/// How many of the first commands of forty actors have no answer in the end, the steps being drawn
+/// from a seed. A fence that lacks members gets two more in each namespace.
 fn count_unanswered(alloc: Global, core: &mut Core, order: u64) -> Result<u32, Fail>
     requires ready { core.old.spent ≡ false }
     requires size { core.old.size ≡ 7 }

@@ -8,7 +8,8 @@ use lists::Bytes;
 use std::alloc::{AllocError, Global};
 use std::test::Fail;
 
-/// Delivers what is on the link between two brokers, if something is, and notes the broker to which it came.
+/// Delivers what is on the link between two brokers, if something is, and notes the broker to which
+/// it came.
 fn deliver(
     rows: &mut Vec<Row>,
     fanout: u32,
@@ -84,7 +85,8 @@ fn is_parked(rows: &Vec<Row>) -> bool {
     }
 }
 
-/// Notes the brokers to which a request comes on its way to rank 0 and back, and `parked` where it waits at its broker then.
+/// Notes the brokers to which a request comes on its way to rank 0 and back, and `parked` where it
+/// waits at its broker then.
 fn follow(rows: &mut Vec<Row>, fanout: u32, way: &mut String) -> Result<(), Fail>
     requires { 0 < fanout }
 {

@@ -72,7 +72,8 @@ pub fn due_events_keep_jobs_sound()
         → IsSound s.grant.nodes (with_event (due_of s.now j deed) s.jobs) }
 {}
 
-/// The same of a list of jobs with no store beside it, which hold resources in time and go on doing so.
+/// The same of a list of jobs with no store beside it, which hold resources in time and go on doing
+/// so.
 pub fn due_events_keep_lists_sound()
     ensures sound { (s : Scene) (j : StoredJob) (deed : Deed) → IsScene s → AreInTime s.jobs
         → IsSound s.grant.nodes s.jobs → IsGrant s.grant.nodes
@@ -145,7 +146,8 @@ pub fn due_posts_keep_stores_sound()
         → effect st (txn_of post) Primary ≡ Ok new → IsSoundStore d.scene.grant.nodes new }
 {}
 
-/// What is due stays due while its command waits, whatever other commands come and go, and whatever other jobs' children do.
+/// What is due stays due while its command waits, whatever other commands come and go, and whatever
+/// other jobs' children do.
 pub fn what_is_due_stays_due()
     ensures events { (s later : Scene) (due : Due) → IsLike s later due.job → StillWaits s later due
         → IsDue s due → IsDue later due }
@@ -155,7 +157,8 @@ pub fn what_is_due_stays_due()
         → IsSubmission later birth more x }
 {}
 
-/// Below `job` stands nothing but jobs: in the first store, and after each user's and each due transaction.
+/// Below `job` stands nothing but jobs: in the first store, and after each user's and each due
+/// transaction.
 pub fn only_jobs_stand_below_job()
     ensures begin { (grant : List ℕ) → HasOnlyJobs (first_store grant) [] }
     ensures users { (st new : Store) (txn : Txn) (ids : List ℕ) → IsUsers txn
@@ -198,7 +201,8 @@ pub fn jobs_of_living_children_keep_their_units()
         × (is_live j.job ≡ true → is_live (made (change_by deed) j.job) ≡ true) }
 {}
 
-/// A command ends at a second that was ahead, or with its child; resources end at such a second or later.
+/// A command ends at a second that was ahead, or with its child; resources end at such a second or
+/// later.
 pub fn jobs_end_at_their_seconds()
     ensures finish { (s : Scene) (j : StoredJob) (status : ℕ) → MayDo s j (Finishes status)
         → (has_shut_child s.asked j.id ≡ true) ⊎ Contains (seconds_of j) s.now }
@@ -206,7 +210,8 @@ pub fn jobs_end_at_their_seconds()
         → (second : ℕ) × Contains (seconds_of j) second × (second ≤ s.now) }
 {}
 
-/// A dependency is removed once all are added and it is met, and a job goes on once all are removed.
+/// A dependency is removed once all are added and it is met, and a job goes on once all are
+/// removed.
 pub fn dependencies_are_removed_once_met()
     ensures removed { (s : Scene) (j : StoredJob) (need : Depend) → MayDo s j (Removes need)
         → Each (λ n. is_added j n ≡ true) j.needs × Contains j.needs need

@@ -1,5 +1,5 @@
-//! What a job manager may do: the jobs of a store, and what is due for them (Flux RFC 16, 21, 25 and 26).
-//! The definitions stand in `specs/`, and the functions of `laws` state their laws.
+//! What a job manager may do: the jobs of a store, and what is due for them (Flux RFC 16, 21, 25
+//! and 26). The definitions stand in `specs/`, and the functions of `laws` state their laws.
 #![tactic(auto)]
 
 pub mod asked;

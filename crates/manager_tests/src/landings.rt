@@ -7,8 +7,9 @@ use lists::{Bytes, ListOf};
 use std::alloc::{AllocError, Global};
 use std::test::Fail;
 
-/// Events that are numbered from 0, each by a letter: `h` for what a broker hears, and for a landing of a transaction of
-/// the job manager's `m`, of a user's `u`, and of both `b`; and the number of the first landing with one of the job manager's.
+/// Events that are numbered from 0, each by a letter: `h` for what a broker hears, and for a
+/// landing of a transaction of the job manager's `m`, of a user's `u`, and of both `b`; and the
+/// number of the first landing with one of the job manager's.
 const ROWS: [(&str, Option<u64>); 7] = [
     ("", None),
     ("u", None),

@@ -1,4 +1,5 @@
-//! Tests of the service of jobs: of `job_manager`, `job_commands`, `job_replies`, `job_submissions`, `job_landings`,
+//! Tests of the service of jobs: of `job_manager`, `job_commands`, `job_replies`,
+//! `job_submissions`, `job_landings`,
 //! `job_clock` and `job_service`.
 #![tactic(auto)]
 

@@ -24,7 +24,8 @@ use tap::{Ask, Tap};
 const GRANT: &str =
     "{\"version\":1,\"execution\":{\"R_lite\":[{\"rank\":\"0-1\",\"children\":{\"core\":\"0-1\"}}],\"nodelist\":[\"a[0-1]\"],\"starttime\":0,\"expiration\":1000}}";
 
-/// Jobs as urgency, slots and command, all submitted at second 5; a second, and the events that the logs have then.
+/// Jobs as urgency, slots and command, all submitted at second 5; a second, and the events that the
+/// logs have then.
 const ROWS: [(&str, u64, &str); 5] = [
     (
         "16 1 true",

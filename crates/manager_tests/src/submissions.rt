@@ -1,4 +1,5 @@
-//! A text that is no jobspec, a submission behind a label that names no job, and what is posted of one that is accepted.
+//! A text that is no jobspec, a submission behind a label that names no job, and what is posted of
+//! one that is accepted.
 ghost use Rattle.std.specs.Prelude.{◌≡◌, IfOk, length};
 ghost use Rattle.job_commands.specs.Agrees.{AreDrawn};
 ghost use Rattle.job_commands.specs.Rows.{AreMarkedBy};
@@ -28,7 +29,8 @@ fn book(alloc: Global) -> Result<Book, Fail> {
     Ok(Book::new(alloc, &grant)?)
 }
 
-/// Texts, whether they come with a dependency on a label that names no job, and why they are refused.
+/// Texts, whether they come with a dependency on a label that names no job, and why they are
+/// refused.
 const FAULTS: [(&str, bool, Option<Fault>); 3] = [
     ("{\"version\":2}", false, Some(Fault::BadSpec(2))),
     (SPEC, false, None),
@@ -74,8 +76,9 @@ fn fault_at(alloc: Global, text: &str, depends: bool) -> Result<Option<Fault>, F
     fault_by(alloc, &book, &named, &text)
 }
 
-/// Jobspecs that the fourth actor submits with urgency 7 at second 5 in an instance that is born at second 3, and what is posted
-/// of them at second 7: the id, which is that of the second of the issue, and the event.
+/// Jobspecs that the fourth actor submits with urgency 7 at second 5 in an instance that is born at
+/// second 3, and what is posted of them at second 7: the id, which is that of the second of the
+/// issue, and the event.
 const ROWS: [(&str, &str); 2] = [
     (
         SPEC,

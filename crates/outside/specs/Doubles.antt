@@ -2,8 +2,8 @@
 use Rattle.std.specs.Prelude.{◌≡◌, ◌⊎◌, [], IsTrue, ℕ, ◌+◌, ◌-◌, ◌^◌, min, List, ◌++◌, length, take, drop, Bool, nat_eq, Result, Ok, Err}
 use Rattle.std.specs.List.{list_any}
 
--- a source: the bytes left, the most that a call gives, the numbers of the calls that fail, and the calls and the faults
--- so far
+-- a source: the bytes left, the most that a call gives, the numbers of the calls that fail, and the
+-- calls and the faults so far
 pub record Supply : Type 0 where
   pub left : List ℕ
   pub most : ℕ

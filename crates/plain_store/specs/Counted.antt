@@ -30,15 +30,19 @@ times test n = if test then n else 0
 
 -- each count is that of the names in its place
 abbrev pub AreCounts : Slots → Counts → Type 0
-AreCounts slots counts = (place : Path) → count_at counts place ≡ length (names_in (store_of slots) place)
+AreCounts slots counts = (place : Path)
+    → count_at counts place ≡ length (names_in (store_of slots) place)
 
 -- a count is kept for the place in which the path lies
 abbrev pub IsCountable : Counts → Path → Type 0
-IsCountable counts path = (place : Path) → IsSome (child_name place path) → IsSome (kept_at counts place)
+IsCountable counts path = (place : Path) → IsSome (child_name place path)
+    → IsSome (kept_at counts place)
 
 -- a count is kept for each place in which a change was
 abbrev pub AreCountable : List Change → Counts → Type 0
-AreCountable log counts = (place : Path) → IsTrue (list_any (λ change. is_some (child_name place change.path.items)) log) → IsSome (kept_at counts place)
+AreCountable log counts = (place : Path)
+    → IsTrue (list_any (λ change. is_some (child_name place change.path.items)) log)
+    → IsSome (kept_at counts place)
 
 -- the slots whose paths are this one or behind it
 abbrev pub from_on : Path → Slots → Slots
@@ -52,4 +56,5 @@ are_outside path (e ∷ slots) = not (is_within path e.0.items) && are_outside p
 -- whether the slots at and below the path stand before all others
 abbrev pub stand_together : Path → Slots → Bool
 stand_together path [] = true
-stand_together path (e ∷ slots) = (is_within path e.0.items || are_outside path slots) && stand_together path slots
+stand_together path (e ∷ slots) =
+    (is_within path e.0.items || are_outside path slots) && stand_together path slots

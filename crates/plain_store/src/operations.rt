@@ -15,8 +15,10 @@ use std::alloc::{AllocError, Global};
 /// Puts a directory at the path, unless one stands there.
 fn make_directory(table: &mut Table, at: &[Bytes]) -> Result<(), AllocError>
     requires { IsInOrder (store_of table.old.slots.entries) }
-    ensures made { OnOk result (store_of table.new.slots.entries ≡ with_node (store_of table.old.slots.entries) at.now Directory) }
-    ensures before { undone table.new.log.items (store_of table.new.slots.entries) ≡ undone table.old.log.items (store_of table.old.slots.entries) }
+    ensures made { OnOk result (store_of table.new.slots.entries
+        ≡ with_node (store_of table.old.slots.entries) at.now Directory) }
+    ensures before { undone table.new.log.items (store_of table.new.slots.entries)
+        ≡ undone table.old.log.items (store_of table.old.slots.entries) }
 {
     if table.is_directory(at) {
         return Ok(());
@@ -27,8 +29,10 @@ fn make_directory(table: &mut Table, at: &[Bytes]) -> Result<(), AllocError>
 /// Puts a directory at each place above the path where none stands.
 fn make_places(table: &mut Table, at: &[Bytes]) -> Result<(), AllocError>
     requires { IsStore (store_of table.old.slots.entries) }
-    ensures made { OnOk result (store_of table.new.slots.entries ≡ with_places_above (store_of table.old.slots.entries) at.now) }
-    ensures before { undone table.new.log.items (store_of table.new.slots.entries) ≡ undone table.old.log.items (store_of table.old.slots.entries) }
+    ensures made { OnOk result (store_of table.new.slots.entries
+        ≡ with_places_above (store_of table.old.slots.entries) at.now) }
+    ensures before { undone table.new.log.items (store_of table.new.slots.entries)
+        ≡ undone table.old.log.items (store_of table.old.slots.entries) }
 {
     let mut count = 0;
     while count < at.len() {
@@ -41,8 +45,10 @@ fn make_places(table: &mut Table, at: &[Bytes]) -> Result<(), AllocError>
 /// Puts an item at the path, in the place of all that stood there and below.
 fn place(table: &mut Table, at: &[Bytes], item: Item) -> Result<(), AllocError>
     requires { IsStore (store_of table.old.slots.entries) }
-    ensures placed { OnOk result (store_of table.new.slots.entries ≡ placed (store_of table.old.slots.entries) at.now (node_of item)) }
-    ensures before { undone table.new.log.items (store_of table.new.slots.entries) ≡ undone table.old.log.items (store_of table.old.slots.entries) }
+    ensures placed { OnOk result (store_of table.new.slots.entries
+        ≡ placed (store_of table.old.slots.entries) at.now (node_of item)) }
+    ensures before { undone table.new.log.items (store_of table.new.slots.entries)
+        ≡ undone table.old.log.items (store_of table.old.slots.entries) }
 {
     if table.is_directory(at) {
         make_places(table, at)?;
@@ -55,7 +61,8 @@ fn place(table: &mut Table, at: &[Bytes], item: Item) -> Result<(), AllocError>
 
 /// The value after an append to what stands at a place.
 fn extended(alloc: Global, old: Option<&Item>, bytes: &Bytes) -> Result<Bytes, AllocError>
-    ensures { IfOk result (λ value. value ≡ appended (option_map node_of (option_copied old.entry)) bytes.now) }
+    ensures { IfOk result
+        (λ value. value ≡ appended (option_map node_of (option_copied old.entry)) bytes.now) }
 {
     match old {
         Some(Item::Value(value)) => {
@@ -72,8 +79,10 @@ fn extended(alloc: Global, old: Option<&Item>, bytes: &Bytes) -> Result<Bytes, A
 /// Does an operation that isn't refused.
 fn change(alloc: Global, table: &mut Table, op: &Op, at: &[Bytes]) -> Result<(), AllocError>
     requires { IsStore (store_of table.old.slots.entries) }
-    ensures changed { OnOk result (store_of table.new.slots.entries ≡ changed (store_of table.old.slots.entries) op.now at.now) }
-    ensures before { undone table.new.log.items (store_of table.new.slots.entries) ≡ undone table.old.log.items (store_of table.old.slots.entries) }
+    ensures changed { OnOk result (store_of table.new.slots.entries
+        ≡ changed (store_of table.old.slots.entries) op.now at.now) }
+    ensures before { undone table.new.log.items (store_of table.new.slots.entries)
+        ≡ undone table.old.log.items (store_of table.old.slots.entries) }
 {
     match op {
         Op::Put { path: _, bytes } => {
@@ -178,7 +187,8 @@ fn overfills(table: &Table, who: Author, op: &Op, at: &[Bytes]) -> bool
 
 /// Whether a child is new in a full directory.
 fn is_new_child(table: &Table, place: &[Bytes], child: &[Bytes]) -> bool
-    ensures { result ≡ (is_none (node_at (store_of table.now.slots.entries) child.now) && nat_le most_names (length (names_in (store_of table.now.slots.entries) place.now))) }
+    ensures { result ≡ (is_none (node_at (store_of table.now.slots.entries) child.now)
+        && nat_le most_names (length (names_in (store_of table.now.slots.entries) place.now))) }
 {
     table.is_free(child) && table.is_full(place)
 }
@@ -212,7 +222,8 @@ fn overfills_directory(table: &Table, op: &Op, at: &[Bytes]) -> bool
 
 /// The first cause that refuses an operation at the path where it works.
 fn refusal(table: &Table, who: Author, space: Scope, op: &Op, at: &[Bytes]) -> Option<Cause>
-    ensures { result ≡ first_cause (refusals (store_of table.now.slots.entries) who space op.now at.now) }
+    ensures { result
+        ≡ first_cause (refusals (store_of table.now.slots.entries) who space op.now at.now) }
 {
     if reserves(who, space, at) {
         return Some(Cause::Reserved);
@@ -254,8 +265,10 @@ pub fn operate(
     op: &Op,
 ) -> Result<Option<Cause>, AllocError>
     requires { IsStore (store_of table.old.slots.entries) }
-    ensures effect { IfOk result (λ why. Gives (op_effect (store_of table.old.slots.entries) who space op.now) why (store_of table.new.slots.entries)) }
-    ensures before { undone table.new.log.items (store_of table.new.slots.entries) ≡ undone table.old.log.items (store_of table.old.slots.entries) }
+    ensures effect { IfOk result (λ why. Gives (op_effect (store_of table.old.slots.entries)
+        who space op.now) why (store_of table.new.slots.entries)) }
+    ensures before { undone table.new.log.items (store_of table.new.slots.entries)
+        ≡ undone table.old.log.items (store_of table.old.slots.entries) }
 {
     let key = key_in(op).as_slice();
     if key.is_empty() {

@@ -50,8 +50,10 @@ fn run(
     space: Scope,
 ) -> Result<Option<Refusal>, AllocError>
     requires { IsStore (store_of table.old.slots.entries) }
-    ensures effect { IfOk result (λ refusal. Answers (effect (store_of table.old.slots.entries) txn.now space) refusal (store_of table.new.slots.entries)) }
-    ensures before { undone table.new.log.items (store_of table.new.slots.entries) ≡ undone table.old.log.items (store_of table.old.slots.entries) }
+    ensures effect { IfOk result (λ refusal. Answers (effect (store_of table.old.slots.entries)
+        txn.now space) refusal (store_of table.new.slots.entries)) }
+    ensures before { undone table.new.log.items (store_of table.new.slots.entries)
+        ≡ undone table.old.log.items (store_of table.old.slots.entries) }
 {
     let mut number = 1u32;
     for op in txn.ops.as_slice() {
@@ -145,7 +147,8 @@ impl Store {
     /// Does a transaction, or answers why it has no effect.
     pub fn apply(&mut self, txn: &Txn, space: Scope) -> Result<(), ApplyFault>
         ensures effect { OnOk result (effect self.old txn.now space ≡ Ok self.new) }
-        ensures refused { IfErr result (λ fault. IsRefusalOf fault (effect self.old txn.now space)) }
+        ensures refused { IfErr result
+            (λ fault. IsRefusalOf fault (effect self.old txn.now space)) }
         ensures kept { OnErr result (self.new ≡ self.old) }
     {
         let alloc = self.alloc;

@@ -1,4 +1,5 @@
-// What stands at each path, with a log by which all changes since the last landing can be undone without memory.
+// What stands at each path, with a log by which all changes since the last landing can be undone
+// without memory.
 ghost use Rattle.std.specs.Prelude.{◌≡◌, ◌++◌, [], nat_le, length, map, filter, is_none, OnOk, IfOk, IsTrue, IsSome, Some, None, option_map};
 ghost use Rattle.std.specs.Option.{option_copied, option_to_list};
 ghost use Rattle.kvs_model.specs.Store.{Path as Places, node_at, names_in, without, is_within, child_name, kind_of};
@@ -67,7 +68,8 @@ type Slots = BTreeMap<Vec<Bytes>, Option<Item>>;
 
 /// The item in the slot of a path.
 fn item_in<'a>(slots: &'a Slots, path: &[Bytes]) -> Option<&'a Item>
-    ensures { option_map node_of (option_copied result) ≡ node_at (store_of slots.now.entries) path.now }
+    ensures { option_map node_of (option_copied result)
+        ≡ node_at (store_of slots.now.entries) path.now }
 {
     let _count = slots.len();
     match slots.get(path) {
@@ -79,8 +81,10 @@ fn item_in<'a>(slots: &'a Slots, path: &[Bytes]) -> Option<&'a Item>
 /// Puts an item, or nothing, into a slot that is there.
 fn replace(slots: &mut Slots, path: Vec<Bytes>, item: Option<Item>)
     requires { IsSome (slot_at slots.old.entries path.items) }
-    ensures store { store_of slots.new.entries ≡ written (store_of slots.old.entries) path.items (option_map node_of item) }
-    ensures slots { (q : Places) → IsSome (slot_at slots.old.entries q) → IsSome (slot_at slots.new.entries q) }
+    ensures store { store_of slots.new.entries
+        ≡ written (store_of slots.old.entries) path.items (option_map node_of item) }
+    ensures slots { (q : Places) → IsSome (slot_at slots.old.entries q)
+        → IsSome (slot_at slots.new.entries q) }
 {
     let done: Result<_, _> = slots.insert(path, item);
     let _old = done.unwrap();
@@ -122,7 +126,8 @@ fn slots_from(slots: &Slots, path: Vec<Bytes>) -> Range<'_, Vec<Bytes>, Option<I
 
 /// The keys at and below a path.
 fn keys_within(alloc: Global, slots: &Slots, path: &[Bytes]) -> Result<Vec<Vec<Bytes>>, AllocError>
-    ensures { IfOk result (λ keys. map (λ k. k.items) keys.items ≡ filter (is_within path.now) (map (λ e. e.0.items) slots.now.entries)) }
+    ensures { IfOk result (λ keys. map (λ k. k.items) keys.items
+        ≡ filter (is_within path.now) (map (λ e. e.0.items) slots.now.entries)) }
 {
     let mut keys = Vec::new(alloc);
     for (key, _) in slots_from(slots, copy_of(alloc, path)?) {
@@ -177,7 +182,8 @@ fn add_line(
     key: &[Bytes],
     slot: &Option<Item>,
 ) -> Result<(), AllocError>
-    ensures { OnOk result (names.new ≡ names.old ++ option_to_list (listing path.now key.now slot.now)) }
+    ensures { OnOk result
+        (names.new ≡ names.old ++ option_to_list (listing path.now key.now slot.now)) }
 {
     match line_of(path, key, slot)? {
         Some(line) => names.push(line),
@@ -200,7 +206,8 @@ impl Table {
 
     /// The names in a directory, in byte order.
     pub fn names(&self, path: &[Bytes]) -> Result<NameList, AllocError>
-        ensures { IfOk result (λ names. names ≡ names_in (store_of self.now.slots.entries) path.now) }
+        ensures { IfOk result
+            (λ names. names ≡ names_in (store_of self.now.slots.entries) path.now) }
     {
         let alloc = *self.log.allocator();
         let start = copy_of(alloc, path)?;
@@ -216,7 +223,8 @@ impl Table {
 
     /// Whether a directory has as many names as it may have.
     pub fn is_full(&self, path: &[Bytes]) -> bool
-        ensures { result ≡ nat_le most_names (length (names_in (store_of self.now.slots.entries) path.now)) }
+        ensures { result
+            ≡ nat_le most_names (length (names_in (store_of self.now.slots.entries) path.now)) }
     {
         2048 <= count_in(&self.counts, path)
     }
@@ -254,7 +262,8 @@ impl Table {
 
     /// The target of the link at the path, if one stands there.
     pub fn link(&self, path: &[Bytes]) -> Option<&Path>
-        ensures { option_copied result ≡ link_target (node_at (store_of self.now.slots.entries) path.now) }
+        ensures { option_copied result
+            ≡ link_target (node_at (store_of self.now.slots.entries) path.now) }
     {
         match self.at(path) {
             Some(Item::Link(target)) => Some(target),
@@ -266,8 +275,10 @@ impl Table {
 
     /// Takes away the path and all that lies below it.
     pub fn cut(&mut self, path: &[Bytes]) -> Result<(), AllocError>
-        ensures cut { OnOk result (store_of self.new.slots.entries ≡ without (store_of self.old.slots.entries) path.now) }
-        ensures before { undone self.new.log.items (store_of self.new.slots.entries) ≡ undone self.old.log.items (store_of self.old.slots.entries) }
+        ensures cut { OnOk result (store_of self.new.slots.entries
+            ≡ without (store_of self.old.slots.entries) path.now) }
+        ensures before { undone self.new.log.items (store_of self.new.slots.entries)
+            ≡ undone self.old.log.items (store_of self.old.slots.entries) }
     {
         let _count = self.slots.len();
         let alloc = *self.log.allocator();
@@ -280,15 +291,18 @@ impl Table {
 
     /// What stands at the path.
     pub fn at(&self, path: &[Bytes]) -> Option<&Item>
-        ensures { option_map node_of (option_copied result) ≡ node_at (store_of self.now.slots.entries) path.now }
+        ensures { option_map node_of (option_copied result)
+            ≡ node_at (store_of self.now.slots.entries) path.now }
     {
         item_in(&self.slots, path)
     }
 
     /// Puts an item at the path, or nothing, and logs what stood there.
     pub fn set(&mut self, path: &[Bytes], item: Option<Item>) -> Result<(), AllocError>
-        ensures set { OnOk result (store_of self.new.slots.entries ≡ written (store_of self.old.slots.entries) path.now (option_map node_of item)) }
-        ensures before { undone self.new.log.items (store_of self.new.slots.entries) ≡ undone self.old.log.items (store_of self.old.slots.entries) }
+        ensures set { OnOk result (store_of self.new.slots.entries
+            ≡ written (store_of self.old.slots.entries) path.now (option_map node_of item)) }
+        ensures before { undone self.new.log.items (store_of self.new.slots.entries)
+            ≡ undone self.old.log.items (store_of self.old.slots.entries) }
     {
         let _count = self.slots.len();
         let alloc = *self.log.allocator();
@@ -305,7 +319,8 @@ impl Table {
 
     /// Takes back all changes that are logged.
     pub fn undo(&mut self)
-        ensures undone { store_of self.new.slots.entries ≡ undone self.old.log.items (store_of self.old.slots.entries) }
+        ensures undone { store_of self.new.slots.entries
+            ≡ undone self.old.log.items (store_of self.old.slots.entries) }
         ensures log { self.new.log.items ≡ [] }
     {
         while let Some(change) = self.log.pop() {

@@ -9,10 +9,12 @@ use kvs_txn::{Found, Query};
 use lists::{Bytes, Copied};
 use std::alloc::{AllocError, Global};
 
-/// How many components a walk along the path passes, up to the first place where no directory stands.
+/// How many components a walk along the path passes, up to the first place where no directory
+/// stands.
 pub fn passed(table: &Table, path: &[Bytes]) -> usize
     ensures bound { result ≤ length path.now }
-    ensures stop { stop (store_of table.now.slots.entries) path.now ≡ record { place = take result path.now; rest = drop result path.now } }
+    ensures stop { stop (store_of table.now.slots.entries) path.now
+        ≡ record { place = take result path.now; rest = drop result path.now } }
 {
     let mut count = 0;
     while count < path.len() {
@@ -24,14 +26,16 @@ pub fn passed(table: &Table, path: &[Bytes]) -> usize
     count
 }
 
-/// The path after the first link on it is followed, if there is one; with `inner`, one in the last place stays.
+/// The path after the first link on it is followed, if there is one; with `inner`, one in the last
+/// place stays.
 fn past_link(
     alloc: Global,
     table: &Table,
     path: &[Bytes],
     inner: bool,
 ) -> Result<Option<Vec<Bytes>>, AllocError>
-    ensures { IfOk result (λ next. option_map (λ v. v.items) next ≡ next_of inner (store_of table.now.slots.entries) path.now) }
+    ensures { IfOk result (λ next. option_map (λ v. v.items) next
+        ≡ next_of inner (store_of table.now.slots.entries) path.now) }
 {
     let count = passed(table, path);
     if inner && count == path.len() {
@@ -50,7 +54,8 @@ pub fn follow(
     path: &[Bytes],
     inner: bool,
 ) -> Result<Option<Vec<Bytes>>, AllocError>
-    ensures { IfOk result (λ end. option_map (λ v. v.items) end ≡ followed (next_of inner (store_of table.now.slots.entries)) most_links path.now) }
+    ensures { IfOk result (λ end. option_map (λ v. v.items) end
+        ≡ followed (next_of inner (store_of table.now.slots.entries)) most_links path.now) }
 {
     let mut here = copy_of(alloc, path)?;
     let mut links = 0u32;
@@ -80,7 +85,8 @@ fn is_of_links(query: Query) -> bool
 
 /// What a query finds where this item stands in the last place.
 fn found_in(table: &Table, query: Query, place: &[Bytes], item: &Item) -> Result<Found, AllocError>
-    ensures { IfOk result (λ found. found ≡ found_at (store_of table.now.slots.entries) query place.now (node_of item.now)) }
+    ensures { IfOk result (λ found. found
+        ≡ found_at (store_of table.now.slots.entries) query place.now (node_of item.now)) }
 {
     match query {
         Query::Get => match item {
@@ -103,7 +109,8 @@ fn found_in(table: &Table, query: Query, place: &[Bytes], item: &Item) -> Result
 
 /// What a reader finds who asks this of the path.
 pub fn look(alloc: Global, table: &Table, query: Query, path: &[Bytes]) -> Result<Found, AllocError>
-    ensures { IfOk result (λ found. found ≡ walk (store_of table.now.slots.entries) query path.now) }
+    ensures { IfOk result
+        (λ found. found ≡ walk (store_of table.now.slots.entries) query path.now) }
 {
     let Some(end) = follow(alloc, table, path, is_of_links(query))? else {
         return Ok(Found::Loop);

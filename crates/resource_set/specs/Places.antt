@@ -18,4 +18,5 @@ abbrev pub IsRankIndex : BTreeMap ℕ ℕ → List Entry → Type 0
 IsRankIndex places entries = (rank : ℕ) → get nat_cmp places rank ≡ place_of (has_rank rank) entries
 
 abbrev pub IsHostIndex : BTreeMap (List ℕ) ℕ → List Node → Type 0
-IsHostIndex places nodes = (name : List ℕ) → get (slice_cmp nat_cmp) places name ≡ place_of (is_named name) nodes
+IsHostIndex places nodes = (name : List ℕ)
+    → get (slice_cmp nat_cmp) places name ≡ place_of (is_named name) nodes

@@ -55,7 +55,8 @@ seconds_at key d = if is_none (get key d) then Some 0 else option_and_then as_na
 
 -- whether the version is 1
 abbrev pub is_version_1 : Data → Bool
-is_version_1 d = option_map_or (λ n. n == 1) (option_and_then as_natural (get (codes "version") d)) false
+is_version_1 d =
+    option_map_or (λ n. n == 1) (option_and_then as_natural (get (codes "version") d)) false
 
 -- the hosts that a hostlist's text spells
 abbrev pub hosts_of : List ℕ → Option (List (List ℕ))
@@ -64,7 +65,8 @@ hosts_of text = if is_none (hosts.first_fault text) then Some (hosts.spelled tex
 -- the hosts of several texts, joined in their order
 abbrev pub all_hosts : Items → Option (List (List ℕ))
 all_hosts no_items = Some []
-all_hosts (item d ds) = option_and_then (λ names. option_map (λ more. names ++ more) (all_hosts ds)) (option_and_then hosts_of (as_str d))
+all_hosts (item d ds) = option_and_then (λ names. option_map (λ more. names ++ more) (all_hosts ds))
+    (option_and_then hosts_of (as_str d))
 
 abbrev pub hosts_at : List ℕ → Data → Option (List (List ℕ))
 hosts_at key d = option_and_then all_hosts (list_at key d)
@@ -103,7 +105,9 @@ or_else (Some rank) later = Some rank
 -- the first rank that an entry has and one before it has, too
 abbrev pub twice_behind : List Entry → List Entry → Option ℕ
 twice_behind before [] = None
-twice_behind before (entry ∷ more) = or_else (find (λ rank. list_any (has_rank rank) before) entry.ranks) (twice_behind (before ++ entry ∷ []) more)
+twice_behind before (entry ∷ more) =
+    or_else (find (λ rank. list_any (has_rank rank) before) entry.ranks)
+    (twice_behind (before ++ entry ∷ []) more)
 
 -- the ranks of all entries in order
 abbrev pub ranks_of : List Entry → List ℕ
@@ -115,7 +119,12 @@ no_entry = record { ranks = []; cores = []; gpus = [] }
 
 -- a host at a rank with the cores and GPUs of an entry
 abbrev pub node_with : Entry → ℕ → List ℕ → Node
-node_with entry rank host = record { rank = rank; host = host; cores = entry.cores; gpus = entry.gpus }
+node_with entry rank host = record {
+  rank = rank;
+  host = host;
+  cores = entry.cores;
+  gpus = entry.gpus;
+}
 
 -- a host at a rank, with the cores and GPUs of the entry that has the rank
 abbrev pub node_at : List Entry → ℕ → List ℕ → Node
@@ -147,7 +156,8 @@ told_count n = min n (2 ^ 32 - 1)
 unfoldable pub nodes_of : List Entry → List (List ℕ) → Result (List Node) RFault
 nodes_of entries names = do
   once ← unless_twice (twice_behind [] entries)
-  ranks ← only_if (length (ranks_of entries) == length names) (HostsDiffer (told_count (length (ranks_of entries))) (told_count (length names))) (ranks_of entries)
+  ranks ← only_if (length (ranks_of entries) == length names) (HostsDiffer
+      (told_count (length (ranks_of entries))) (told_count (length names))) (ranks_of entries)
   only_if (are_distinct names) HostTwice (nodes_with entries ranks names)
 
 -- ---- all of it

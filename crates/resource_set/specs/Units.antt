@@ -37,7 +37,8 @@ units_of nodes = flat_map units_of_node nodes
 
 -- every unit of the first is one of the second
 abbrev pub LiesIn : List Node → List Node → Type 0
-LiesIn part whole = (unit : ResourceUnit) → Contains (units_of part) unit → Contains (units_of whole) unit
+LiesIn part whole = (unit : ResourceUnit) → Contains (units_of part) unit
+    → Contains (units_of whole) unit
 
 -- the units that are left: those of the whole that aren't taken
 abbrev pub IsDifference : List Node → List Node → List Node → Type 0
@@ -65,13 +66,19 @@ without_ids ids taken = filter (λ id. not (list_any (λ t. t == id) taken)) ids
 
 -- a host without the cores and GPUs of another
 abbrev pub without_node : Node → Node → Node
-without_node taken node = record node { cores = without_ids node.cores taken.cores; gpus = without_ids node.gpus taken.gpus }
+without_node taken node = record node {
+  cores = without_ids node.cores taken.cores;
+  gpus = without_ids node.gpus taken.gpus;
+}
 
 -- a host without the units that the nodes have there
 abbrev pub without_nodes : List Node → Node → Node
 without_nodes taken node =
     let there = filter (is_named node.host) taken in
-    record node { cores = without_ids node.cores (flat_map (λ t. t.cores) there); gpus = without_ids node.gpus (flat_map (λ t. t.gpus) there) }
+    record node {
+      cores = without_ids node.cores (flat_map (λ t. t.cores) there);
+      gpus = without_ids node.gpus (flat_map (λ t. t.gpus) there);
+    }
 
 -- whether a host has all ids of another
 abbrev pub has_ids_of : Node → Node → Bool
@@ -87,4 +94,5 @@ one_has_units_of whole part = list_any (λ node. has_units_of node part) whole
 
 -- whether the units of a node, if it has any, are units of one of these
 abbrev pub lies_on : List Node → Node → Bool
-lies_on whole part = (length part.cores == 0 && length part.gpus == 0) || one_has_units_of whole part
+lies_on whole part =
+    (length part.cores == 0 && length part.gpus == 0) || one_has_units_of whole part

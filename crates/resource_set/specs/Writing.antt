@@ -26,10 +26,12 @@ single node = record { ranks = node.rank ∷ []; cores = node.cores; gpus = node
 abbrev pub added : Node → Entry → Entry
 added node entry = record entry { ranks = entry.ranks ++ node.rank ∷ [] }
 
--- the entries with one more host, whose rank is the greatest: in the entry of its cores and GPUs, or in one of its own
+-- the entries with one more host, whose rank is the greatest: in the entry of its cores and GPUs,
+-- or in one of its own
 abbrev pub with_node : List Entry → Node → List Entry
 with_node [] node = single node ∷ []
-with_node (entry ∷ more) node = if fits_in node entry then added node entry ∷ more else entry ∷ with_node more node
+with_node (entry ∷ more) node =
+    if fits_in node entry then added node entry ∷ more else entry ∷ with_node more node
 
 -- the entries of hosts, by their least ranks
 abbrev pub entries_of : List Node → List Entry
@@ -42,7 +44,8 @@ unless_empty key text more = if length text == 0 then more else member key (stri
 -- an entry as a JSON value
 abbrev pub entry_data : Entry → Data
 entry_data entry = object
-    (member (codes "children") (object (member (codes "core") (string (printed entry.cores)) (unless_empty (codes "gpu") (printed entry.gpus) no_members)))
+    (member (codes "children") (object (member (codes "core") (string (printed entry.cores))
+    (unless_empty (codes "gpu") (printed entry.gpus) no_members)))
     (member (codes "rank") (string (printed entry.ranks)) no_members))
 
 -- the entries of hosts as a JSON value
@@ -80,7 +83,11 @@ r_text r = compact_text (data_of r)
 
 -- an entry with the texts of its cores and GPUs
 abbrev pub written : Entry → Group
-written entry = record { ranks = entry.ranks; cores = printed entry.cores; gpus = printed entry.gpus }
+written entry = record {
+  ranks = entry.ranks;
+  cores = printed entry.cores;
+  gpus = printed entry.gpus;
+}
 
 -- a group with one more rank
 abbrev pub with_rank : ℕ → Group → Group
@@ -107,11 +114,14 @@ pub record IsEntrySpelled (entry : Entry) : Type 0 where
 
 -- the text of the hosts' names, where there are any, spells them again
 abbrev pub AreNamesSpelled : List Node → Type 0
-AreNamesSpelled nodes = nodes ≢ [] → hosts_of (canonical (host_names nodes)) ≡ Some (host_names nodes)
+AreNamesSpelled nodes = nodes ≢ []
+    → hosts_of (canonical (host_names nodes)) ≡ Some (host_names nodes)
 
 -- the cores and GPUs of a group as a JSON value, and the group
 abbrev pub children_data : Group → Data
-children_data group = object (member (codes "core") (string group.cores) (unless_empty (codes "gpu") group.gpus no_members))
+children_data group = object
+    (member (codes "core") (string group.cores) (unless_empty (codes "gpu") group.gpus no_members))
 
 abbrev pub group_data : Group → List ℕ → Data
-group_data group ranks = object (member (codes "children") (children_data group) (member (codes "rank") (string (printed ranks)) no_members))
+group_data group ranks = object (member (codes "children")
+    (children_data group) (member (codes "rank") (string (printed ranks)) no_members))

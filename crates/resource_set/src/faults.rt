@@ -19,7 +19,8 @@ pub enum RKey {
     Expiration,
 }
 
-/// Why a text is no R, version 1 (Flux RFC 20). Of several faults the first in this order is answered, want of memory apart.
+/// Why a text is no R, version 1 (Flux RFC 20). Of several faults the first in this order is
+/// answered, want of memory apart.
 #[derive(Clone, Copy, Debug, PartialEq, Eq, Error)]
 pub enum RFault {
     #[error("out of memory")]

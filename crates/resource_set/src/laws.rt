@@ -23,9 +23,11 @@ pub fn entries_stand_in_the_order_of_ranks()
         → IsStrictlyIncreasing (map first_rank (entries_of nodes)) }
 {}
 
-/// Each host stands in exactly one entry, that of its cores and GPUs, and entries have the ranks of hosts alone.
+/// Each host stands in exactly one entry, that of its cores and GPUs, and entries have the ranks of
+/// hosts alone.
 pub fn each_host_stands_in_one_entry()
-    ensures one { (nodes : List Node) → AreHosts nodes → All (StandsInOne (entries_of nodes)) nodes }
+    ensures one { (nodes : List Node) → AreHosts nodes
+        → All (StandsInOne (entries_of nodes)) nodes }
     ensures no_other { (nodes : List Node) → AreHosts nodes
         → ranks_of (entries_of nodes) ≡ map (λ node. node.rank) nodes }
 {}

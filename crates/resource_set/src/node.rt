@@ -25,7 +25,8 @@ impl Copied for Node {
 /// Hosts by rank.
 pub type NodeList = ListOf<Node>;
 
-/// The resources of several hosts (R, version 1, of Flux RFC 20), from a second on and until another; 0 means none.
+/// The resources of several hosts (R, version 1, of Flux RFC 20), from a second on and until
+/// another; 0 means none.
 #[derive(Drop)]
 pub struct Resources {
     pub nodes: NodeList,

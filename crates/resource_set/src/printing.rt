@@ -212,7 +212,8 @@ fn value_of(alloc: Global, r: &Resources) -> Result<Value, AllocError>
     Ok(value)
 }
 
-/// The canonical text of resources (R, version 1, of Flux RFC 20), which is read again as these resources.
+/// The canonical text of resources (R, version 1, of Flux RFC 20), which is read again as these
+/// resources.
 pub fn print(alloc: Global, r: &Resources) -> Result<Vec<u8>, AllocError>
     requires { IsR r.now }
     ensures canonical { IfOk result (λ text. text.items ≡ r_text r.now) }

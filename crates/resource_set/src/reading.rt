@@ -70,10 +70,10 @@ fn resources_in(alloc: Global, value: &Value) -> Result<Resources, RFault>
     executed_in(alloc, object_under(value, "execution", RKey::Execution)?)
 }
 
-/// The resources that a text tells (R, version 1, of Flux RFC 20). Other keys are read over.
-/// The hosts belong to the ranks in order, whatever the order of the entries is.
-/// Of several bad fields the first is answered: `execution`, `R_lite` and its entries from first to last
-/// (`rank`, `children`, `core` and `gpu` of each), `nodelist`, `starttime`, `expiration`.
+/// The resources that a text tells (R, version 1, of Flux RFC 20). Other keys are read over. The
+/// hosts belong to the ranks in order, whatever the order of the entries is. Of several bad fields
+/// the first is answered: `execution`, `R_lite` and its entries from first to last (`rank`,
+/// `children`, `core` and `gpu` of each), `nodelist`, `starttime`, `expiration`.
 pub fn read(alloc: Global, text: &[u8]) -> Result<Resources, RFault>
     ensures found { Gives (λ r. r) result (told text.now) }
     ensures valid { IfOk result IsR }

@@ -78,7 +78,8 @@ fn node_left(
     }
 }
 
-/// The hosts of the first, each without what the second has of it. They stay, also where nothing is left of them, and so do the seconds.
+/// The hosts of the first, each without what the second has of it. They stay, also where nothing is
+/// left of them, and so do the seconds.
 pub fn minus(alloc: Global, a: &Resources, b: &Resources) -> Result<Resources, AllocError>
     requires { AreHosts b.now.nodes }
     ensures left { IfOk result (λ r. r
@@ -183,7 +184,8 @@ fn has_units(node: &Node) -> bool
     node.cores.first().is_some() || node.gpus.first().is_some()
 }
 
-/// Whether every unit of some hosts is one of others. Hosts are sought from the last one that was found on.
+/// Whether every unit of some hosts is one of others. Hosts are sought from the last one that was
+/// found on.
 fn are_within(part: &[Node], whole: &[Node]) -> bool
     requires { AreDistinct (host_names whole.now) }
     ensures { result ≡ list_all (lies_on whole.now) part.now }
@@ -200,7 +202,8 @@ fn are_within(part: &[Node], whole: &[Node]) -> bool
     true
 }
 
-/// Whether every unit of the first is one of the second. It takes no memory: two lists of hosts in one order are walked once.
+/// Whether every unit of the first is one of the second. It takes no memory: two lists of hosts in
+/// one order are walked once.
 pub fn within(a: &Resources, b: &Resources) -> bool
     requires { AreHosts b.now.nodes }
     ensures { IsTrue result ↔ LiesIn a.now.nodes b.now.nodes }

@@ -14,7 +14,8 @@ const J2: &str =
 /// What is told of the first job.
 const PLAIN: &str = "on None false 1 of 1+0 PerSlot(1) for 0: true";
 
-/// What is told of the first job, a part of it, and what stands in its place: the version and the list of resources.
+/// What is told of the first job, a part of it, and what stands in its place: the version and the
+/// list of resources.
 const RESOURCES: [&str; 15] = [
     "on None false 1 of 1+0 PerSlot(1) for 0: true | \"version\":1 | \"version\":1",
     "on None false 1 of 1+0 PerSlot(1) for 0: true | \"version\":1 | \"version\":1.0",

@@ -1,4 +1,5 @@
-//! Tests of resources and what asks for them: of `resource_set`, `job_spec`, `child_grant` and `graph_match`.
+//! Tests of resources and what asks for them: of `resource_set`, `job_spec`, `child_grant` and
+//! `graph_match`.
 #![tactic(auto)]
 
 #[cfg(test)]

@@ -19,4 +19,5 @@ load_of broker number = record { broker = broker; number = number }
 
 -- of two loads of one word the later found no smaller number
 abbrev pub AreRising : List Load → Type 0
-AreRising loads = (i j : ℕ) (a b : Load) → i < j → get_elem? loads i ≡ some a → get_elem? loads j ≡ some b → a.broker ≡ b.broker → a.number ≤ b.number
+AreRising loads = (i j : ℕ) (a b : Load) → i < j → get_elem? loads i ≡ some a
+    → get_elem? loads j ≡ some b → a.broker ≡ b.broker → a.number ≤ b.number

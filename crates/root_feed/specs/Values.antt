@@ -9,7 +9,8 @@ pub record PassValue : Type 0 where
   pub seen : List ℕ
   pub loads : List Load
 
--- a herald: its broker, the number in that broker's word, the number seen of each word, and its loads in order
+-- a herald: its broker, the number in that broker's word, the number seen of each word, and its
+-- loads in order
 pub record HeraldValue : Type 0 where
   pub broker : ℕ
   pub number : ℕ

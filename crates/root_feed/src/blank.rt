@@ -11,8 +11,8 @@ use atomic_table::{Seat, Table};
 use std::alloc::{AllocError, Global};
 use std::marker::Model;
 
-/// The words and the first seat, which have no name yet. Contracts see which table they are, for how many brokers, and at
-/// which brokers there shall be passes.
+/// The words and the first seat, which have no name yet. Contracts see which table they are, for
+/// how many brokers, and at which brokers there shall be passes.
 #[derive(Drop)]
 pub struct Blank {
     table: Table<(), View, usize, Heralds, Global>,
@@ -28,10 +28,16 @@ impl Model for Blank {
 
     ghost Value = { BlankValue };
 
-    ghost view = { λ b. record { table = b.table.shared.table_id; brokers = b.brokers; at = b.at.items } };
+    ghost view = { λ b. record {
+      table = b.table.shared.table_id;
+      brokers = b.brokers;
+      at = b.at.items;
+    } };
 
-    ghost invariant = { λ b. (b.seat.table_id ≡ b.table.shared.table_id) × (b.seat.me ≡ (first_view, [])) × (b.table.shared.key ≡ b.brokers)
-        × (b.table.shared.table_id.words ≡ b.brokers) × (0 < b.brokers) × All (λ rank. rank < b.brokers) b.at.items };
+    ghost invariant = { λ b. (b.seat.table_id ≡ b.table.shared.table_id)
+        × (b.seat.me ≡ (first_view, [])) × (b.table.shared.key ≡ b.brokers)
+        × (b.table.shared.table_id.words ≡ b.brokers)
+        × (0 < b.brokers) × All (λ rank. rank < b.brokers) b.at.items };
 }
 
 /// The feed, a herald for each broker, and a pass for each place that was asked for.
@@ -43,7 +49,8 @@ pub struct Opened<N: FeedName> {
 }
 
 impl Blank {
-    /// Words for 1 to 32 brokers, all 0, and the brokers at which there shall be passes, at most 256.
+    /// Words for 1 to 32 brokers, all 0, and the brokers at which there shall be passes, at most
+    /// 256.
     pub fn new(alloc: Global, brokers: u32, at: &[u32]) -> Result<Blank, AllocError>
         requires brokers { (1 ≤ brokers) × (brokers ≤ 32) }
         requires ranks { All (λ rank. rank < brokers) at.now × (length at.now ≤ 256) }
@@ -61,7 +68,8 @@ impl Blank {
         })
     }
 
-    /// The feed that N names, with its seats, none of which has seen or stored anything. The caller picks the name with
+    /// The feed that N names, with its seats, none of which has seen or stored anything. The caller
+    /// picks the name with
     /// `std::marker::Brand`.
     pub fn open<N: FeedName>(self, alloc: Global) -> Result<Opened<N>, AllocError>
         requires { self.table ≡ N.table }

@@ -113,7 +113,8 @@ impl<N: FeedName> Token<N> {
     pub(crate) fn herald(&mut self, feed: &Feed<N>) -> Token<N>
         requires some { 0 < N.table.words }
         requires maker { self.old.is_maker ≡ true }
-        ensures { (self.new ≡ next_made self.old) × (result ≡ heralded self.old.made self.old.seen) }
+        ensures { (self.new ≡ next_made self.old)
+            × (result ≡ heralded self.old.made self.old.seen) }
     {
         Token {
             seat: feed.table.shared.split_seat::<Makes>(&mut self.seat),

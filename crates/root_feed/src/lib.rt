@@ -1,5 +1,6 @@
-//! The newest root of the main namespace at each broker, as words that are read without a lock. A broker's herald raises its
-//! word, passes look at the words, and notes carry what was seen from one to another.
+//! The newest root of the main namespace at each broker, as words that are read without a lock. A
+//! broker's herald raises its word, passes look at the words, and notes carry what was seen from
+//! one to another.
 #![tactic(auto)]
 
 mod blank;

@@ -7,7 +7,8 @@ ghost use Rattle.root_feed.specs.Values.{new_pass};
 use crate::feed::{Feed, FeedName, Token};
 use std::marker::{Model, PhantomData};
 
-/// The number that a pass found in its broker's word. Only `Pass::look` makes one. Contracts see it as broker and number.
+/// The number that a pass found in its broker's word. Only `Pass::look` makes one. Contracts see it
+/// as broker and number.
 #[derive(Drop)]
 pub struct Seen<N: FeedName> {
     broker: u32,
@@ -46,7 +47,8 @@ pub enum Looked<N: FeedName> {
     Behind { have: u64, need: u64 },
 }
 
-/// What was seen of each broker's word, to be carried elsewhere. Contracts see it as these numbers, by broker.
+/// What was seen of each broker's word, to be carried elsewhere. Contracts see it as these numbers,
+/// by broker.
 #[derive(Drop)]
 pub struct Note<N: FeedName> {
     token: Token<N>,
@@ -69,7 +71,8 @@ impl<N: FeedName> Note<N> {
     }
 }
 
-/// Looks at the word of one broker. Contracts see its broker, what it has seen of each word, and its loads.
+/// Looks at the word of one broker. Contracts see its broker, what it has seen of each word, and
+/// its loads.
 #[derive(Drop)]
 pub struct Pass<N: FeedName> {
     broker: u32,
@@ -97,14 +100,18 @@ impl<N: FeedName> Pass<N> {
         Pass { broker, token }
     }
 
-    /// Loads the broker's word, in one atomic step and without waiting, and says whether it has reached `need`. The number
-    /// is none below one that this pass saw there. It takes no memory.
+    /// Loads the broker's word, in one atomic step and without waiting, and says whether it has
+    /// reached `need`. The number is none below one that this pass saw there. It takes no memory.
     pub fn look(&mut self, feed: &Feed<N>, need: u64) -> Looked<N>
         ensures answer { IsAnswer self.old.broker need result }
         ensures not_back { slice_index self.old.seen self.old.broker ≤ found_by result }
-        ensures loaded { self.new ≡ record self.old { seen = self.new.seen; loads = self.old.loads ++ load_of self.old.broker (found_by result) ∷ [] } }
+        ensures loaded { self.new ≡ record self.old {
+          seen = self.new.seen;
+          loads = self.old.loads ++ load_of self.old.broker (found_by result) ∷ [];
+        } }
         ensures rising { AreRising self.new.loads }
-        ensures later { IsWithin self.old.seen self.new.seen × (slice_index self.new.seen self.old.broker ≡ found_by result) }
+        ensures later { IsWithin self.old.seen self.new.seen
+            × (slice_index self.new.seen self.old.broker ≡ found_by result) }
     {
         let number = self.token.load(feed, self.broker);
         if number < need {
@@ -127,7 +134,8 @@ impl<N: FeedName> Pass<N> {
         }
     }
 
-    /// Joins what was seen elsewhere: of each broker the greater number. It takes no memory and waits for nobody.
+    /// Joins what was seen elsewhere: of each broker the greater number. It takes no memory and
+    /// waits for nobody.
     pub fn hear(&mut self, feed: &Feed<N>, note: Note<N>)
         ensures { self.new ≡ record self.old { seen = greater self.old.seen note } }
     {

@@ -11,8 +11,9 @@ pub struct Load {
     pub number: u64,
 }
 
-/// What a seat knows: the number that it has seen of each broker's word, and its loads in order. A herald knows its broker
-/// and the number in that word. The maker of heralds knows how many it has made. Its values exist in proofs alone.
+/// What a seat knows: the number that it has seen of each broker's word, and its loads in order. A
+/// herald knows its broker and the number in that word. The maker of heralds knows how many it has
+/// made. Its values exist in proofs alone.
 pub struct View {
     pub seen: LinkedList<u64>,
     pub loads: LinkedList<Load>,
@@ -23,7 +24,8 @@ pub struct View {
     pub made: u64,
 }
 
-/// Each word has at most one herald, which knows its number, and no seat has seen more of a word than the word.
+/// Each word has at most one herald, which knows its number, and no seat has seen more of a word
+/// than the word.
 pub struct Heralds;
 
 impl TableRule<(), View, usize> for Heralds {

@@ -26,9 +26,9 @@ pub fn logs_only_grow()
         → KeepsTime set c → IsLegal set c → LogsOnlyGrow set c }
 {}
 
-/// Where time goes on as a run lets it, it goes no further than the advances that are issued let it,
-/// and each of these is one line of the workload. So the seconds of a workload within its limits have
-/// their place in 64 bits.
+/// Where time goes on as a run lets it, it goes no further than the advances that are issued let
+/// it, and each of these is one line of the workload. So the seconds of a workload within its
+/// limits have their place in 64 bits.
 pub fn time_stays_within()
     ensures issued { (set : Setup) (c : List Entry) → IsLegal set c → IsInTime set c
         → second_of set c ≤ set.birth + seconds_issued set.work c }

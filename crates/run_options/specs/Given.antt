@@ -13,7 +13,8 @@ most_digits = 20
 
 -- the number that 1 to 20 decimal digits write, where it is below 2^64
 abbrev pub number_of : List ℕ → Option ℕ
-number_of text = if nat_le (length text) most_digits && is_number text then Some (number_value text) else None
+number_of text = if nat_le (length text) most_digits && is_number text
+    then Some (number_value text) else None
 
 -- a number of brokers: 1 to 32
 abbrev pub as_brokers : ℕ → Option ℕ
@@ -51,13 +52,16 @@ with_journal g = if g.journal then None else Some (record g { journal = true })
 
 -- the option of this name more, where it takes this value
 abbrev pub with_value : Given → List ℕ → List ℕ → Option Given
-with_value g name value = if bytes_eq name (codes "--size") then option_and_then (with_size g) (brokers_of value)
+with_value g name value = if bytes_eq name (codes "--size")
+    then option_and_then (with_size g) (brokers_of value)
     else if bytes_eq name (codes "--fanout") then option_and_then (with_fanout g) (brokers_of value)
     else if bytes_eq name (codes "--hash") then option_and_then (with_hash g) (hash_of value)
-    else if bytes_eq name (codes "--shuffle") then option_and_then (with_shuffle g) (number_of value)
+    else if bytes_eq name (codes "--shuffle")
+    then option_and_then (with_shuffle g) (number_of value)
     else None
 
--- the options: four brokers, two below one, SHA-1 and no drawn order where the words say nothing else
+-- the options: four brokers, two below one, SHA-1 and no drawn order where the words say nothing
+-- else
 abbrev pub options_from : Given → Options
 options_from g = record {
   size = unwrap_or g.size 4;

@@ -17,7 +17,8 @@ wants_value word = not (bytes_eq word (codes "--journal")) && not (list_any is_e
 -- the option that one word gives whole
 abbrev pub with_word : Given → List ℕ → Option Given
 with_word g word = if bytes_eq word (codes "--journal") then with_journal g
-    else if list_any is_equals word then with_value g (before_first is_equals word) (after_first is_equals word)
+    else if list_any is_equals word
+    then with_value g (before_first is_equals word) (after_first is_equals word)
     else None
 
 -- further words, each option in one of them or two, where none is given twice

@@ -1,6 +1,7 @@
 //! The options of a run of a workload, as the words behind `run` spell them.
 //!
-//! Options stand in any order, each at most once. An option with a value is two words, `--name value`, or one,
+//! Options stand in any order, each at most once. An option with a value is two words, `--name
+//! value`, or one,
 //! `--name=value`. The words are read without memory, so that what they are never depends on it.
 #![tactic(auto)]
 

@@ -1,4 +1,5 @@
-//! Commands on keys and on contents, whose messages go over the same links and whose rows wait at the same brokers.
+//! Commands on keys and on contents, whose messages go over the same links and whose rows wait at
+//! the same brokers.
 ghost use Rattle.std.specs.Prelude.{◌≡◌, ◌<◌, ◌+◌, IfOk, OnOk};
 ghost use Rattle.services.specs.Asks.{IsServedAsk};
 ghost use Rattle.service_tests.specs.Open.{IsOpenFrom};

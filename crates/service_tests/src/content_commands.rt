@@ -1,4 +1,5 @@
-//! A story of commands on contents at four brokers, with the answers that are known from the texts that were stored.
+//! A story of commands on contents at four brokers, with the answers that are known from the texts
+//! that were stored.
 ghost use Rattle.std.specs.Prelude.{◌≡◌, ◌<◌, false, true, IfOk, OnOk};
 ghost use Rattle.content_service.specs.Asks.{is_content};
 

@@ -228,7 +228,8 @@ fn walk(rt: &impl Abort, alloc: Global, turns: &[(Act, u32, &str)]) -> Result<()
     Ok(())
 }
 
-/// A content goes up from broker 3, and comes down to others: below 1 it isn't kept while 1 has it dirty.
+/// A content goes up from broker 3, and comes down to others: below 1 it isn't kept while 1 has it
+/// dirty.
 const UP_AND_DOWN: [(Act, u32, &str); 35] = [
     (Act::Flush, 3, "flushed"),
     (Act::Store(Text::Abc), 3, "stored"),
@@ -272,7 +273,8 @@ fn a_content_goes_up_and_comes_down(rt: HostRuntime) -> Result<(), Fail> {
     walk(&rt, rt.alloc(), &UP_AND_DOWN)
 }
 
-/// Rank 0 keeps the bytes that came first. The others are refused on their way and told by the next flush.
+/// Rank 0 keeps the bytes that came first. The others are refused on their way and told by the next
+/// flush.
 const CLASH: [(Act, u32, &str); 24] = [
     (Act::Store(Text::One), 0, "stored +0"),
     (Act::Store(Text::Other), 5, "stored"),
@@ -331,7 +333,8 @@ fn a_content_comes_down_where_it_is_dirty(rt: HostRuntime) -> Result<(), Fail> {
     walk(&rt, rt.alloc(), &CROSSING)
 }
 
-/// What was asked in a drawn run, and how many loads were told bytes, that there are none, or bytes of another reference.
+/// What was asked in a drawn run, and how many loads were told bytes, that there are none, or bytes
+/// of another reference.
 #[derive(Drop)]
 struct Tally {
     asked: Vec<BlobRef>,

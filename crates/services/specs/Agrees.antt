@@ -9,8 +9,8 @@ use Rattle.job_service.specs.Agrees.{AgreesJobs, IsServedBy}
 use Rattle.resource_set.specs.declared.node.Resources.{Resources}
 use Rattle.services.specs.Value.{ServicesValue}
 
--- the jobs with the key-value service, and the contents, stand where one log of the instance leaves them, which has so many
--- brokers in such a tree
+-- the jobs with the key-value service, and the contents, stand where one log of the instance leaves
+-- them, which has so many brokers in such a tree
 pub record AgreesServices (v : ServicesValue) (inst : Instance) (log : Log) : Type 0 where
   pub size : inst.service.size ≡ v.size
   pub fanout : inst.service.fanout ≡ v.fanout
@@ -31,7 +31,9 @@ pub record HaveContentsLog (v : ServicesValue) : Type 0 where
   pub fanout : set.fanout ≡ v.fanout
   pub agrees : AgreesService v.contents set log
 
--- an instance with so many brokers in such a tree, with this hash and this grant, that is born at this second
-pub record IsGiven (inst : Instance) (brokers children : ℕ) (digest : Hash) (grant : Resources) (now : ℕ) : Type 0 where
+-- an instance with so many brokers in such a tree, with this hash and this grant, that is born at
+-- this second
+pub record IsGiven (inst : Instance) (brokers children : ℕ)
+    (digest : Hash) (grant : Resources) (now : ℕ) : Type 0 where
   pub served : IsServedBy inst brokers children grant now
   pub hash : inst.service.hash ≡ digest

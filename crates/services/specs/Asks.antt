@@ -32,26 +32,33 @@ pub record Keeps (old new : ServicesValue) : Type 0 where
   pub counts : KeepsCounts old.jobs new.jobs
 
 -- after some log that agrees the command, which has asked nothing, asks this
-pub record MayAsk (v : ServicesValue) (by : By) (broker : ℕ) (space : Name) (asked : KvsAsk) : Type 0 where
+pub record MayAsk (v : ServicesValue) (by : By) (broker : ℕ)
+    (space : Name) (asked : KvsAsk) : Type 0 where
   pub inst : Instance
   pub log : Log
   pub agrees : AgreesServices v inst log
   pub new : IsNewAsk inst log by broker space asked
 
--- after whatever log agrees the services agree with what the command asks there, which has asked nothing before
+-- after whatever log agrees the services agree with what the command asks there, which has asked
+-- nothing before
 abbrev pub AgreesOnce : ServicesValue → ServicesValue → By → ℕ → ℕ → Name → KvsAsk → Type 0
-AgreesOnce old new by floor broker space asked = (inst : Instance) (log : Log) → AgreesServices old inst log
-    → IsNewAsk inst log by broker space asked → AgreesServices new inst (log ++ Served (Asked by floor) ∷ [])
+AgreesOnce old new by floor broker space asked = (inst : Instance) (log : Log)
+    → AgreesServices old inst log
+    → IsNewAsk inst log by broker space asked
+    → AgreesServices new inst (log ++ Served (Asked by floor) ∷ [])
 
 -- after whatever log agrees the command may be told so, and the services agree with that
-pub record Tells (old new : ServicesValue) (by : By) (number : Option ℕ) (given : KvsAnswer) : Type 0 where
+pub record Tells (old new : ServicesValue) (by : By)
+    (number : Option ℕ) (given : KvsAnswer) : Type 0 where
   pub legal : (inst : Instance) (log : Log) → AgreesServices old inst log
       → IsLegalMoment inst log (Served (Happened (event.Answered by number given)))
   pub agrees : (inst : Instance) (log : Log) → AgreesServices old inst log
       → AgreesServices new inst (log ++ Served (Happened (event.Answered by number given)) ∷ [])
 
--- after whatever log agrees the job command is told so, which its rules allow, and the services agree with that
-pub record Answers (new : ServicesValue) (inst : Instance) (log : Log) (by : By) (given : Reply) (number : Option ℕ) : Type 0 where
+-- after whatever log agrees the job command is told so, which its rules allow, and the services
+-- agree with that
+pub record Answers (new : ServicesValue) (inst : Instance)
+    (log : Log) (by : By) (given : Reply) (number : Option ℕ) : Type 0 where
   pub reply : JobReply
   pub hands : job_reply_of given ≡ Some reply
   pub legal : IsLegalReply inst log by reply number

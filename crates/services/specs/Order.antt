@@ -6,7 +6,7 @@ use Rattle.kvs_core.specs.Order.{all_steps}
 use Rattle.services.specs.Steps.{can_step}
 use Rattle.services.specs.Value.{ServicesValue}
 
--- the steps that can be made, in order: of each link and each broker the step stands once, whether the core or the
--- contents make it
+-- the steps that can be made, in order: of each link and each broker the step stands once, whether
+-- the core or the contents make it
 abbrev pub possible : ServicesValue → List KvsStep
 possible v = filter (can_step v) (all_steps v.size (length v.jobs.manager.core.spaces))

@@ -13,7 +13,8 @@ value_of w = record {
   contents = w.contents;
 }
 
--- services that can go on: both can, both have the brokers and the tree of the instance, and some log leaves each there
+-- services that can go on: both can, both have the brokers and the tree of the instance, and some
+-- log leaves each there
 pub record IsFit (v : ServicesValue) : Type 0 where
   pub jobs : v.jobs.spent ≡ false
   pub contents : v.contents.spent ≡ false

@@ -1,5 +1,5 @@
-//! The services of one instance (Flux RFC 10, 11, 14, 16 and 21): the key-value service with the jobs over it, and the contents.
-//! They stand beside each other over one log.
+//! The services of one instance (Flux RFC 10, 11, 14, 16 and 21): the key-value service with the
+//! jobs over it, and the contents. They stand beside each other over one log.
 #![tactic(auto)]
 
 mod services;

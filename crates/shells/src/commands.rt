@@ -85,9 +85,9 @@ fn ending_of_words(words: &[Bytes], start: u64) -> Ending
     }
 }
 
-/// When and how a job's command ends that starts at this second: `sleep` and a number of one to ten digits so many
-/// seconds later (at most 2^64 - 1), `false` alone at once with status 256, `flux broker` with its instance, and any
-/// other at once.
+/// When and how a job's command ends that starts at this second: `sleep` and a number of one to ten
+/// digits so many seconds later (at most 2^64 - 1), `false` alone at once with status 256, `flux
+/// broker` with its instance, and any other at once.
 #[tactic(auto, unfolding(crate::specs::Endings::ending_of))]
 pub fn ending(spec: &JobSpec, start: u64) -> Ending
     ensures { result ≡ ending_of spec.now start }

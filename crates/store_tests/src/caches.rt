@@ -21,7 +21,8 @@ enum Act {
     HasDirty,
 }
 
-/// How many bytes the content of a value has, which are all this value: those of 0 to 3 are together as many as the limit.
+/// How many bytes the content of a value has, which are all this value: those of 0 to 3 are
+/// together as many as the limit.
 fn size_of(value: u8) -> usize {
     match value {
         0 => UNPINNED_LIMIT as usize - 3,

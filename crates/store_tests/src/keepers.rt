@@ -6,7 +6,8 @@ use std::fs;
 use std::process::Abort;
 use std::test::Fail;
 
-/// A call of a keeper; a reference is named by its content, and so is a root by that of its reference.
+/// A call of a keeper; a reference is named by its content, and so is a root by that of its
+/// reference.
 #[derive(Clone, Copy)]
 enum Ask {
     Put(&'static str, &'static str),

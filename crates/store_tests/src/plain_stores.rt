@@ -93,7 +93,8 @@ fn query_of(verb: &str) -> Query {
     }
 }
 
-/// Does the rows of a table on the first store, and answers whether each gives what stands beside it.
+/// Does the rows of a table on the first store, and answers whether each gives what stands beside
+/// it.
 fn holds(alloc: Global, rows: &[(&str, &str)]) -> Result<bool, Fail> {
     let mut store = Store::first(alloc, &Bytes::of(alloc, b"grant")?)?;
     holds_on(alloc, &mut store, rows)

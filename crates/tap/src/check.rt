@@ -5,8 +5,8 @@ ghost use Rattle.tap.specs.Verdicts.{IsVerdict, JudgesOnce};
 use crate::Ask;
 use std::marker::Model;
 
-/// A kept callback that judges a submission, whose ask has id 0. Contracts see the callback itself, and each call asks for
-/// its condition again, as those of a `Tap` do.
+/// A kept callback that judges a submission, whose ask has id 0. Contracts see the callback itself,
+/// and each call asks for its condition again, as those of a `Tap` do.
 #[derive(Drop)]
 pub struct Check<C> {
     f: C,
@@ -28,8 +28,8 @@ impl<C: Fn(&Ask) -> u32> Check<C> {
         Check { f }
     }
 
-    /// What the callback answers: 0 where the submission may pass, and else the reason, which is 1 to 99. It is the only
-    /// answer that it has, and takes no memory of its own.
+    /// What the callback answers: 0 where the submission may pass, and else the reason, which is 1
+    /// to 99. It is the only answer that it has, and takes no memory of its own.
     pub fn answer(&self, ask: &Ask) -> u32
         requires callable { C.IsAlwaysCallable self.now }
         requires once { JudgesOnce (λ ask n. FnReturnsAt C.Fn self.now ask n) }

@@ -1,4 +1,5 @@
-//! Kept callbacks: the one that gives a waiting job its priority, and the one that judges a submission.
+//! Kept callbacks: the one that gives a waiting job its priority, and the one that judges a
+//! submission.
 #![tactic(auto)]
 
 ghost use Rattle.std.specs.Prelude.{◌≡◌, ℕ};
@@ -10,7 +11,8 @@ mod check;
 pub use check::Check;
 use std::marker::Model;
 
-/// What the callback is told of a job: its id, its urgency of 0 to 31, its user and the cores that it asks for.
+/// What the callback is told of a job: its id, its urgency of 0 to 31, its user and the cores that
+/// it asks for.
 #[derive(Clone, Copy, Debug, PartialEq, Eq)]
 pub struct Ask {
     pub id: u64,
@@ -19,8 +21,8 @@ pub struct Ask {
     pub cores: u64,
 }
 
-/// A kept callback. Contracts see the callback itself. Each call asks again that it may be called and answers once and in
-/// range, since no type can keep that of a closure.
+/// A kept callback. Contracts see the callback itself. Each call asks again that it may be called
+/// and answers once and in range, since no type can keep that of a closure.
 #[derive(Drop)]
 pub struct Tap<F> {
     f: F,
@@ -42,8 +44,8 @@ impl<F: Fn(&Ask) -> u32> Tap<F> {
         Tap { f }
     }
 
-    /// What the callback answers, which is 1 to 4,294,967,294, and the only answer that it has. It takes no memory of its
-    /// own.
+    /// What the callback answers, which is 1 to 4,294,967,294, and the only answer that it has. It
+    /// takes no memory of its own.
     pub fn answer(&self, ask: &Ask) -> u32
         requires callable { F.IsAlwaysCallable self.now }
         requires once { AnswersOnce (λ ask n. FnReturnsAt F.Fn self.now ask n) }

@@ -1,4 +1,5 @@
-//! Tests of the text formats, of digests and streams, and of the tools: of `idset`, `hostlist`, `fluid_ids`, `fl_json`,
+//! Tests of the text formats, of digests and streams, and of the tools: of `idset`, `hostlist`,
+//! `fluid_ids`, `fl_json`,
 //! `event_log`, `fl_digest`, `outside` and `flux_tools`.
 #![tactic(auto)]
 

@@ -8,8 +8,8 @@ use std::sync::{Mutex, Wait};
 use std::test::Fail;
 use std::thread::{self, Threads};
 
-// Makes steps up to a number of them, each the number of its lane. It takes inputs of 100 and more, which are steps. Its
-// memory ends at a number of steps.
+// Makes steps up to a number of them, each the number of its lane. It takes inputs of 100 and more,
+// which are steps. Its memory ends at a number of steps.
 #[derive(Drop)]
 struct Counter {
     made: Vec<u32>,

@@ -24,7 +24,8 @@ use Rattle.tree_objects.specs.declared.reading.Kind.TheVariants as kind
 
 -- whether the version is 1
 abbrev pub is_version_1 : Data → Bool
-is_version_1 d = option_map_or (λ n. n == 1) (option_and_then as_natural (get (codes "ver") d)) false
+is_version_1 d =
+    option_map_or (λ n. n == 1) (option_and_then as_natural (get (codes "ver") d)) false
 
 -- the text under `type`
 abbrev pub type_of : Data → Option (List ℕ)
@@ -81,18 +82,24 @@ pub record TellsList (d : Data) (references : List BlobRef) : Type 0 where
 -- the value tells the object; other keys are read over
 abbrev mutual
   pub Tells : Data → Tree → Type 0
-  Tells d (val bytes) = (content : Data) × IsObject (codes "val") content d × TellsBytes content bytes
-  Tells d (valref references) = (content : Data) × IsObject (codes "valref") content d × TellsList content references
-  Tells d (dir es) = (members : Members) × IsObject (codes "dir") (object members) d × TellEntries members es
-  Tells d (dirref reference) = (content : Data) × IsObject (codes "dirref") content d × TellsList content (reference ∷ [])
-  Tells d (symlink path) = (content : Data) × IsObject (codes "symlink") content d × TellsTarget content path
+  Tells d (val bytes) = (content : Data) × IsObject (codes "val") content d
+      × TellsBytes content bytes
+  Tells d (valref references) = (content : Data) × IsObject (codes "valref") content d
+      × TellsList content references
+  Tells d (dir es) = (members : Members) × IsObject (codes "dir") (object members) d
+      × TellEntries members es
+  Tells d (dirref reference) = (content : Data) × IsObject (codes "dirref") content d
+      × TellsList content (reference ∷ [])
+  Tells d (symlink path) = (content : Data) × IsObject (codes "symlink") content d
+      × TellsTarget content path
 
   -- the members tell the entries
   pub TellEntries : Members → Entries → Type 0
   TellEntries no_members no_entries = ⊤
   TellEntries no_members (entry name tree es) = ⊥
   TellEntries (member key d ms) no_entries = ⊥
-  TellEntries (member key d ms) (entry name tree es) = (key ≡ name) × Tells d tree × TellEntries ms es
+  TellEntries (member key d ms) (entry name tree es) =
+      (key ≡ name) × Tells d tree × TellEntries ms es
 
 -- what a value gives: the object that it tells, or the first fault
 abbrev pub GivesObject : Data → Result Object ObjectFault → Type 0
@@ -101,7 +108,8 @@ GivesObject d (Err NoMemory) = ⊤
 GivesObject d (Err (NotJson fault)) = ⊥
 GivesObject d (Err BadVersion) = is_version_1 d ≡ false
 GivesObject d (Err BadType) = (is_version_1 d ≡ true) × (has_type d ≡ false)
-GivesObject d (Err BadData) = (is_version_1 d ≡ true) × (has_type d ≡ true) × ((tree : Tree) → Tells d tree → ⊥)
+GivesObject d (Err BadData) = (is_version_1 d ≡ true)
+    × (has_type d ≡ true) × ((tree : Tree) → Tells d tree → ⊥)
 
 -- what a text gives: the object that it tells, or the first fault
 abbrev pub Gives : List ℕ → Result Object ObjectFault → Type 0
@@ -112,8 +120,9 @@ Gives text (Err BadType) = (d : Data) × (reading text ≡ Ok d) × GivesObject 
 Gives text (Err BadData) = (d : Data) × (reading text ≡ Ok d) × GivesObject d (Err BadData)
 Gives text (Ok found) = (d : Data) × (reading text ≡ Ok d) × Tells d (tree_of found)
 
--- an object that is read again from its text, as each is whose parts are those of values of the program: bytes are below 256, references whole and,
--- of a value, not none, a path is that of a key, and the names of a directory rise
+-- an object that is read again from its text, as each is whose parts are those of values of the
+-- program: bytes are below 256, references whole and, of a value, not none, a path is that of a
+-- key, and the names of a directory rise
 abbrev mutual
   pub IsReadable : Tree → Type 0
   IsReadable (val bytes) = IsBytes bytes

@@ -1,4 +1,5 @@
-//! Tree objects (Flux RFC 11): values, directories, links and references to blobs, and their JSON texts.
+//! Tree objects (Flux RFC 11): values, directories, links and references to blobs, and their JSON
+//! texts.
 #![tactic(auto)]
 
 pub mod faults;

@@ -14,7 +14,8 @@ use lists::{Bytes, Copied};
 use std::alloc::{AllocError, Global};
 use std::marker::Model;
 
-/// An object: a value or references to its bytes, a directory or the reference of its text, or a link to a path.
+/// An object: a value or references to its bytes, a directory or the reference of its text, or a
+/// link to a path.
 #[cycle(object)]
 #[derive(Drop)]
 pub enum Object {
@@ -47,7 +48,8 @@ impl Model for ObjectMap {
 
     ghost view = { λ m. paired m.names.items m.objects.items };
 
-    ghost invariant = { λ m. (length m.names.items ≡ length m.objects.items) × IsDirectory (paired m.names.items m.objects.items) };
+    ghost invariant = { λ m. (length m.names.items ≡ length m.objects.items)
+        × IsDirectory (paired m.names.items m.objects.items) };
 
     ghost size = { entries_size };
 
@@ -70,7 +72,8 @@ impl ObjectMap {
 
     /// The object under a name. It takes no memory.
     pub fn get(&self, name: &Bytes) -> Option<&Object>
-        ensures { option_map (λ o. tree_of o.now) result ≡ finite.find name_cmp name.now (listed self.now) }
+        ensures { option_map (λ o. tree_of o.now) result
+            ≡ finite.find name_cmp name.now (listed self.now) }
     {
         match self.names.binary_search(name) {
             Ok(place) => Some(&self.objects[place]),
@@ -81,7 +84,8 @@ impl ObjectMap {
     /// Puts an object under a name, in the place of one that is there.
     pub fn put(&mut self, name: &Bytes, object: Object) -> Result<(), AllocError>
         requires { IsUtf8 name.now }
-        ensures put { OnOk result (listed self.new ≡ finite.put name_cmp name.now (tree_of object) (listed self.old)) }
+        ensures put { OnOk result (listed self.new
+            ≡ finite.put name_cmp name.now (tree_of object) (listed self.old)) }
         ensures kept { OnErr result (self.new ≡ self.old) }
     {
         match self.names.binary_search(name) {
@@ -103,7 +107,8 @@ impl ObjectMap {
 
     /// Takes the object under a name out, if there is one. It takes no memory.
     pub fn remove(&mut self, name: &Bytes) -> Option<Object>
-        ensures taken { option_map tree_of result ≡ finite.find name_cmp name.now (listed self.old) }
+        ensures taken { option_map tree_of result
+            ≡ finite.find name_cmp name.now (listed self.old) }
         ensures rest { listed self.new
             ≡ finite.where_key name_cmp (λ other. not (eq_by_cmp name_cmp name.now other))
             (listed self.old) }
@@ -119,7 +124,8 @@ impl ObjectMap {
 
     /// Adds an object under a name behind the others.
     pub(crate) fn push(&mut self, name: Bytes, object: Object) -> Result<(), AllocError>
-        requires sorted { IsTrue (finite.is_sorted name_cmp (listed self.old ++ (name, tree_of object) ∷ [])) }
+        requires sorted { IsTrue
+            (finite.is_sorted name_cmp (listed self.old ++ (name, tree_of object) ∷ [])) }
         requires text { IsUtf8 name }
         ensures added { OnOk result (self.new ≡ with_last self.old name (tree_of object)) }
         ensures kept { OnErr result (self.new ≡ self.old) }

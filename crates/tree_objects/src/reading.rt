@@ -273,8 +273,9 @@ fn entries_in(alloc: Global, members: &Map<String, Value>) -> Result<ObjectMap, 
     Ok(entries)
 }
 
-/// The object that a text tells (Flux RFC 11), or the first fault: `NotJson`, `BadVersion`, `BadType`, `BadData`.
-/// Other keys are read over. A directory in which an object has a fault is `BadData`.
+/// The object that a text tells (Flux RFC 11), or the first fault: `NotJson`, `BadVersion`,
+/// `BadType`, `BadData`. Other keys are read over. A directory in which an object has a fault is
+/// `BadData`.
 pub fn read(alloc: Global, text: &[u8]) -> Result<Object, ObjectFault>
     ensures { Gives text.now result }
 {

@@ -157,8 +157,8 @@ fn has_flat(alloc: Global, directory: &ObjectMap) -> bool
     true
 }
 
-/// The directory whose stored text this is, if it is found at once. That it is the text's is seen by
-/// its own text, so nothing is asked of the way in which it was found.
+/// The directory whose stored text this is, if it is found at once. That it is the text's is seen
+/// by its own text, so nothing is asked of the way in which it was found.
 pub(crate) fn at_once(alloc: Global, text: &[u8]) -> Option<Object>
     ensures { IfSome result (λ found. Gives text.now (Ok found)) }
 {

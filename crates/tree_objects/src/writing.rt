@@ -81,7 +81,8 @@ fn add_target(alloc: Global, out: &mut Writer, path: &Path) -> Result<(), AllocE
 /// Adds an object.
 #[cycle(written)]
 pub(crate) fn add_object(alloc: Global, out: &mut Writer, object: &Object) -> Result<(), AllocError>
-    ensures written { OnOk result (Adds out.old out.new (tokens_of (tree_data (tree_of object.now)))) }
+    ensures written { OnOk result
+        (Adds out.old out.new (tokens_of (tree_data (tree_of object.now)))) }
     ensures names { OnOk result (HasTextNames (tree_of object.now)) }
 {
     begin(out)?;
@@ -112,7 +113,8 @@ pub(crate) fn add_object(alloc: Global, out: &mut Writer, object: &Object) -> Re
 /// Adds the data of a directory.
 #[cycle(written)]
 fn add_members(alloc: Global, out: &mut Writer, map: &ObjectMap) -> Result<(), AllocError>
-    ensures written { OnOk result (Adds out.old out.new (tokens_of (object (entries_data map.now)))) }
+    ensures written { OnOk result
+        (Adds out.old out.new (tokens_of (object (entries_data map.now)))) }
     ensures names { OnOk result (HaveTextNames map.now) }
 {
     map.is_directory();

@@ -1,5 +1,6 @@
-//! How the content of a key-value store is stored (Flux RFC 11): its objects and their texts, the references of these,
-//! and what a walk needs of them. The definitions stand in `specs/`, and the functions below state their laws.
+//! How the content of a key-value store is stored (Flux RFC 11): its objects and their texts, the
+//! references of these, and what a walk needs of them. The definitions stand in `specs/`, and the
+//! functions below state their laws.
 #![tactic(auto)]
 
 ghost use Rattle.std.specs.Prelude.{◌≡◌, ◌++◌, ◌∷◌, [], List, ℕ, Some, true, IsTrue, Contains};
@@ -13,7 +14,8 @@ ghost use Rattle.tree_rules.specs.Needs.{needs};
 ghost use Rattle.tree_rules.specs.Held.{Table, Keeps, IsRootOf};
 ghost use Rattle.tree_rules.specs.Names.{name_cmp};
 
-/// In the text of a directory each name has the object of its path in the store, and the names rise.
+/// In the text of a directory each name has the object of its path in the store, and the names
+/// rise.
 pub fn a_directory_has_the_objects_of_its_paths()
     ensures found { (hash : Hash) (st : Store) (path : Path) (name : Name) → IsStore st
         → finite.find name_cmp name (objects_in path (objects hash st))

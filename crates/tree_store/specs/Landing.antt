@@ -19,20 +19,27 @@ abbrev pub opening : Option (List ℕ) → Store
 opening (Some grant) = first_store grant
 opening None = empty_store
 
--- contents are added behind those that there were, which are blobs of this store; none where there is no store
-abbrev pub AddsAtMost : Hash → List (BlobRef × List ℕ) → List (BlobRef × List ℕ) → Result Store Refusal → Type 0
-AddsAtMost hash before after (Ok st) = Adds hash st (table before) (table after) × (more : List (BlobRef × List ℕ)) × (after ≡ before ++ more)
+-- contents are added behind those that there were, which are blobs of this store; none where there
+-- is no store
+abbrev pub AddsAtMost : Hash → List (BlobRef × List ℕ)
+    → List (BlobRef × List ℕ) → Result Store Refusal → Type 0
+AddsAtMost hash before after (Ok st) = Adds hash st (table before) (table after)
+    × (more : List (BlobRef × List ℕ)) × (after ≡ before ++ more)
 AddsAtMost hash before after (Err refusal) = after ≡ before
 
 -- a fault that is a clash is one of this store; no other than want of memory
 abbrev pub IsClashIn : Hash → Store → Table → TreeFault → Type 0
 IsClashIn hash st table NoMemory = ⊤
 IsClashIn hash st table (Refused refusal) = ⊥
-IsClashIn hash st table (Clash reference kept offered) = IsClash hash st table reference kept offered
+IsClashIn hash st table (Clash reference kept offered) =
+    IsClash hash st table reference kept offered
 
 -- what becomes of the blobs where this store is wanted, or where there is none for this reason
-abbrev pub Leaves : Hash → List (BlobRef × List ℕ) → List (BlobRef × List ℕ) → Result Store Refusal → Result BlobRef TreeFault → Type 0
-Leaves hash before after wanted (Ok root) = (st : Store) × (wanted ≡ Ok st) × IsRootOf hash (table after) root st × AddsAtMost hash before after (Ok st)
+abbrev pub Leaves : Hash → List (BlobRef × List ℕ)
+    → List (BlobRef × List ℕ) → Result Store Refusal → Result BlobRef TreeFault → Type 0
+Leaves hash before after wanted (Ok root) = (st : Store)
+    × (wanted ≡ Ok st) × IsRootOf hash (table after) root st × AddsAtMost hash before after (Ok st)
 Leaves hash before after wanted (Err NoMemory) = AddsAtMost hash before after wanted
 Leaves hash before after wanted (Err (Refused refusal)) = (wanted ≡ Err refusal) × (after ≡ before)
-Leaves hash before after wanted (Err (Clash reference kept offered)) = (st : Store) × (wanted ≡ Ok st) × IsClash hash st (table before) reference kept offered × (after ≡ before)
+Leaves hash before after wanted (Err (Clash reference kept offered)) = (st : Store)
+    × (wanted ≡ Ok st) × IsClash hash st (table before) reference kept offered × (after ≡ before)

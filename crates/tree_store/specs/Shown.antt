@@ -47,7 +47,8 @@ above (name ∷ rest) = Some (split_last name rest)
 
 -- the object under a name of an open directory
 abbrev pub object_in : Directories → Path × Name → Option Tree
-object_in directories at = option_and_then (λ es. finite.find name_cmp at.1 (listed es)) (opened_at directories at.0)
+object_in directories at =
+    option_and_then (λ es. finite.find name_cmp at.1 (listed es)) (opened_at directories at.0)
 
 -- the object at a path below the root, if the directory above is open and has the name
 abbrev pub object_at : Directories → Path → Option Tree
@@ -75,11 +76,14 @@ HasBlob hash table bytes = table (reference_of hash bytes) ≡ Some bytes
 
 -- the table has the texts and the long values of all that stands at a path and below
 pub record HasBelow (hash : Hash) (table : Table) (st : Store) (path : Path) : Type 0 where
-  pub texts : (place : Path) → is_within path place ≡ true → node_at st place ≡ Some Directory → HasBlob hash table (directory_text hash st place)
-  pub values : (place : Path) (bytes : List ℕ) → is_within path place ≡ true → node_at st place ≡ Some (Value bytes) → is_long bytes ≡ true → HasBlob hash table bytes
+  pub texts : (place : Path) → is_within path place ≡ true
+      → node_at st place ≡ Some Directory → HasBlob hash table (directory_text hash st place)
+  pub values : (place : Path) (bytes : List ℕ) → is_within path place ≡ true
+      → node_at st place ≡ Some (Value bytes) → is_long bytes ≡ true → HasBlob hash table bytes
 
 -- a long value, which stands by its reference
-pub record IsLongValue (hash : Hash) (table : Table) (st : Store) (path : Path) (references : List BlobRef) : Type 0 where
+pub record IsLongValue (hash : Hash) (table : Table)
+    (st : Store) (path : Path) (references : List BlobRef) : Type 0 where
   pub bytes : List ℕ
   pub value : node_at st path ≡ Some (Value bytes)
   pub long : is_long bytes ≡ true
@@ -87,43 +91,55 @@ pub record IsLongValue (hash : Hash) (table : Table) (st : Store) (path : Path) 
   pub held : HasBlob hash table bytes
 
 -- a directory that isn't open, which stands by its reference
-pub record IsClosed (hash : Hash) (table : Table) (directories : Directories) (st : Store) (path : Path) (reference : BlobRef) : Type 0 where
+pub record IsClosed (hash : Hash) (table : Table) (directories : Directories)
+    (st : Store) (path : Path) (reference : BlobRef) : Type 0 where
   pub directory : node_at st path ≡ Some Directory
   pub named : reference ≡ directory_reference hash st path
   pub closed : opened_at directories path ≡ None
   pub held : HasBelow hash table st path
 
--- the object, if there is one, stands for what the store has at a path: an open directory is one without names here
+-- the object, if there is one, stands for what the store has at a path: an open directory is one
+-- without names here
 abbrev pub Stands : Hash → Table → Directories → Store → Path → Option Tree → Type 0
 Stands hash table directories st path None = node_at st path ≡ None
 Stands hash table directories st path (Some (val bytes)) = node_at st path ≡ Some (Value bytes)
-Stands hash table directories st path (Some (valref references)) = IsLongValue hash table st path references
-Stands hash table directories st path (Some (dir es)) = (node_at st path ≡ Some Directory) × IsSome (opened_at directories path)
-Stands hash table directories st path (Some (dirref reference)) = IsClosed hash table directories st path reference
+Stands hash table directories st path (Some (valref references)) =
+    IsLongValue hash table st path references
+Stands hash table directories st path (Some (dir es)) =
+    (node_at st path ≡ Some Directory) × IsSome (opened_at directories path)
+Stands hash table directories st path (Some (dirref reference)) =
+    IsClosed hash table directories st path reference
 Stands hash table directories st path (Some (symlink target)) = node_at st path ≡ Some (Link target)
 
 -- the open directories show a store, whose other directories and long values the table has
-pub record Shows (hash : Hash) (table : Table) (directories : Directories) (st : Store) : Type 0 where
+pub record Shows (hash : Hash) (table : Table) (directories : Directories)
+    (st : Store) : Type 0 where
   pub store : IsStore st
   pub storable : IsStorable st
   pub rooted : IsSome (opened_at directories root)
-  pub places : (path : Path) → IsSome (opened_at directories path) → node_at st path ≡ Some Directory
-  pub told : (path : Path) (es : Entries) (name : Name) → opened_at directories path ≡ Some es → Stands hash table directories st (path ++ name ∷ []) (finite.find name_cmp name (listed es))
-  pub above : (path : Path) (name : Name) → IsSome (opened_at directories (path ++ name ∷ [])) → IsSome (opened_at directories path)
+  pub places : (path : Path) → IsSome (opened_at directories path)
+      → node_at st path ≡ Some Directory
+  pub told : (path : Path) (es : Entries) (name : Name) → opened_at directories path ≡ Some es
+      → Stands hash table directories st (path ++ name ∷ []) (finite.find name_cmp name (listed es))
+  pub above : (path : Path) (name : Name) → IsSome (opened_at directories (path ++ name ∷ []))
+      → IsSome (opened_at directories path)
 
 -- the reference is that of a directory of a store, whose text the table has
-pub record IsDirectoryOf (hash : Hash) (table : Table) (st : Store) (path : Path) (reference : BlobRef) : Type 0 where
+pub record IsDirectoryOf (hash : Hash) (table : Table)
+    (st : Store) (path : Path) (reference : BlobRef) : Type 0 where
   pub store : IsStore st
   pub storable : IsStorable st
   pub held : table reference ≡ Some (directory_text hash st path)
 
 -- the same of some directory of some store
 abbrev pub IsOfDirectory : Table → BlobRef → Type 0
-IsOfDirectory table reference = (hash : Hash) × (st : Store) × (path : Path) × IsDirectoryOf hash table st path reference
+IsOfDirectory table reference = (hash : Hash) × (st : Store)
+    × (path : Path) × IsDirectoryOf hash table st path reference
 
 -- all directories of the store above a path are open
 abbrev pub OpensAbove : Directories → Store → Path → Type 0
-OpensAbove directories st path = (k : ℕ) → k < length path → node_at st (take k path) ≡ Some Directory → IsSome (opened_at directories (take k path))
+OpensAbove directories st path = (k : ℕ) → k < length path
+    → node_at st (take k path) ≡ Some Directory → IsSome (opened_at directories (take k path))
 
 -- a directory stands above the path
 abbrev pub IsInDirectory : Store → Path → Type 0
@@ -131,7 +147,8 @@ IsInDirectory st path = (at : Path × Name) → above path ≡ Some at → node_
 
 -- the store that is wanted is shown, or this is why there is none
 abbrev pub Gives : {E : Type 0} → Hash → Table → Result Store E → Option E → Directories → Type 0
-Gives hash table wanted None directories = (st : Store) × (wanted ≡ Ok st) × Shows hash table directories st
+Gives hash table wanted None directories =
+    (st : Store) × (wanted ≡ Ok st) × Shows hash table directories st
 Gives hash table wanted (Some why) directories = wanted ≡ Err why
 
 -- some store is shown
@@ -140,7 +157,8 @@ IsShown table directories = (hash : Hash) × (st : Store) × Shows hash table di
 
 -- an object as it stands in the text of a directory: a long value by its reference
 abbrev pub shortened : Hash → Tree → Tree
-shortened hash (val bytes) = if is_long bytes then valref (reference_of hash bytes ∷ []) else val bytes
+shortened hash (val bytes) = if is_long bytes then valref (reference_of hash bytes ∷ [])
+    else val bytes
 shortened hash (valref references) = valref references
 shortened hash (dir es) = dir es
 shortened hash (dirref reference) = dirref reference
@@ -162,28 +180,35 @@ shortened_at hash (suc index) (entry name tree es) = entry name tree (shortened_
 -- with this object at a path whose directory above is open
 abbrev pub put_in : Directories → Path × Name → Tree → Option Entries → Directories
 put_in directories at tree None = directories
-put_in directories at tree (Some es) = finite.put path_cmp at.0 (entries_of (finite.put name_cmp at.1 tree (listed es))) directories
+put_in directories at tree (Some es) =
+    finite.put path_cmp at.0 (entries_of (finite.put name_cmp at.1 tree (listed es))) directories
 
 abbrev pub with_object : Directories → Path → Tree → Directories
-with_object directories path tree = option_map_or (λ at. put_in directories at tree (opened_at directories at.0)) (above path) directories
+with_object directories path tree = option_map_or
+    (λ at. put_in directories at tree (opened_at directories at.0)) (above path) directories
 
 -- without the object at a path whose directory above is open
 abbrev pub take_from : Directories → Path × Name → Option Entries → Directories
 take_from directories at None = directories
-take_from directories at (Some es) = finite.put path_cmp at.0 (entries_of (finite.where_key name_cmp (λ other. not (eq_by_cmp name_cmp at.1 other)) (listed es))) directories
+take_from directories at (Some es) = finite.put path_cmp at.0 (entries_of (finite.where_key name_cmp
+    (λ other. not (eq_by_cmp name_cmp at.1 other)) (listed es))) directories
 
 abbrev pub without_object : Directories → Path → Directories
-without_object directories path = option_map_or (λ at. take_from directories at (opened_at directories at.0)) (above path) directories
+without_object directories path = option_map_or
+    (λ at. take_from directories at (opened_at directories at.0)) (above path) directories
 
 -- without the open directories at and below a path
 abbrev pub closed_within : Directories → Path → Directories
-closed_within directories path = finite.where_key path_cmp (λ place. not (is_within path place)) directories
+closed_within directories path =
+    finite.where_key path_cmp (λ place. not (is_within path place)) directories
 
 -- with one more open directory, below the root
 abbrev pub with_open : Directories → Path → Entries → Directories
-with_open directories path es = finite.put path_cmp path es (with_object directories path (dir no_entries))
+with_open directories path es =
+    finite.put path_cmp path es (with_object directories path (dir no_entries))
 
--- the path after each link before its last place is followed, and none where that takes more than so many links
+-- the path after each link before its last place is followed, and none where that takes more than
+-- so many links
 unfoldable pub followed : Store → ℕ → Path → Option Path
 followed st n path = follow (past_inner_link st) n path
 
@@ -197,7 +222,8 @@ link_target (Some (Link target)) = Some target
 -- why bytes of this length are refused as a user's
 abbrev pub too_long : Author → List ℕ → Option Cause
 too_long author.Manager bytes = None
-too_long (author.User id) bytes = if nat_lt most_bytes (length bytes) then Some cause.ValueFull else None
+too_long (author.User id) bytes =
+    if nat_lt most_bytes (length bytes) then Some cause.ValueFull else None
 
 -- why an append to what stands at a place is refused
 abbrev pub append_cause : Author → Option Node → List ℕ → Option Cause
@@ -217,7 +243,8 @@ IsNodeOf (symlink target) node = node ≡ Link target
 -- the long values that stand whole in entries
 abbrev pub long_values : Entries → List (List ℕ)
 long_values no_entries = []
-long_values (entry name (val bytes) es) = (if is_long bytes then bytes ∷ [] else []) ++ long_values es
+long_values (entry name (val bytes) es) =
+    (if is_long bytes then bytes ∷ [] else []) ++ long_values es
 long_values (entry name (valref references) es) = long_values es
 long_values (entry name (dir inner) es) = long_values es
 long_values (entry name (dirref reference) es) = long_values es

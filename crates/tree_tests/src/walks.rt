@@ -1,4 +1,5 @@
-// Walks over a cache that is filled with what they need, in a small store and after drawn transactions.
+// Walks over a cache that is filled with what they need, in a small store and after drawn
+// transactions.
 use crate::drawn::{key, land, value, word};
 use blob_store::BlobStore;
 use cache_node::CacheNode;
@@ -41,7 +42,8 @@ const OPERATIONS: [(&str, &str, &str); 20] = [
     ("mkdir", "none", ""),
 ];
 
-/// What is asked of which key, what is found, and the places whose contents are needed, in their order.
+/// What is asked of which key, what is found, and the places whose contents are needed, in their
+/// order.
 type Walk = (Query, &'static str, &'static [u8], &'static [&'static str]);
 
 /// Walks in the small store.
@@ -185,7 +187,8 @@ fn fill_all(cache: &mut CacheNode, blobs: &BlobStore) -> Result<(), Fail> {
     Ok(())
 }
 
-/// Goes on with a walk, and drops all that isn't pinned. A content that is missing is noted, and made clean.
+/// Goes on with a walk, and drops all that isn't pinned. A content that is missing is noted, and
+/// made clean.
 fn step(
     cursor: &mut Cursor,
     cache: &mut CacheNode,
@@ -278,7 +281,8 @@ fn tells_so(
     Ok(text.as_slice() == walk.2 && needs.as_slice() == references.as_slice())
 }
 
-/// Whether a walk does so from an empty cache, in which nothing stays pinned, and from one of all contents.
+/// Whether a walk does so from an empty cache, in which nothing stays pinned, and from one of all
+/// contents.
 fn does_so(alloc: Global, blobs: &BlobStore, root: BlobRef, walk: Walk) -> Result<bool, Fail> {
     let mut cache = CacheNode::new(alloc)?;
     let cold = tells_so(alloc, blobs, &mut cache, root, walk, walk.3)?;
@@ -312,7 +316,8 @@ fn walks_need_their_contents_in_order(rt: HostRuntime) -> Result<(), Fail> {
     Ok(())
 }
 
-/// What a walk to a value at the top of the small store tells: whether it is missing the root's text.
+/// What a walk to a value at the top of the small store tells: whether it is missing the root's
+/// text.
 fn misses_root(cursor: &mut Cursor, cache: &mut CacheNode, root: BlobRef) -> Result<bool, Fail> {
     Ok(match cursor.advance(cache)? {
         Advance::Done(_) => false,
@@ -330,7 +335,8 @@ fn dirty_root(alloc: Global, cache: &mut CacheNode) -> Result<BlobRef, Fail> {
     Ok(root)
 }
 
-/// Whether the root's text is missing while it is dirty, and no more once it is clean, and stays until the end.
+/// Whether the root's text is missing while it is dirty, and no more once it is clean, and stays
+/// until the end.
 fn reads_clean_alone(alloc: Global, cache: &mut CacheNode) -> Result<bool, Fail> {
     let root = dirty_root(alloc, cache)?;
     let path = Path::read(alloc, "a")?;
@@ -380,7 +386,8 @@ fn transaction(alloc: Global, draws: &mut Pcg32) -> Result<Txn, Fail> {
     Ok(txn)
 }
 
-/// Whether a walk from an empty cache finds what the store in memory has, and leaves nothing pinned.
+/// Whether a walk from an empty cache finds what the store in memory has, and leaves nothing
+/// pinned.
 fn agrees(
     alloc: Global,
     blobs: &BlobStore,

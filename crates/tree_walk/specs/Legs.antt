@@ -25,7 +25,8 @@ use Rattle.tree_walk.specs.declared.legs.Turn.TheVariants as turn
 
 -- all of these are clean in the cache
 abbrev pub AreClean : Cache → List BlobRef → Type 0
-AreClean cache references = (reference : BlobRef) → Contains references reference → IsSome (clean_at reference cache)
+AreClean cache references = (reference : BlobRef) → Contains references reference
+    → IsSome (clean_at reference cache)
 
 -- of the references that a walk needs besides the old ones it has passed all
 pub record PassesAll (cache : Cache) (wanted old new : List BlobRef) : Type 0 where
@@ -33,7 +34,8 @@ pub record PassesAll (cache : Cache) (wanted old new : List BlobRef) : Type 0 wh
   pub clean : AreClean cache wanted
 
 -- it has passed those before this one, which isn't clean
-pub record Misses (cache : Cache) (wanted old new : List BlobRef) (reference : BlobRef) : Type 0 where
+pub record Misses (cache : Cache) (wanted old new : List BlobRef)
+    (reference : BlobRef) : Type 0 where
   pub before : List BlobRef
   pub behind : List BlobRef
   pub parts : wanted ≡ before ++ reference ∷ behind
@@ -82,14 +84,17 @@ abbrev pub leg_needs : Hash → Store → Path → List BlobRef
 leg_needs hash st path = map (directory_reference hash st) (looked_in st path)
 
 -- a walk along a path stops behind so many components, where this object stands
-pub record StopsAt (hash : Hash) (st : Store) (path : Path) (count : ℕ) (found : Option Object) : Type 0 where
+pub record StopsAt (hash : Hash) (st : Store) (path : Path)
+    (count : ℕ) (found : Option Object) : Type 0 where
   pub ends : stop st path ≡ record { place = take count path; rest = drop count path }
   pub stands : option_map tree_of found ≡ stored_at hash st (take count path)
 
 -- what a walk along a path tells that has passed some references before
 abbrev pub LegTells : Hash → Store → Path → Cache → List BlobRef → List BlobRef → Leg → Type 0
-LegTells hash st path cache old new (leg.Needs reference) = Misses cache (leg_needs hash st path) old new reference
-LegTells hash st path cache old new (leg.Stops count found) = PassesAll cache (leg_needs hash st path) old new × StopsAt hash st path count found
+LegTells hash st path cache old new (leg.Needs reference) =
+    Misses cache (leg_needs hash st path) old new reference
+LegTells hash st path cache old new (leg.Stops count found) =
+    PassesAll cache (leg_needs hash st path) old new × StopsAt hash st path count found
 
 -- it stops within the path
 abbrev pub StopsWithin : Path → Leg → Type 0
@@ -97,7 +102,8 @@ StopsWithin path (leg.Needs reference) = ⊤
 StopsWithin path (leg.Stops count found) = count ≤ length path
 
 -- a walk along a path ends where this object stands, and all of the path is walked or some is left
-pub record EndsAt (hash : Hash) (st : Store) (path : Path) (found : Option Object) (whole : Bool) : Type 0 where
+pub record EndsAt (hash : Hash) (st : Store) (path : Path)
+    (found : Option Object) (whole : Bool) : Type 0 where
   pub stands : option_map tree_of found ≡ stored_at hash st (stop st path).place
   pub all : whole ≡ true → (stop st path).rest ≡ []
   pub part : whole ≡ false → 0 < length (stop st path).rest
@@ -106,15 +112,23 @@ pub record EndsAt (hash : Hash) (st : Store) (path : Path) (found : Option Objec
 abbrev pub GoesFrom : Hash → Store → Query → Path → Turn → Type 0
 GoesFrom hash st asked path (turn.Needs reference) = ⊥
 GoesFrom hash st asked path (turn.Follows next) = next_path st asked path ≡ Some next.items
-GoesFrom hash st asked path (turn.Ends found whole) = (next_path st asked path ≡ None) × EndsAt hash st path found whole
+GoesFrom hash st asked path (turn.Ends found whole) =
+    (next_path st asked path ≡ None) × EndsAt hash st path found whole
 
 -- how it goes on that has passed some references before
-abbrev pub TurnTells : Hash → Store → Query → Path → Cache → List BlobRef → List BlobRef → Turn → Type 0
-TurnTells hash st asked path cache old new (turn.Needs reference) = Misses cache (leg_needs hash st path) old new reference
-TurnTells hash st asked path cache old new (turn.Follows next) = PassesAll cache (leg_needs hash st path) old new × GoesFrom hash st asked path (turn.Follows next)
-TurnTells hash st asked path cache old new (turn.Ends found whole) = PassesAll cache (leg_needs hash st path) old new × GoesFrom hash st asked path (turn.Ends found whole)
+abbrev pub TurnTells : Hash → Store → Query → Path
+    → Cache → List BlobRef → List BlobRef → Turn → Type 0
+TurnTells hash st asked path cache old new (turn.Needs reference) =
+    Misses cache (leg_needs hash st path) old new reference
+TurnTells hash st asked path cache old new (turn.Follows next) =
+    PassesAll cache (leg_needs hash st path) old new
+    × GoesFrom hash st asked path (turn.Follows next)
+TurnTells hash st asked path cache old new (turn.Ends found whole) =
+    PassesAll cache (leg_needs hash st path) old new
+    × GoesFrom hash st asked path (turn.Ends found whole)
 
 -- what a walk tells that finds this and needs these references besides the old ones
 abbrev pub EndTells : Found → List BlobRef → Cache → List BlobRef → List BlobRef → Advance → Type 0
-EndTells what wanted cache old new (advance.Done found) = (found ≡ what) × PassesAll cache wanted old new
+EndTells what wanted cache old new (advance.Done found) =
+    (found ≡ what) × PassesAll cache wanted old new
 EndTells what wanted cache old new (advance.Needs reference) = Misses cache wanted old new reference

@@ -2,7 +2,8 @@
 use Rattle.std.specs.Prelude.{◌≡◌, ◌⊎◌, ◌++◌, List, Contains}
 use Rattle.fl_digest.specs.declared.BlobRef.{BlobRef}
 
--- a reference is among those that are pinned or are to be, as all that were, and nothing else came to them
+-- a reference is among those that are pinned or are to be, as all that were, and nothing else came
+-- to them
 pub record AddsOnce (pinned old new : List BlobRef) (reference : BlobRef) : Type 0 where
   pub there : Contains (pinned ++ new) reference
   pub kept : (r : BlobRef) → Contains (pinned ++ old) r → Contains (pinned ++ new) r

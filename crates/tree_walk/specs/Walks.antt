@@ -20,7 +20,8 @@ pub record Walk : Type 0 where
 
 -- each clean content of the cache is that of the table
 abbrev pub Agrees : Table → Cache → Type 0
-Agrees table cache = (reference : BlobRef) (bytes : List ℕ) → clean_at reference cache ≡ Some bytes → table reference ≡ Some bytes
+Agrees table cache = (reference : BlobRef) (bytes : List ℕ)
+    → clean_at reference cache ≡ Some bytes → table reference ≡ Some bytes
 
 -- the walk's root is that of this store, which a table holds that agrees with the cache
 pub record Reads (hash : Hash) (st : Store) (root : BlobRef) (cache : Cache) : Type 0 where
@@ -48,14 +49,20 @@ pub record GoesOn (before after : Walk) (old new : Cache) : Type 0 where
 abbrev pub IsPassed : Walk → Cache → BlobRef → Type 0
 IsPassed w cache reference = IsSome (clean_at reference cache) × Contains w.pinned reference
 
--- what an advance of a walk in this store tells: at the end what is found, all needs being passed; before, the first need that isn't clean, those before it being passed
+-- what an advance of a walk in this store tells: at the end what is found, all needs being passed;
+-- before, the first need that isn't clean, those before it being passed
 abbrev pub TellsNext : Hash → Store → Walk → Cache → Advance → Type 0
-TellsNext hash st w cache (Done found) = (found ≡ walk st w.asked w.path) × ((reference : BlobRef) → Contains (needs hash st w.asked w.path) reference → IsPassed w cache reference)
+TellsNext hash st w cache (Done found) = (found ≡ walk st w.asked w.path) × ((reference : BlobRef)
+    → Contains (needs hash st w.asked w.path) reference → IsPassed w cache reference)
 TellsNext hash st w cache (Needs reference) =
-    (before : List BlobRef) × (behind : List BlobRef) × (needs hash st w.asked w.path ≡ before ++ reference ∷ behind)
-    × ((passed : BlobRef) → Contains before passed → IsPassed w cache passed) × (clean_at reference cache ≡ None)
+    (before : List BlobRef) × (behind : List BlobRef)
+    × (needs hash st w.asked w.path ≡ before ++ reference ∷ behind)
+    × ((passed : BlobRef) → Contains before passed → IsPassed w cache passed)
+    × (clean_at reference cache ≡ None)
 
 -- and all that it pins more are needs
-pub record Tells (hash : Hash) (st : Store) (old new : Walk) (cache : Cache) (told : Advance) : Type 0 where
+pub record Tells (hash : Hash) (st : Store) (old new : Walk)
+    (cache : Cache) (told : Advance) : Type 0 where
   pub next : TellsNext hash st new cache told
-  pub pins : (reference : BlobRef) → Contains new.pinned reference → Contains old.pinned reference ⊎ Contains (needs hash st old.asked old.path) reference
+  pub pins : (reference : BlobRef) → Contains new.pinned reference
+      → Contains old.pinned reference ⊎ Contains (needs hash st old.asked old.path) reference

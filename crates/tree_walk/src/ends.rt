@@ -60,7 +60,8 @@ fn names_at(
         → Reads hash st root cache.now
         → node_at st place ≡ Some Directory
         → reference.now ≡ directory_reference hash st place
-        → IfOk result (EndTells (Found.Names (names_in st place)) (reference.now ∷ []) cache.now passed.old.items passed.new.items) }
+        → IfOk result (EndTells (Found.Names (names_in st place))
+        (reference.now ∷ []) cache.now passed.old.items passed.new.items) }
 {
     let found = directory_at(alloc, cache, reference)?;
     let Some(directory) = found else {
@@ -83,7 +84,8 @@ fn names(
         → node_at st place ≡ Some node
         → Some (tree_of object) ≡ stored_at hash st place
         → let what = found_at st Query.List place node in
-        IfOk result (EndTells what (found_needs hash st (Some place) what) cache.now passed.old.items passed.new.items) }
+        IfOk result (EndTells what
+        (found_needs hash st (Some place) what) cache.now passed.old.items passed.new.items) }
 {
     match object {
         Object::Dirref(reference) => names_at(alloc, cache, &reference, passed),
@@ -108,7 +110,8 @@ fn long_value(
         → node_at st place ≡ Some (Value bytes)
         → is_long bytes ≡ true
         → references.now ≡ reference_of hash bytes ∷ []
-        → IfOk result (EndTells (Found.Value bytes) references.now cache.now passed.old.items passed.new.items) }
+        → IfOk result
+        (EndTells (Found.Value bytes) references.now cache.now passed.old.items passed.new.items) }
 {
     let Some(first) = references.first() else {
         return Ok(Advance::Done(Found::Nothing));
@@ -132,7 +135,8 @@ fn value(
         → node_at st place ≡ Some node
         → Some (tree_of object) ≡ stored_at hash st place
         → let what = found_at st Query.Get place node in
-        IfOk result (EndTells what (found_needs hash st (Some place) what) cache.now passed.old.items passed.new.items) }
+        IfOk result (EndTells what
+        (found_needs hash st (Some place) what) cache.now passed.old.items passed.new.items) }
 {
     match object {
         Object::Val(bytes) => Ok(Advance::Done(Found::Value(bytes))),
@@ -172,7 +176,8 @@ fn last(
         → node_at st place ≡ Some node
         → Some (tree_of object) ≡ stored_at hash st place
         → let what = found_at st asked place node in
-        IfOk result (EndTells what (found_needs hash st (Some place) what) cache.now passed.old.items passed.new.items) }
+        IfOk result (EndTells what
+        (found_needs hash st (Some place) what) cache.now passed.old.items passed.new.items) }
 {
     match asked {
         Query::Get => value(cache, object, passed),
@@ -181,7 +186,8 @@ fn last(
     }
 }
 
-/// What a query finds where its walk ends, at this object or at none, with components left or without.
+/// What a query finds where its walk ends, at this object or at none, with components left or
+/// without.
 pub fn found(
     alloc: Global,
     cache: &CacheNode,
@@ -194,7 +200,8 @@ pub fn found(
         → Reads hash st root cache.now
         → EndsAt hash st path object whole
         → let what = found_along st asked (Some path) in
-        IfOk result (EndTells what (found_needs hash st (Some path) what) cache.now passed.old.items passed.new.items) }
+        IfOk result (EndTells what
+        (found_needs hash st (Some path) what) cache.now passed.old.items passed.new.items) }
 {
     let Some(object) = object else {
         return Ok(Advance::Done(Found::Nothing));

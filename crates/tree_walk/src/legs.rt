@@ -26,7 +26,8 @@ const MOST_LINKS: u32 = 10;
 pub enum Leg {
     /// To a directory whose text isn't clean.
     Needs(BlobRef),
-    /// Behind so many components, to the first place where no directory stands, or to the path's end.
+    /// Behind so many components, to the first place where no directory stands, or to the path's
+    /// end.
     Stops {
         count: usize,
         object: Option<Object>,
@@ -126,7 +127,8 @@ fn copy_of(alloc: Global, path: &[Bytes]) -> Result<Vec<Bytes>, AllocError>
     Ok(twin)
 }
 
-/// Whether a query leaves a link at which its walk stops: a query for a link does so in the last place.
+/// Whether a query leaves a link at which its walk stops: a query for a link does so in the last
+/// place.
 fn leaves(asked: Query, whole: bool) -> bool
     ensures { result ≡ leaves_link asked whole }
 {
@@ -172,7 +174,8 @@ fn next_turn(
     passed: &mut Vec<BlobRef>,
 ) -> Result<Turn, AllocError>
     ensures { (hash : Hash) (st : Store) → Reads hash st root.now cache.now
-        → IfOk result (TurnTells hash st asked path.now cache.now passed.old.items passed.new.items) }
+        → IfOk result
+        (TurnTells hash st asked path.now cache.now passed.old.items passed.new.items) }
 {
     let leg = walk_leg(alloc, cache, root, path, passed)?;
     match leg {
@@ -192,7 +195,8 @@ pub fn look(
     passed: &mut Vec<BlobRef>,
 ) -> Result<Advance, AllocError>
     ensures { (hash : Hash) (st : Store) → Reads hash st root.now cache.now
-        → IfOk result (EndTells (walk st asked path.now) (needs hash st asked path.now) cache.now passed.old.items passed.new.items) }
+        → IfOk result (EndTells (walk st asked path.now)
+        (needs hash st asked path.now) cache.now passed.old.items passed.new.items) }
 {
     let mut here = copy_of(alloc, path)?;
     let mut links = 0u32;

@@ -26,7 +26,8 @@ pub enum Advance {
     Needs(BlobRef),
 }
 
-/// A walk from a root over the clean contents of a cache. What it passes stays pinned until it is finished.
+/// A walk from a root over the clean contents of a cache. What it passes stays pinned until it is
+/// finished.
 #[derive(Drop)]
 pub struct Cursor {
     alloc: Global,
@@ -41,7 +42,12 @@ impl Model for Cursor {
 
     ghost Value = { Walk };
 
-    ghost view = { λ c. record { root = c.root; asked = c.asked; path = c.path; pinned = c.pinned.items } };
+    ghost view = { λ c. record {
+      root = c.root;
+      asked = c.asked;
+      path = c.path;
+      pinned = c.pinned.items;
+    } };
 }
 
 /// Whether a reference is among these.
@@ -101,7 +107,8 @@ impl Cursor {
         asked: Query,
         path: &Path,
     ) -> Result<Cursor, AllocError>
-        ensures { IfOk result (λ c. c ≡ record { root = root; asked = asked; path = path.now; pinned = [] }) }
+        ensures { IfOk result
+            (λ c. c ≡ record { root = root; asked = asked; path = path.now; pinned = [] }) }
     {
         Ok(Cursor {
             alloc,
@@ -119,7 +126,8 @@ impl Cursor {
         ensures on { OnOk result (GoesOn self.old self.new cache.old cache.new) }
         ensures kept { OnErr result (self.new ≡ self.old) }
         ensures cache { OnErr result (cache.new ≡ cache.old) }
-        ensures told { (hash : Hash) (st : Store) → Reads hash st self.old.root cache.old → IfOk result (Tells hash st self.old self.new cache.new) }
+        ensures told { (hash : Hash) (st : Store) → Reads hash st self.old.root cache.old
+            → IfOk result (Tells hash st self.old self.new cache.new) }
     {
         let mut passed = Vec::new(self.alloc);
         let path = self.path.as_slice();

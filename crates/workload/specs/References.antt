@@ -1,4 +1,5 @@
--- Texts of references to contents (Flux RFC 10): the name of a hash, a dash, and two digits in lower case for each byte.
+-- Texts of references to contents (Flux RFC 10): the name of a hash, a dash, and two digits in
+-- lower case for each byte.
 use Rattle.std.specs.Prelude.{ℕ, ◌+◌, ◌-◌, ◌*◌, ◌==◌, ◌&&◌, ◌||◌, nat_lt, List, [], ◌∷◌, Bool, codes, drop, take, length, if◌then◌else◌}
 use Rattle.std.specs.List.{list_all}
 use Rattle.std.specs.Str.{bytes_eq}

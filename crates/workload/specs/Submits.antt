@@ -41,7 +41,8 @@ is_colon b = b == 58
 -- the value of an option of this name, where the word is one
 abbrev pub value_of : List ℕ → List ℕ → Option (List ℕ)
 value_of name word = if list_any is_equals word
-    then (if bytes_eq (before_first is_equals word) name then Some (after_first is_equals word) else None)
+    then (if bytes_eq (before_first is_equals word) name
+    then Some (after_first is_equals word) else None)
     else None
 
 -- the urgency's digits, where the first option is the urgency

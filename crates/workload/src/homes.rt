@@ -10,7 +10,8 @@ use crate::work::{ActorList, Command, Workload};
 use lists::Bytes;
 use std::alloc::Global;
 
-/// The label of the job in whose child instance the actor of this number stands, or none in the top.
+/// The label of the job in whose child instance the actor of this number stands, or none in the
+/// top.
 fn home_of(actors: &ActorList, number: usize) -> Option<&Bytes>
     ensures { option_map (λ label. label.now) result ≡ home_of actors.now number }
 {
@@ -43,8 +44,8 @@ fn is_in_place(actors: &ActorList, by: usize, command: &Command) -> bool
     }
 }
 
-/// The command that a verb and the text behind it spell, in the line of this number, where the actor
-/// of the number `by` says it.
+/// The command that a verb and the text behind it spell, in the line of this number, where the
+/// actor of the number `by` says it.
 pub fn said_by(
     alloc: Global,
     work: &Workload,

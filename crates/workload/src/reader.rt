@@ -97,7 +97,8 @@ fn actor(
     line: u64,
     tail: &str,
 ) -> Result<Actor, LineFault>
-    ensures { Reads (first_of (actor_faults size actors.now line tail.now)) (λ a. a ≡ actor_of tail.now) result }
+    ensures { Reads (first_of (actor_faults size actors.now line tail.now))
+        (λ a. a ≡ actor_of tail.now) result }
 {
     if MOST_ACTORS <= actors.as_slice().len() {
         return Err(LineFault::Limit {
@@ -122,7 +123,8 @@ fn order(
     text: &str,
 ) -> Result<Command, LineFault>
     requires { length work.now.actors ≤ most_actors }
-    ensures { Reads (first_of (verb_faults work.now by line text.now)) (λ c. command_of work.now text.now ≡ Some c) result }
+    ensures { Reads (first_of (verb_faults work.now by line text.now))
+        (λ c. command_of work.now text.now ≡ Some c) result }
 {
     let (word, tail) = cut(text);
     let Some(verb) = Verb::of(word) else {
@@ -137,7 +139,8 @@ fn order(
 /// The command line that a line of this number is.
 fn command_line(alloc: Global, work: &Workload, number: u64, line: &str) -> Result<Line, LineFault>
     requires { length work.now.actors ≤ most_actors }
-    ensures { Reads (first_of (command_faults work.now number line.now)) (λ l. line_of work.now line.now ≡ Some l) result }
+    ensures { Reads (first_of (command_faults work.now number line.now))
+        (λ l. line_of work.now line.now ≡ Some l) result }
 {
     if MOST_COMMANDS <= work.lines.as_slice().len() {
         return Err(LineFault::Limit {
@@ -174,7 +177,8 @@ fn add_actor(
     number: u64,
     tail: &str,
 ) -> Result<(), LineFault>
-    ensures read { Reads (first_of (actor_faults size work.old.actors number tail.now)) (λ _. work.new ≡ with_actor work.old tail.now) result }
+    ensures read { Reads (first_of (actor_faults size work.old.actors number tail.now))
+        (λ _. work.new ≡ with_actor work.old tail.now) result }
     ensures few { OnOk result (length work.new.actors ≤ most_actors) }
 {
     let actor = actor(alloc, size, &work.actors, number, tail)?;
@@ -185,7 +189,8 @@ fn add_actor(
 /// Adds the command line that a line is.
 fn add_command(alloc: Global, work: &mut Workload, number: u64, line: &str) -> Result<(), LineFault>
     requires { length work.old.actors ≤ most_actors }
-    ensures read { Reads (first_of (command_faults work.old number line.now)) (λ _. work.new ≡ with_command work.old line.now) result }
+    ensures read { Reads (first_of (command_faults work.old number line.now))
+        (λ _. work.new ≡ with_command work.old line.now) result }
     ensures few { OnOk result (length work.new.actors ≤ most_actors) }
 {
     let line = command_line(alloc, work, number, line)?;
@@ -242,7 +247,9 @@ fn add_line(
     line: &str,
 ) -> Result<(), LineFault>
     requires { length work.old.actors ≤ most_actors }
-    ensures read { Reads (first_of (line_faults size work.old number (record { bytes = bytes; text = line.now }))) (λ _. work.new ≡ with_line work.old (record { bytes = bytes; text = line.now })) result }
+    ensures read { Reads
+        (first_of (line_faults size work.old number (record { bytes = bytes; text = line.now })))
+        (λ _. work.new ≡ with_line work.old (record { bytes = bytes; text = line.now })) result }
     ensures few { OnOk result (length work.new.actors ≤ most_actors) }
 {
     if MOST_LINE < bytes {
@@ -276,7 +283,8 @@ fn without_return(piece: &str) -> &str
 /// The workload that the lines of a text spell.
 fn read_lines(alloc: Global, size: u32, text: &str) -> Result<Workload, LineFault>
     requires { length text.now ≤ most_text }
-    ensures { Reads (fault_in size empty 1 (lines_of text.now)) (λ w. w ≡ with_lines empty (lines_of text.now)) result }
+    ensures { Reads (fault_in size empty 1 (lines_of text.now))
+        (λ w. w ≡ with_lines empty (lines_of text.now)) result }
 {
     let mut work = Workload::new(alloc);
     let mut number = 1u64;
@@ -291,10 +299,12 @@ fn read_lines(alloc: Global, size: u32, text: &str) -> Result<Workload, LineFaul
     Ok(work)
 }
 
-/// The workload that a text of at most 16 MiB of UTF-8 spells, for brokers numbered from 0 below `size`.
+/// The workload that a text of at most 16 MiB of UTF-8 spells, for brokers numbered from 0 below
+/// `size`.
 ///
-/// `TooLong` and `NotUtf8` are of the whole text. Else the first faulty line counts, and in it the first of this
-/// order: its length, too many actors or commands, an unknown actor, a malformed line, a number, any other limit.
+/// `TooLong` and `NotUtf8` are of the whole text. Else the first faulty line counts, and in it the
+/// first of this order: its length, too many actors or commands, an unknown actor, a malformed
+/// line, a number, any other limit.
 pub fn read(alloc: Global, text: &[u8], size: u32) -> Result<Workload, LineFault>
     requires { (1 ≤ size) × (size ≤ 32) }
     ensures { Reads (first_fault size text.now) (λ w. w ≡ spelled text.now) result }

@@ -93,7 +93,8 @@ impl Verb {
 
 /// A key of the line of this number.
 fn key(alloc: Global, line: u64, word: &str) -> Result<Path, LineFault>
-    ensures { Reads (first_of ((is_past_key word.now, LineFault.Limit line Which.Key) ∷ [])) (λ path. path ≡ components word.now) result }
+    ensures { Reads (first_of ((is_past_key word.now, LineFault.Limit line Which.Key) ∷ []))
+        (λ path. path ≡ components word.now) result }
 {
     match Path::read(alloc, word) {
         Ok(path) => Ok(path),
@@ -107,7 +108,8 @@ fn key(alloc: Global, line: u64, word: &str) -> Result<Path, LineFault>
 
 /// A value of the line of this number.
 pub fn value(alloc: Global, line: u64, text: &str) -> Result<Bytes, LineFault>
-    ensures { Reads (first_of ((is_past_value text.now, LineFault.Limit line Which.Value) ∷ [])) (λ bytes. bytes ≡ text.now) result }
+    ensures { Reads (first_of ((is_past_value text.now, LineFault.Limit line Which.Value) ∷ []))
+        (λ bytes. bytes ≡ text.now) result }
 {
     if MOST_VALUE < text.len() {
         return Err(LineFault::Limit {
@@ -121,7 +123,8 @@ pub fn value(alloc: Global, line: u64, text: &str) -> Result<Bytes, LineFault>
 
 /// The key that stands alone behind a verb.
 fn one_key(alloc: Global, line: u64, tail: &str) -> Result<Path, LineFault>
-    ensures { Reads (first_of (faults_of line (one_key Command.Get tail.now))) (λ path. path ≡ components (first_word tail.now)) result }
+    ensures { Reads (first_of (faults_of line (one_key Command.Get tail.now)))
+        (λ path. path ≡ components (first_word tail.now)) result }
 {
     let (word, rest) = cut(tail);
     let (more, _) = cut(rest);
@@ -133,7 +136,8 @@ fn one_key(alloc: Global, line: u64, tail: &str) -> Result<Path, LineFault>
 
 /// The key and the text behind a verb.
 fn key_and_text(alloc: Global, line: u64, tail: &str) -> Result<(Path, Bytes), LineFault>
-    ensures { Reads (first_of (faults_of line (key_and_text Command.Put tail.now))) (λ r. (r.0 ≡ components (first_word tail.now)) × (r.1 ≡ behind_word tail.now)) result }
+    ensures { Reads (first_of (faults_of line (key_and_text Command.Put tail.now)))
+        (λ r. (r.0 ≡ components (first_word tail.now)) × (r.1 ≡ behind_word tail.now)) result }
 {
     let (word, text) = cut(tail);
     if word.is_empty() {
@@ -146,7 +150,9 @@ fn key_and_text(alloc: Global, line: u64, tail: &str) -> Result<(Path, Bytes), L
 
 /// The two keys behind a verb.
 fn two_keys(alloc: Global, line: u64, tail: &str) -> Result<(Path, Path), LineFault>
-    ensures { Reads (first_of (faults_of line (two_keys Command.Symlink tail.now))) (λ r. (r.0 ≡ components (first_word tail.now)) × (r.1 ≡ components (first_word (behind_word tail.now)))) result }
+    ensures { Reads (first_of (faults_of line (two_keys Command.Symlink tail.now)))
+        (λ r. (r.0 ≡ components (first_word tail.now))
+        × (r.1 ≡ components (first_word (behind_word tail.now)))) result }
 {
     let (one, rest) = cut(tail);
     let (other, rest) = cut(rest);
@@ -161,7 +167,8 @@ fn two_keys(alloc: Global, line: u64, tail: &str) -> Result<(Path, Path), LineFa
 
 /// The command `put KEY TEXT`, of the text behind the verb.
 fn put(alloc: Global, work: &Workload, line: u64, tail: &str) -> Result<Command, LineFault>
-    ensures { Reads (first_of (faults_of line (said work.now Verb.Put tail.now))) (λ c. c ≡ (said work.now Verb.Put tail.now).command) result }
+    ensures { Reads (first_of (faults_of line (said work.now Verb.Put tail.now)))
+        (λ c. c ≡ (said work.now Verb.Put tail.now).command) result }
 {
     let (path, bytes) = key_and_text(alloc, line, tail)?;
     Ok(Command::Put { path, bytes })
@@ -169,7 +176,8 @@ fn put(alloc: Global, work: &Workload, line: u64, tail: &str) -> Result<Command,
 
 /// The command `append KEY TEXT`, of the text behind the verb.
 fn append(alloc: Global, work: &Workload, line: u64, tail: &str) -> Result<Command, LineFault>
-    ensures { Reads (first_of (faults_of line (said work.now Verb.Append tail.now))) (λ c. c ≡ (said work.now Verb.Append tail.now).command) result }
+    ensures { Reads (first_of (faults_of line (said work.now Verb.Append tail.now)))
+        (λ c. c ≡ (said work.now Verb.Append tail.now).command) result }
 {
     let (path, bytes) = key_and_text(alloc, line, tail)?;
     Ok(Command::Append { path, bytes })
@@ -177,7 +185,8 @@ fn append(alloc: Global, work: &Workload, line: u64, tail: &str) -> Result<Comma
 
 /// The command `unlink KEY`, of the text behind the verb.
 fn unlink(alloc: Global, work: &Workload, line: u64, tail: &str) -> Result<Command, LineFault>
-    ensures { Reads (first_of (faults_of line (said work.now Verb.Unlink tail.now))) (λ c. c ≡ (said work.now Verb.Unlink tail.now).command) result }
+    ensures { Reads (first_of (faults_of line (said work.now Verb.Unlink tail.now)))
+        (λ c. c ≡ (said work.now Verb.Unlink tail.now).command) result }
 {
     let path = one_key(alloc, line, tail)?;
     Ok(Command::Unlink { path })
@@ -185,7 +194,8 @@ fn unlink(alloc: Global, work: &Workload, line: u64, tail: &str) -> Result<Comma
 
 /// The command `mkdir KEY`, of the text behind the verb.
 fn mkdir(alloc: Global, work: &Workload, line: u64, tail: &str) -> Result<Command, LineFault>
-    ensures { Reads (first_of (faults_of line (said work.now Verb.Mkdir tail.now))) (λ c. c ≡ (said work.now Verb.Mkdir tail.now).command) result }
+    ensures { Reads (first_of (faults_of line (said work.now Verb.Mkdir tail.now)))
+        (λ c. c ≡ (said work.now Verb.Mkdir tail.now).command) result }
 {
     let path = one_key(alloc, line, tail)?;
     Ok(Command::Mkdir { path })
@@ -193,7 +203,8 @@ fn mkdir(alloc: Global, work: &Workload, line: u64, tail: &str) -> Result<Comman
 
 /// The command `symlink KEY TARGET`, of the text behind the verb.
 fn symlink(alloc: Global, work: &Workload, line: u64, tail: &str) -> Result<Command, LineFault>
-    ensures { Reads (first_of (faults_of line (said work.now Verb.Symlink tail.now))) (λ c. c ≡ (said work.now Verb.Symlink tail.now).command) result }
+    ensures { Reads (first_of (faults_of line (said work.now Verb.Symlink tail.now)))
+        (λ c. c ≡ (said work.now Verb.Symlink tail.now).command) result }
 {
     let (path, target) = two_keys(alloc, line, tail)?;
     Ok(Command::Symlink { path, target })
@@ -201,7 +212,8 @@ fn symlink(alloc: Global, work: &Workload, line: u64, tail: &str) -> Result<Comm
 
 /// The command `commit`, behind which no word stands.
 fn commit(work: &Workload, line: u64, tail: &str) -> Result<Command, LineFault>
-    ensures { Reads (first_of (faults_of line (said work.now Verb.Commit tail.now))) (λ c. c ≡ (said work.now Verb.Commit tail.now).command) result }
+    ensures { Reads (first_of (faults_of line (said work.now Verb.Commit tail.now)))
+        (λ c. c ≡ (said work.now Verb.Commit tail.now).command) result }
 {
     let (word, _) = cut(tail);
     if !word.is_empty() {
@@ -235,7 +247,8 @@ fn fence(alloc: Global, work: &Workload, line: u64, tail: &str) -> Result<Comman
 
 /// The command `get KEY`, of the text behind the verb.
 fn get(alloc: Global, work: &Workload, line: u64, tail: &str) -> Result<Command, LineFault>
-    ensures { Reads (first_of (faults_of line (said work.now Verb.Get tail.now))) (λ c. c ≡ (said work.now Verb.Get tail.now).command) result }
+    ensures { Reads (first_of (faults_of line (said work.now Verb.Get tail.now)))
+        (λ c. c ≡ (said work.now Verb.Get tail.now).command) result }
 {
     let path = one_key(alloc, line, tail)?;
     Ok(Command::Get { path })
@@ -243,7 +256,8 @@ fn get(alloc: Global, work: &Workload, line: u64, tail: &str) -> Result<Command,
 
 /// The command `ls KEY`, of the text behind the verb.
 fn ls(alloc: Global, work: &Workload, line: u64, tail: &str) -> Result<Command, LineFault>
-    ensures { Reads (first_of (faults_of line (said work.now Verb.Ls tail.now))) (λ c. c ≡ (said work.now Verb.Ls tail.now).command) result }
+    ensures { Reads (first_of (faults_of line (said work.now Verb.Ls tail.now)))
+        (λ c. c ≡ (said work.now Verb.Ls tail.now).command) result }
 {
     let path = one_key(alloc, line, tail)?;
     Ok(Command::Ls { path })
@@ -251,7 +265,8 @@ fn ls(alloc: Global, work: &Workload, line: u64, tail: &str) -> Result<Command, 
 
 /// The command `readlink KEY`, of the text behind the verb.
 fn readlink(alloc: Global, work: &Workload, line: u64, tail: &str) -> Result<Command, LineFault>
-    ensures { Reads (first_of (faults_of line (said work.now Verb.Readlink tail.now))) (λ c. c ≡ (said work.now Verb.Readlink tail.now).command) result }
+    ensures { Reads (first_of (faults_of line (said work.now Verb.Readlink tail.now)))
+        (λ c. c ≡ (said work.now Verb.Readlink tail.now).command) result }
 {
     let path = one_key(alloc, line, tail)?;
     Ok(Command::Readlink { path })
@@ -354,7 +369,8 @@ pub fn command(
     tail: &str,
 ) -> Result<Command, LineFault>
     requires { length work.now.actors ≤ most_actors }
-    ensures { Reads (first_of (faults_of line (said work.now verb tail.now))) (λ c. c ≡ (said work.now verb tail.now).command) result }
+    ensures { Reads (first_of (faults_of line (said work.now verb tail.now)))
+        (λ c. c ≡ (said work.now verb tail.now).command) result }
 {
     match verb {
         Verb::Put => put(alloc, work, line, tail),

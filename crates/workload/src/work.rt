@@ -131,8 +131,8 @@ pub enum Command {
     Shutdown,
 }
 
-/// An actor: its name, its broker, and the label of the job in whose child instance it stands, if it stands in one.
-/// In a child the broker is that of the rank modulo the number of its brokers.
+/// An actor: its name, its broker, and the label of the job in whose child instance it stands, if
+/// it stands in one. In a child the broker is that of the rank modulo the number of its brokers.
 #[derive(Drop)]
 pub struct Actor {
     pub name: Bytes,

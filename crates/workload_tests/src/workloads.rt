@@ -382,7 +382,8 @@ fn grant_line(alloc: Global, last: u32, cores: &str, gpus: &str) -> Result<Strin
     )
 }
 
-/// The last rank and host of a grant's line, its cores and GPUs, what stands behind it, and what is told of that text.
+/// The last rank and host of a grant's line, its cores and GPUs, what stands behind it, and what is
+/// told of that text.
 type Granted = (u32, &'static str, &'static str, &'static [u8], u64, Told);
 
 const GRANTS_AT_THE_LIMITS: [Granted; 6] = [
@@ -494,7 +495,8 @@ fn the_257th_actor_is_refused(rt: HostRuntime) -> Result<(), Fail> {
     Ok(())
 }
 
-/// Of a workload of one put: how many actors it has, the put's actor, and how many names its path has.
+/// Of a workload of one put: how many actors it has, the put's actor, and how many names its path
+/// has.
 #[derive(Clone, Copy, Debug, PartialEq, Eq)]
 struct Put {
     actors: usize,

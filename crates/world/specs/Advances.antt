@@ -18,5 +18,6 @@ pub record Advances (old : WorldValue) (s : Step) (new : WorldValue) : Type 0 wh
   pub told : new.chronicle ≡ old.chronicle ++ made
   pub stretch : IsStretch old.set.work old.chronicle s made
   pub ends : new.ends ≡ old.ends ++ length new.chronicle ∷ []
-  pub settled : IsSettled old.set old.chronicle → (IsIssue s → HasComeToRest old.set old.chronicle) →
+  pub settled : IsSettled old.set old.chronicle
+      → (IsIssue s → HasComeToRest old.set old.chronicle) →
       IsSettled new.set new.chronicle

@@ -13,7 +13,8 @@ pub enum Schedule {
     Shuffled(u64),
 }
 
-/// How the next step is chosen: the first, or the one that the drawn word says, with the words behind it.
+/// How the next step is chosen: the first, or the one that the drawn word says, with the words
+/// behind it.
 #[derive(Drop)]
 pub enum Order {
     Settled,

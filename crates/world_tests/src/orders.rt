@@ -215,7 +215,8 @@ fn said_run(alloc: Global, how: Schedule) -> Result<Outcome, Fail> {
     }
 }
 
-/// Whether runs in twenty-one drawn orders end with one reply to each command, all but the first in another order.
+/// Whether runs in twenty-one drawn orders end with one reply to each command, all but the first in
+/// another order.
 fn end_whole(alloc: Global, text: &str, commands: [u32; 2]) -> Result<bool, Fail> {
     let first = drawn_run(alloc, text, commands, 0)?;
     let mut whole = first.whole;

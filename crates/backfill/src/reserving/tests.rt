@@ -83,7 +83,8 @@ fn grant(alloc: Global, hosts: u32) -> Result<Resources, AllocError>
     })
 }
 
-/// A job with the first units that live jobs leave, if there are enough. All live jobs hold theirs at second 0.
+/// A job with the first units that live jobs leave, if there are enough. All live jobs hold theirs
+/// at second 0.
 fn offer(
     alloc: Global,
     grant: &Resources,
@@ -92,7 +93,8 @@ fn offer(
 ) -> Result<Option<Hold>, AllocError>
     requires grant { AreHosts grant.now.nodes }
     requires held { AreHeld grant.now.nodes live.now }
-    ensures { IfOk result (λ offer. IfSome offer (λ hold. AreHeld grant.now.nodes (live.now ++ hold ∷ []))) }
+    ensures { IfOk result
+        (λ offer. IfSome offer (λ hold. AreHeld grant.now.nodes (live.now ++ hold ∷ []))) }
 {
     let spec = spec(alloc, job);
     if !is_spec(&spec) {

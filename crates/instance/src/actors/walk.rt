@@ -13,7 +13,8 @@ use kvs_rules::KvsStep;
 use workload::Line;
 
 impl Instance {
-    /// The step of this number among those of the services, or what the number has left behind them.
+    /// The step of this number among those of the services, or what the number has left behind
+    /// them.
     pub fn nth_turn(&self, number: u64) -> Result<KvsStep, u64>
         requires { self.now.spent ≡ false }
         ensures value { result ≡ nth (possible self.now.services) number }
@@ -22,7 +23,8 @@ impl Instance {
         self.services.nth(number)
     }
 
-    /// The actor of this number among those whose open command can be replied, or what the number has left behind them.
+    /// The actor of this number among those whose open command can be replied, or what the number
+    /// has left behind them.
     pub fn nth_answer(&self, number: u64) -> Result<u32, u64>
         requires { self.now.spent ≡ false }
         ensures value { result ≡ nth (answers self.now) number }
@@ -40,8 +42,8 @@ impl Instance {
         Err(left)
     }
 
-    /// The actor of this number among those whose next command can be issued, by their lines, or what the number has
-    /// left behind them.
+    /// The actor of this number among those whose next command can be issued, by their lines, or
+    /// what the number has left behind them.
     pub fn nth_issue(&self, lines: &[Line], number: u64) -> Result<u32, u64>
         requires ready { self.now.spent ≡ false }
         requires lines { AreLinesOf self.now lines.now }

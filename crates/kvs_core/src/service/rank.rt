@@ -27,7 +27,8 @@ const MOST_LIVE: usize = 16;
 const MOST_SPACES: usize = u32::MAX as usize;
 
 impl Core {
-    /// Lets a commit that has come to rank 0 wait to land in the namespace of this place in the table.
+    /// Lets a commit that has come to rank 0 wait to land in the namespace of this place in the
+    /// table.
     fn join(&mut self, i: usize, k: usize) -> Result<(), CoreFault>
         requires ready { self.old.spent ≡ false }
         requires within { i < length self.old.rows }
@@ -54,7 +55,8 @@ impl Core {
         Ok(())
     }
 
-    /// Lets a member of a fence that has come to rank 0 join it in the namespace of this place in the table.
+    /// Lets a member of a fence that has come to rank 0 join it in the namespace of this place in
+    /// the table.
     fn join_fence(&mut self, i: usize, k: usize) -> Result<(), CoreFault>
         requires ready { self.old.spent ≡ false }
         requires within { i < length self.old.rows }
@@ -108,8 +110,9 @@ impl Core {
         Ok(())
     }
 
-    /// Lets a transaction that has come to rank 0 wait in the namespace of this place in the table. Where that was removed,
-    /// or the open fence that it would join has another count, its command is told so.
+    /// Lets a transaction that has come to rank 0 wait in the namespace of this place in the table.
+    /// Where that was removed, or the open fence that it would join has another count, its command
+    /// is told so.
     fn enter(&mut self, i: usize, k: usize) -> Result<(), CoreFault>
         requires ready { self.old.spent ≡ false }
         requires within { i < length self.old.rows }
@@ -132,7 +135,8 @@ impl Core {
         }
     }
 
-    /// Sends a request that has come to rank 0 back to its broker, to wait there for the namespace of this place.
+    /// Sends a request that has come to rank 0 back to its broker, to wait there for the namespace
+    /// of this place.
     fn give_back(&mut self, i: usize, k: usize) -> Result<(), CoreFault>
         requires ready { self.old.spent ≡ false }
         requires within { i < length self.old.rows }
@@ -180,7 +184,8 @@ impl Core {
         Ok(events)
     }
 
-    /// Removes the namespace of this place in the table, as a request at rank 0 asks. What waits to land there is told so.
+    /// Removes the namespace of this place in the table, as a request at rank 0 asks. What waits to
+    /// land there is told so.
     fn remove(&mut self, i: usize, k: usize) -> Result<KvsEvents, CoreFault>
         requires ready { self.old.spent ≡ false }
         requires within { i < length self.old.rows }

@@ -33,7 +33,8 @@ impl Strand {
 }
 
 impl Core {
-    /// The step of this number among those of a strand between two places, or what the number has left behind them.
+    /// The step of this number among those of a strand between two places, or what the number has
+    /// left behind them.
     fn nth_along(&self, strand: Strand, first: u32, end: u32, number: u64) -> Result<KvsStep, u64>
         requires { self.now.spent ≡ false }
         ensures value { result
@@ -54,7 +55,8 @@ impl Core {
         Err(left)
     }
 
-    /// The same among the deliveries from one broker: it sends to the broker above it and to those below it alone.
+    /// The same among the deliveries from one broker: it sends to the broker above it and to those
+    /// below it alone.
     fn nth_sent(&self, from: u32, number: u64) -> Result<KvsStep, u64>
         requires ready { self.now.spent ≡ false }
         requires within { from < self.now.size }
@@ -92,8 +94,8 @@ impl Core {
         Err(left)
     }
 
-    /// The step of this number, from 0, among those that can be made, in their order; or, where there are no more
-    /// than so many, what the number has left behind them all.
+    /// The step of this number, from 0, among those that can be made, in their order; or, where
+    /// there are no more than so many, what the number has left behind them all.
     pub fn nth(&self, number: u64) -> Result<KvsStep, u64>
         requires { self.now.spent ≡ false }
         ensures value { result ≡ nth (possible self.now) number }

@@ -7,7 +7,8 @@ ghost use Rattle.world.specs.Steps.{CanMake};
 use super::World;
 use answers::Step;
 
-/// A step that can be made or not, as the number 0 of it alone, or what the number has left behind it.
+/// A step that can be made or not, as the number 0 of it alone, or what the number has left behind
+/// it.
 fn nth_of_one(can: bool, step: Step, number: u64) -> Result<Step, u64>
     ensures value { result ≡ nth (if can then step ∷ [] else []) number }
     ensures can { IfOk result (λ s. (s ≡ step) × (can ≡ true)) }
@@ -23,7 +24,8 @@ fn nth_of_one(can: bool, step: Step, number: u64) -> Result<Step, u64>
 }
 
 impl World {
-    /// The step of this number among those that can be made before the end, or what the number has left behind them.
+    /// The step of this number among those that can be made before the end, or what the number has
+    /// left behind them.
     fn nth(&self, number: u64) -> Result<Step, u64>
         requires ready { self.now.spent ≡ false }
         requires runs { self.now.closed ≡ false }
@@ -65,7 +67,8 @@ impl World {
         }
     }
 
-    /// The step that a drawn word chooses: of those that can be made, the one whose number is the word modulo their count.
+    /// The step that a drawn word chooses: of those that can be made, the one whose number is the
+    /// word modulo their count.
     pub(super) fn drawn(&self, word: u32) -> Option<Step>
         requires { self.now.spent ≡ false }
         ensures value { result
