@@ -1,0 +1,9 @@
+pub mod Owning
+pub mod Alone
+pub mod Legal
+pub mod Members
+pub mod Sound
+pub mod Units
+pub mod Holding
+pub mod Nested
+pub mod Example
