@@ -7,3 +7,7 @@ pub mod Units
 pub mod Holding
 pub mod Nested
 pub mod Example
+pub mod OneEntry
+pub mod Steps
+pub mod Bearing
+pub mod Ending

@@ -72,6 +72,10 @@ module _ (set : Setup) where
   unfolding EndedAll
   ended_all c l = each_along (IsLegalRunEntry set) EndedAll ended_step [] c tt l (λ i h. absurd (true≢false (sym h)))
 
+  pub gone_was_born : (c : List Entry) → IsLegalRun set c → (i : ℕ) → is_gone c i ≡ true → is_born c i ≡ true
+  unfolding EndedAll
+  gone_was_born c l i gone = (ended_all c l i gone).born
+
   -- the chronicle of an instance ends with it
   pub ends_with_it : (c more : List Entry) (i : ℕ) → IsLegalRun set (c ++ more) → is_gone c i ≡ true → own_of set (c ++ more) i ≡ own_of set c i
   unfolding EndedAll

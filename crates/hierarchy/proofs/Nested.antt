@@ -147,7 +147,7 @@ found_among {A} p (x ∷ xs) h = by (p x) refl h (found_among p xs)
     by true is h more = (x, inl refl, is)
     by false is h more = let m = more h in (m.0, inr m.1, m.2)
 
-numbered_born : (c : List Entry) (i : ℕ) → is_born c i ≡ true → Among i (numbers c)
+pub numbered_born : (c : List Entry) (i : ℕ) → is_born c i ≡ true → Among i (numbers c)
 numbered_born c i h = by (i == top) refl h
   where
     by : (b : Bool) → (i == top) ≡ b → (b || is_some (cond b None (find (is_birth_of i) (births c)))) ≡ true → Among i (numbers c)
@@ -162,7 +162,7 @@ in_family set c i h =
     (among_mapped (living_in set c) (filter (lives c) (numbers c)) i (among_kept (lives c) (numbers c) i (numbered_born c i (alive c i h).0) h))
 
 -- the birth of one that is just born
-born_is : (c : List Entry) (e : Entry) (i : ℕ) → is_born c i ≡ false → begins i e ≡ true → birth_of (c ++ e ∷ []) i ≡ birth_in e
+pub born_is : (c : List Entry) (e : Entry) (i : ℕ) → is_born c i ≡ false → begins i e ≡ true → birth_of (c ++ e ∷ []) i ≡ birth_in e
 born_is c e i was now = by (i == top) was
   where
     none_of : {A : Type 0} (o : Option A) → is_some o ≡ false → o ≡ None
@@ -178,6 +178,11 @@ born_is c e i was now = by (i == top) was
     by false was =
         ap (find (is_birth_of i)) (births_push c e) ∙ find-append (is_birth_of i) (births c) (cons_option (birth_in e) [])
         ∙ ap (λ o. option_or o (find (is_birth_of i) (cons_option (birth_in e) []))) (none_of (find (is_birth_of i) (births c)) was) ∙ one (birth_in e) now
+
+-- one number is born
+pub begun_number : (e : Entry) (i k : ℕ) → begins i e ≡ true → begins k e ≡ true → i ≡ k
+begun_number (entry.Born child parent job label second grant) i k h g = sym (eqb-true child i h) ∙ eqb-true child k g
+begun_number _ i k h g = absurd (true≢false (sym h))
 
 birth_before : (c more : List Entry) (i : ℕ) (b : Birth) → is_born c i ≡ true → birth_of (c ++ more) i ≡ Some b → birth_of c i ≡ Some b
 birth_before c more i b was is = sym (birth_kept c more i was) ∙ is
@@ -495,10 +500,6 @@ module _ (set : Setup) where
       bears_first set xs child parent job label second grant l.grounds
       (subst (λ p. ChildLives (setup_in set xs p).work (own_of set xs p) job) at (subst (ChildLives (setup_in set xs b.parent).work (own_of set xs b.parent)) one n.child))
   born_only xs _ l b d is same_parent same_job n = cc
-
-  begun_number : (e : Entry) (i k : ℕ) → begins i e ≡ true → begins k e ≡ true → i ≡ k
-  begun_number (entry.Born child parent job label second grant) i k h g = sym (eqb-true child i h) ∙ eqb-true child k g
-  begun_number _ i k h g = absurd (true≢false (sym h))
 
   step : (xs : List Entry) (e : Entry) → EachAfter (IsLegalRunEntry set) [] xs → IsLegalRunEntry set xs e → AreApart xs → AreApart (xs ++ e ∷ [])
   step xs e run l old = record {

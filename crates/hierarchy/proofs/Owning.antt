@@ -94,7 +94,7 @@ begins_of i (Some b) = by (is_birth_of i b)
     by true = refl
     by false = refl
 
-born_push : (c : List Entry) (e : Entry) (i : ℕ) → is_born (c ++ e ∷ []) i ≡ true → is_born c i ≡ false → begins i e ≡ true
+pub born_push : (c : List Entry) (e : Entry) (i : ℕ) → is_born (c ++ e ∷ []) i ≡ true → is_born c i ≡ false → begins i e ≡ true
 born_push c e i now was = by (i == top) now was
   where
     or_some : {A : Type 0} (o p : Option A) → is_some o ≡ false → option_or o p ≡ p

@@ -5,4 +5,5 @@ pub mod Legal
 pub mod Whole
 pub mod Stretches
 pub mod Headline
+pub mod Growing
 pub mod Laws

@@ -1,9 +1,10 @@
 //! Runs with child instances: who lives, which entries are whose, and when the chronicle of a run
 //! is legal and whole.
 //!
-//! The definitions stand in `specs/`, and the functions of `laws` state their laws.
+//! The definitions stand in `specs/`, and the functions of `laws` and `growing` state their laws.
 #![tactic(auto)]
 
+pub mod growing;
 pub mod laws;
 
 pub use laws::{
