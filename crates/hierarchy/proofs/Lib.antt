@@ -1,0 +1,13 @@
+pub mod Owning
+pub mod Alone
+pub mod Legal
+pub mod Members
+pub mod Sound
+pub mod Units
+pub mod Holding
+pub mod Nested
+pub mod Example
+pub mod OneEntry
+pub mod Steps
+pub mod Bearing
+pub mod Ending

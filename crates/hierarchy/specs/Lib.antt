@@ -1,0 +1,9 @@
+pub mod Births
+pub mod Own
+pub mod Families
+pub mod Legal
+pub mod Whole
+pub mod Stretches
+pub mod Headline
+pub mod Growing
+pub mod Laws

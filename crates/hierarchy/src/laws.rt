@@ -1,0 +1,65 @@
+ghost use Rattle.std.specs.Prelude.{◌≡◌, ◌↔◌, ℕ, List, [], ◌∷◌, ◌++◌, IsTrue, false};
+ghost use Rattle.std.specs.List.{AllByRecursion as Each};
+ghost use Rattle.instance_rules.specs.Family.{AreNested, MayClose};
+ghost use Rattle.instance_rules.specs.Legal.{IsSound};
+ghost use Rattle.run_laws.specs.Jobs.{JobsStaySound, LogsOnlyGrow};
+ghost use Rattle.answers.specs.declared.chronicle.Entry.{Entry};
+ghost use Rattle.answers.specs.Chronicle.{Setup};
+ghost use Rattle.answers.specs.Jobs.{instance_of, log_in};
+ghost use Rattle.answers.specs.Legal.{IsLegal, IsSettled};
+ghost use Rattle.answers.specs.Runs.{IsFamilySettled, IsInTime, family_of as alone_in};
+ghost use Rattle.answers.specs.Whole.{IsWhole};
+ghost use Rattle.hierarchy.specs.Births.{is_gone, lives};
+ghost use Rattle.hierarchy.specs.Families.{family_of};
+ghost use Rattle.hierarchy.specs.Laws.{IsChildless, IsKept, IsOfOthers, IsOfTop};
+ghost use Rattle.hierarchy.specs.Legal.{IsLegalRun, IsSettledRun, is_end};
+ghost use Rattle.hierarchy.specs.Own.{own_of, setup_in};
+ghost use Rattle.hierarchy.specs.Whole.{IsWholeRun};
+
+/// Where all actors are of the top and nothing is born, a run is legal, whole and settled exactly
+/// where its one instance is and the run goes in time and may end.
+pub fn a_run_without_children_is_of_one_instance()
+    ensures legal { (set : Setup) (c : List Entry) → IsOfTop set → IsChildless c
+        → IsLegalRun set c ↔ (IsLegal set c × IsInTime set c) }
+    ensures whole { (set : Setup) (c : List Entry) → IsOfTop set → IsChildless c → IsLegalRun set c
+        → IsWholeRun set c ↔ (IsWhole set c × MayClose (alone_in set c) []) }
+    ensures settled { (set : Setup) (c : List Entry) → IsOfTop set → IsChildless c
+        → IsLegalRun set c → IsSettledRun set c ↔ (IsSettled set c × IsFamilySettled set c) }
+{}
+
+/// Once an instance has gone, its own chronicle has ended, and nothing about it happens any more.
+pub fn what_has_gone_stays_gone()
+    ensures ended { (set : Setup) (c more : List Entry) (i : ℕ) → IsLegalRun set (c ++ more)
+        → IsTrue (is_gone c i) → own_of set (c ++ more) i ≡ own_of set c i }
+    ensures quiet { (set : Setup) (c more : List Entry) (i : ℕ) → IsLegalRun set (c ++ more)
+        → IsTrue (is_gone c i) → Each (IsOfOthers i) more }
+{}
+
+/// After each entry of a legal run, each living instance has its store of `primary`, whose logs
+/// replay and whose live jobs stand well in its grant (Flux RFC 21).
+pub fn jobs_stay_sound_in_all()
+    ensures { (set : Setup) (c : List Entry) (i : ℕ) → IsLegalRun set c → IsTrue (lives c i)
+        → IsKept set c i
+        → IsSound (instance_of (setup_in set c i))
+        (log_in (setup_in set c i).work (own_of set c i)) }
+{}
+
+/// Behind an entry that is no end, jobs have stayed sound along the own chronicle of each living
+/// instance, and their logs have only grown (Flux RFC 18).
+pub fn logs_only_grow_in_all()
+    ensures sound { (set : Setup) (c : List Entry) (e : Entry) (i : ℕ)
+        → IsLegalRun set (c ++ e ∷ []) → is_end e ≡ false → IsTrue (lives (c ++ e ∷ []) i)
+        → IsKept set (c ++ e ∷ []) i
+        → JobsStaySound (setup_in set (c ++ e ∷ []) i) (own_of set (c ++ e ∷ []) i) }
+    ensures grows { (set : Setup) (c : List Entry) (e : Entry) (i : ℕ)
+        → IsLegalRun set (c ++ e ∷ []) → is_end e ≡ false → IsTrue (lives (c ++ e ∷ []) i)
+        → IsKept set (c ++ e ∷ []) i
+        → LogsOnlyGrow (setup_in set (c ++ e ∷ []) i) (own_of set (c ++ e ∷ []) i) }
+{}
+
+/// After each entry of a legal run, the grant of each living child has the units of the resources
+/// of a live job of its living parent (Flux RFC 20).
+pub fn children_stay_nested()
+    ensures { (set : Setup) (c : List Entry) → IsLegalRun set c
+        → ((i : ℕ) → IsTrue (lives c i) → IsKept set c i) → AreNested (family_of set c) }
+{}
