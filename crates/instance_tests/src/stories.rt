@@ -364,6 +364,7 @@ fn go_ahead(
 fn seen(alloc: Global, instance: &mut Instance, lines: &[Line]) -> Result<Vec<u8>, Fail>
     requires ready { instance.old.spent ≡ false }
     requires lines { AreLinesOf instance.old lines.now }
+    ensures { OnOk result (instance.new.spent ≡ false) }
 {
     let mut text = Vec::new(alloc);
     for _ in 0..100 {
@@ -387,5 +388,65 @@ fn a_job_runs_while_time_goes_on(rt: HostRuntime) -> Result<(), Fail> {
     let is_so = text.as_slice()
         == b"0 issued 0, 0 submitted, 0 issued 1, ticked 3, ticked 5, 0 advanced, 0 issued 2, 0 ended, ".as_slice();
     assert!(rt; is_so);
+    Ok(())
+}
+
+/// An actor submits a job that runs for 3 seconds, and waits for its result.
+const SLEEP: &str =
+    "actor a 0\na submit one {\"resources\":[{\"type\":\"slot\",\"count\":1,\"with\":[{\"type\":\"core\",\"count\":1}],\"label\":\"task\"}],\"tasks\":[{\"command\":[\"sleep\",\"3\"],\"slot\":\"task\",\"count\":{\"per_slot\":1}}],\"version\":1}\na result one\n";
+
+/// Whether the job runs up to second 3, holds resources, and has no child, and nothing else is ahead.
+fn sleeps(instance: &Instance) -> Result<bool, Fail>
+    requires { instance.now.spent ≡ false }
+{
+    let Some(job) = instance.job_of(b"one".as_slice()) else {
+        return Ok(false);
+    };
+    let holds = instance.grant_of(job)?.is_some();
+    let is_childless = instance.birth().is_none() && !instance.may_end(job, true);
+    let is_ahead = instance.next_target().is_none() && instance.next_end() == Some(3);
+    Ok(holds && is_childless && is_ahead)
+}
+
+/// Lets time go on to the next second at which a command ends, as by an advance of another instance.
+fn pass_on(instance: &mut Instance) -> Result<(), Fail>
+    requires { instance.old.spent ≡ false }
+    ensures { OnOk result (instance.new.spent ≡ false) }
+{
+    if instance.is_due() {
+        return Ok(());
+    }
+    let Some(second) = instance.next_end() else {
+        return Ok(());
+    };
+    if second <= 1_000_000_000 {
+        instance.tick_to(second)?;
+    }
+    Ok(())
+}
+
+/// Whether an instance without advances goes on where another one lets time pass: its job sleeps, and then something is due.
+fn goes_on_by_others(alloc: Global, instance: &mut Instance, lines: &[Line]) -> Result<bool, Fail>
+    requires ready { instance.old.spent ≡ false }
+    requires lines { AreLinesOf instance.old lines.now }
+{
+    let text = seen(alloc, instance, lines)?;
+    let is_so = text.as_slice() == b"0 issued 0, 0 submitted, 0 issued 1, ".as_slice();
+    let sleeps = sleeps(instance)?;
+    let rested = !instance.is_due();
+    pass_on(instance)?;
+    Ok(is_so && sleeps && rested && instance.is_due())
+}
+
+/// The same of an instance that begins.
+fn begun_goes_on_by_others(alloc: Global, text: &str) -> Result<bool, Fail> {
+    let (mut instance, work) = begin(alloc, text)?;
+    goes_on_by_others(alloc, &mut instance, work.lines.as_slice())
+}
+
+#[test]
+fn time_goes_on_for_an_instance_by_others(rt: HostRuntime) -> Result<(), Fail> {
+    let goes_on = begun_goes_on_by_others(rt.alloc(), SLEEP)?;
+    assert!(rt; goes_on);
     Ok(())
 }
