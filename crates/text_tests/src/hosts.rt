@@ -65,7 +65,7 @@ fn reads_as(alloc: Global, text: &str, want: &str) -> Result<bool, Fail> {
 
 #[test]
 fn texts_are_read_and_printed(rt: HostRuntime) -> Result<(), Fail> {
-    for (text, want) in LISTS {
+    for (text, want) in &LISTS {
         assert!(rt; reads_as(rt.alloc(), text, want)?, "{text}");
     }
     Ok(())
@@ -73,9 +73,9 @@ fn texts_are_read_and_printed(rt: HostRuntime) -> Result<(), Fail> {
 
 #[test]
 fn other_texts_have_their_faults(rt: HostRuntime) {
-    for (text, want) in FAULTS {
+    for (text, want) in &FAULTS {
         let fault = HostList::read(rt.alloc(), text.as_bytes()).err();
-        assert_eq!(rt; fault, Some(want), "{text}");
+        assert_eq!(rt; fault, Some(*want), "{text}");
     }
 }
 

@@ -61,22 +61,22 @@ fn is_read_again(alloc: Global, id: u64) -> Result<bool, Fail> {
 
 #[test]
 fn ids_are_printed_and_read_again(rt: HostRuntime) -> Result<(), Fail> {
-    for (id, f58, dothex) in IDS {
-        assert!(rt; prints(rt.alloc(), id, Form::F58, f58)?, "{id}");
-        assert!(rt; prints(rt.alloc(), id, Form::Dothex, dothex)?, "{id}");
-        assert!(rt; is_read_again(rt.alloc(), id)?, "{id}");
+    for (id, f58, dothex) in &IDS {
+        assert!(rt; prints(rt.alloc(), *id, Form::F58, f58)?, "{id}");
+        assert!(rt; prints(rt.alloc(), *id, Form::Dothex, dothex)?, "{id}");
+        assert!(rt; is_read_again(rt.alloc(), *id)?, "{id}");
     }
     Ok(())
 }
 
 #[test]
 fn texts_are_read_or_refused(rt: HostRuntime) {
-    for (id, f58, dothex) in IDS {
-        assert_eq!(rt; read(f58.as_bytes()), Ok(id));
-        assert_eq!(rt; read(dothex.as_bytes()), Ok(id));
+    for (id, f58, dothex) in &IDS {
+        assert!(rt; read(f58.as_bytes()) == Ok(*id), "{f58}");
+        assert!(rt; read(dothex.as_bytes()) == Ok(*id), "{dothex}");
     }
-    for (text, id) in TEXTS {
-        assert_eq!(rt; read(text.as_bytes()), id, "{text}");
+    for (text, id) in &TEXTS {
+        assert!(rt; read(text.as_bytes()) == *id, "{text}");
     }
 }
 

@@ -1,4 +1,4 @@
-use event_log::{LogFault, line, read};
+use event_log::{Event, LogFault, line, read};
 use fl_json::JsonFault;
 use lists::Copied;
 use std::test::Fail;
@@ -110,20 +110,22 @@ const TEXTS: [(&str, &str); 33] = [
     ),
 ];
 
-/// What a text tells: the lines of copies of its events, or the fault.
-fn told(rt: &HostRuntime, text: &[u8]) -> Result<Vec<u8>, Fail> {
-    let events = match read(rt.alloc(), text) {
-        Ok(events) => events,
-        Err(LogFault::NoMemory) => return Err(LogFault::NoMemory.into()),
-        Err(fault) => {
-            return Ok(Vec::from_slice(rt.alloc(), format!(in rt.alloc(); "{fault}")?.as_bytes())?);
-        }
-    };
+/// The lines of copies of events.
+fn lines_of(rt: &HostRuntime, events: &[Event]) -> Result<Vec<u8>, Fail> {
     let mut lines = Vec::new(rt.alloc());
-    for event in events.iter() {
+    for event in events {
         lines.extend_from_slice(&line(rt.alloc(), &event.copy()?)?)?;
     }
     Ok(lines)
+}
+
+/// What a text tells: the lines of copies of its events, or the fault.
+fn told(rt: &HostRuntime, text: &[u8]) -> Result<Vec<u8>, Fail> {
+    match read(rt.alloc(), text) {
+        Ok(events) => lines_of(rt, events.as_slice()),
+        Err(LogFault::NoMemory) => Err(LogFault::NoMemory.into()),
+        Err(fault) => Ok(format!(in rt.alloc(); "{fault}")?.into_bytes()),
+    }
 }
 
 /// Arrays in one another, as the context of an event.
@@ -147,7 +149,7 @@ fn tells(rt: &HostRuntime, given: &str, wanted: &str) -> Result<bool, Fail> {
 
 #[test]
 fn logs_are_read_and_written_as_the_rule_says(rt: HostRuntime) -> Result<(), Fail> {
-    for (given, wanted) in TEXTS {
+    for (given, wanted) in &TEXTS {
         assert!(rt; tells(&rt, given, wanted)?, "{given}");
     }
     Ok(())

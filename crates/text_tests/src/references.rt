@@ -61,7 +61,7 @@ fn refers(alloc: Global, hash: Hash, bytes: &[u8], text: &str) -> Result<bool, F
 
 #[test]
 fn references_are_printed_and_read_again(rt: HostRuntime) -> Result<(), Fail> {
-    for (bytes, sha1, sha256) in VECTORS {
+    for (bytes, sha1, sha256) in &VECTORS {
         assert!(rt; refers(rt.alloc(), Hash::Sha1, bytes, sha1)?, "{sha1}");
         assert!(rt;
             refers(rt.alloc(), Hash::Sha256, bytes, sha256)?,
@@ -84,7 +84,7 @@ fn roots_are_copied(rt: HostRuntime) -> Result<(), Fail> {
 
 #[test]
 fn other_texts_are_no_references(rt: HostRuntime) {
-    for text in NO_REFERENCES {
+    for text in &NO_REFERENCES {
         assert_eq!(rt; BlobRef::read(text.as_bytes()), Err(RefFault::BadRef));
     }
 }

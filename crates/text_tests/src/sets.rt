@@ -64,7 +64,7 @@ fn reads_as(alloc: Global, text: &str, canonical: &str) -> Result<bool, Fail> {
 
 #[test]
 fn texts_are_read_and_printed(rt: HostRuntime) -> Result<(), Fail> {
-    for (text, canonical) in SPELLINGS {
+    for (text, canonical) in &SPELLINGS {
         assert!(rt; reads_as(rt.alloc(), text, canonical)?, "{text}");
     }
     Ok(())
@@ -72,8 +72,8 @@ fn texts_are_read_and_printed(rt: HostRuntime) -> Result<(), Fail> {
 
 #[test]
 fn other_texts_have_their_faults(rt: HostRuntime) {
-    for (text, fault) in REFUSED {
-        assert_eq!(rt; set(rt.alloc(), text).err(), Some(fault), "{text}");
+    for (text, fault) in &REFUSED {
+        assert_eq!(rt; set(rt.alloc(), text).err(), Some(*fault), "{text}");
     }
 }
 

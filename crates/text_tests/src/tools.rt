@@ -114,29 +114,47 @@ fn told(alloc: Global, words: &[&str], input: &str, fails: &[u64]) -> Result<Vec
     }
 }
 
+/// Whether the words come to this line over this input, with a source that fails at these calls.
+fn tells(
+    alloc: Global,
+    words: &[&str],
+    input: &str,
+    fails: &[u64],
+    line: &str,
+) -> Result<bool, Fail> {
+    let printed = told(alloc, words, input, fails)?;
+    Ok(printed.as_slice() == line.as_bytes())
+}
+
 #[test]
 fn lines_and_refusals(rt: HostRuntime) -> Result<(), Fail> {
     let alloc = rt.alloc();
     for (name, text, line) in &CASES {
-        let printed = told(alloc, &[name, text], "not read", &[])?;
-        assert_eq!(rt; printed.as_slice(), line.as_bytes(), "{name} {text}");
+        assert!(rt;
+            tells(alloc, &[name, text], "not read", &[], line)?,
+            "{name} {text}"
+        );
     }
     for (name, text, line) in &READERS {
-        let printed = told(alloc, &[name], text, &[])?;
-        assert_eq!(rt; printed.as_slice(), line.as_bytes(), "{name} {text}");
+        assert!(rt; tells(alloc, &[name], text, &[], line)?, "{name} {text}");
     }
-    let failed = told(alloc, &["R"], R, &[1])?;
-    assert_eq!(rt; failed.as_slice(), b"read fault".as_slice());
+    assert!(rt; tells(alloc, &["R"], R, &[1], "read fault")?);
     Ok(())
+}
+
+/// Whether these words are those of a tool.
+fn spell_a_tool(alloc: Global, words: &[&str]) -> Result<bool, Fail> {
+    let words = strings(alloc, words)?;
+    Ok(is_tool(&words))
 }
 
 #[test]
 fn words_of_no_tool(rt: HostRuntime) -> Result<(), Fail> {
     let alloc = rt.alloc();
-    assert!(rt; !is_tool(&strings(alloc, &[])?));
-    assert!(rt; !is_tool(&strings(alloc, &["idset"])?));
-    assert!(rt; !is_tool(&strings(alloc, &["idset", "1", "2"])?));
-    assert!(rt; !is_tool(&strings(alloc, &["R", "1"])?));
-    assert!(rt; !is_tool(&strings(alloc, &["r"])?));
+    assert!(rt; !spell_a_tool(alloc, &[])?);
+    assert!(rt; !spell_a_tool(alloc, &["idset"])?);
+    assert!(rt; !spell_a_tool(alloc, &["idset", "1", "2"])?);
+    assert!(rt; !spell_a_tool(alloc, &["R", "1"])?);
+    assert!(rt; !spell_a_tool(alloc, &["r"])?);
     Ok(())
 }

@@ -80,7 +80,7 @@ fn tells(rt: &HostRuntime, given: &str, wanted: &str) -> Result<bool, Fail> {
 
 #[test]
 fn texts_are_read_as_the_rule_says(rt: HostRuntime) -> Result<(), Fail> {
-    for (given, wanted) in TEXTS {
+    for (given, wanted) in &TEXTS {
         assert!(rt; tells(&rt, given, wanted)?, "{given}");
     }
     Ok(())
@@ -143,7 +143,7 @@ fn has_no_fields(rt: &HostRuntime) -> Result<bool, Fail> {
 
 #[test]
 fn fields_are_found_by_kind(rt: HostRuntime) -> Result<(), Fail> {
-    for (key, wanted) in FIELDS {
+    for (key, wanted) in &FIELDS {
         assert!(rt; is_field(&rt, key, wanted)?, "{key}");
     }
     assert!(rt; have_faults(&rt)?);
