@@ -47,10 +47,9 @@ fn fault(
         text.extend_from_slice(piece)?;
     }
     text.extend_from_slice(end)?;
-    match read(alloc, text.as_slice(), SIZE) {
-        Ok(_) => Ok(None),
-        Err(LineFault::NoMemory) => Err(Fail::new("out of memory")),
-        Err(fault) => Ok(Some(fault)),
+    match read(alloc, text.as_slice(), SIZE).err() {
+        Some(LineFault::NoMemory) => Err(Fail::new("out of memory")),
+        fault => Ok(fault),
     }
 }
 
@@ -64,14 +63,21 @@ type Long = (
     Told,
 );
 
+/// Whether a text has the fault that is told of it.
+fn has_its_fault(alloc: Global, case: &Long) -> Result<bool, Fail> {
+    let (start, piece, times, end, line, told) = *case;
+    let found = fault(alloc, start, piece, times, end)?;
+    Ok(found == fault_in(line, told))
+}
+
 /// Reads texts, and compares their faults.
 fn check(rt: &impl Abort, alloc: Global, cases: &[Long]) -> Result<(), Fail> {
-    for (start, piece, times, end, line, told) in cases {
-        let found = fault(alloc, start, piece, *times, end)?;
-        assert_eq!(rt;
-            found,
-            fault_in(*line, *told),
-            "of {piece:?}, {times} times"
+    for case in cases {
+        assert!(rt;
+            has_its_fault(alloc, case)?,
+            "of {:?}, {} times",
+            case.1,
+            case.2
         );
     }
     Ok(())
@@ -219,9 +225,9 @@ a submit j {"resources":[{"type":"slot","count":1,"with":[{"type":"core","count"
 
 #[test]
 fn short_texts_have_their_faults(rt: HostRuntime) -> Result<(), Fail> {
-    for (text, line, told) in SHORT {
-        let found = fault(rt.alloc(), text, b"", 0, b"")?;
-        assert_eq!(rt; found, fault_in(line, told), "of {text:?}");
+    for (text, line, told) in &SHORT {
+        let case = (*text, b"".as_slice(), 0, b"".as_slice(), *line, *told);
+        assert!(rt; has_its_fault(rt.alloc(), &case)?, "of {text:?}");
     }
     Ok(())
 }
@@ -406,13 +412,19 @@ fn fault_of_grant(
     fault(alloc, line.as_bytes(), b"", 0, end)
 }
 
+/// Whether a grant's line has the fault that is told of it.
+fn is_granted_so(alloc: Global, case: &Granted) -> Result<bool, Fail> {
+    let (last, cores, gpus, end, line, told) = *case;
+    let found = fault_of_grant(alloc, last, cores, gpus, end)?;
+    Ok(found == fault_in(line, told))
+}
+
 #[test]
 fn grants_at_the_limits_have_their_faults(rt: HostRuntime) -> Result<(), Fail> {
-    for (last, cores, gpus, end, line, told) in GRANTS_AT_THE_LIMITS {
-        let found = fault_of_grant(rt.alloc(), last, cores, gpus, end)?;
-        assert_eq!(rt;
-            found,
-            fault_in(line, told),
+    for case in &GRANTS_AT_THE_LIMITS {
+        let (last, cores, gpus, ..) = *case;
+        assert!(rt;
+            is_granted_so(rt.alloc(), case)?,
             "of {last}, {cores:?} and {gpus:?}"
         );
     }

@@ -26,7 +26,7 @@ const ACTORS: [&str; 5] = ["a 0", "b 3", "c 0 of j", "d 9 of j", "e 0 of k"];
 
 fn actors(alloc: Global) -> Result<ActorList, Fail> {
     let mut actors = ListOf::new(alloc);
-    for text in ACTORS {
+    for text in &ACTORS {
         match declared(alloc, SIZE, &actors, 1, text) {
             Ok(actor) => actors.push(actor)?,
             Err(_) => return Err(Fail::new("an actor has a fault")),
@@ -61,13 +61,19 @@ fn fault_of_actor(alloc: Global, text: &str) -> Result<Option<LineFault>, Fail> 
     Ok(declared(alloc, SIZE, &actors, 1, text).err())
 }
 
+/// Whether an actor's line has this fault.
+fn is_declared_so(alloc: Global, text: &str, want: Option<LineFault>) -> Result<bool, Fail> {
+    let found = fault_of_actor(alloc, text)?;
+    Ok(found == want)
+}
+
 #[test]
 fn actors_of_children_have_their_faults(rt: HostRuntime) -> Result<(), Fail> {
     let alloc = rt.alloc();
-    for (text, want) in DECLARED {
-        assert_eq!(rt; fault_of_actor(alloc, text)?, want, "of {text:?}");
+    for (text, want) in &DECLARED {
+        assert!(rt; is_declared_so(alloc, text, *want)?, "of {text:?}");
     }
-    assert_eq!(rt; fault_of_actor(alloc, "f 4")?, limit(Which::Rank));
+    assert!(rt; is_declared_so(alloc, "f 4", limit(Which::Rank))?);
     Ok(())
 }
 
@@ -145,11 +151,19 @@ const SAID: [(usize, &str, Option<LineFault>); 15] = [
     (4, "submit m {}", None),
 ];
 
+/// Whether what an actor says has this fault.
+fn is_said_so(alloc: Global, by: usize, text: &str, want: Option<LineFault>) -> Result<bool, Fail> {
+    let found = fault_of_said(alloc, ListOf::new(alloc), by, text)?;
+    Ok(found == want)
+}
+
 #[test]
 fn commands_keep_to_their_instances(rt: HostRuntime) -> Result<(), Fail> {
-    for (by, text, want) in SAID {
-        let found = fault_of_said(rt.alloc(), ListOf::new(rt.alloc()), by, text)?;
-        assert_eq!(rt; found, want, "of {text} by {by}");
+    for (by, text, want) in &SAID {
+        assert!(rt;
+            is_said_so(rt.alloc(), *by, text, *want)?,
+            "of {text} by {by}"
+        );
     }
     Ok(())
 }
@@ -195,19 +209,28 @@ fn fault_of_one_more(
     fault_of_said(alloc, lines, 2, said.as_str())
 }
 
+/// Whether one submission more has this fault, where so many of a text stand before it.
+fn is_one_more(
+    alloc: Global,
+    before: (&str, usize),
+    head: &str,
+    text: &str,
+    want: Option<LineFault>,
+) -> Result<bool, Fail> {
+    let found = fault_of_one_more(alloc, before.0, before.1, head, text)?;
+    Ok(found == want)
+}
+
 #[test]
 fn instances_are_counted_with_the_top(rt: HostRuntime) -> Result<(), Fail> {
     let alloc = rt.alloc();
     let most = MOST_INSTANCES - 1;
     let full = limit(Which::Instances);
-    assert_eq!(rt;
-        fault_of_one_more(alloc, CHILD, most - 1, "m", CHILD)?,
-        None
-    );
-    assert_eq!(rt; fault_of_one_more(alloc, CHILD, most, "m", CHILD)?, full);
-    assert_eq!(rt; fault_of_one_more(alloc, CHILD, most, "m", "{}")?, None);
-    assert_eq!(rt; fault_of_one_more(alloc, CHILD, most, "m", REFUSED)?, None);
-    assert_eq!(rt; fault_of_one_more(alloc, REFUSED, most, "m", CHILD)?, None);
+    assert!(rt; is_one_more(alloc, (CHILD, most - 1), "m", CHILD, None)?);
+    assert!(rt; is_one_more(alloc, (CHILD, most), "m", CHILD, full)?);
+    assert!(rt; is_one_more(alloc, (CHILD, most), "m", "{}", None)?);
+    assert!(rt; is_one_more(alloc, (CHILD, most), "m", REFUSED, None)?);
+    assert!(rt; is_one_more(alloc, (REFUSED, most), "m", CHILD, None)?);
     Ok(())
 }
 
@@ -215,18 +238,10 @@ fn instances_are_counted_with_the_top(rt: HostRuntime) -> Result<(), Fail> {
 fn other_faults_come_before_too_many_instances(rt: HostRuntime) -> Result<(), Fail> {
     let alloc = rt.alloc();
     let most = MOST_INSTANCES - 1;
-    assert_eq!(rt;
-        fault_of_one_more(alloc, CHILD, most, "l0", CHILD)?,
-        UNFORMED
-    );
-    assert_eq!(rt;
-        fault_of_one_more(alloc, CHILD, most, "m urgency=32", CHILD)?,
-        MISNUMBERED
-    );
-    assert_eq!(rt;
-        fault_of_one_more(alloc, "{}", MOST_SUBMITS, "m", CHILD)?,
-        limit(Which::Submits)
-    );
+    let submits = limit(Which::Submits);
+    assert!(rt; is_one_more(alloc, (CHILD, most), "l0", CHILD, UNFORMED)?);
+    assert!(rt; is_one_more(alloc, (CHILD, most), "m urgency=32", CHILD, MISNUMBERED)?);
+    assert!(rt; is_one_more(alloc, ("{}", MOST_SUBMITS), "m", CHILD, submits)?);
     Ok(())
 }
 

@@ -168,7 +168,9 @@ const FULL: Option<LineFault> = Some(LineFault::Limit {
 });
 
 /// A text that stands so many times before another one, and the fault of that one.
-const COUNTED: [(&str, usize, &str, Option<LineFault>); 5] = [
+type Counted = (&'static str, usize, &'static str, Option<LineFault>);
+
+const COUNTED: [Counted; 5] = [
     ("cancel j", MOST_POSTS - 1, "cancel j", None),
     ("cancel j", MOST_POSTS, "raise j t 0", FULL),
     ("raise j t 0", MOST_POSTS, "urgency j 0", FULL),
@@ -176,11 +178,17 @@ const COUNTED: [(&str, usize, &str, Option<LineFault>); 5] = [
     ("cancel j", MOST_POSTS, "cancel k", None),
 ];
 
+/// Whether the last text of a case has the fault that is told of it.
+fn is_counted_so(alloc: Global, case: &Counted) -> Result<bool, Fail> {
+    let (text, times, last, want) = *case;
+    let found = fault_behind(alloc, text, times, last)?;
+    Ok(found == want)
+}
+
 #[test]
 fn events_of_one_job_are_counted(rt: HostRuntime) -> Result<(), Fail> {
-    for (text, times, last, want) in COUNTED {
-        let found = fault_behind(rt.alloc(), text, times, last)?;
-        assert_eq!(rt; found, want, "of {last} behind {text}, {times} times");
+    for case in &COUNTED {
+        assert!(rt; is_counted_so(rt.alloc(), case)?, "{case:?}");
     }
     Ok(())
 }
@@ -225,9 +233,12 @@ fn fault_of_note(alloc: Global, length: usize) -> Result<Option<LineFault>, Fail
 #[test]
 fn submissions_and_notes_have_their_limits(rt: HostRuntime) -> Result<(), Fail> {
     let alloc = rt.alloc();
-    assert_eq!(rt; fault_behind_submits(alloc)?, limit(Which::Submits));
-    assert_eq!(rt; fault_of_note(alloc, MOST_VALUE)?, None);
-    assert_eq!(rt; fault_of_note(alloc, MOST_VALUE + 1)?, limit(Which::Value));
+    let of_submits = fault_behind_submits(alloc)?;
+    assert!(rt; of_submits == limit(Which::Submits));
+    let of_the_longest = fault_of_note(alloc, MOST_VALUE)?;
+    assert!(rt; of_the_longest == None);
+    let of_a_longer = fault_of_note(alloc, MOST_VALUE + 1)?;
+    assert!(rt; of_a_longer == limit(Which::Value));
     Ok(())
 }
 
@@ -298,7 +309,7 @@ fn tells_its_parts(alloc: Global, text: &str) -> Result<bool, Fail> {
 
 #[test]
 fn commands_tell_their_parts(rt: HostRuntime) -> Result<(), Fail> {
-    for text in PARTED {
+    for text in &PARTED {
         assert!(rt; tells_its_parts(rt.alloc(), text)?, "of {text}");
     }
     Ok(())
