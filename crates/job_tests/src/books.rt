@@ -335,11 +335,16 @@ struct Stage {
     asked: Vec<Asked>,
 }
 
+/// Whether these events follow the steps.
+fn go_on_as(alloc: Global, steps: &str, wanted: &str) -> Result<bool, Fail> {
+    let told = run(alloc, steps)?;
+    Ok(told.as_str() == wanted)
+}
+
 #[test]
 fn jobs_go_on_as_the_table_says(rt: HostRuntime) -> Result<(), Fail> {
-    for (steps, wanted) in ROWS {
-        let told = run(rt.alloc(), steps)?;
-        assert_eq!(rt; told.as_str(), wanted, "{steps}");
+    for (steps, wanted) in &ROWS {
+        assert!(rt; go_on_as(rt.alloc(), steps, wanted)?, "{steps}");
     }
     Ok(())
 }

@@ -71,24 +71,25 @@ fn told(rt: &HostRuntime, command: &str, start: u64) -> Result<String, Fail> {
     }
 }
 
+/// Whether the command of a line ends as that tells, from this second on.
+fn ends_as(rt: &HostRuntime, line: &str, start: u64) -> Result<bool, Fail> {
+    let (wanted, command) = line.split_once(" | ").ok_or("no case")?;
+    let found = told(rt, command, start)?;
+    Ok(found.as_str() == wanted)
+}
+
 #[test]
 fn commands_end_as_the_table_says(rt: HostRuntime) -> Result<(), Fail> {
-    for line in COMMANDS {
-        let (wanted, command) = line.split_once(" | ").ok_or("no case")?;
-        assert_eq!(rt; told(&rt, command, 5)?.as_str(), wanted, "{line}");
+    for line in &COMMANDS {
+        assert!(rt; ends_as(&rt, line, 5)?, "{line}");
     }
     Ok(())
 }
 
 #[test]
 fn the_last_second_stays_the_last(rt: HostRuntime) -> Result<(), Fail> {
-    for (start, line) in LATER {
-        let (wanted, command) = line.split_once(" | ").ok_or("no case")?;
-        assert_eq!(rt;
-            told(&rt, command, start)?.as_str(),
-            wanted,
-            "{line} from {start}"
-        );
+    for (start, line) in &LATER {
+        assert!(rt; ends_as(&rt, line, *start)?, "{line} from {start}");
     }
     Ok(())
 }

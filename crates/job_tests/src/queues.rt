@@ -1,4 +1,5 @@
 use job_queue::{Outcome, Queue, Scheme, Settled};
+use std::alloc::Global;
 use std::test::Fail;
 
 /// What the end of job 5 makes of each scheme: with success or not, after a start or not.
@@ -47,33 +48,40 @@ fn the_smaller_id_goes_first_at_one_priority(rt: HostRuntime) -> Result<(), Fail
     Ok(())
 }
 
+/// Whether the end of job 5 settles one dependency as a row says, once. Another on job 4 is left.
+fn is_settled(queue: &mut Queue, row: &(Scheme, bool, bool, bool)) -> Result<bool, Fail> {
+    let (scheme, ok, started, met) = *row;
+    queue.depend(9, 5, scheme)?;
+    queue.depend(9, 4, scheme)?;
+    let settled = queue.settle(5, Outcome::Ended { ok, started })?;
+    let (id, on) = (9, 5);
+    let wanted = Settled {
+        id,
+        on,
+        scheme,
+        met,
+    };
+    let again = queue.settle(5, Outcome::Ended { ok, started })?;
+    Ok(settled.as_slice() == [wanted].as_slice() && again.is_empty())
+}
+
+/// Whether the start of job 4 lets these jobs go on.
+fn are_started(alloc: Global, queue: &mut Queue, wanted: &[u64]) -> Result<bool, Fail> {
+    let started = queue.settle(4, Outcome::Started)?;
+    let ids: Vec<u64> = started.iter().map(|one| one.id).collect(alloc)?;
+    Ok(ids.as_slice() == wanted)
+}
+
 #[test]
 fn outcomes_settle_dependencies(rt: HostRuntime) -> Result<(), Fail> {
     let mut queue = Queue::new(rt.alloc());
-    for (scheme, ok, started, met) in ENDS {
-        queue.depend(9, 5, scheme)?;
-        queue.depend(9, 4, scheme)?;
-        let settled = queue.settle(5, Outcome::Ended { ok, started })?;
-        let id = 9;
-        let on = 5;
-        assert_eq!(rt;
-            settled.as_slice(),
-            [Settled {
-                id,
-                on,
-                scheme,
-                met
-            }]
-            .as_slice()
-        );
-        assert!(rt; queue.settle(5, Outcome::Ended { ok, started })?.is_empty());
+    for row in &ENDS {
+        assert!(rt; is_settled(&mut queue, row)?, "{row:?}");
     }
     queue.depend(3, 4, Scheme::After)?;
     queue.depend(7, 4, Scheme::After)?;
     queue.forget(7, 4);
-    let started = queue.settle(4, Outcome::Started)?;
-    let ids: Vec<u64> = started.iter().map(|one| one.id).collect(rt.alloc())?;
-    assert_eq!(rt; ids.as_slice(), [3, 9, 9].as_slice());
+    assert!(rt; are_started(rt.alloc(), &mut queue, &[3, 9, 9])?);
     Ok(())
 }
 
