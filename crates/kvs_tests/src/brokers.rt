@@ -259,14 +259,25 @@ fn ask_last_broker(alloc: Global, core: &mut Core, size: u32) -> Result<(), Fail
     ask_in(alloc, core, 0, size - 1, "primary", 0, commit)
 }
 
+/// What follows a commit at the last broker of a tree.
+fn story_of_the_last(alloc: Global, core: &mut Core, size: u32) -> Result<Vec<u8>, Fail>
+    requires ready { core.old.spent ≡ false }
+    requires size { core.old.size ≡ size }
+    requires some { 1 ≤ size }
+{
+    ask_last_broker(alloc, core, size)?;
+    story(alloc, core)
+}
+
 /// What a tree tells of a commit at its last broker.
 fn told_of_the_last(alloc: Global, size: u32, fanout: u32) -> Result<Vec<u8>, Fail> {
     if size < 1 || 32 < size || fanout < 1 || 32 < fanout {
         return Err("no such tree".into());
     }
     let mut core = begin(alloc, size, fanout)?;
-    ask_last_broker(alloc, &mut core, size)?;
-    story(alloc, &mut core)
+    let told = story_of_the_last(alloc, &mut core, size);
+    drop(core);
+    told
 }
 
 /// Trees by their sizes and fanouts.
@@ -282,35 +293,57 @@ const SHAPES: [(u32, u32); 9] = [
     (32, 32),
 ];
 
+/// Whether each broker of a tree hears a commit at the last.
+fn is_heard(alloc: Global, size: u32, fanout: u32) -> Result<bool, Fail> {
+    let told = told_of_the_last(alloc, size, fanout)?;
+    let wanted = commit_heard_by(alloc, size)?;
+    Ok(told.as_slice() == wanted.as_slice())
+}
+
 /// A commit at the last broker of a tree goes up, lands, and is heard at each.
 #[test]
 fn a_commit_is_heard_in_trees_of_each_shape(rt: HostRuntime) -> Result<(), Fail> {
-    for (size, fanout) in SHAPES {
-        let told = told_of_the_last(rt.alloc(), size, fanout)?;
-        let wanted = commit_heard_by(rt.alloc(), size)?;
-        assert_eq!(rt; told.as_slice(), wanted.as_slice(), "of {size}, {fanout}");
+    for (size, fanout) in &SHAPES {
+        assert!(rt;
+            is_heard(rt.alloc(), *size, *fanout)?,
+            "of {size}, {fanout}"
+        );
     }
     Ok(())
+}
+
+/// What follows once these rows are asked.
+fn story_behind(alloc: Global, core: &mut Core, rows: &[Posed]) -> Result<Vec<u8>, Fail>
+    requires ready { core.old.spent ≡ false }
+    requires size { core.old.size ≡ 4 }
+{
+    pose_all(alloc, core, rows)?;
+    story(alloc, core)
 }
 
 /// What a tree of four brokers tells of these rows.
 fn story_of(alloc: Global, rows: &[Posed]) -> Result<Vec<u8>, Fail> {
     let mut core = begin(alloc, 4, 2)?;
-    pose_all(alloc, &mut core, rows)?;
-    story(alloc, &mut core)
+    let told = story_behind(alloc, &mut core, rows);
+    drop(core);
+    told
+}
+
+/// Whether a tree of four brokers tells this of these rows.
+fn is_story(alloc: Global, rows: &[Posed], wanted: &str) -> Result<bool, Fail> {
+    let text = story_of(alloc, rows)?;
+    Ok(text.as_slice() == wanted.as_bytes())
 }
 
 #[test]
 fn a_tree_of_four(rt: HostRuntime) -> Result<(), Fail> {
-    let text = story_of(rt.alloc(), &CHAIN)?;
-    assert_eq!(rt; text.as_slice(), STORY.as_bytes());
+    assert!(rt; is_story(rt.alloc(), &CHAIN, STORY)?);
     Ok(())
 }
 
 #[test]
 fn two_commits_that_are_ready_land_at_once(rt: HostRuntime) -> Result<(), Fail> {
-    let text = story_of(rt.alloc(), &PAIR)?;
-    assert_eq!(rt; text.as_slice(), TOGETHER.as_bytes());
+    assert!(rt; is_story(rt.alloc(), &PAIR, TOGETHER)?);
     Ok(())
 }
 
@@ -331,18 +364,29 @@ fn post(alloc: Global, core: &mut Core) -> Result<(), Fail>
     Ok(())
 }
 
+/// What follows once a post is made and these rows are asked.
+fn story_of_a_post(alloc: Global, core: &mut Core, rows: &[Posed]) -> Result<Vec<u8>, Fail>
+    requires ready { core.old.spent ≡ false }
+    requires size { core.old.size ≡ 4 }
+    requires posted { posted core.old ≡ [] }
+    requires newest { newest_of core.old ≡ first_store (codes "grant") }
+{
+    post(alloc, core)?;
+    story_behind(alloc, core, rows)
+}
+
 /// What a tree of four brokers tells of these rows behind a post.
 fn story_behind_a_post(alloc: Global, rows: &[Posed]) -> Result<Vec<u8>, Fail> {
     let mut core = begin(alloc, 4, 2)?;
-    post(alloc, &mut core)?;
-    pose_all(alloc, &mut core, rows)?;
-    story(alloc, &mut core)
+    let told = story_of_a_post(alloc, &mut core, rows);
+    drop(core);
+    told
 }
 
 #[test]
 fn a_post_lands_with_a_commit(rt: HostRuntime) -> Result<(), Fail> {
     let text = story_behind_a_post(rt.alloc(), &ONE)?;
-    assert_eq!(rt; text.as_slice(), BEHIND_A_POST.as_bytes());
+    assert!(rt; text.as_slice() == BEHIND_A_POST.as_bytes());
     Ok(())
 }
 
@@ -360,6 +404,24 @@ fn serve(core: &mut Core) -> Result<(), Fail>
 
 /// The step of this number, or how many are lacking, once these rows are asked and rank 0 has
 /// served one if it is to.
+fn nth_of(
+    alloc: Global,
+    core: &mut Core,
+    rows: &[Posed],
+    serves: bool,
+    number: u64,
+) -> Result<Result<KvsStep, u64>, Fail>
+    requires ready { core.old.spent ≡ false }
+    requires size { core.old.size ≡ 4 }
+{
+    pose_all(alloc, core, rows)?;
+    if serves {
+        serve(core)?;
+    }
+    Ok(core.nth(number))
+}
+
+/// The same in a tree of four brokers.
 fn nth_behind(
     alloc: Global,
     rows: &[Posed],
@@ -367,11 +429,9 @@ fn nth_behind(
     number: u64,
 ) -> Result<Result<KvsStep, u64>, Fail> {
     let mut core = begin(alloc, 4, 2)?;
-    pose_all(alloc, &mut core, rows)?;
-    if serves {
-        serve(&mut core)?;
-    }
-    Ok(core.nth(number))
+    let found = nth_of(alloc, &mut core, rows, serves, number);
+    drop(core);
+    found
 }
 
 /// The steps that follow `THREE`, those of rank 0 behind a serving, and where the steps end.
@@ -386,11 +446,12 @@ const STEPS: [(bool, u64, Result<KvsStep, u64>); 6] = [
 
 #[test]
 fn steps_are_counted_in_their_order(rt: HostRuntime) -> Result<(), Fail> {
-    for (serves, number, wanted) in STEPS {
-        let found = nth_behind(rt.alloc(), &THREE, serves, number)?;
-        assert_eq!(rt; found, wanted, "at {number}");
+    for (serves, number, wanted) in &STEPS {
+        let found = nth_behind(rt.alloc(), &THREE, *serves, *number)?;
+        assert!(rt; found == *wanted, "at {number}");
     }
-    assert_eq!(rt; nth_behind(rt.alloc(), &[], false, 7)?, Err(7));
+    let found = nth_behind(rt.alloc(), &[], false, 7)?;
+    assert!(rt; found == Err(7));
     Ok(())
 }
 
@@ -509,7 +570,9 @@ fn first_amiss(alloc: Global, core: &mut Core, rows: &[Asking]) -> Result<Option
 /// The same in a tree of four brokers.
 fn amiss(alloc: Global, rows: &[Asking]) -> Result<Option<usize>, Fail> {
     let mut core = begin(alloc, 4, 2)?;
-    first_amiss(alloc, &mut core, rows)
+    let amiss = first_amiss(alloc, &mut core, rows);
+    drop(core);
+    amiss
 }
 
 #[test]
@@ -689,7 +752,9 @@ fn count_unanswered(alloc: Global, core: &mut Core, order: u64) -> Result<u32, F
 
 fn unanswered(alloc: Global, order: u64) -> Result<u32, Fail> {
     let mut core = begin(alloc, 7, 2)?;
-    count_unanswered(alloc, &mut core, order)
+    let count = count_unanswered(alloc, &mut core, order);
+    drop(core);
+    count
 }
 
 #[test]

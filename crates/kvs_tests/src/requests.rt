@@ -125,9 +125,9 @@ const WAYS: [(u32, u32, &str); 7] = [
 
 #[test]
 fn a_request_goes_up_and_comes_back(rt: HostRuntime) -> Result<(), Fail> {
-    for (fanout, broker, want) in WAYS {
+    for (fanout, broker, want) in &WAYS {
         assert!(rt;
-            goes(rt.alloc(), fanout, broker, want)?,
+            goes(rt.alloc(), *fanout, *broker, want)?,
             "of broker {broker} with the fan-out {fanout}"
         );
     }
