@@ -1,5 +1,6 @@
 use fl_digest::Hash;
 use run_options::{Options, read_options};
+use std::alloc::Global;
 use std::test::Fail;
 
 /// The options that stand where no word says else.
@@ -287,15 +288,25 @@ const CASES: [Case; 58] = [
     },
 ];
 
+/// These words, each a string.
+fn strings(alloc: Global, words: &[&str]) -> Result<Vec<String>, Fail> {
+    let mut all = Vec::new(alloc);
+    for word in words {
+        all.push(String::from_str(alloc, word)?)?;
+    }
+    Ok(all)
+}
+
+/// Whether the words of a case spell its options.
+fn spells(alloc: Global, case: &Case) -> Result<bool, Fail> {
+    let words = strings(alloc, case.words)?;
+    Ok(read_options(&words) == case.options)
+}
+
 #[test]
 fn words_and_their_options(rt: HostRuntime) -> Result<(), Fail> {
-    let alloc = rt.alloc();
     for case in &CASES {
-        let mut words = Vec::new(alloc);
-        for word in case.words {
-            words.push(String::from_str(alloc, word)?)?;
-        }
-        assert!(rt; read_options(&words) == case.options, "{:?}", case.words);
+        assert!(rt; spells(rt.alloc(), case)?, "{:?}", case.words);
     }
     Ok(())
 }
