@@ -3,6 +3,7 @@ ghost use Rattle.resource_set.specs.Valid.{IsR};
 
 use fl_json::JsonFault;
 use resource_set::{RFault, Resources, minus, print, read, within};
+use std::alloc::Global;
 use std::test::Fail;
 
 /// The R of one host.
@@ -12,6 +13,10 @@ const ONE: &str =
 /// The R of two hosts, with blanks, a fraction of zeros and keys in another order.
 const TWO: &str =
     "{\"version\": 1, \"execution\": {\"R_lite\": [{\"rank\": \"0-1\", \"children\": {\"core\": \"0-3\"}}], \"starttime\": 0.0, \"expiration\": 0.0, \"nodelist\": [\"node[0-1]\"]}}";
+
+/// The canonical text of the same.
+const TWO_PRINTED: &str =
+    "{\"execution\":{\"R_lite\":[{\"children\":{\"core\":\"0-3\"},\"rank\":\"0-1\"}],\"expiration\":0,\"nodelist\":[\"node[0-1]\"],\"starttime\":0},\"version\":1}";
 
 /// What stands under `execution`, and the canonical text of the same.
 const TOLD: [(&str, &str); 8] = [
@@ -179,26 +184,39 @@ fn told(rt: &HostRuntime, text: &str) -> Result<String, Fail> {
     }
 }
 
+/// Whether a text tells this.
+fn tells(rt: &HostRuntime, text: &str, wanted: &str) -> Result<bool, Fail> {
+    let found = told(rt, text)?;
+    Ok(found.as_str() == wanted)
+}
+
+/// Whether an R of this under `execution` is printed with that.
+fn is_printed(rt: &HostRuntime, execution: &str, wanted: &str) -> Result<bool, Fail> {
+    let text = format!(in rt.alloc(); "{{\"version\":1,\"execution\":{execution}}}")?;
+    let wanted = format!(in rt.alloc(); "{{\"execution\":{wanted},\"version\":1}}")?;
+    tells(rt, text.as_str(), wanted.as_str())
+}
+
+/// Whether an R of this under `execution` is refused with these words.
+fn is_refused(rt: &HostRuntime, execution: &str, wanted: &str) -> Result<bool, Fail> {
+    let text = format!(in rt.alloc(); "{{\"version\":1,\"execution\":{execution}}}")?;
+    tells(rt, text.as_str(), wanted)
+}
+
 #[test]
 fn an_r_is_read_and_printed_as_the_rule_says(rt: HostRuntime) -> Result<(), Fail> {
-    assert_eq!(rt; told(&rt, ONE)?.as_str(), ONE);
-    assert_eq!(rt;
-        told(&rt, TWO)?.as_str(),
-        "{\"execution\":{\"R_lite\":[{\"children\":{\"core\":\"0-3\"},\"rank\":\"0-1\"}],\"expiration\":0,\"nodelist\":[\"node[0-1]\"],\"starttime\":0},\"version\":1}"
-    );
-    for (execution, wanted) in TOLD {
-        let text = format!(in rt.alloc(); "{{\"version\":1,\"execution\":{execution}}}")?;
-        let wanted = format!(in rt.alloc(); "{{\"execution\":{wanted},\"version\":1}}")?;
-        assert_eq!(rt; told(&rt, text.as_str())?.as_str(), wanted.as_str());
+    assert!(rt; tells(&rt, ONE, ONE)?);
+    assert!(rt; tells(&rt, TWO, TWO_PRINTED)?);
+    for (execution, wanted) in &TOLD {
+        assert!(rt; is_printed(&rt, execution, wanted)?, "{execution}");
     }
     Ok(())
 }
 
 #[test]
 fn the_first_fault_is_answered(rt: HostRuntime) -> Result<(), Fail> {
-    for (execution, wanted) in FAULTS {
-        let text = format!(in rt.alloc(); "{{\"version\":1,\"execution\":{execution}}}")?;
-        assert_eq!(rt; told(&rt, text.as_str())?.as_str(), wanted);
+    for (execution, wanted) in &FAULTS {
+        assert!(rt; is_refused(&rt, execution, wanted)?, "{execution}");
     }
     Ok(())
 }
@@ -218,10 +236,15 @@ const FAULTY: [(&str, RFault); 8] = [
     ("5", RFault::BadVersion),
 ];
 
+/// Whether a text tells no resources, with this fault.
+fn has_fault(alloc: Global, text: &str, wanted: &RFault) -> bool {
+    read(alloc, text.as_bytes()).is_err_and(|fault| fault == *wanted)
+}
+
 #[test]
 fn another_text_or_version_is_refused(rt: HostRuntime) -> Result<(), Fail> {
-    for (text, wanted) in FAULTY {
-        assert_eq!(rt; read(rt.alloc(), text.as_bytes()).err(), Some(wanted));
+    for (text, wanted) in &FAULTY {
+        assert!(rt; has_fault(rt.alloc(), text, wanted), "{text}");
     }
     Ok(())
 }
