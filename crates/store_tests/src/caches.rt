@@ -103,8 +103,11 @@ fn agrees(
     Ok(answer == wanted)
 }
 
+/// An act on the content of a value, its answer, and the values of the contents that it lists.
+type Step = (Act, u8, bool, &'static [u8]);
+
 /// A content from its put to its drop, and one that is refused.
-const STORED: [(Act, u8, bool, &[u8]); 36] = [
+const STORED: [Step; 36] = [
     (Act::PutDirty, 7, true, &[]),
     (Act::HasDirty, 7, true, &[]),
     (Act::Clean, 7, false, &[]),
@@ -144,7 +147,7 @@ const STORED: [(Act, u8, bool, &[u8]); 36] = [
 ];
 
 /// What goes at the limit, in the order of use, past what is pinned.
-const FILLED: [(Act, u8, bool, &[u8]); 29] = [
+const FILLED: [Step; 29] = [
     (Act::Fill, 0, true, &[]),
     (Act::Fill, 1, true, &[]),
     (Act::Fill, 2, true, &[]),
@@ -185,24 +188,35 @@ fn others(alloc: Global) -> Result<Vec<BlobRef>, AllocError> {
     Ok(others)
 }
 
-#[test]
-fn contents_are_stored_refused_and_dropped(rt: HostRuntime) -> Result<(), Fail> {
-    let mut known = others(rt.alloc())?;
-    for steps in [STORED.as_slice(), FILLED.as_slice()] {
-        let mut cache = CacheNode::new(rt.alloc())?;
-        for (place, (act, value, wanted, listed)) in steps.iter().enumerate() {
-            let agreed = agrees(
-                &mut cache,
-                &mut known,
-                rt.alloc(),
-                *act,
-                *value,
-                *wanted,
-                *listed,
-            )?;
-            assert!(rt; agreed, "{place}");
+/// The place of the first of these steps that a cache answers otherwise.
+fn first_amiss_in(
+    alloc: Global,
+    cache: &mut CacheNode,
+    known: &mut Vec<BlobRef>,
+    steps: &[Step],
+) -> Result<Option<usize>, AllocError> {
+    for (place, (act, value, wanted, listed)) in steps.iter().enumerate() {
+        if !agrees(cache, known, alloc, *act, *value, *wanted, *listed)? {
+            return Ok(Some(place));
         }
     }
+    Ok(None)
+}
+
+/// The same of a new cache.
+fn first_amiss(alloc: Global, steps: &[Step]) -> Result<Option<usize>, AllocError> {
+    let mut known = others(alloc)?;
+    let mut cache = CacheNode::new(alloc)?;
+    let place = first_amiss_in(alloc, &mut cache, &mut known, steps);
+    drop(cache);
+    drop(known);
+    place
+}
+
+#[test]
+fn contents_are_stored_refused_and_dropped(rt: HostRuntime) -> Result<(), Fail> {
+    assert!(rt; first_amiss(rt.alloc(), &STORED)? == None);
+    assert!(rt; first_amiss(rt.alloc(), &FILLED)? == None);
     Ok(())
 }
 

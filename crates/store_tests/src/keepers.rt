@@ -90,6 +90,12 @@ fn asked<P: Keeper>(alloc: Global, keeper: &mut P, ask: Ask) -> Result<String, A
     }
 }
 
+/// Whether a keeper answers a call so.
+fn answers<P: Keeper>(alloc: Global, keeper: &mut P, turn: &Turn) -> Result<bool, AllocError> {
+    let answer = asked(alloc, keeper, turn.ask)?;
+    Ok(answer.as_str() == turn.answer)
+}
+
 /// Makes the calls in their order.
 fn walk<P: Keeper>(
     rt: &impl Abort,
@@ -98,8 +104,7 @@ fn walk<P: Keeper>(
     turns: &[Turn],
 ) -> Result<(), AllocError> {
     for turn in turns {
-        let answer = asked(alloc, keeper, turn.ask)?;
-        assert_eq!(rt; answer.as_str(), turn.answer);
+        assert!(rt; answers(alloc, keeper, turn)?, "{}", turn.answer);
     }
     Ok(())
 }
@@ -295,7 +300,9 @@ fn walk_file(
     turns: &[Turn],
 ) -> Result<(), AllocError> {
     let mut keeper = SqlKeeper::open(rt, rt.alloc(), path)?;
-    walk(abort, rt.alloc(), &mut keeper, turns)
+    let walked = walk(abort, rt.alloc(), &mut keeper, turns);
+    drop(keeper);
+    walked
 }
 
 #[test]
