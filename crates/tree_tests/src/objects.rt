@@ -1,5 +1,6 @@
 use fl_json::JsonFault;
 use lists::{Bytes, Copied};
+use std::alloc::Global;
 use std::test::Fail;
 use tree_objects::{Object, ObjectFault, ObjectMap, print, read};
 
@@ -70,14 +71,15 @@ const FAULTS: [(&str, ObjectFault); 14] = [
     ),
 ];
 
+/// Whether a text is of no object, with this fault.
+fn is_refused(alloc: Global, text: &str, fault: &ObjectFault) -> bool {
+    read(alloc, text.as_bytes()).is_err_and(|found| found == *fault)
+}
+
 #[test]
 fn texts_of_no_object(rt: HostRuntime) -> Result<(), Fail> {
-    for (text, fault) in FAULTS {
-        let refused = match read(rt.alloc(), text.as_bytes()) {
-            Ok(_object) => false,
-            Err(found) => found == fault,
-        };
-        assert!(rt; refused, "{text}");
+    for (text, fault) in &FAULTS {
+        assert!(rt; is_refused(rt.alloc(), text, fault), "{text}");
     }
     Ok(())
 }
@@ -96,14 +98,25 @@ const TEXTS: [&str; 7] = [
     ),
 ];
 
+/// The copy of the object that a text spells.
+fn twin_of(alloc: Global, text: &str) -> Result<Object, Fail> {
+    let object = read(alloc, text.as_bytes())?;
+    let twin = object.copy();
+    drop(object);
+    Ok(twin?)
+}
+
+/// Whether a copy of the object that a text spells prints so, once that object is gone.
+fn prints_as_its_copy(alloc: Global, text: &str) -> Result<bool, Fail> {
+    let twin = twin_of(alloc, text)?;
+    let printed = print(alloc, &twin)?;
+    Ok(printed.as_slice() == text.as_bytes())
+}
+
 #[test]
 fn a_copy_has_the_text_of_its_object(rt: HostRuntime) -> Result<(), Fail> {
-    for text in TEXTS {
-        let object = read(rt.alloc(), text.as_bytes())?;
-        let twin = object.copy()?;
-        drop(object);
-        let printed = print(rt.alloc(), &twin)?;
-        assert!(rt; printed.as_slice() == text.as_bytes(), "{text}");
+    for text in &TEXTS {
+        assert!(rt; prints_as_its_copy(rt.alloc(), text)?, "{text}");
     }
     Ok(())
 }

@@ -120,7 +120,7 @@ fn small_store(alloc: Global, blobs: &mut BlobStore) -> Result<BlobRef, Fail> {
         return Err(Fail::from("no first root"));
     };
     let mut txn = Txn::new(alloc, Author::User(7));
-    for (verb, key, text) in OPERATIONS {
+    for (verb, key, text) in &OPERATIONS {
         txn.stage(operation_of(alloc, verb, key, text)?)
             .ok()
             .ok_or("full")?;
@@ -424,7 +424,7 @@ fn all_agree_at(
 /// Whether all queries at all keys do.
 fn all_agree(alloc: Global, blobs: &BlobStore, root: BlobRef, store: &Store) -> Result<bool, Fail> {
     let mut cache = CacheNode::new(alloc)?;
-    for key in KEYS {
+    for key in &KEYS {
         if !all_agree_at(alloc, blobs, &mut cache, root, store, key)? {
             return Ok(false);
         }
