@@ -71,10 +71,10 @@ const SUBMITTED: [((u32, u32, u64), u64); 5] = [
 #[test]
 fn sequence_numbers_begin_anew_in_each_second(rt: HostRuntime) -> Result<(), Fail> {
     let mut commands = Commands::new(rt.alloc(), 4)?;
-    for (row, wanted) in SUBMITTED {
+    for (row, wanted) in &SUBMITTED {
         let ask = submit(rt.alloc(), b"one")?;
-        let given = sequence_of(&mut commands, ask, row)?;
-        assert_eq!(rt; given, wanted);
+        let given = sequence_of(&mut commands, ask, *row)?;
+        assert!(rt; given == *wanted, "{row:?}");
     }
     Ok(())
 }

@@ -50,11 +50,16 @@ const ROWS: [(&str, &str); 6] = [
     ("advance", "waits, and nothing is due"),
 ];
 
+/// Whether the command of these words is told this.
+fn is_told(alloc: Global, words: &str, wanted: &str) -> Result<bool, Fail> {
+    let told = told(alloc, words)?;
+    Ok(told.as_str() == wanted)
+}
+
 #[test]
 fn commands_are_told_at_once_or_wait(rt: HostRuntime) -> Result<(), Fail> {
-    for (words, wanted) in ROWS {
-        let told = told(rt.alloc(), words)?;
-        assert_eq!(rt; told.as_str(), wanted, "{words}");
+    for (words, wanted) in &ROWS {
+        assert!(rt; is_told(rt.alloc(), words, wanted)?, "{words}");
     }
     Ok(())
 }
@@ -191,7 +196,9 @@ fn told_at(alloc: Global, service: &mut JobService, ask: JobAsk) -> Result<Strin
 fn told(alloc: Global, words: &str) -> Result<String, Fail> {
     let ask = asked(alloc, words)?;
     let mut service = begun(alloc)?;
-    told_at(alloc, &mut service, ask)
+    let told = told_at(alloc, &mut service, ask);
+    drop(service);
+    told
 }
 
 /// The first of the two commands that can be told what became of it.
@@ -363,13 +370,15 @@ fn both_told(
 fn run_told(alloc: Global) -> Result<String, Fail> {
     let submit = submission(alloc, SPEC, false)?;
     let mut service = begun(alloc)?;
-    both_told(
+    let told = both_told(
         alloc,
         &mut service,
         submit,
         JobAsk::Advance { seconds: 2 },
         false,
-    )
+    );
+    drop(service);
+    told
 }
 
 #[test]
@@ -379,6 +388,22 @@ fn an_instance_runs_a_job_and_goes_on_in_time(rt: HostRuntime) -> Result<(), Fai
     Ok(())
 }
 
+/// What the second command waits for, once both are issued and nothing can be done.
+fn left_behind(
+    alloc: Global,
+    service: &mut JobService,
+    first: JobAsk,
+    second: JobAsk,
+) -> Result<Option<State>, Fail>
+    requires begun { IsBegun service.old }
+    requires range { IsInRange (told first) }
+    requires other { IsInRange (told second) }
+    requires apart { is_submission (Some (told second)) ≡ false }
+{
+    both_told(alloc, service, first, second, false)?;
+    Ok(service.awaited(SECOND))
+}
+
 /// What a job's result waits for where time doesn't go on.
 fn result_left(alloc: Global, text: &str) -> Result<Option<State>, Fail> {
     let submit = submission(alloc, text, false)?;
@@ -386,14 +411,17 @@ fn result_left(alloc: Global, text: &str) -> Result<Option<State>, Fail> {
         label: Bytes::of(alloc, b"one")?,
     };
     let mut service = begun(alloc)?;
-    both_told(alloc, &mut service, submit, result, false)?;
-    Ok(service.awaited(SECOND))
+    let left = left_behind(alloc, &mut service, submit, result);
+    drop(service);
+    left
 }
 
 #[test]
 fn a_result_waits_for_a_job_that_sleeps(rt: HostRuntime) -> Result<(), Fail> {
-    assert_eq!(rt; result_left(rt.alloc(), SLEEP)?, Some(State::Run));
-    assert_eq!(rt; result_left(rt.alloc(), SPEC)?, None);
+    let of_sleep = result_left(rt.alloc(), SLEEP)?;
+    assert!(rt; of_sleep == Some(State::Run));
+    let of_true = result_left(rt.alloc(), SPEC)?;
+    assert!(rt; of_true == None);
     Ok(())
 }
 
@@ -404,7 +432,9 @@ fn shutdown_told(alloc: Global) -> Result<String, Fail> {
         label: Bytes::of(alloc, b"one")?,
     };
     let mut service = begun(alloc)?;
-    both_told(alloc, &mut service, submit, result, true)
+    let told = both_told(alloc, &mut service, submit, result, true);
+    drop(service);
+    told
 }
 
 #[test]
@@ -422,13 +452,15 @@ fn a_job_ends_well_once_its_child_has_shut_down(rt: HostRuntime) -> Result<(), F
 fn timeout_told(alloc: Global, shut: bool) -> Result<String, Fail> {
     let submit = submission(alloc, BRIEF, false)?;
     let mut service = begun(alloc)?;
-    both_told(
+    let told = both_told(
         alloc,
         &mut service,
         submit,
         JobAsk::Advance { seconds: 5 },
         shut,
-    )
+    );
+    drop(service);
+    told
 }
 
 #[test]

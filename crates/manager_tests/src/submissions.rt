@@ -39,9 +39,9 @@ const FAULTS: [(&str, bool, Option<Fault>); 3] = [
 
 #[test]
 fn submissions_are_refused_by_their_first_fault(rt: HostRuntime) -> Result<(), Fail> {
-    for (text, depends, wanted) in FAULTS {
-        let fault = fault_at(rt.alloc(), text, depends)?;
-        assert_eq!(rt; fault, wanted);
+    for (text, depends, wanted) in &FAULTS {
+        let fault = fault_at(rt.alloc(), text, *depends)?;
+        assert!(rt; fault == *wanted, "{text}");
     }
     Ok(())
 }
@@ -87,11 +87,16 @@ const ROWS: [(&str, &str); 2] = [
     ("{\"version\":2}", "nothing"),
 ];
 
+/// Whether this is posted of a jobspec.
+fn is_posted(alloc: Global, spec: &str, wanted: &str) -> Result<bool, Fail> {
+    let posted = posted(alloc, spec)?;
+    Ok(posted.as_str() == wanted)
+}
+
 #[test]
 fn what_is_accepted_is_posted(rt: HostRuntime) -> Result<(), Fail> {
-    for (spec, wanted) in ROWS {
-        let posted = posted(rt.alloc(), spec)?;
-        assert_eq!(rt; posted.as_str(), wanted);
+    for (spec, wanted) in &ROWS {
+        assert!(rt; is_posted(rt.alloc(), spec, wanted)?, "{spec}");
     }
     Ok(())
 }
