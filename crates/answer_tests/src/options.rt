@@ -1,3 +1,4 @@
+//! Words behind `run`, and the options that they spell.
 use fl_digest::Hash;
 use run_options::{Options, read_options};
 use std::alloc::Global;

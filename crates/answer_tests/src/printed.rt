@@ -1,3 +1,4 @@
+//! Replies, answers and entries of a journal, and their texts.
 use answers::chronicle::{Chronicle, Entry, JobState, Reply};
 use answers::printing::{print_answers, print_journal};
 use job_states::State;

@@ -1,3 +1,4 @@
+//! Whole runs and tools over a source and a sink in memory: output, status and notice.
 ghost use Rattle.std.specs.Prelude.{◌≤◌};
 
 use flux::{Run, flux, notice};

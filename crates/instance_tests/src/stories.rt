@@ -395,7 +395,8 @@ fn a_job_runs_while_time_goes_on(rt: HostRuntime) -> Result<(), Fail> {
 const SLEEP: &str =
     "actor a 0\na submit one {\"resources\":[{\"type\":\"slot\",\"count\":1,\"with\":[{\"type\":\"core\",\"count\":1}],\"label\":\"task\"}],\"tasks\":[{\"command\":[\"sleep\",\"3\"],\"slot\":\"task\",\"count\":{\"per_slot\":1}}],\"version\":1}\na result one\n";
 
-/// Whether the job runs up to second 3, holds resources, and has no child, and nothing else is ahead.
+/// Whether the job runs up to second 3, holds resources, and has no child, and nothing else is
+/// ahead.
 fn sleeps(instance: &Instance) -> Result<bool, Fail>
     requires { instance.now.spent ≡ false }
 {
@@ -408,7 +409,8 @@ fn sleeps(instance: &Instance) -> Result<bool, Fail>
     Ok(holds && is_childless && is_ahead)
 }
 
-/// Lets time go on to the next second at which a command ends, as by an advance of another instance.
+/// Lets time go on to the next second at which a command ends, as by an advance of another
+/// instance.
 fn pass_on(instance: &mut Instance) -> Result<(), Fail>
     requires { instance.old.spent ≡ false }
     ensures { OnOk result (instance.new.spent ≡ false) }
@@ -425,7 +427,8 @@ fn pass_on(instance: &mut Instance) -> Result<(), Fail>
     Ok(())
 }
 
-/// Whether an instance without advances goes on where another one lets time pass: its job sleeps, and then something is due.
+/// Whether an instance without advances goes on where another one lets time pass: its job sleeps,
+/// and then something is due.
 fn goes_on_by_others(alloc: Global, instance: &mut Instance, lines: &[Line]) -> Result<bool, Fail>
     requires ready { instance.old.spent ≡ false }
     requires lines { AreLinesOf instance.old lines.now }

@@ -1,3 +1,4 @@
+//! The book of an instance's jobs: what is due after what was done.
 ghost use Rattle.std.specs.Prelude.{◌≡◌, ◌<◌, [], All, Contains, IfOk, IsTrue, Some, codes, is_some};
 ghost use Rattle.std.specs.List.{list_all};
 ghost use Rattle.std.specs.Str.{IsUtf8};

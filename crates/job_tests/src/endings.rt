@@ -1,3 +1,4 @@
+//! How the commands of jobs end.
 use job_spec::JobSpec;
 use shells::{Ending, ending};
 use std::test::Fail;

@@ -1,3 +1,4 @@
+//! Eventlogs of a job, and the state that they lead to (Flux RFC 21).
 use event_log::Event;
 use job_states::{Job, ReplayFault, State, begin, replay, step};
 use lists::Bytes;

@@ -1,3 +1,4 @@
+//! What kept callbacks answer.
 use std::test::Fail;
 use tap::{Ask, Check, Tap};
 

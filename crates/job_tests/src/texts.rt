@@ -1,3 +1,4 @@
+//! The dependencies that a submission lists, and the texts of events.
 use event_log::Event;
 use job_spec::JobSpec;
 use job_texts::{description, needs_of, release_event};

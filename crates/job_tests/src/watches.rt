@@ -1,3 +1,4 @@
+//! Watches of a job that are fed its log as it grows.
 ghost use Rattle.std.specs.Prelude.{◌≡◌, ◌<◌, length, IfOk};
 ghost use Rattle.std.specs.Fn.{FnReturnsAt};
 ghost use Rattle.event_log.specs.Events.{IsEvent};

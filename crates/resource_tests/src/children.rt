@@ -1,3 +1,4 @@
+//! The R of a child instance.
 use child_grant::child;
 use resource_set::{print, read};
 use std::test::Fail;

@@ -1,3 +1,4 @@
+//! Jobspecs (Flux RFC 14 and 25), and the faults of other texts.
 use fl_json::JsonFault;
 use job_spec::{JobSpec, Place, SpecFault, read};
 use lists::Copied;

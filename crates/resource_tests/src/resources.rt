@@ -1,3 +1,4 @@
+//! Texts of R (Flux RFC 20), and the faults of other texts.
 ghost use Rattle.std.specs.Prelude.{IfOk};
 ghost use Rattle.resource_set.specs.Valid.{IsR};
 

@@ -1,3 +1,4 @@
+//! Contents by reference.
 use blob_store::{BlobStore, PutFault};
 use fl_digest::{BlobRef, Hash};
 use lists::Bytes;

@@ -1,3 +1,4 @@
+//! The contents of a broker: what is used, dropped and pinned.
 ghost use Rattle.std.specs.Prelude.{IfOk};
 ghost use Rattle.cache_node.specs.Order.{Names};
 

@@ -1,3 +1,4 @@
+//! Keepers of contents and checks, in memory and over a file.
 use backing::{Check, KeepFault, Keeper, MemKeeper, SqlKeeper, Write};
 use fl_digest::{BlobRef, Hash, Root};
 use lists::{Bytes, Copied};

@@ -1,3 +1,4 @@
+//! Hostlists (Flux RFC 29).
 ghost use Rattle.std.specs.Prelude.{◌≡◌};
 
 use hostlist::{HostFault, HostList, HostName, is_host_name};

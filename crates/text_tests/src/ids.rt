@@ -1,3 +1,4 @@
+//! FLUIDs (Flux RFC 19).
 use fluid_ids::faults::FluidFault;
 use fluid_ids::forms::Form;
 use fluid_ids::generator::Generator;

@@ -1,3 +1,4 @@
+//! Eventlogs (Flux RFC 18).
 use event_log::{Event, LogFault, line, read};
 use fl_json::JsonFault;
 use lists::Copied;

@@ -1,3 +1,4 @@
+//! References to contents (Flux RFC 10).
 use fl_digest::{BlobRef, Hash, RefFault, Root};
 use lists::Copied;
 use std::alloc::Global;

@@ -1,3 +1,4 @@
+//! Idsets (Flux RFC 22).
 use idset::faults::IdFault;
 use idset::set::IdSet;
 use std::alloc::Global;

@@ -1,3 +1,4 @@
+//! Sources and sinks in memory.
 use outside::{MemSink, MemSource, ReadFault, read_all, write_all};
 use std::alloc::Global;
 use std::test::Fail;

@@ -1,3 +1,4 @@
+//! The tools that print one text canonically.
 use flux_tools::{is_tool, tool};
 use outside::MemSource;
 use std::alloc::Global;

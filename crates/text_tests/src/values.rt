@@ -1,3 +1,4 @@
+//! JSON with whole numbers.
 use fl_json::{JsonFault, Value, field, list, number, read, text, word};
 use std::process::Abort;
 use std::test::Fail;

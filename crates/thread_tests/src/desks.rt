@@ -1,3 +1,4 @@
+//! A machine under a lock, and its workers.
 ghost use Rattle.std.specs.Prelude.{◌≡◌, ◌<◌, ◌&&◌, false, length, nat_lt, not};
 
 use desk::{Finished, Held, Machine, work};

@@ -1,3 +1,4 @@
+//! The words of brokers that are read without a lock.
 ghost use Rattle.std.specs.Prelude.{◌≡◌, ◌≤◌};
 
 use root_feed::{Blank, Feed, FeedName, Herald, Looked, Opened, Pass};

@@ -1,3 +1,4 @@
+//! Tree objects and their texts (Flux RFC 11).
 use fl_json::JsonFault;
 use lists::{Bytes, Copied};
 use std::alloc::Global;

@@ -1,3 +1,4 @@
+//! Generated workloads.
 use std::alloc::Global;
 use std::str;
 use std::test::Fail;

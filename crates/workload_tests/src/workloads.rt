@@ -1,3 +1,4 @@
+//! Workloads on keys, and the faults of other texts.
 use lists::{Bytes, Copied};
 use std::alloc::{AllocError, Global};
 use std::process::Abort;

@@ -1,3 +1,4 @@
+//! The lines of child instances.
 use lists::ListOf;
 use std::alloc::Global;
 use std::test::Fail;

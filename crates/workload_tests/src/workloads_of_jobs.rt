@@ -1,3 +1,4 @@
+//! The lines of jobs and time.
 use job_spec::Scheme;
 use lists::ListOf;
 use std::alloc::Global;
