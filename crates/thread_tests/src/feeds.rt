@@ -33,9 +33,8 @@ fn looks_at_one_broker<N: FeedName>(alloc: Global, blank: Blank) -> Result<[Told
         mut heralds,
         mut passes,
     } = blank.open::<N>(alloc)?;
-    let (Some(mut herald), Some(mut pass)) = (heralds.pop(), passes.pop()) else {
-        return Err(Fail::new("a herald and a pass"));
-    };
+    let mut herald = heralds.pop().ok_or("a herald")?;
+    let mut pass = passes.pop().ok_or("a pass")?;
     let early = pass.look(&feed, 1);
     herald.raise(&feed, 1);
     let first = pass.look(&feed, 0);
@@ -82,12 +81,10 @@ fn carries_notes<N: FeedName>(alloc: Global, blank: Blank) -> Result<(Vec<u64>, 
         mut heralds,
         mut passes,
     } = blank.open::<N>(alloc)?;
-    let (Some(mut second), Some(mut first)) = (heralds.pop(), heralds.pop()) else {
-        return Err(Fail::new("two heralds"));
-    };
-    let (Some(mut at_second), Some(mut at_first)) = (passes.pop(), passes.pop()) else {
-        return Err(Fail::new("two passes"));
-    };
+    let mut second = heralds.pop().ok_or("a second herald")?;
+    let mut first = heralds.pop().ok_or("a first herald")?;
+    let mut at_second = passes.pop().ok_or("a second pass")?;
+    let mut at_first = passes.pop().ok_or("a first pass")?;
     first.raise(&feed, 5);
     second.raise(&feed, 3);
     let seen = at_first.look(&feed, 5);
@@ -184,9 +181,8 @@ fn raise_and_look<N: FeedName + Send + Sync, R: Threads + Sync>(
         mut heralds,
         mut passes,
     } = blank.open::<N>(alloc)?;
-    let (Some(herald), Some(pass)) = (heralds.pop(), passes.pop()) else {
-        return Err(Fail::new("a herald and a pass"));
-    };
+    let herald = heralds.pop().ok_or("a herald")?;
+    let pass = passes.pop().ok_or("a pass")?;
     let (mut herald, (mut pass, seen, rising)) = thread::join(
         rt,
         || -> Herald<N>
