@@ -83,53 +83,43 @@ fn held_counter(alloc: Global, most: usize, breaks_at: usize) -> Held<Counter> {
     )
 }
 
-// Whether a new desk of five steps keeps each, and takes none past the fifth.
-fn keeps_five(held: &mut Held<Counter>) -> Result<bool, AllocError> {
-    let starts = held.machine().start();
-    let taken = held.turn(3)? && held.accept(100)? && !held.accept(99)? && held.turn(1)?;
-    let kept = held.steps() == [3, 100, 1].as_slice();
-    held.drain()?;
-    let full = !held.turn(0)? && !held.accept(100)?;
-    Ok(starts && taken && kept && full && held.machine().quiet() && !held.spent())
-}
-
-// Whether a desk's machine made these steps, as the desk tells.
-fn has_made(held: Held<Counter>, wanted: &[u32]) -> bool {
-    let Finished { machine, steps } = held.finish();
-    steps.as_slice() == wanted && machine.made.as_slice() == wanted
-}
-
 #[test]
-fn each_step_is_kept_in_order(rt: HostRuntime) {
+fn each_step_is_kept_in_order(rt: HostRuntime) -> Result<(), Fail> {
     let mut held = held_counter(rt.alloc(), 5, 9);
-    assert!(rt; keeps_five(&mut held) == Ok(true));
-    assert!(rt; has_made(held, &[3, 100, 1, 0, 0]));
-}
-
-// Whether a desk with one step is spent once it wants memory, in one of three ways, and refuses all
-// then.
-fn is_spent(held: &mut Held<Counter>, way: u32) -> bool {
-    let failed = match way {
-        0 => held.turn(0).is_err(),
-        1 => held.accept(100).is_err(),
-        _ => held.drain().is_err(),
-    };
-    failed
-        && held.spent()
-        && held.turn(0) == Err(AllocError)
-        && held.accept(100) == Err(AllocError)
-        && held.accept(0) == Err(AllocError)
-        && held.drain() == Err(AllocError)
-        && held.steps() == [0].as_slice()
+    assert!(rt; held.machine().start());
+    assert!(rt; held.turn(3)?);
+    assert!(rt; held.accept(100)?);
+    assert!(rt; !held.accept(99)?);
+    assert!(rt; held.turn(1)?);
+    assert_eq!(rt; held.steps(), [3, 100, 1].as_slice());
+    held.drain()?;
+    assert!(rt; !held.turn(0)?);
+    assert!(rt; !held.accept(100)?);
+    assert!(rt; held.machine().quiet() && !held.spent());
+    let Finished { machine, steps } = held.finish();
+    assert_eq!(rt; steps.as_slice(), [3, 100, 1, 0, 0].as_slice());
+    assert_eq!(rt; machine.made.as_slice(), steps.as_slice());
+    Ok(())
 }
 
 #[test]
-fn after_want_of_memory_it_is_spent(rt: HostRuntime) {
+fn after_want_of_memory_it_is_spent(rt: HostRuntime) -> Result<(), Fail> {
     for way in 0..3u32 {
         let mut held = held_counter(rt.alloc(), 5, 1);
-        assert!(rt; held.turn(0) == Ok(true));
-        assert!(rt; is_spent(&mut held, way), "{way}");
+        assert!(rt; held.turn(0)?);
+        let failed = match way {
+            0 => held.turn(0).is_err(),
+            1 => held.accept(100).is_err(),
+            _ => held.drain().is_err(),
+        };
+        assert!(rt; failed && held.spent());
+        assert_eq!(rt; held.turn(0), Err(AllocError));
+        assert_eq!(rt; held.accept(100), Err(AllocError));
+        assert_eq!(rt; held.accept(0), Err(AllocError));
+        assert_eq!(rt; held.drain(), Err(AllocError));
+        assert_eq!(rt; held.steps(), [0].as_slice());
     }
+    Ok(())
 }
 
 // Counts the passes of lanes 0 and 1, and those that weren't told their number.
@@ -149,27 +139,23 @@ impl Gate for Tally {
     }
 }
 
-// Whether the lanes passed so often, each told its number.
-fn has_passed(gate: &Tally, zero: u64, one: u64) -> bool {
-    gate.zero.load(Ordering::SeqCst) == zero
-        && gate.one.load(Ordering::SeqCst) == one
-        && gate.odd.load(Ordering::SeqCst) == 0
-}
-
 #[test]
-fn a_worker_takes_turns_for_its_lanes(rt: HostRuntime) {
+fn a_worker_takes_turns_for_its_lanes(rt: HostRuntime) -> Result<(), Fail> {
     let gate = Tally {
         zero: AtomicU64::new(0),
         one: AtomicU64::new(0),
         odd: AtomicU64::new(0),
     };
     let lock = Mutex::new(held_counter(rt.alloc(), 5, 9));
-    assert!(rt; work(&rt, &lock, &gate, &[0, 1, 0]).is_ok());
-    assert!(rt; has_made(lock.into_inner(), &[0, 1, 0, 0, 1]));
-    assert!(rt; has_passed(&gate, 4, 2));
+    work(&rt, &lock, &gate, &[0, 1, 0])?;
+    assert_eq!(rt; lock.into_inner().steps(), [0, 1, 0, 0, 1].as_slice());
+    assert_eq!(rt; gate.zero.load(Ordering::SeqCst), 4);
+    assert_eq!(rt; gate.one.load(Ordering::SeqCst), 2);
+    assert_eq!(rt; gate.odd.load(Ordering::SeqCst), 0);
     let lock = Mutex::new(held_counter(rt.alloc(), 5, 2));
-    assert!(rt; work(&rt, &lock, &gate, &[0]) == Err(AllocError));
+    assert_eq!(rt; work(&rt, &lock, &gate, &[0]), Err(AllocError));
     assert!(rt; lock.into_inner().spent());
+    Ok(())
 }
 
 // Lets the first pass of each lane wait until both lanes have begun, and counts those that gave up.
@@ -218,13 +204,6 @@ where
     });
 }
 
-// Whether a desk that isn't spent has so many steps, those of its machine.
-fn has_made_all(held: Held<Counter>, count: usize) -> bool {
-    let is_spent = held.spent();
-    let Finished { machine, steps } = held.finish();
-    !is_spent && steps.len() == count && machine.made.as_slice() == steps.as_slice()
-}
-
 #[test]
 fn two_running_lanes_keep_all_steps(rt: HostRuntime) -> Result<(), Fail> {
     let gate = Both {
@@ -235,8 +214,12 @@ fn two_running_lanes_keep_all_steps(rt: HostRuntime) -> Result<(), Fail> {
     own.push(0)?;
     let lock = Mutex::new(held_counter(rt.alloc(), 1_000, 2_000));
     work_all(&rt, &lock, &gate, own, 2);
-    assert!(rt; has_made_all(lock.into_inner(), 1_000));
-    assert!(rt; gate.begun.load(Ordering::SeqCst) == 2);
-    assert!(rt; gate.gave_up.load(Ordering::SeqCst) == 0);
+    let held = lock.into_inner();
+    assert!(rt; !held.spent());
+    let Finished { machine, steps } = held.finish();
+    assert_eq!(rt; steps.len(), 1_000);
+    assert_eq!(rt; machine.made.as_slice(), steps.as_slice());
+    assert_eq!(rt; gate.begun.load(Ordering::SeqCst), 2);
+    assert_eq!(rt; gate.gave_up.load(Ordering::SeqCst), 0);
     Ok(())
 }
