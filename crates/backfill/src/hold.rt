@@ -1,3 +1,4 @@
+//! A live job with the units that it holds until a second.
 ghost use Rattle.std.specs.Prelude.{◌≡◌};
 ghost use Rattle.backfill.specs.Held.{is_held_at as held_then};
 

@@ -1,3 +1,4 @@
+//! What a keeper of contents and checks promises.
 ghost use Rattle.std.specs.Prelude.{◌≡◌, ℕ, List, Option, Some, None, IfErr, IfOk, IfSome, OnErr, OnOk};
 ghost use Rattle.backing.specs.Calls.{ClashesWith, HandsOther, HasKeepCause, IsNoClash};
 ghost use Rattle.backing.specs.Writes.{blob_in, check_in, with_write};

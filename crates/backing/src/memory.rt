@@ -1,3 +1,4 @@
+//! A keeper in memory.
 ghost use Rattle.std.specs.Prelude.{◌≡◌, ◌≢◌, [], ◌∷◌, IfErr, IfNone, IfOk, IfSome, OnErr, OnOk, Some, option_copied};
 ghost use Rattle.backing.specs.Calls.{ClashesWith, HandsOther, HasKeepCause, IsNoClash, RefusesWith};
 ghost use Rattle.outside.specs.Doubles.{one_more};

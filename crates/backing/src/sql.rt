@@ -1,3 +1,4 @@
+//! A keeper over a file of SQLite.
 ghost use Rattle.std.specs.Prelude.{◌≡◌, ◌≢◌, None, IfErr, IfOk, IfSome};
 ghost use Rattle.backing.specs.Calls.{HandsOther, HasKeepCause, IsNoClash, RefusesWith};
 ghost use Rattle.backing.specs.Sql.{FailsClosed};

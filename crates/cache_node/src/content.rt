@@ -1,4 +1,4 @@
-// A clean content.
+//! A clean content.
 ghost use Rattle.std.specs.Prelude.{◌≡◌, length};
 ghost use Rattle.cache_node.specs.Order.{unpinned, pinned, released, is_pinned, unpinned_size};
 

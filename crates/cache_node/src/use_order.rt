@@ -1,4 +1,4 @@
-// The clean contents in the order of their use.
+//! The clean contents in the order of their use.
 ghost use Rattle.std.specs.Prelude.{◌≡◌, [], ◌∷◌, None, IfOk, IfErr, OnOk, OnErr, IfSome, IsSome, is_some, option_copied, unwrap_or, filter, not, reverse};
 ghost use Rattle.std.specs.Option.{option_map_or};
 ghost use Rattle.std.specs.List.{IsDistinct};

@@ -1,3 +1,4 @@
+//! Events, and why a text is no log (Flux RFC 18).
 ghost use Rattle.std.specs.Prelude.{◌≡◌};
 ghost use Rattle.event_log.specs.declared.event.LogFault.TheVariants.{NoMemory};
 

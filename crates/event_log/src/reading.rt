@@ -1,3 +1,4 @@
+//! The reader of logs (Flux RFC 18).
 ghost use Rattle.std.specs.Prelude.{◌≡◌, ◌≤◌, ◌<◌, IfOk, OnOk, IfSome, All, Ok, length, not, string_bytes, ◌==◌, IsUtf8};
 ghost use Rattle.std.specs.List.{list_all, prefix_len};
 ghost use Rattle.std.specs.BTreeMap.{keys};

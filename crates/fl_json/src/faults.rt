@@ -1,3 +1,4 @@
+//! Why a text has no value.
 ghost use Rattle.std.specs.Prelude.{◌≡◌};
 ghost use Rattle.fl_json.specs.declared.faults.JsonFault.TheVariants.{NoMemory};
 

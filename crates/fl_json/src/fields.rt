@@ -1,3 +1,4 @@
+//! The fields of an object.
 ghost use Rattle.std.specs.Prelude.{◌<◌, IfOk};
 ghost use Rattle.serde_json.specs.Data.{depth, items_depth};
 ghost use Rattle.serde_json.specs.Find.{as_str, as_array};

@@ -1,4 +1,4 @@
-// What the pieces are into which a text is cut.
+//! What the pieces are into which a text is cut.
 ghost use Rattle.std.specs.Prelude.{◌≡◌, ℕ, List, flat_map, true};
 ghost use Rattle.std.specs.List.{AllByRecursion as Each};
 ghost use Rattle.fl_json.specs.Numbers.{pieces};

@@ -1,3 +1,4 @@
+//! The number tokens of a text, and where fractions of zeros are read over.
 ghost use Rattle.std.specs.Prelude.{◌≡◌, ◌≤◌, ◌<◌, length, option_map, MatchResult, unwrap_or, false, Some, None, Ok, Err, ◌++◌};
 ghost use Rattle.std.specs.List.{prefix_len};
 ghost use Rattle.json.specs.Word.{head, after_minus};

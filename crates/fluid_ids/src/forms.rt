@@ -1,3 +1,4 @@
+//! The forms in which an id is written (Flux RFC 19).
 /// A way to write a FLUID as text.
 #[derive(Clone, Copy, Debug, PartialEq, Eq)]
 pub enum Form {

@@ -1,3 +1,4 @@
+//! The generator of ids (Flux RFC 19).
 ghost use Rattle.std.specs.Prelude.{◌≡◌, ℕ, ◌*◌, ◌^◌, ◌<◌, ◌≤◌};
 ghost use Rattle.fluid_ids.specs.Ids.{IsFluid, new_state, next_state, last_id};
 

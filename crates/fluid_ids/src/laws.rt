@@ -1,4 +1,4 @@
-// What ids and their texts tell.
+//! What ids and their texts tell.
 ghost use Rattle.std.specs.Prelude.{◌≡◌, ◌<◌, ◌/◌, ◌%◌, ◌^◌, ℕ, Ok};
 ghost use Rattle.fluid_ids.specs.Ids.{id_of};
 ghost use Rattle.fluid_ids.specs.Texts.{meaning, printed};

@@ -1,4 +1,4 @@
-// FLUIDs: ids that rise, and their texts (Flux RFC 19).
+//! FLUIDs: ids that rise, and their texts (Flux RFC 19).
 #![tactic(auto)]
 
 pub mod faults;

@@ -1,3 +1,4 @@
+//! The printer of ids: F58, dothex and decimal (Flux RFC 19).
 ghost use Rattle.std.specs.Prelude.{◌≡◌, ℕ, ◌^◌, ◌<◌, ◌≤◌, ◌++◌, length, reverse, IfOk, OnOk, Ok};
 ghost use Rattle.fluid_ids.specs.Texts.{digits_in, group_text, printed, meaning};
 

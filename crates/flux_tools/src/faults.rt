@@ -1,3 +1,4 @@
+//! Why a tool prints nothing, and the notice that says so.
 ghost use Rattle.std.specs.Prelude.{◌≡◌};
 ghost use Rattle.flux_tools.specs.declared.faults.ToolFault.TheVariants.{NoMemory};
 

@@ -1,4 +1,4 @@
-// What each tool prints of a text.
+//! What each tool prints of a text.
 ghost use Rattle.std.specs.Prelude.{◌≡◌};
 ghost use Rattle.event_log.specs.Logs.{log_reading};
 ghost use Rattle.fluid_ids.specs.Texts.{meaning};

@@ -1,3 +1,4 @@
+//! The tools that print one text canonically, or the state that a log tells.
 ghost use Rattle.std.specs.Prelude.{◌≡◌, IfErr, IfOk, IsTrue, Ok, Some, length, map, string_bytes, ◌↔◌};
 ghost use Rattle.std.specs.Io.KnownBytes.{Consumes, IsAtEnd};
 ghost use Rattle.flux_tools.specs.Tools.{AreReaderWords, AreToolWords, Gives, HasAnswer, HasCause, HasCount, answer, asked, reader_named, tool_named};

@@ -1,3 +1,4 @@
+//! What a grant has for a job.
 use lists::ListOf;
 use resource_set::Resources;
 

@@ -1,3 +1,4 @@
+//! The units of a grant, and who holds them.
 ghost use Rattle.std.specs.Prelude.{◌≡◌, slice_index_or, ◌<◌, ◌≤◌, ◌↔◌, ◌+◌, ◌-◌, ◌^◌, ◌++◌, List, [], length, map, take, drop, IfNone, IfSome, nat_le, nat_lt, Contains, IfOk, OnOk, OnErr, IsTrue, Some, None, All, remove};
 ghost use Rattle.std.specs.Bool.{OnFalse};
 ghost use Rattle.std.specs.List.{HoldsAt, AllByRecursion as Each};

@@ -1,4 +1,4 @@
-// What the units are that a job is given.
+//! What the units are that a job is given.
 ghost use Rattle.std.specs.Prelude.{◌≡◌, ℕ};
 ghost use Rattle.job_rules.specs.Fits.{IsGrant, IsSpec, IsUnitSet, Satisfies, free_of};
 ghost use Rattle.job_spec.specs.declared.spec.JobSpec.{JobSpec};

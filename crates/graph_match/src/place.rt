@@ -1,3 +1,4 @@
+//! A host of a grant, with what is free there.
 ghost use Rattle.std.specs.Prelude.{◌≡◌, ◌≤◌, IfOk, OnOk};
 ghost use Rattle.job_rules.specs.Fits.{HasIdSets, IsSpec, lowest};
 ghost use Rattle.job_rules.specs.Worths.{give_as};

@@ -1,3 +1,4 @@
+//! The cores or the GPUs of a host.
 ghost use Rattle.std.specs.Prelude.{◌≡◌, ℕ, ◌≤◌, ◌<◌, length, take, map, IfOk, OnOk};
 ghost use Rattle.idset.specs.Ids.{IsIdSet};
 ghost use Rattle.graph_match.specs.Spots.{ids_of, free_ids, free_spot, marked_at};

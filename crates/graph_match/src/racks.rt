@@ -1,3 +1,4 @@
+//! The hosts of a grant in racks and rows of racks, with counts of what is free.
 ghost use Rattle.std.specs.Prelude.{◌≡◌, ◌+◌, ◌-◌, ◌^◌, ◌≤◌, ◌<◌, List, length, map, set, get_or};
 ghost use Rattle.std.specs.Prelude.{take, drop, IfOk, IsTrue};
 ghost use Rattle.std.specs.List.{AllByRecursion as Each};

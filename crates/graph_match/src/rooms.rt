@@ -1,3 +1,4 @@
+//! How many slots have room on a host.
 ghost use Rattle.std.specs.Prelude.{◌≡◌, ℕ, ◌≤◌, ◌<◌, length};
 ghost use Rattle.graph_match.specs.Rooms.{slot_count, worth_of};
 ghost use Rattle.job_rules.specs.Worths.{wanted as wanted_of};

@@ -1,3 +1,4 @@
+//! The laws of runs, each the contract of a function.
 ghost use Rattle.std.specs.Prelude.{◌≡◌, ◌↔◌, ℕ, List, [], ◌∷◌, ◌++◌, IsTrue, false};
 ghost use Rattle.std.specs.List.{AllByRecursion as Each};
 ghost use Rattle.instance_rules.specs.Family.{AreNested, MayClose};

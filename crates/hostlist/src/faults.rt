@@ -1,3 +1,4 @@
+//! Why a text spells no hosts.
 ghost use Rattle.std.specs.Prelude.{◌≡◌};
 ghost use Rattle.hostlist.specs.declared.faults.HostFault.TheVariants.{NoMemory};
 

@@ -1,4 +1,4 @@
-// Host lists and their texts (Flux RFC 29).
+//! Host lists and their texts (Flux RFC 29).
 #![tactic(auto)]
 
 pub mod faults;

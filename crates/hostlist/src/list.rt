@@ -1,3 +1,4 @@
+//! Hosts in an order.
 ghost use Rattle.std.specs.Prelude.{◌≡◌, ◌≢◌, ◌≤◌, ◌<◌, ◌++◌, ◌∷◌, [], ℕ, Some, None, length, IfOk, OnOk, OnErr, IfSome, IsNone, slice_get, option_copied, IsTrue, ◌↔◌, nat_lt, if◌then◌else◌};
 ghost use Rattle.hostlist.specs.declared.faults.HostFault.TheVariants.{TooMany};
 ghost use Rattle.std.specs.Prelude.{bytes_eq};

@@ -1,3 +1,4 @@
+//! The pieces of a hostlist: one host, or a range behind a prefix.
 ghost use Rattle.std.specs.Prelude.{◌≡◌, ◌≤◌, ◌<◌, ◌++◌, ◌+◌, ◌-◌, map, length, OnOk};
 ghost use Rattle.std.specs.List.{range_with_len};
 ghost use Rattle.hostlist.specs.Names.{padded};

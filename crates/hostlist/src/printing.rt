@@ -1,3 +1,4 @@
+//! The printer of hostlists (Flux RFC 29).
 ghost use Rattle.std.specs.Prelude.{◌≡◌, ◌≤◌, ◌<◌, ◌+◌, ◌++◌, ◌∷◌, [], map, length, OnOk, IfOk};
 ghost use Rattle.std.specs.List.{join_with_byte};
 ghost use Rattle.hostlist.specs.Names.{shares_prefix, follows};

@@ -1,3 +1,4 @@
+//! The reader of hostlists (Flux RFC 29).
 ghost use Rattle.std.specs.Prelude.{◌≡◌, ◌≤◌, ◌<◌, ◌+◌, ◌-◌, ◌^◌, ◌++◌, true, length, IfOk, OnOk, option_copied, min, None, MatchOption, ⊤, IfSome, not, ◌==◌};
 ghost use Rattle.std.specs.Prelude.{◌∷◌, [], if◌then◌else◌};
 ghost use Rattle.std.specs.List.{take_while, prefix_len, list_all, slice_split, position_or_len};

@@ -1,3 +1,4 @@
+//! Why a text is no idset.
 ghost use Rattle.std.specs.Prelude.{◌≡◌};
 ghost use Rattle.idset.specs.declared.faults.IdFault.TheVariants.{NoMemory};
 

@@ -1,4 +1,4 @@
-// Sets of ids and their text (Flux RFC 22).
+//! Sets of ids and their text (Flux RFC 22).
 #![tactic(auto)]
 
 pub mod faults;

@@ -1,3 +1,4 @@
+//! The printer of idsets (Flux RFC 22).
 ghost use Rattle.std.specs.Prelude.{◌≡◌, ◌++◌, IfOk, OnOk, map, string_bytes};
 ghost use Rattle.std.specs.List.{join_with_byte};
 ghost use Rattle.idset.specs.Runs.{range_text};

@@ -1,3 +1,4 @@
+//! Ranges of ids.
 ghost use Rattle.std.specs.Prelude.{◌≡◌, ℕ, ◌<◌, ◌≤◌, ◌++◌, not, All, map, IfOk, OnOk, IsTrue, ◌↔◌, length};
 ghost use Rattle.idset.specs.Ids.{ids_from};
 ghost use Rattle.idset.specs.Ranges.{IsRange, AreApart, AreSorted, are_in, gap, ids_in, single};

@@ -1,3 +1,4 @@
+//! The reader of idsets (Flux RFC 22).
 ghost use Rattle.std.specs.Prelude.{◌≡◌, ℕ, ◌+◌, ◌-◌, ◌^◌, ◌<◌, ◌≤◌, nat_lt, ◌==◌, ◌∷◌, [], length, map, All, MatchOption, OnOk};
 ghost use Rattle.std.specs.List.{position_or_len, slice_split};
 ghost use Rattle.std.specs.Option.{SomeIff};

@@ -1,3 +1,4 @@
+//! Sets of ids.
 ghost use Rattle.std.specs.Prelude.{◌≡◌, ℕ, ◌<◌, ◌≤◌, List, [], All, IfOk, IsTrue, ◌↔◌, None, length, slice_get};
 ghost use Rattle.idset.specs.Ids.{has, ids_from, union_of, minus_of, IsIdSet, list_of};
 ghost use Rattle.idset.specs.Runs.{runs, printed};

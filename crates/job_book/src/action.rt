@@ -1,4 +1,4 @@
-// What the book finds to do for a job, and the event of it (Flux RFC 21).
+//! What the book finds to do for a job, and the event of it (Flux RFC 21).
 ghost use Rattle.std.specs.Prelude.{◌≡◌, [], IfOk, IfSome, codes};
 ghost use Rattle.std.specs.Option.{option_map_or};
 ghost use Rattle.std.specs.Str.{IsUtf8};

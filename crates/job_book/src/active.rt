@@ -1,4 +1,4 @@
-// The jobs that aren't over, by their ids.
+//! The jobs that aren't over, by their ids.
 ghost use Rattle.std.specs.Prelude.{◌≡◌, ◌==◌, ◌<◌, List, ℕ, Contains, filter, length, not, slice_index_or};
 ghost use Rattle.std.specs.List.{HoldsAt};
 ghost use Rattle.std.specs.List.Sorted.{IsStrictlyIncreasing};

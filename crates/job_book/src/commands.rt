@@ -1,4 +1,4 @@
-// The commands about a job that its state allows.
+//! The commands about a job that its state allows.
 ghost use Rattle.std.specs.Prelude.{◌≡◌, ◌≢◌, ◌↔◌, Contains, IfNone, IfSome, IsTrue};
 ghost use Rattle.manager_rules.specs.declared.asked.Asked.{Asked as Command};
 ghost use Rattle.manager_rules.specs.Due.{MayCarry, may_stand};

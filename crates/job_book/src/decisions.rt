@@ -1,4 +1,4 @@
-// What is due for a job, whatever its state.
+//! What is due for a job, whatever its state.
 ghost use Rattle.std.specs.Prelude.{◌≡◌, ◌↔◌, All, IfOk, IsTrue, Some};
 ghost use Rattle.std.specs.Fn.{FnReturnsAt};
 ghost use Rattle.resource_set.specs.Valid.{IsR};

@@ -1,4 +1,4 @@
-// What is due for a job with dependencies (Flux RFC 26).
+//! What is due for a job with dependencies (Flux RFC 26).
 ghost use Rattle.std.specs.Prelude.{◌≡◌, None, Contains, IfNone, IfOk, IfSome, IsTrue, find};
 ghost use Rattle.std.specs.Option.{option_copied};
 ghost use Rattle.std.specs.List.{list_any};

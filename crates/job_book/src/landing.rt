@@ -1,4 +1,4 @@
-// What a job is once an event of it has landed.
+//! What a job is once an event of it has landed.
 ghost use Rattle.std.specs.Prelude.{◌≡◌, ◌<◌, length, IfOk, IfSome, OnErr, OnOk, Ok, slice_index_or, slice_set};
 ghost use Rattle.job_states.specs.Replay.{stepped};
 ghost use Rattle.job_states.specs.declared.job.Job.{Job as JobNow};

@@ -1,4 +1,4 @@
-// The priorities of jobs.
+//! The priorities of jobs.
 ghost use Rattle.std.specs.Prelude.{◌≡◌};
 ghost use Rattle.std.specs.Fn.{FnReturnsAt};
 ghost use Rattle.job_spec.specs.Sound.{IsSpec};

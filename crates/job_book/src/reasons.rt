@@ -1,4 +1,4 @@
-// Why a job doesn't run.
+//! Why a job doesn't run.
 ghost use Rattle.std.specs.Prelude.{◌≡◌, List, Contains, IfOk};
 ghost use Rattle.job_rules.specs.Fits.{IsGrant};
 ghost use Rattle.job_spec.specs.Sound.{IsSpec};

@@ -1,4 +1,4 @@
-// The jobs of a book by id.
+//! The jobs of a book by id.
 ghost use Rattle.std.specs.Prelude.{◌≡◌, ◌<◌, ◌≤◌, ◌∷◌, ◌++◌, length, take, drop, nat_lt, option_map, Contains, OnOk, OnErr, slice_index_or};
 ghost use Rattle.std.specs.List.{AllByRecursion as Each, HoldsAt};
 ghost use Rattle.std.specs.List.Sorted.{IsStrictlyIncreasing};

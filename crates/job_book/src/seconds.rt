@@ -1,4 +1,4 @@
-// When something happens by itself, and whose child is to be born.
+//! When something happens by itself, and whose child is to be born.
 ghost use Rattle.std.specs.Prelude.{◌≡◌, ◌++◌, List, ℕ, [], false, filter, find, flat_map, nat_lt, option_map};
 ghost use Rattle.std.specs.Option.{option_map_or, option_to_list};
 ghost use Rattle.shells.specs.Endings.{ending_of};

@@ -1,4 +1,4 @@
-// What is due for a job that has resources, by its state (Flux RFC 21 and 27).
+//! What is due for a job that has resources, by its state (Flux RFC 21 and 27).
 ghost use Rattle.std.specs.Prelude.{◌≡◌, ◌&&◌, ◌↔◌, IsTrue, IsSomeAnd};
 ghost use Rattle.job_states.specs.declared.job.State.TheVariants as state;
 ghost use Rattle.manager_rules.specs.Due.{IsOver, status_now};

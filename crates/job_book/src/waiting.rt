@@ -1,4 +1,4 @@
-// The priority with which a job stands in the queue.
+//! The priority with which a job stands in the queue.
 ghost use Rattle.std.specs.Prelude.{◌≡◌};
 ghost use Rattle.job_book.specs.Waiting.{rank_of};
 

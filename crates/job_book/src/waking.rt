@@ -1,4 +1,4 @@
-// From when on something may be due for a job.
+//! From when on something may be due for a job.
 ghost use Rattle.std.specs.Prelude.{◌≡◌, ◌<◌, ◌≤◌, ℕ, IfSome, IsTrue, Some, option_map};
 ghost use Rattle.std.specs.List.{list_any};
 ghost use Rattle.manager_rules.specs.Deeds.{Deed};

@@ -1,4 +1,4 @@
-// Dependencies of jobs on others (Flux RFC 26, "dependencies").
+//! Dependencies of jobs on others (Flux RFC 26, "dependencies").
 ghost use Rattle.std.specs.Prelude.{◌≡◌, OnOk, IfOk, filter, filter_map};
 ghost use Rattle.job_queue.specs.Dependencies.{is_of_another, verdict, settled_of, stays_open, AreInOrder};
 

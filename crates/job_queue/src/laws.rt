@@ -1,4 +1,4 @@
-// What heads of queues promise.
+//! What heads of queues promise.
 ghost use Rattle.std.specs.Prelude.{◌≡◌, ℕ, List};
 ghost use Rattle.job_queue.specs.Queue.{IsHead};
 

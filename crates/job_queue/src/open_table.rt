@@ -1,4 +1,4 @@
-// The open dependencies by the job that is waited for.
+//! The open dependencies by the job that is waited for.
 ghost use Rattle.std.specs.Prelude.{◌≡◌, ℕ, ◌++◌, ◌∷◌, [], IsSome, OnOk, OnErr, filter};
 ghost use Rattle.std.specs.Ordering.{nat_cmp};
 ghost use Rattle.std.specs.BTreeMap.{is_at};

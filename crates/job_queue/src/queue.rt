@@ -1,4 +1,4 @@
-// The queue of waiting jobs.
+//! The queue of waiting jobs.
 ghost use Rattle.std.specs.Prelude.{◌≡◌, ◌++◌, ◌∷◌, [], ◌↔◌, false, Some, None, is_some, IsTrue, IfSome, IsNone, OnOk, OnErr, IfOk, filter};
 ghost use Rattle.job_queue.specs.Queue.{priority_of, Changes, IsHead, AreHeld};
 ghost use Rattle.job_queue.specs.Dependencies.{decided_by, is_of_another, stays_open, open_on, AreInOrder, ChangesOpen};

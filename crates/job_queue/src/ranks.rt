@@ -1,4 +1,4 @@
-// The heap of ranks beside the table of priorities.
+//! The heap of ranks beside the table of priorities.
 ghost use Rattle.std.specs.Prelude.{◌≡◌, ◌≤◌, ◌↔◌, Some, IsTrue};
 ghost use Rattle.std.specs.BinaryHeap.{heap_items, heap_capacity};
 ghost use Rattle.std.specs.BTreeMap.{btree_map_len, get};

@@ -1,3 +1,4 @@
+//! A live job with the units that it holds.
 use lists::Copied;
 use resource_set::NodeList;
 use std::alloc::AllocError;

@@ -1,3 +1,4 @@
+//! The laws of units and first fit, each the contract of a function.
 ghost use Rattle.std.specs.Prelude.{◌≡◌, ℕ, List, Some, None, ◌↔◌, ◌≤◌, IsSome, ◌&&◌, ◌==◌, not, filter, Contains};
 ghost use Rattle.idset.specs.Ids.{has};
 ghost use Rattle.job_spec.specs.declared.spec.JobSpec.{JobSpec};

@@ -1,3 +1,4 @@
+//! Why a text is no jobspec.
 ghost use Rattle.std.specs.Prelude.{◌≡◌};
 ghost use Rattle.job_spec.specs.Numbers.{number_of};
 ghost use Rattle.job_spec.specs.declared.faults.SpecFault.TheVariants.{NoMemory};

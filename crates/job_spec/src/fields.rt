@@ -1,3 +1,4 @@
+//! The values under the keys of a jobspec.
 ghost use Rattle.std.specs.Prelude.{IfOk, map, codes};
 ghost use Rattle.serde_json.specs.Find.{as_str};
 ghost use Rattle.serde_json.specs.View.{view};

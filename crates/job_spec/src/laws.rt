@@ -1,3 +1,4 @@
+//! The laws of accepted texts, each the contract of a function.
 ghost use Rattle.std.specs.Prelude.{◌≡◌, ℕ, List, Ok};
 ghost use Rattle.job_spec.specs.Sound.{IsSpec};
 ghost use Rattle.job_spec.specs.Specs.{spec_reading};

@@ -1,3 +1,4 @@
+//! The attributes of a jobspec: its duration and its dependencies (Flux RFC 25 and 26).
 ghost use Rattle.std.specs.Prelude.{◌≡◌, map};
 ghost use Rattle.std.specs.Option.{ok_or};
 ghost use Rattle.serde_json.specs.View.{view};

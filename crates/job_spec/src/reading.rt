@@ -1,3 +1,4 @@
+//! The reader of jobspecs (Flux RFC 14 and 25).
 ghost use Rattle.std.specs.Prelude.{◌≡◌, ◌≤◌, IfOk, length, nat_le};
 ghost use Rattle.serde_json.specs.View.{view};
 ghost use Rattle.job_spec.specs.Fields.{Gives};

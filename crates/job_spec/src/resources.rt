@@ -1,3 +1,4 @@
+//! The resources of a jobspec: slots, and the nodes that have them.
 ghost use Rattle.std.specs.Prelude.{IfOk, map};
 ghost use Rattle.serde_json.specs.View.{view};
 ghost use Rattle.job_spec.specs.Fields.{Finds};

@@ -1,3 +1,4 @@
+//! Jobspecs, version 1 (Flux RFC 25).
 use lists::{Bytes, Copied, ListOf};
 use std::alloc::AllocError;
 

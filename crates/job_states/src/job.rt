@@ -1,3 +1,4 @@
+//! The states of a job, and what its log says of it (Flux RFC 21).
 ghost use Rattle.std.specs.Prelude.{◌≡◌};
 ghost use Rattle.job_states.specs.Names.{state_name};
 ghost use Rattle.job_states.specs.declared.job.ReplayFault.TheVariants.{NoMemory};

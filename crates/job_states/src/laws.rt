@@ -1,4 +1,4 @@
-// What replays promise of each other.
+//! What replays promise of each other.
 ghost use Rattle.std.specs.Prelude.{◌≡◌, ◌<◌, List, [], ◌∷◌, ◌++◌, length, Ok, Err, IsOk};
 ghost use Rattle.event_log.specs.declared.event.Event.{Event};
 ghost use Rattle.job_states.specs.declared.job.Job.{Job};

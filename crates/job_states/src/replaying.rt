@@ -1,4 +1,4 @@
-// The replay of a log.
+//! The replay of a log.
 ghost use Rattle.std.specs.Prelude.{◌≡◌, Ok, OnOk, OnErr, IfErr};
 ghost use Rattle.job_states.specs.Replay.{begun, stepped, replayed, Gives, Fails};
 

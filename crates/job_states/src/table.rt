@@ -1,4 +1,4 @@
-// The table of events and states, and what each event leaves in a job.
+//! The table of events and states, and what each event leaves in a job.
 ghost use Rattle.std.specs.Prelude.{◌≡◌, OnOk, OnErr};
 ghost use Rattle.std.specs.List.{list_any};
 ghost use Rattle.job_states.specs.Table.{is_state, stands_in, leads_to, marked, made, submitted_job};

@@ -1,4 +1,4 @@
-// The dependencies of a submission, by their descriptions (Flux RFC 26).
+//! The dependencies of a submission, by their descriptions (Flux RFC 26).
 ghost use Rattle.std.specs.Prelude.{◌≡◌, ◌≢◌, ◌<◌, ◌^◌, ◌++◌, ◌∷◌, [], List, ℕ, Some, IfNone, IfOk, IfSome, OnOk, MatchOption, codes, option_and_then, option_map};
 ghost use Rattle.std.specs.List.{list_any};
 ghost use Rattle.std.specs.Result.{result_ok};

@@ -1,5 +1,5 @@
-// The texts that events tell: descriptions of dependencies, ranks and contexts (Flux RFC 18, 21, 22
-// and 26).
+//! The texts that events tell: descriptions of dependencies, ranks and contexts (Flux RFC 18, 21,
+//! 22 and 26).
 ghost use Rattle.std.specs.Prelude.{◌≡◌, IfOk, false, true, codes};
 ghost use Rattle.std.specs.Str.{IsUtf8};
 ghost use Rattle.serde_json.specs.Data.{boolean, member, no_members, object, string};

@@ -1,3 +1,4 @@
+//! A kept callback that says which events are shown.
 ghost use Rattle.std.specs.Prelude.{◌≡◌, ℕ};
 ghost use Rattle.std.specs.Fn.{FnReturnsAt};
 ghost use Rattle.job_watch.specs.Answers.{IsShowing, ShowsOnce};

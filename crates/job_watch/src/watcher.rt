@@ -1,3 +1,4 @@
+//! A watch of one job's log.
 ghost use Rattle.std.specs.Prelude.{◌≡◌, ◌++◌, [], List, All, length, IfOk, OnErr, OnOk};
 ghost use Rattle.std.specs.Fn.{FnReturnsAt};
 ghost use Rattle.event_log.specs.declared.event.Event.{Event as Told};

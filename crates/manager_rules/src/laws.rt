@@ -1,3 +1,4 @@
+//! The laws of what is due, each the contract of a function.
 ghost use Rattle.std.specs.Prelude.{◌≡◌, ◌++◌, ◌<◌, ◌≤◌, ◌^◌, ◌⊎◌, ℕ, List, [], ◌∷◌, length, true, false, Some, Contains, IfSome, Ok};
 ghost use Rattle.std.specs.List.{AllByRecursion as Each};
 ghost use Rattle.job_states.specs.Changes.{change_of};

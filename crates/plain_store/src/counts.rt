@@ -1,4 +1,4 @@
-// How many names lie directly in each place.
+//! How many names lie directly in each place.
 ghost use Rattle.std.specs.Prelude.{◌≡◌, ◌+◌, ◌≤◌, ◌<◌, ◌^◌, IsSome, OnOk};
 ghost use Rattle.kvs_model.specs.Store.{Path as Places};
 ghost use Rattle.plain_store.specs.Counted.{count_at, kept_at, weight, times, IsCountable};

@@ -1,4 +1,4 @@
-// What operations do to a table.
+//! What operations do to a table.
 ghost use Rattle.std.specs.Prelude.{◌≡◌, ◌∷◌, [], ◌&&◌, length, nat_le, is_none, IfOk, OnOk, option_map};
 ghost use Rattle.std.specs.Option.{option_copied};
 ghost use Rattle.kvs_model.specs.Store.{IsStore, is_within, node_at, names_in, with_node, Directory};

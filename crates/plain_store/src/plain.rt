@@ -1,4 +1,4 @@
-// A store, on which transactions take effect whole or not at all.
+//! A store, on which transactions take effect whole or not at all.
 ghost use Rattle.std.specs.Prelude.{◌≡◌, ◌∷◌, [], Ok, Err, Some, IfOk, OnOk, OnErr, IfErr, codes};
 ghost use Rattle.kvs_model.specs.Store.{IsStore, Directory, empty_store};
 ghost use Rattle.kvs_model.specs.History.{first_store};

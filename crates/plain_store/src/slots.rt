@@ -1,5 +1,5 @@
-// What stands at each path, with a log by which all changes since the last landing can be undone
-// without memory.
+//! What stands at each path, with a log by which all changes since the last landing can be undone
+//! without memory.
 ghost use Rattle.std.specs.Prelude.{◌≡◌, ◌++◌, [], nat_le, length, map, filter, is_none, OnOk, IfOk, IsTrue, IsSome, Some, None, option_map};
 ghost use Rattle.std.specs.Option.{option_copied, option_to_list};
 ghost use Rattle.kvs_model.specs.Store.{Path as Places, node_at, names_in, without, is_within, child_name, kind_of};

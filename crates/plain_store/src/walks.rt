@@ -1,4 +1,4 @@
-// Where a path leads, and what a reader finds there.
+//! Where a path leads, and what a reader finds there.
 ghost use Rattle.std.specs.Prelude.{◌≡◌, ◌≤◌, length, take, drop, IfOk, option_map};
 ghost use Rattle.kvs_model.specs.Walk.{stop, walk, found_at, most_links};
 ghost use Rattle.plain_store.specs.Held.{store_of, node_of};

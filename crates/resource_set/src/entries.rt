@@ -1,3 +1,4 @@
+//! The entries of an R.
 use idset::IdSet;
 use lists::{Bytes, ListOf};
 

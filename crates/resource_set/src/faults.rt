@@ -1,3 +1,4 @@
+//! Why a text is no R.
 ghost use Rattle.std.specs.Prelude.{◌≡◌};
 ghost use Rattle.resource_set.specs.declared.faults.RFault.TheVariants.{NoMemory};
 

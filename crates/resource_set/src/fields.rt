@@ -1,4 +1,4 @@
-// The fields of an R.
+//! The fields of an R.
 ghost use Rattle.std.specs.Prelude.{◌≡◌, IfOk, OnOk, option_and_then, ◌++◌};
 ghost use Rattle.std.specs.Option.{ok_or};
 ghost use Rattle.serde_json.specs.Find.{get, as_str};

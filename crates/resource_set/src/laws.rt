@@ -1,4 +1,4 @@
-// What the entries of a canonical R tell of its hosts.
+//! What the entries of a canonical R tell of its hosts.
 ghost use Rattle.std.specs.Prelude.{◌≡◌, ◌<◌, List, length, map, All};
 ghost use Rattle.std.specs.List.{AllPairs};
 ghost use Rattle.std.specs.List.Sorted.{IsStrictlyIncreasing};

@@ -1,3 +1,4 @@
+//! Hosts with their units (Flux RFC 20).
 use idset::IdSet;
 use lists::{Bytes, Copied, ListOf};
 use std::alloc::AllocError;

@@ -1,4 +1,4 @@
-// Which entry has a rank, and which host belongs to it.
+//! Which entry has a rank, and which host belongs to it.
 ghost use Rattle.std.specs.Prelude.{◌≡◌, ℕ, length, IfOk, OnOk, MatchResult, Some, None, is_some, unwrap_or, cond, option_copied, []};
 ghost use Rattle.std.specs.List.{find};
 ghost use Rattle.std.specs.List.Sorted.{IsStrictlyIncreasing};

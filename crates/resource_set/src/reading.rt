@@ -1,4 +1,4 @@
-// Reading an R.
+//! Reading an R.
 ghost use Rattle.std.specs.Prelude.{◌≡◌, IfOk, ◌++◌};
 ghost use Rattle.serde_json.specs.View.{view, items_view};
 ghost use Rattle.resource_set.specs.Reading.{Gives, entry_of, entries_in, executed, resources_of, told};

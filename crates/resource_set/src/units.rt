@@ -1,4 +1,4 @@
-// What is left of resources without others, and whether some lie in others.
+//! What is left of resources without others, and whether some lie in others.
 ghost use Rattle.std.specs.Prelude.{◌≡◌, ◌<◌, ◌≤◌, ◌↔◌, IfOk, IsTrue, map, ◌==◌, ◌&&◌, not, length, false, true, IfSome, MatchOption, option_copied};
 ghost use Rattle.std.specs.List.{list_all, list_any, find, HoldsAt};
 ghost use Rattle.idset.specs.Ids.{has, ids_from};

@@ -1,4 +1,4 @@
-// What words gave so far.
+//! What words gave so far.
 ghost use Rattle.std.specs.Prelude.{◌≡◌, IfSome};
 ghost use Rattle.run_options.specs.Given.{nothing, brokers_of, hash_of, number_of, with_size, with_fanout, with_hash, with_shuffle, with_journal, with_value, options_from, AreWithin, IsBrokers, IsWithin};
 ghost use Rattle.run_options.specs.Words.{wants_value, with_word};

@@ -1,3 +1,4 @@
+//! When and how a simulated command ends.
 /// When and how a command ends.
 #[derive(Clone, Copy, Debug, PartialEq, Eq)]
 pub enum Ending {

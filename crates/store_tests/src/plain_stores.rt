@@ -1,4 +1,4 @@
-// Transactions and what readers find, with answers that are known from the rules.
+//! Transactions and what readers find, with answers that are known from the rules.
 use kvs_txn::{Author, Cause, Found, Kind, Op, Path, Query, Scope, Txn};
 use lists::Bytes;
 use plain_store::{ApplyFault, Store};

@@ -1,3 +1,4 @@
+//! A kept callback that judges a submission.
 ghost use Rattle.std.specs.Prelude.{◌≡◌, ℕ};
 ghost use Rattle.std.specs.Fn.{FnReturnsAt};
 ghost use Rattle.tap.specs.Verdicts.{IsVerdict, JudgesOnce};

@@ -1,4 +1,4 @@
-// Objects and directories of objects.
+//! Objects and directories of objects.
 ghost use Rattle.std.specs.Prelude.{◌≡◌, ◌++◌, ◌∷◌, [], length, not, option_map, IsTrue, IfOk, OnOk, OnErr};
 ghost use Rattle.std.specs.Ordering.{eq_by_cmp};
 ghost use Rattle.std.specs.FinMap.Entries as finite;

@@ -1,4 +1,4 @@
-// Stored texts of directories, read without JSON values.
+//! Stored texts of directories, read without JSON values.
 ghost use Rattle.std.specs.Prelude.{◌<◌, ◌≤◌, Ok, IfSome, IsTrue, length};
 ghost use Rattle.base64.specs.GeneralPurpose.{IsBytes};
 ghost use Rattle.std.specs.List.{All};

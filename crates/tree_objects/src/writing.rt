@@ -1,4 +1,4 @@
-// The texts of objects, written token by token.
+//! The texts of objects, written token by token.
 ghost use Rattle.std.specs.Prelude.{OnOk, ◌∷◌, [], decimal};
 ghost use Rattle.std.specs.Str.{IsUtf8};
 ghost use Rattle.json.specs.Token.{begin_object, end_object, key, string, number};

@@ -1,4 +1,4 @@
-// The blobs of a new store that aren't kept yet.
+//! The blobs of a new store that aren't kept yet.
 ghost use Rattle.std.specs.Prelude.{◌≡◌, ◌<◌, ◌++◌, ◌∷◌, [], Some, None, IfOk, IfErr, OnOk, OnErr};
 ghost use Rattle.std.specs.Prelude.{length};
 ghost use Rattle.std.specs.Prelude.{option_copied};

@@ -1,4 +1,4 @@
-// The directories that a transaction has looked into.
+//! The directories that a transaction has looked into.
 ghost use Rattle.std.specs.Prelude.{◌≡◌, ◌<◌, ◌++◌, [], ◌∷◌, length, nat_le, is_none, Some, IfOk};
 ghost use Rattle.std.specs.Prelude.{OnOk, IfSome, IfNone, IsSome, IsTrue, option_map};
 ghost use Rattle.std.specs.Prelude.{option_copied, not};

@@ -1,4 +1,4 @@
-// What operations do to a store whose directories are opened as they are needed.
+//! What operations do to a store whose directories are opened as they are needed.
 ghost use Rattle.std.specs.Prelude.{◌≡◌, ◌<◌, ◌∷◌, ◌++◌, [], ℕ, List, length, IfOk, OnOk};
 ghost use Rattle.std.specs.Prelude.{Some, None, if◌then◌else◌, option_map};
 ghost use Rattle.std.specs.List.{AllByRecursion};

@@ -1,4 +1,4 @@
-// Where a path leads.
+//! Where a path leads.
 ghost use Rattle.std.specs.Prelude.{◌≡◌, ◌≤◌, ◌<◌, ◌++◌, ℕ, length, take, drop, None, IfOk, IfSome};
 ghost use Rattle.std.specs.Prelude.{OnOk, IsSome, option_map, false};
 ghost use Rattle.fl_digest.specs.declared.Hash.{Hash};

@@ -1,4 +1,4 @@
-// Words, keys and values that are drawn, and the landing of what was drawn.
+//! Words, keys and values that are drawn, and the landing of what was drawn.
 ghost use Rattle.tree_rules.specs.Held.{IsRootIn};
 ghost use Rattle.tree_store.specs.Landing.{table};
 

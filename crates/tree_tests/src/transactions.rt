@@ -1,4 +1,4 @@
-// Transactions on blobs against those on a store in memory, and the reference of a first store.
+//! Transactions on blobs against those on a store in memory, and the reference of a first store.
 use crate::drawn::{key, land, value, word};
 use blob_store::BlobStore;
 use fl_digest::{BlobRef, Hash};

@@ -1,5 +1,5 @@
-// Walks over a cache that is filled with what they need, in a small store and after drawn
-// transactions.
+//! Walks over a cache that is filled with what they need, in a small store and after drawn
+//! transactions.
 use crate::drawn::{key, land, value, word};
 use blob_store::BlobStore;
 use cache_node::CacheNode;

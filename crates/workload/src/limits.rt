@@ -1,4 +1,4 @@
-// The limits of a workload's text.
+//! The limits of a workload's text.
 
 /// The most bytes of a text: 16 MiB.
 pub const MOST_TEXT: usize = 16_777_216;

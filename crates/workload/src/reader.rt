@@ -1,3 +1,4 @@
+//! The reader of workloads.
 ghost use Rattle.std.specs.Prelude.{◌≡◌, ◌≤◌, ◌<◌, ◌+◌, ◌++◌, [], ◌∷◌, length, if◌then◌else◌, option_map, IfSome, OnOk, Some};
 ghost use Rattle.std.specs.Str.Lines.{strip_carriage_return};
 ghost use Rattle.workload.specs.Limits.{most_text, most_actors};

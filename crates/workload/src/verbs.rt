@@ -1,3 +1,4 @@
+//! The verbs of commands, and what stands behind each.
 ghost use Rattle.std.specs.Prelude.{◌≡◌, ◌≤◌, [], ◌∷◌, length};
 ghost use Rattle.kvs_txn.specs.Keys.{components};
 ghost use Rattle.workload.specs.Limits.{most_actors};

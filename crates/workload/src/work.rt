@@ -1,4 +1,4 @@
-// The types of a workload.
+//! The types of a workload.
 ghost use Rattle.std.specs.Prelude.{◌≡◌, ◌<◌, length, IfSome};
 ghost use Rattle.workload.specs.Actors.{place_of};
 ghost use Rattle.workload.specs.Reading.{empty};

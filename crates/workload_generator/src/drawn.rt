@@ -1,4 +1,4 @@
-// What is drawn for a command.
+//! What is drawn for a command.
 ghost use Rattle.std.specs.Prelude.{◌≡◌};
 ghost use Rattle.workload_generator.specs.Drawn.{asked, behind_three, is_submission, kind_at, next_three};
 

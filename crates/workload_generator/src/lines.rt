@@ -1,4 +1,4 @@
-// The lines of a workload.
+//! The lines of a workload.
 ghost use Rattle.std.specs.Prelude.{◌≡◌, ◌++◌, decimal, OnOk};
 ghost use Rattle.workload_generator.specs.Texts.{actor_line, command_text, jobspec, line_text};
 

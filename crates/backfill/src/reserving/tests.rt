@@ -1,3 +1,4 @@
+//! Reserved seconds over grants of a few hosts.
 ghost use Rattle.std.specs.Prelude.{◌≡◌, ◌+◌, ◌≤◌, ◌<◌, ◌++◌, [], ◌∷◌, IfOk, IfSome, IsTrue};
 ghost use Rattle.resource_set.specs.Units.{AreHosts};
 ghost use Rattle.job_rules.specs.Fits.{IsSpec};
