@@ -11,3 +11,14 @@ pub mod OneEntry
 pub mod Steps
 pub mod Bearing
 pub mod Ending
+pub mod Seconds
+pub mod Issues
+pub mod Advances
+pub mod Resting
+pub mod Finish
+pub mod Parts
+pub mod Labels
+pub mod Sole
+pub mod Once
+pub mod Ahead
+pub mod Homes

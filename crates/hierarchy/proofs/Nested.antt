@@ -49,7 +49,7 @@ cons_joined : {A : Type 0} (o : Option A) (xs ys : List A) → cons_option o xs 
 cons_joined None xs ys = refl
 cons_joined (Some x) xs ys = refl
 
-happenings_joined : (work : Workload) (c xs ys : List Entry) → happenings_after work c (xs ++ ys) ≡ happenings_after work c xs ++ happenings_after work (c ++ xs) ys
+pub happenings_joined : (work : Workload) (c xs ys : List Entry) → happenings_after work c (xs ++ ys) ≡ happenings_after work c xs ++ happenings_after work (c ++ xs) ys
 happenings_joined work c [] ys = ap (λ b. happenings_after work b ys) (sym (append-nil c))
 happenings_joined work c (x ∷ xs) ys =
     ap (cons_option (happening_of work c x)) (happenings_joined work (c ++ x ∷ []) xs ys ∙ ap (λ b. happenings_after work (c ++ x ∷ []) xs ++ happenings_after work b ys) (append_assoc c (x ∷ []) xs))

@@ -7,3 +7,4 @@ pub mod Stretches
 pub mod Headline
 pub mod Growing
 pub mod Laws
+pub mod Closing
