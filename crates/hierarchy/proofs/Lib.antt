@@ -22,3 +22,4 @@ pub mod Sole
 pub mod Once
 pub mod Ahead
 pub mod Homes
+pub mod Settling

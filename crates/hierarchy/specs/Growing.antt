@@ -72,6 +72,11 @@ pub record GoesOnBy (set : Setup) (c : List Entry) (e : Entry) : Type 0 where
   pub legal : IsLegalRunEntry set c e
   pub on : GoesOn set (c ++ e ∷ [])
 
+-- an entry issues no command
+abbrev pub IssuesNothing : Entry → Type 0
+IssuesNothing (entry.Issued actor command) = ⊥
+IssuesNothing _ = Unit {0}
+
 -- the parent of the instance that an entry ends is ended among these
 abbrev pub ParentGoes : List Entry → Entry → Type 0
 ParentGoes gone (entry.Gone child parent job shut) = IsTrue (is_gone gone parent)

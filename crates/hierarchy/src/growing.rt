@@ -1,5 +1,5 @@
 //! How a run grows: what the world that makes it owes at each step.
-ghost use Rattle.std.specs.Prelude.{◌≡◌, ◌+◌, ◌≤◌, ◌∷◌, ◌++◌, [], ℕ, Bool, false, List, None, Some, IsTrue};
+ghost use Rattle.std.specs.Prelude.{◌≡◌, ◌+◌, ◌≤◌, ◌∷◌, ◌++◌, [], ℕ, Bool, false, List, None, Some, IsTrue, map};
 ghost use Rattle.std.specs.List.{AllByRecursion as Each};
 ghost use Rattle.kvs_rules.specs.Sequence.{EachAfter};
 ghost use Rattle.resource_set.specs.declared.node.Resources.{Resources};
@@ -9,16 +9,18 @@ ghost use Rattle.workload.specs.Tallies.{seconds_in};
 ghost use Rattle.instance_rules.specs.Family.{MayTick};
 ghost use Rattle.run_laws.specs.Times.{seconds_issued};
 ghost use Rattle.answers.specs.Chronicle.{IsOpenCommand, Setup, top};
-ghost use Rattle.answers.specs.Legal.{IsLegalEntry, IsLegalIssue};
+ghost use Rattle.answers.specs.Legal.{IsLegalEntry, IsLegalIssue, RestsAtIssue};
+ghost use Rattle.answers.specs.Stretches.{IsIssueStretch};
 ghost use Rattle.answers.specs.Whole.{IsEarlierEntry};
 ghost use Rattle.answers.specs.declared.chronicle.Entry.{Entry};
 ghost use Rattle.answers.specs.declared.chronicle.Entry.TheVariants as entry;
 ghost use Rattle.answers.specs.declared.chronicle.Reply.TheVariants as reply;
 ghost use Rattle.hierarchy.specs.Births.{has_lost_home, is_born, label_of, lives};
 ghost use Rattle.hierarchy.specs.Families.{family_of, left_in, second_in};
-ghost use Rattle.hierarchy.specs.Growing.{GoesOn, GoesOnBy, GrowsBy, IsMadeIn, ParentGoes};
-ghost use Rattle.hierarchy.specs.Legal.{HasRunGrounds, IsLegalBirth, IsLegalRunEntry};
+ghost use Rattle.hierarchy.specs.Growing.{GoesOn, GoesOnBy, GrowsBy, IsMadeIn, IssuesNothing, ParentGoes};
+ghost use Rattle.hierarchy.specs.Legal.{HasRunGrounds, HasRunRest, IsLegalBirth, IsLegalRunEntry, RunRestsAtIssue};
 ghost use Rattle.hierarchy.specs.Own.{child_setup, own_of, setup_in};
+ghost use Rattle.hierarchy.specs.Stretches.{entered_in};
 
 /// A run in which nothing has happened goes on.
 pub fn a_run_begins()
@@ -32,6 +34,20 @@ pub fn what_an_instance_makes_is_legal()
         → IsTrue (lives c i) → EachAfter (IsLegalEntry (setup_in set c i)) (own_of set c i) own
         → Each (IsMadeIn set.work.actors (label_of c i)) own → Each IsEarlierEntry own
         → GrowsBy set c i own }
+{}
+
+/// A run that rests where an instance issues a command stays settled, as the instance does; and so
+/// does one where nothing is issued.
+pub fn a_run_stays_settled()
+    ensures issues { (set : Setup) (c : List Entry) (i actor : ℕ) (own : List Entry) → GoesOn set c
+        → IsTrue (lives c i) → HasRunRest set c
+        → IsIssueStretch (setup_in set c i).work actor own
+        → EachAfter (IsLegalEntry (setup_in set c i)) (own_of set c i) own
+        → Each (IsMadeIn set.work.actors (label_of c i)) own → Each IsEarlierEntry own
+        → EachAfter (RestsAtIssue (setup_in set c i)) (own_of set c i) own
+        → EachAfter (RunRestsAtIssue set) c (map (entered_in i) own) }
+    ensures others { (set : Setup) (c more : List Entry) → Each IssuesNothing more
+        → EachAfter (RunRestsAtIssue set) c more }
 {}
 
 /// Time goes on to a second where the family lets it and each living instance does.
