@@ -3,13 +3,12 @@ ghost use Rattle.std.specs.Prelude.{◌≡◌, ℕ, Contains, IsTrue, List, fals
 ghost use Rattle.manager_rules.specs.Times.{IsIdle};
 ghost use Rattle.instance_rules.specs.Family.{AreNumbered, IsEndOf, IsFamilyIdle, Living};
 ghost use Rattle.instance_rules.specs.Legal.{OfDesk};
-ghost use Rattle.answers.specs.Chronicle.{Setup, top};
+ghost use Rattle.answers.specs.Chronicle.{Setup};
 ghost use Rattle.answers.specs.Jobs.{instance_of, log_in};
 ghost use Rattle.answers.specs.declared.chronicle.Entry.{Entry};
 ghost use Rattle.hierarchy.specs.Births.{has_home, has_living_home, has_lost_home, is_at, is_born, is_gone, label_of, lives};
 ghost use Rattle.hierarchy.specs.Families.{family_of, living_in};
 ghost use Rattle.hierarchy.specs.Growing.{GoesOn};
-ghost use Rattle.hierarchy.specs.Legal.{IsLegalRun};
 ghost use Rattle.hierarchy.specs.Own.{own_of, setup_in};
 
 /// The family has each instance that lives, and nobody else, each by its number.
@@ -19,11 +18,6 @@ pub fn the_family_is_who_lives()
     ensures only { (set : Setup) (c : List Entry) (l : Living) → Contains (family_of set c) l
         → IsTrue (lives c l.number) × (l ≡ living_in set c l.number) }
     ensures numbered { (set : Setup) (c : List Entry) → AreNumbered (family_of set c) }
-{}
-
-/// The top lives as long as the run goes on.
-pub fn the_top_lives()
-    ensures { (set : Setup) (c : List Entry) → IsLegalRun set c → IsTrue (lives c top) }
 {}
 
 /// The family is idle where each living instance is and no end is due.
