@@ -84,6 +84,18 @@ range_distinct : (n from : ℕ) → Distinct (range_with_len from n)
 range_distinct zero from = tt
 range_distinct (suc n) from = (λ k there same. let r = in_range n (from + 1) k there in omega (arith, r.0, same), range_distinct n (from + 1))
 
+-- as many commands as lines
+pub lines_counted : (actor : ℕ) (lines : List Line)
+    → length (filter_map (λ line. if line.actor == actor then Some line.command else None) lines) ≡ count_by (λ line. line.actor == actor) lines
+lines_counted actor [] = refl
+lines_counted actor (line ∷ lines) =
+    by (line.actor == actor) (lines_counted actor lines) ∙ sym (sum_by-cons (λ (x : Line). cond (x.actor == actor) 1 0) line lines)
+  where
+    by : (b : Bool) → length (filter_map (λ line. if line.actor == actor then Some line.command else None) lines) ≡ count_by (λ line. line.actor == actor) lines
+        → length (cons_option (if b then Some line.command else None) (filter_map (λ line. if line.actor == actor then Some line.command else None) lines)) ≡ cond b 1 0 + count_by (λ line. line.actor == actor) lines
+    by true h = omega (arith, h)
+    by false h = omega (arith, h)
+
 -- where each of so many commands as there are has its one reply, the actor is answered
 pub answered_all : (set : Setup) (c : List Entry) (actor : ℕ)
     → ((k : ℕ) → count_by (replies_to (record { actor = actor; command = k })) c ≡ cond (nat_lt k (length (commands_of set.work actor))) 1 0) → IsAnswered set c actor

@@ -1,8 +1,9 @@
 //! How a run comes to rest, and how it ends.
-ghost use Rattle.std.specs.Prelude.{◌≡◌, ◌∷◌, ◌++◌, [], ℕ, Contains, IsTrue, List, count_by, if◌then◌else◌, length, nat_lt};
+ghost use Rattle.std.specs.Prelude.{◌≡◌, ◌==◌, ◌∷◌, ◌++◌, [], ℕ, Contains, IsTrue, List, count_by, if◌then◌else◌, length, nat_lt};
 ghost use Rattle.kvs_rules.specs.Sequence.{EachAfter};
 ghost use Rattle.kvs_txn.specs.declared.txn.By.{By};
 ghost use Rattle.instance_rules.specs.Family.{IsEndOf, Living};
+ghost use Rattle.workload.specs.declared.work.Workload.{Workload};
 ghost use Rattle.answers.specs.Chronicle.{IsOpenCommand, Setup, replies_to};
 ghost use Rattle.answers.specs.Commands.{commands_of};
 ghost use Rattle.answers.specs.Whole.{HasComeToRest};
@@ -31,6 +32,12 @@ pub fn answered_actors_leave_no_advance()
         → ((by : By) → IsTrue (has_lost_home set.work.actors c by.actor)
         → IsOpenCommand by c → ⊥)
         → left_in set c ≡ [] }
+{}
+
+/// An actor has as many commands as lines.
+pub fn an_actor_has_as_many_commands_as_lines()
+    ensures { (work : Workload) (actor : ℕ) → length (commands_of work actor)
+        ≡ count_by (λ line. line.actor == actor) work.lines }
 {}
 
 /// An actor is answered where so many of its first commands as it has have each their one reply.
