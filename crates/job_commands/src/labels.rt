@@ -1,5 +1,5 @@
 //! The jobs that labels name.
-ghost use Rattle.std.specs.Prelude.{◌≡◌, ◌≢◌, ℕ, List, [], Some, IfNone, IfSome, OnErr, OnOk, if◌then◌else◌};
+ghost use Rattle.std.specs.Prelude.{◌≡◌, ◌≢◌, ◌↔◌, ℕ, List, [], Some, IfNone, IfSome, IsTrue, OnErr, OnOk, if◌then◌else◌};
 ghost use Rattle.std.specs.Str.{bytes_eq};
 ghost use Rattle.job_commands.specs.Rows.{job_at};
 
@@ -40,13 +40,20 @@ impl Labels {
         self.jobs.get(label).copied()
     }
 
+    /// Whether a label names the job of this id.
+    fn names(&self, label: &[u8], id: u64) -> bool
+        ensures { IsTrue result ↔ (job_at label.now self.now ≡ Some id) }
+    {
+        self.get(label) == Some(id)
+    }
+
     /// A label that names the job of this id, if one does.
     pub(crate) fn of(&self, id: u64) -> Option<&[u8]>
         ensures named { IfSome result (λ label. job_at label.now self.now ≡ Some id) }
         ensures unnamed { IfNone result ((label : List ℕ) → job_at label self.now ≢ Some id) }
     {
         for label in self.jobs.keys() {
-            if self.get(label.as_slice()) == Some(id) {
+            if self.names(label.as_slice(), id) {
                 return Some(label.as_slice());
             }
         }
