@@ -82,10 +82,10 @@ all_left (x ∷ es) id label e = at (bytes_eq label x.0.items) e (all_left es id
     at false e more = more e
 
 pub left_on : (labels : Labels) (id : ℕ) (x : Vec ℕ) (rest : List (Vec ℕ)) → job_at x.items labels ≢ Some id → AreLeft labels id (x ∷ rest) → AreLeft labels id rest
-left_on labels id x rest no left label e = at (bytes_eq label x.items) refl (left label e)
+left_on labels id x rest apart left label e = at (bytes_eq label x.items) refl (left label e)
   where
     at : (b : Bool) → bytes_eq label x.items ≡ b → (b || list_any (λ k. bytes_eq label k.items) rest) ≡ true → list_any (λ k. bytes_eq label k.items) rest ≡ true
-    at true same more = absurd (no (subst (λ l. job_at l labels ≡ Some id) (bytes_same label x.items same) e))
+    at true same more = absurd (apart (subst (λ l. job_at l labels ≡ Some id) (bytes_same label x.items same) e))
     at false other more = more
 
 pub none_left : (labels : Labels) (id : ℕ) (rest : List (Vec ℕ)) → rest ≡ [] → AreLeft labels id rest → (label : List ℕ) → job_at label labels ≢ Some id

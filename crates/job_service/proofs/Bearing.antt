@@ -297,8 +297,8 @@ bearing_named v book job h labelled none =
 -- ---- what may be there
 
 pub some_unless : {A : Type 0} {P : Type 0} (o : Option A) → IfNone o P → (P → ⊥) → IsSome o
-some_unless None h no = absurd (no h)
-some_unless (Some x) h no = refl
+some_unless None h not_so = absurd (not_so h)
+some_unless (Some x) h not_so = refl
 
 pub some_found : {A : Type 0} {P : A → Type 0} (o : Option A) → ((x : A) → o ≡ Some x → P x) → IfSome o P
 some_found None h = tt

@@ -11,7 +11,7 @@ where_none None e h = h
 where_none (Some x) e h = absurd (true≢false e)
 
 pub returns-clause-up : goal.returns-clause-up
-returns-clause-up c = λ no free.
+returns-clause-up c = λ stays free.
     let here = jobs_value (value_of c.self.inside) c.args.self.now _ c.self.view_is c.jobs.ensures.value in
     let none : is_some c.next_second.result ≡ false = search rules in
     subst (λ j. targets_left j ≡ []) here (where_none c.next_second.result none c.next_second.ensures.none (ap is_due here ∙ free))
