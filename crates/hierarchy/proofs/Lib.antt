@@ -11,3 +11,7 @@ pub mod OneEntry
 pub mod Steps
 pub mod Bearing
 pub mod Ending
+pub mod Numbering
+pub mod Growth
+pub mod Within
+pub mod Inside

@@ -32,7 +32,7 @@ use Rattle.hierarchy.proofs.Owning.{alive, setup_kept}
 -- ---- the commands of an instance's actors
 
 -- the lines of one actor among those of its instance
-lines_of : (passes : ℕ → Bool) (actor : ℕ) → passes actor ≡ true → (lines : List Line)
+pub lines_of : (passes : ℕ → Bool) (actor : ℕ) → passes actor ≡ true → (lines : List Line)
     → filter_map (λ line. if line.actor == actor then Some line.command else None) (filter (λ line. passes line.actor) lines)
     ≡ filter_map (λ line. if line.actor == actor then Some line.command else None) lines
 lines_of passes actor h [] = refl
@@ -180,7 +180,7 @@ module _ (set : Setup) (c : List Entry) (on : GoesOn set c) (second : ℕ) (may 
 
 module _ (set : Setup) (c : List Entry) (on : GoesOn set c) (actor : ℕ) (lost : has_lost_home set.work.actors c actor ≡ true) where
   -- no living instance is theirs
-  not_here : (k : ℕ) → lives c k ≡ true → is_at set.work.actors (label_of c k) actor ≡ false
+  pub not_here : (k : ℕ) → lives c k ≡ true → is_at set.work.actors (label_of c k) actor ≡ false
   not_here k there = by (is_at set.work.actors (label_of c k) actor) refl
     where
       home : (i : ℕ) × Among i (numbers c) × ((is_gone c i && is_at set.work.actors (label_of c i) actor) ≡ true)

@@ -7,3 +7,5 @@ pub mod Stretches
 pub mod Headline
 pub mod Growing
 pub mod Laws
+pub mod Grows
+pub mod Inside

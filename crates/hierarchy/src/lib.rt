@@ -4,8 +4,11 @@
 //! The definitions stand in `specs/`, and the functions of `laws` and `growing` state their laws.
 #![tactic(auto)]
 
+pub mod ends;
 pub mod growing;
+pub mod grown;
 pub mod laws;
+pub mod workloads;
 
 pub use laws::{
     a_run_without_children_is_of_one_instance, children_stay_nested, jobs_stay_sound_in_all,
