@@ -42,6 +42,10 @@ given_as set o = option_map_or (child_setup set) o (record set { work = work_for
 abbrev shuts_as : Setup → Option Birth → List Entry → Bool
 shuts_as set o own = option_map_or (λ b. list_any (shuts_down set.work) own) o false
 
+-- the job for which it was born, and that of which instance
+abbrev pub from_of : Option Birth → Option (ℕ × ℕ)
+from_of o = option_map (λ b. (b.parent, b.job)) o
+
 living_is : (set : Setup) (c d : List Entry) (i : ℕ) → birth_of d i ≡ birth_of c i → own_of set d i ≡ own_of set c i → living_in set d i ≡ living_in set c i
 living_is set c d i birth own = ap₂ (λ (o : Option Birth) (l : List Entry). (let x : Living = record {
   number = i;
@@ -50,9 +54,6 @@ living_is set c d i birth own = ap₂ (λ (o : Option Birth) (l : List Entry). (
   from = from_of o;
   shuts = shuts_as set o l;
 } in x)) birth own
-  where
-    from_of : Option Birth → Option (ℕ × ℕ)
-    from_of o = option_map (λ b. (b.parent, b.job)) o
 
 shuts_more : (set : Setup) (o : Option Birth) (own told : List Entry) → shuts_as set o (own ++ told) ≡ (shuts_as set o own || (is_some o && list_any (shuts_down set.work) told))
 shuts_more set None own told = refl
@@ -157,7 +158,7 @@ module _ (set : Setup) (c : List Entry) (b : Birth) (on : GoesOn set c) (l : IsL
   births_more = births_push c (born_by b)
 
   birth_other : (k : ℕ) → (k ≡ b.child → ⊥) → birth_of (c ++ born_by b ∷ []) k ≡ birth_of c k
-  birth_other k differ = ap (λ o. if k == top then None else o) found
+  birth_other k differ = ap (λ (o : Option Birth). if k == top then None else o) found
     where
       other : (b.child == k) ≡ false
       other = false_from_ne_true (b.child == k) (λ t. differ (sym (eqb-true b.child k t)))

@@ -24,7 +24,7 @@ use Rattle.hierarchy.specs.Grows.{GrowsByEnds}
 use Rattle.hierarchy.specs.Inside.{GoesWithAll, end_in, ends_within, found_with, inside_of, is_child_of}
 use Rattle.hierarchy.specs.Legal.{HasRunGrounds, IsLegalEnd, IsLegalRun, is_end}
 use Rattle.hierarchy.specs.Own.{only_if, own_entry, own_of, setup_in}
-use Rattle.hierarchy.proofs.Growth.{AreOfOthers, birth_left, ends_grown, grows, lived_left, lives_left, none_told, own_left, stays}
+use Rattle.hierarchy.proofs.Growth.{AreOfOthers, birth_left, ends_grown, from_of, grows, lived_left, lives_left, none_told, own_left, stays}
 use Rattle.hierarchy.proofs.Members.{Member, member}
 use Rattle.hierarchy.proofs.Nested.{in_family, parent_lives}
 use Rattle.hierarchy.proofs.Numbering.{born_exactly, numbers_are, parents_first}
@@ -32,8 +32,10 @@ use Rattle.hierarchy.proofs.Owning.{alive}
 
 -- ---- who lies within
 
-abbrev from_of : Option Birth → Option (ℕ × ℕ)
-from_of o = option_map (λ b. (b.parent, b.job)) o
+-- the first of two, or else this
+abbrev first_in : ℕ → Option (ℕ × ℕ) → ℕ
+first_in other None = other
+first_in other (Some both) = both.0
 
 below_next : (k m : ℕ) → k < m + 1 → k ≢ m → k < m
 below_next k m low differ = omega arith
@@ -395,11 +397,7 @@ module _ (set : Setup) (c : List Entry) (b : Birth) (run : IsLegalRun set c) (he
         }
       where
         first_same : {p q r s : ℕ} → ◌≡◌ {A = Option (ℕ × ℕ)} (Some (p, q)) (Some (r, s)) → p ≡ r
-        first_same {p} {q} {r} {s} e = ap first e
-          where
-            first : Option (ℕ × ℕ) → ℕ
-            first None = p
-            first (Some both) = both.0
+        first_same {p} {q} {r} {s} e = ap (first_in 0) e
 
     -- whatever is left lies within the outermost
     lies : (xs : List ℕ) → Row xs → ((k : ℕ) → Among k xs → lives (c ++ past) k ≡ true) → (k : ℕ) → Among k xs → LiesIn (family_of set (c ++ past)) b.child k
@@ -446,11 +444,7 @@ module _ (set : Setup) (c : List Entry) (b : Birth) (run : IsLegalRun set c) (he
 
         born : (o : Option Birth) → from_of o ≡ Some (parent, job) → (d : Birth) × (o ≡ Some d) × (d.parent ≡ parent)
         born None e = cc
-        born (Some d) e = (d, refl, ap first e)
-          where
-            first : Option (ℕ × ℕ) → ℕ
-            first None = d.parent
-            first (Some both) = both.0
+        born (Some d) e = (d, refl, ap (first_in 0) e)
 
     inner : (k : ℕ) → LiesIn (family_of set (c ++ past)) x k → InnerOne k
     inner k itself = inl refl

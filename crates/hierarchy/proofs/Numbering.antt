@@ -1,7 +1,7 @@
 -- Instances are numbered as they are born, and parents outlive their children.
 use Rattle.std.proofs.Common.{◌≡◌, ℕ, zero, suc, ◌+◌, ◌<◌, ◌≤◌, ◌==◌, inl, inr, List, [], ◌∷◌, ◌++◌, Bool, true, false, cond, not, ◌&&◌, ◌||◌, Option, Some, None, is_some, length, option_map, map, refl, sym, ap, ap₂, ◌∙◌, subst, append-nil, arith, true≢false, length-append}
 use Rattle.std.specs.Prelude.{find, slice_get}
-use Rattle.std.specs.List.{range_with_len}
+use Rattle.std.specs.List.{cons_option, range_with_len}
 use Rattle.std.proofs.lemmas.Bool.{eq-eqb, eqb-true, false_from_ne_true}
 use Rattle.kvs_rules.specs.Sequence.{EachAfter}
 use Rattle.kvs_rules.proofs.Sequences.{each_along}
@@ -62,11 +62,7 @@ Numbered c = map (λ b. b.child) (births c) ≡ range_with_len 1 (length (births
 
 plain_step : (xs : List Entry) (e : Entry) → birth_in e ≡ None → Numbered xs → Numbered (xs ++ e ∷ [])
 unfolding Numbered
-plain_step xs e none old = subst (λ bs. map (λ b. b.child) bs ≡ range_with_len 1 (length bs)) (sym (births_push xs e ∙ ap (λ o. births xs ++ of o) none ∙ append-nil (births xs))) old
-  where
-    of : Option Birth → List Birth
-    of None = []
-    of (Some b) = b ∷ []
+plain_step xs e none old = subst (λ bs. map (λ b. b.child) bs ≡ range_with_len 1 (length bs)) (sym (births_push xs e ∙ ap (λ o. births xs ++ cons_option o []) none ∙ append-nil (births xs))) old
 
 born_step : (bs : List Birth) (b : Birth) → b.child ≡ length bs + 1 → map (λ b. b.child) bs ≡ range_with_len 1 (length bs)
     → map (λ b. b.child) (bs ++ b ∷ []) ≡ range_with_len 1 (length (bs ++ b ∷ []))
