@@ -156,9 +156,9 @@ module _ (c : List Entry) (child : ℕ) where
         on : (k : ℕ) (d : Birth) → k < m + 1 → lives c k ≡ true → birth_of c k ≡ Some d → Among d.parent found → (t : Bool) → (k == m) ≡ t → Among k found
         on k d less hk isk at true same =
             let one : k ≡ m = eqb-true k m same in
-            let yes : (lives c m && is_child_of found (birth_of c m)) ≡ true =
+            let shown : (lives c m && is_child_of found (birth_of c m)) ≡ true =
             ap₂ (λ a o. a && is_child_of found o) (ap (lives c) (sym one) ∙ hk) (ap (birth_of c) (sym one) ∙ isk) ∙ test_from d.parent found at in
-            absurd (true≢false (sym yes ∙ none))
+            absurd (true≢false (sym shown ∙ none))
         on k d less hk isk at false other = f.complete k d (below_next k m less (λ same. true≢false (sym (eq-eqb k m same) ∙ other))) hk isk at
 
     step : (found : List ℕ) → Found m found → Found (m + 1) (found_with c found m)
@@ -166,11 +166,11 @@ module _ (c : List Entry) (child : ℕ) where
       where
         child_test : (b : Birth) → lives c m ≡ true → birth_of c m ≡ Some b → (t : Bool) → list_any (λ n. n == b.parent) found ≡ t
             → Found (m + 1) (cond (lives c m && is_child_of found (birth_of c m)) (m ∷ found) found)
-        child_test b h is true yes =
-            subst (λ t. Found (m + 1) (cond t (m ∷ found) found)) (sym (ap₂ (λ a o. a && is_child_of found o) h is ∙ yes))
-            (add found f b h is (among_test b.parent found yes))
-        child_test b h is false no =
-            let none : (lives c m && is_child_of found (birth_of c m)) ≡ false = ap₂ (λ a o. a && is_child_of found o) h is ∙ no in
+        child_test b h is true shown =
+            subst (λ t. Found (m + 1) (cond t (m ∷ found) found)) (sym (ap₂ (λ a o. a && is_child_of found o) h is ∙ shown))
+            (add found f b h is (among_test b.parent found shown))
+        child_test b h is false other =
+            let none : (lives c m && is_child_of found (birth_of c m)) ≡ false = ap₂ (λ a o. a && is_child_of found o) h is ∙ other in
             subst (λ t. Found (m + 1) (cond t (m ∷ found) found)) (sym none) (keep found f none)
 
         not_kept : (lives c m && is_child_of found (birth_of c m)) ≡ false → Found (m + 1) (cond (lives c m && is_child_of found (birth_of c m)) (m ∷ found) found)

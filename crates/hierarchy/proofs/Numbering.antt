@@ -97,12 +97,18 @@ birth_at set c k l =
 pub numbers_count : (c : List Entry) → length (numbers c) ≡ suc (length (births c))
 numbers_count c = ap suc (mapped_length (λ b. b.child) (births c))
 
+not_top : (k : ℕ) → (suc k == top) ≡ false
+not_top k = false_from_ne_true (suc k == top) (λ t. let both : suc k ≡ top = eqb-true (suc k) top t in omega arith)
+
+born_has : (c : List Entry) (k : ℕ) → is_born c (suc k) ≡ is_some (birth_of c (suc k))
+born_has c k = ap (λ t. t || is_some (birth_of c (suc k))) (not_top k)
+
 born_below : (set : Setup) (c : List Entry) (i : ℕ) → IsLegalRun set c → is_born c i ≡ true → i < length (numbers c)
 born_below set c zero l h = let n = numbers_count c in omega arith
 born_below set c (suc k) l h =
     let n = numbers_count c in
     let at : birth_of c (suc k) ≡ slice_get (births c) k = subst (λ n. birth_of c n ≡ slice_get (births c) k) (let e : k + 1 ≡ suc k = omega arith in e) (birth_at set c k l) in
-    let low : k < length (births c) = got_within (births c) k (ap is_some (sym at) ∙ h) in
+    let low : k < length (births c) = got_within (births c) k (ap is_some (sym at) ∙ sym (born_has c k) ∙ h) in
     omega arith
 
 below_born : (set : Setup) (c : List Entry) (i : ℕ) → IsLegalRun set c → i < length (numbers c) → is_born c i ≡ true
@@ -110,7 +116,7 @@ below_born set c zero l h = refl
 below_born set c (suc k) l h =
     let n = numbers_count c in
     let at : birth_of c (suc k) ≡ slice_get (births c) k = subst (λ n. birth_of c n ≡ slice_get (births c) k) (let e : k + 1 ≡ suc k = omega arith in e) (birth_at set c k l) in
-    ap is_some at ∙ within_got (births c) k (omega arith)
+    born_has c k ∙ ap is_some at ∙ within_got (births c) k (omega arith)
 
 pub born_exactly : (set : Setup) (c : List Entry) (i : ℕ) → IsLegalRun set c → (is_born c i ≡ true → i < length (numbers c)) × (i < length (numbers c) → is_born c i ≡ true)
 born_exactly set c i l = (λ h. born_below set c i l h, λ h. below_born set c i l h)
