@@ -269,9 +269,12 @@ module _ (set : Setup) (c : List Entry) where
       by : (o : Option Birth) → birth_of c x ≡ o → AreOfOthers p (ends_for xs)
           → AreOfOthers p (cons_option (option_map (λ b. entry.Gone x b.parent b.job (living_in set c x).shuts) o) (ends_for xs))
       by None is more = more
-      by (Some b) is more = ((λ child parent job shut same.
-          let one : b.parent ≡ parent = cc in
-          false_from_ne_true (parent == p) (λ t. h x b (inl refl) is (one ∙ eqb-true parent p t))), more)
+      by (Some b) is more = (
+        (λ child parent job shut same.
+            let one : b.parent ≡ parent = cc in
+            false_from_ne_true (parent == p) (λ t. h x b (inl refl) is (one ∙ eqb-true parent p t))),
+        more,
+      )
 
 -- ---- each may go
 
@@ -342,9 +345,9 @@ module _ (set : Setup) (c : List Entry) (b : Birth) (run : IsLegalRun set c) (he
     lives_on k h low =
         lives_left c past n k ∙ ap₂ (λ s t. s && not t) h
         (gone_is k ∙ false_from_ne_true (list_any (λ m. m == k) gone) (λ t.
-            let at = among_test c b.child k gone t in
-            let high : x < k = chain_above c b.child gone x behind row k x at (inl refl) in
-            absurd (omega arith)))
+        let at = among_test c b.child k gone t in
+        let high : x < k = chain_above c b.child gone x behind row k x at (inl refl) in
+        absurd (omega arith)))
 
     here_alive : lives (c ++ past) x ≡ true
     here_alive = lives_on x (chain_alive c b.child (x ∷ behind) row_here here x (inl refl)) (omega arith)
@@ -386,7 +389,7 @@ module _ (set : Setup) (c : List Entry) (b : Birth) (run : IsLegalRun set c) (he
         let from : from_of (birth_of c b.child) ≡ Some (over.parent.number, over.job) = over.from in
         let pair : ◌≡◌ {A = Option (ℕ × ℕ)} (Some (b.parent, b.job)) (Some (over.parent.number, over.job)) = ap from_of (sym is) ∙ from in
         let number : b.parent ≡ over.parent.number = first_same pair in
-        let same : living_in set (c ++ past) b.parent ≡ over.parent = bearer_same ∙ ap (living_in set c) number ∙ sym was.is in
+        let same : living_in set (c ++ past) b.parent ≡ over.parent = bearer_same ∙ ap (living_in set c) number ∙ sym {a = over.parent} was.is in
         record {
           here = in_family set (c ++ past) b.child child_alive;
           parent = over.parent;
@@ -427,7 +430,7 @@ module _ (set : Setup) (c : List Entry) (b : Birth) (run : IsLegalRun set c) (he
     inner_step : (y : Living) (parent job : ℕ) → Contains (family_of set (c ++ past)) y → y.from ≡ Some (parent, job) → InnerOne parent → Among y.number within × (x < y.number)
     inner_step y parent job at from up =
         let m = member set (c ++ past) y at in
-        let f = born (birth_of (c ++ past) y.number) (ap (λ (l : Living). l.from) (sym m.is) ∙ from) in
+        let f = born (birth_of (c ++ past) y.number) (ap (λ (l : Living). l.from) (sym {a = y} m.is) ∙ from) in
         let isk : birth_of c y.number ≡ Some f.0 = sym (birth_left c past n y.number) ∙ f.1 in
         let was : lives c y.number ≡ true = (lived_left c past n y.number m.lives_so).0 in
         let low : f.0.parent < y.number = parents_first set c run y.number f.0 isk in
@@ -568,8 +571,8 @@ module _ (set : Setup) (c : List Entry) (b : Birth) (run : IsLegalRun set c) (he
       lives_so = λ k. all_grow.lives_so k ∙ ap (λ t. lives c k && not t) (all_gone k);
       bearer = all_grow.lives_so b.parent ∙ ap₂ (λ s t. s && not t) (parent_lives set c run b.child b here is)
           (all_gone b.parent ∙ false_from_ne_true (list_any (λ m. m == b.parent) within) (λ t.
-              let low = bearer_low in
-              let high : b.child ≤ b.parent = chain_low c b.child within found.chain b.parent (among_test c b.child b.parent within t) in
-              absurd (omega arith)));
+          let low = bearer_low in
+          let high : b.child ≤ b.parent = chain_low c b.child within found.chain b.parent (among_test c b.child b.parent within t) in
+          absurd (omega arith)));
       stretch = go_up within found.chain;
     }

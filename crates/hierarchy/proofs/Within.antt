@@ -133,7 +133,7 @@ module _ (work : Workload) (label : Option (List ℕ)) (size : ℕ) where
   own_labels h before line after name split declared =
       let cut = cut_kept keeps work.lines before line after split in
       false_from_ne_true (is_declared name before) (λ there.
-          true≢false (sym (any_fewer keeps (λ l. declares name l.command) cut.front (ap (is_declared name) cut.kept ∙ there)) ∙ h cut.front line cut.back name cut.whole declared))
+      true≢false (sym (any_fewer keeps (λ l. declares name l.command) cut.front (ap (is_declared name) cut.kept ∙ there)) ∙ h cut.front line cut.back name cut.whole declared))
 
   pub tallies : KeepsTallies work.lines → KeepsTallies (work_for work label size).lines
   tallies h = record {
