@@ -1,9 +1,9 @@
 -- What each step of a run leaves of every instance.
-use Rattle.std.proofs.Common.{◌≡◌, ℕ, suc, ◌+◌, ◌==◌, inl, inr, List, [], ◌∷◌, ◌++◌, Bool, true, false, cond, not, ◌&&◌, ◌||◌, Option, Some, None, is_some, length, option_map, map, refl, sym, ap, ap₂, ◌∙◌, subst, append-nil, append_assoc, arith, true≢false}
+use Rattle.std.proofs.Common.{◌≡◌, ℕ, ◌==◌, List, [], ◌∷◌, ◌++◌, Bool, true, false, cond, not, ◌&&◌, ◌||◌, Option, Some, None, is_some, option_map, map, refl, sym, ap, ap₂, ◌∙◌, subst, append-nil, append_assoc, arith, true≢false}
 use Rattle.std.specs.Prelude.{filter_map, find, if◌then◌else◌}
 use Rattle.std.specs.Option.{option_map_or, option_or}
 use Rattle.std.specs.List.{AllByRecursion as Each, cons_option, list_any}
-use Rattle.std.proofs.lemmas.Bool.{and_parts, eq-eqb, eqb-true, false_from_ne_true, not-true, or_parts, or_right}
+use Rattle.std.proofs.lemmas.Bool.{and_parts, eq-eqb, eqb-true, false_from_ne_true, not-true, or_parts}
 use Rattle.std.proofs.lemmas.List.Elements.{filter_map-append}
 use Rattle.std.proofs.lemmas.List.Folds.{find-append, list_any-append}
 use Rattle.kvs_rules.specs.Sequence.{EachAfter}
@@ -17,11 +17,11 @@ use Rattle.answers.specs.declared.chronicle.Entry.{Entry}
 use Rattle.answers.specs.declared.chronicle.Entry.TheVariants as entry
 use Rattle.answers.specs.declared.chronicle.Reply.TheVariants as reply
 use Rattle.workload.specs.declared.work.Actor.{Actor}
-use Rattle.hierarchy.specs.Births.{Birth, birth_in, birth_of, births, ends, has_lost_home, is_at, is_birth_of, is_born, is_gone, label_of, lives, numbers}
+use Rattle.hierarchy.specs.Births.{Birth, birth_in, birth_of, births, ends, has_lost_home, is_birth_of, is_born, is_gone, label_of, lives, numbers}
 use Rattle.hierarchy.specs.Families.{family_of, left_in, living_in, second_in, shuts_down}
-use Rattle.hierarchy.specs.Growing.{GoesOn, GrowsBy, IsMadeIn, ParentGoes}
+use Rattle.hierarchy.specs.Growing.{GoesOn, IsMadeIn, ParentGoes}
 use Rattle.hierarchy.specs.Grows.{GrowsByBirth, GrowsByEnds, GrowsByLost, GrowsByOwn, GrowsBySecond, GrowsOwn, LivesSo, StaysAs, born_by, born_to}
-use Rattle.hierarchy.specs.Legal.{HasRunGrounds, IsLegalBirth, IsLegalRunEntry, is_end}
+use Rattle.hierarchy.specs.Legal.{HasRunGrounds, IsLegalBirth, is_end}
 use Rattle.hierarchy.specs.Own.{child_setup, only_if, own_entry, own_of, setup_in, work_for}
 use Rattle.hierarchy.specs.Stretches.{entered_in}
 use Rattle.hierarchy.proofs.Bearing.{birth_fits, birth_goes_on, born_own, fresh}
@@ -30,7 +30,7 @@ use Rattle.hierarchy.proofs.Members.{gone_was_born, member_lives}
 use Rattle.hierarchy.proofs.Nested.{born_is}
 use Rattle.hierarchy.proofs.Numbering.{map_joined, numbers_count}
 use Rattle.hierarchy.proofs.OneEntry.{birth_same, is_plain, lives_same, numbers_same, own_more}
-use Rattle.hierarchy.proofs.Owning.{alive, birth_kept, births_joined, births_push, gone_push, is_alive, own_push}
+use Rattle.hierarchy.proofs.Owning.{alive, births_joined, births_push, gone_push, is_alive, own_push}
 use Rattle.hierarchy.proofs.Steps.{lost_issue_fits, lost_issue_goes_on, lost_reply_fits, lost_reply_goes_on, made_so, not_here, tick_fits, tick_goes_on}
 
 -- ---- one instance

@@ -1,31 +1,29 @@
 -- An instance goes with all within it.
-use Rattle.std.proofs.Common.{◌≡◌, ◌≢◌, ℕ, zero, suc, ◌+◌, ◌<◌, ◌≤◌, ◌==◌, ◌⊎◌, inl, inr, List, [], ◌∷◌, ◌++◌, Bool, true, false, cond, not, ◌&&◌, ◌||◌, Option, Some, None, is_some, length, option_map, map, fold, refl, sym, ap, ap₂, ◌∙◌, subst, append-nil, append_assoc, arith, true≢false}
-use Rattle.std.specs.Prelude.{Contains, IsTrue, filter_map, if◌then◌else◌}
-use Rattle.std.specs.Option.{option_map_or}
+use Rattle.std.proofs.Common.{◌≡◌, ◌≢◌, ℕ, zero, suc, ◌+◌, ◌<◌, ◌≤◌, ◌==◌, ◌⊎◌, inl, inr, List, [], ◌∷◌, ◌++◌, Bool, true, false, cond, not, ◌&&◌, ◌||◌, Option, Some, None, is_some, length, option_map, fold, refl, sym, ap, ap₂, ◌∙◌, subst, append-nil, append_assoc, arith, true≢false}
+use Rattle.std.specs.Prelude.{Contains, IsTrue, filter_map}
 use Rattle.std.specs.List.{AllByRecursion as Each, cons_option, list_any, range_with_len}
-use Rattle.std.proofs.lemmas.Bool.{and_parts, and_right, eq-eqb, eqb-true, false_from_ne_true, or_parts}
+use Rattle.std.proofs.lemmas.Bool.{eq-eqb, eqb-true, false_from_ne_true}
 use Rattle.std.proofs.lemmas.List.Elements.{filter_map-append}
-use Rattle.std.proofs.lemmas.List.Folds.{list_any-append}
-use Rattle.job_rules.proofs.Among.{Among, among_append, among_left, among_right, any_at, any_from, contains_from, each_at}
+use Rattle.job_rules.proofs.Among.{Among, among_append, among_left, among_right, any_at, any_from, contains_from}
 use Rattle.kvs_rules.specs.Sequence.{EachAfter}
 use Rattle.instance_rules.specs.Family.{IsEndOf, LiesIn, Living, MayGo, OfLiving, below, itself}
 use Rattle.manager_rules.specs.Times.{IsEndDue}
 use Rattle.answers.specs.Chronicle.{Setup, top}
 use Rattle.answers.specs.Legal.{IsLegalEntry}
-use Rattle.answers.specs.Stretches.{GoUpTo, GoesBefore, gone_in}
+use Rattle.answers.specs.Stretches.{GoUpTo, gone_in}
 use Rattle.answers.specs.declared.chronicle.Entry.{Entry}
 use Rattle.answers.specs.declared.chronicle.Entry.TheVariants as entry
 use Rattle.workload.specs.declared.work.Actor.{Actor}
 use Rattle.workload.specs.declared.work.Workload.{Workload}
-use Rattle.hierarchy.specs.Births.{Birth, birth_of, ends, is_born, is_gone, label_of, lives, numbers}
+use Rattle.hierarchy.specs.Births.{Birth, birth_of, is_gone, label_of, lives, numbers}
 use Rattle.hierarchy.specs.Families.{family_of, living_in, shuts_down}
 use Rattle.hierarchy.specs.Growing.{GoesOn, ParentGoes}
 use Rattle.hierarchy.specs.Grows.{GrowsByEnds}
 use Rattle.hierarchy.specs.Inside.{GoesWithAll, end_in, ends_within, found_with, inside_of, is_child_of}
-use Rattle.hierarchy.specs.Legal.{HasRunGrounds, IsLegalEnd, IsLegalRun, is_end}
+use Rattle.hierarchy.specs.Legal.{HasRunGrounds, IsLegalRun, is_end}
 use Rattle.hierarchy.specs.Own.{only_if, own_entry, own_of, setup_in}
 use Rattle.hierarchy.proofs.Growth.{AreOfOthers, birth_left, ends_grown, from_of, grows, lived_left, lives_left, none_told, own_left, stays}
-use Rattle.hierarchy.proofs.Members.{Member, member}
+use Rattle.hierarchy.proofs.Members.{member}
 use Rattle.hierarchy.proofs.Nested.{in_family, parent_lives}
 use Rattle.hierarchy.proofs.Numbering.{born_exactly, numbers_are, parents_first}
 use Rattle.hierarchy.proofs.Owning.{alive}
@@ -437,7 +435,7 @@ module _ (set : Setup) (c : List Entry) (b : Birth) (run : IsLegalRun set c) (he
         let one : f.0.parent ≡ parent = f.2 in
         let high : x ≤ parent = reached.1 in
         let known : y.number < length (numbers c) = (born_exactly set c y.number run).0 (alive c y.number was).0 in
-        (found.complete y.number f.0 known was isk (subst (λ m. Among m within) (sym one) reached.0), omega arith)
+        (found.complete y.number f.0 known was isk (subst (λ m. Among m within) (sym {a = f.0.parent} {b = parent} one) reached.0), omega arith)
       where
         reached : Among parent within × (x ≤ parent)
         reached = elim up [

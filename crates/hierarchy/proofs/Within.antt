@@ -1,5 +1,5 @@
 -- What an instance of a run is given keeps to its limits.
-use Rattle.std.proofs.Common.{◌≡◌, ℕ, zero, suc, ◌+◌, ◌<◌, ◌≤◌, ◌%◌, ◌==◌, ◌^◌, inl, inr, List, [], ◌∷◌, ◌++◌, length, Bool, true, false, cond, Option, Some, None, filter_map, map, min, count_by, sum_by, All, refl, sym, ap, ap₂, ◌∙◌, subst, arith, true≢false, mod-lt}
+use Rattle.std.proofs.Common.{◌≡◌, ℕ, zero, suc, ◌+◌, ◌<◌, ◌≤◌, ◌%◌, ◌==◌, ◌^◌, inl, inr, List, [], ◌∷◌, ◌++◌, length, Bool, true, false, cond, Option, Some, None, filter_map, map, count_by, sum_by, All, refl, sym, ap, ap₂, ◌∙◌, subst, arith, true≢false, mod-lt}
 use Rattle.std.specs.Prelude.{IfSome, filter, is_some, slice_get, if◌then◌else◌}
 use Rattle.std.specs.Option.{option_and_then}
 use Rattle.std.specs.List.{cons_option, list_any}
@@ -10,12 +10,11 @@ use Rattle.kvs_txn.specs.declared.txn.By.{By}
 use Rattle.job_rules.specs.Fits.{IsGrant}
 use Rattle.job_rules.proofs.Among.{Among, all_at}
 use Rattle.resource_set.specs.Writing.{r_text}
-use Rattle.resource_set.specs.declared.node.Resources.{Resources}
 use Rattle.instance_rules.specs.Log as rules
 use Rattle.instance_rules.specs.Log.{IsInRange, IsInstance}
 use Rattle.workload.specs.Actors.{are_together, home_of}
 use Rattle.workload.specs.Laws.{HasOwnLabels, IsBuilt, IsWithin, KeepsTallies}
-use Rattle.workload.specs.Limits.{most_actors, most_commands, most_severity, most_urgency}
+use Rattle.workload.specs.Limits.{most_actors, most_severity, most_urgency}
 use Rattle.workload.specs.Tallies.{begins, declares, is_declared, posts_on, seconds_of, submits}
 use Rattle.workload.specs.Verbs.{is_in_place}
 use Rattle.workload.specs.declared.work.Actor.{Actor}
@@ -25,7 +24,7 @@ use Rattle.workload.specs.declared.work.Line.{Line}
 use Rattle.workload.specs.declared.work.Workload.{Workload}
 use Rattle.answers.specs.Chronicle.{Setup}
 use Rattle.answers.specs.Commands.{command_at}
-use Rattle.answers.specs.Jobs.{IsSetup, instance_of, job_ask_at, job_ask_of}
+use Rattle.answers.specs.Jobs.{instance_of, job_ask_at, job_ask_of}
 use Rattle.answers.proofs.JobLogs.{is_instance}
 use Rattle.hierarchy.specs.Births.{Birth, is_at}
 use Rattle.hierarchy.specs.Own.{brokers_for, child_setup, most_brokers, placed, work_for}
