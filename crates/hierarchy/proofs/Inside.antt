@@ -38,6 +38,9 @@ first_in other (Some both) = both.0
 below_next : (k m : ℕ) → k < m + 1 → k ≢ m → k < m
 below_next k m low differ = omega arith
 
+among_same : (p q : ℕ) (xs : List ℕ) → p ≡ q → Among p xs → Among q xs
+among_same p q xs same a = subst (λ n. Among n xs) same a
+
 module _ (c : List Entry) (child : ℕ) where
   -- it lives, its parent is behind it, and so are smaller numbers alone
   record Link (x : ℕ) (behind : List ℕ) : Type 0 where
@@ -432,10 +435,10 @@ module _ (set : Setup) (c : List Entry) (b : Birth) (run : IsLegalRun set c) (he
         let isk : birth_of c y.number ≡ Some f.0 = sym (birth_left c past n y.number) ∙ f.1 in
         let was : lives c y.number ≡ true = (lived_left c past n y.number m.lives_so).0 in
         let low : f.0.parent < y.number = parents_first set c run y.number f.0 isk in
-        let one : f.0.parent ≡ parent = f.2 in
+        let one : parent ≡ f.0.parent = f.2 in
         let high : x ≤ parent = reached.1 in
         let known : y.number < length (numbers c) = (born_exactly set c y.number run).0 (alive c y.number was).0 in
-        (found.complete y.number f.0 known was isk (subst (λ m. Among m within) (sym {a = f.0.parent} {b = parent} one) reached.0), omega arith)
+        (found.complete y.number f.0 known was isk (among_same parent f.0.parent within one reached.0), omega arith)
       where
         reached : Among parent within × (x ≤ parent)
         reached = elim up [
@@ -443,9 +446,9 @@ module _ (set : Setup) (c : List Entry) (b : Birth) (run : IsLegalRun set c) (he
           | inr more ↦ (more.0, (let low : x < parent = more.1 in omega arith))
         ]
 
-        born : (o : Option Birth) → from_of o ≡ Some (parent, job) → (d : Birth) × (o ≡ Some d) × (d.parent ≡ parent)
+        born : (o : Option Birth) → from_of o ≡ Some (parent, job) → (d : Birth) × (o ≡ Some d) × (parent ≡ d.parent)
         born None e = cc
-        born (Some d) e = (d, refl, ap (first_in 0) e)
+        born (Some d) e = (d, refl, sym (ap (first_in 0) e))
 
     inner : (k : ℕ) → LiesIn (family_of set (c ++ past)) x k → InnerOne k
     inner k itself = inl refl
