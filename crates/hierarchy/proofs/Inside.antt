@@ -4,7 +4,7 @@ use Rattle.std.specs.Prelude.{Contains, IsTrue, filter_map}
 use Rattle.std.specs.List.{AllByRecursion as Each, cons_option, list_any, range_with_len}
 use Rattle.std.proofs.lemmas.Bool.{eq-eqb, eqb-true, false_from_ne_true}
 use Rattle.std.proofs.lemmas.List.Elements.{filter_map-append}
-use Rattle.job_rules.proofs.Among.{Among, among_append, among_left, among_right, any_at, any_from, contains_from}
+use Rattle.job_rules.proofs.Among.{Among, among_append, among_from, among_left, among_right, any_at, any_from, contains_from}
 use Rattle.kvs_rules.specs.Sequence.{EachAfter}
 use Rattle.instance_rules.specs.Family.{IsEndOf, LiesIn, Living, MayGo, OfLiving, below, itself}
 use Rattle.manager_rules.specs.Times.{IsEndDue}
@@ -194,6 +194,53 @@ module _ (c : List Entry) (child : ℕ) where
       subst (λ ns. Found n (fold (found_with c) (child ∷ []) ns)) (sym (numbers_are set c run))
       (subst (λ k. Found k (fold (found_with c) (child ∷ []) (range_with_len 0 n))) (let e : 0 + n ≡ n = omega arith in e)
       (found_all set run n 0 (child ∷ []) first_found))
+
+-- in a chronicle of the same births whatever lives of a row lies within its last
+module _ (set : Setup) (c : List Entry) (child : ℕ) (d : List Entry) (births : (k : ℕ) → birth_of d k ≡ birth_of c k) where
+  lies : (xs : List ℕ) → Chain c child xs → ((k : ℕ) → Among k xs → lives d k ≡ true) → (k : ℕ) → Among k xs → LiesIn (family_of set d) child k
+  lies [] h alive k a = absurd h
+  lies (y ∷ []) h alive k a = elim a [
+    | inl same ↦ subst (LiesIn (family_of set d) child) (sym h ∙ same) itself
+    | inr none ↦ absurd none
+  ]
+  lies (y ∷ (z ∷ xs)) h alive k a = elim a [
+    | inl same ↦
+        subst (LiesIn (family_of set d) child) same
+        (below (living_in set d y) h.0.b.parent h.0.b.job (in_family set d y (alive y (inl refl))) (ap from_of (births y ∙ h.0.is)) (lies (z ∷ xs) h.1 (λ m at. alive m (inr at)) h.0.b.parent h.0.parent))
+    | inr more ↦ lies (z ∷ xs) h.1 (λ m at. alive m (inr at)) k more
+  ]
+
+-- a child has a birth of its parent
+born_of : (o : Option Birth) (parent job : ℕ) → from_of o ≡ Some (parent, job) → (d : Birth) × (o ≡ Some d) × (parent ≡ d.parent)
+born_of None parent job e = cc
+born_of (Some d) parent job e = (d, refl, sym (ap (first_in 0) e))
+
+module _ (set : Setup) (c : List Entry) (run : IsLegalRun set c) (child : ℕ) (here : lives c child ≡ true) where
+  row_all : Found c child (length (numbers c)) (inside_of c child)
+  row_all = found_inside c child set run
+
+  has_last : (xs : List ℕ) → Chain c child xs → Among child xs
+  has_last [] h = absurd h
+  has_last (x ∷ []) h = inl h
+  has_last (x ∷ (y ∷ xs)) h = inr (has_last (y ∷ xs) h.1)
+
+  reach_step : (y : Living) (parent job : ℕ) → Contains (family_of set c) y → y.from ≡ Some (parent, job) → Among parent (inside_of c child) → Among y.number (inside_of c child)
+  reach_step y parent job at from up =
+      let m = member set c y at in
+      let f = born_of (birth_of c y.number) parent job (ap (λ (l : Living). l.from) (sym {a = y} m.is) ∙ from) in
+      row_all.complete y.number f.0 ((born_exactly set c y.number run).0 (alive c y.number m.lives_so).0) m.lives_so f.1 (among_same parent f.0.parent (inside_of c child) f.2 up)
+
+  reach : (k : ℕ) → LiesIn (family_of set c) child k → Among k (inside_of c child)
+  reach k itself = has_last (inside_of c child) row_all.chain
+  reach k (below y parent job at from up) = reach_step y parent job at from (reach parent up)
+
+  -- who is found are the living instances that lie within it
+  pub found_exactly : (k : ℕ) → (Contains (inside_of c child) k → (lives c k ≡ true) × LiesIn (family_of set c) child k)
+      × ((lives c k ≡ true) × LiesIn (family_of set c) child k → Contains (inside_of c child) k)
+  found_exactly k =
+      let xs = inside_of c child in
+      let all = chain_alive c child xs row_all.chain here in
+      (λ at. let a = among_from xs k at in (all k a, lies set c child c (λ n. refl) xs row_all.chain all k a), λ h. contains_from xs k (reach k h.1))
 
 -- ---- the ends of some of them
 
@@ -403,21 +450,6 @@ module _ (set : Setup) (c : List Entry) (b : Birth) (run : IsLegalRun set c) (he
         first_same : {p q r s : ℕ} → ◌≡◌ {A = Option (ℕ × ℕ)} (Some (p, q)) (Some (r, s)) → p ≡ r
         first_same {p} {q} {r} {s} e = ap (first_in 0) e
 
-    -- whatever is left lies within the outermost
-    lies : (xs : List ℕ) → Row xs → ((k : ℕ) → Among k xs → lives (c ++ past) k ≡ true) → (k : ℕ) → Among k xs → LiesIn (family_of set (c ++ past)) b.child k
-    lies [] h alive k a = absurd h
-    lies (y ∷ []) h alive k a = elim a [
-      | inl same ↦ subst (LiesIn (family_of set (c ++ past)) b.child) (sym h ∙ same) itself
-      | inr none ↦ absurd none
-    ]
-    lies (y ∷ (z ∷ xs)) h alive k a = elim a [
-      | inl same ↦ subst (LiesIn (family_of set (c ++ past)) b.child) same
-          (below (living_in set (c ++ past) y) h.0.b.parent h.0.b.job (in_family set (c ++ past) y (alive y (inl refl)))
-          (ap from_of (birth_left c past n y ∙ h.0.is))
-          (lies (z ∷ xs) h.1 (λ m at. alive m (inr at)) h.0.b.parent h.0.parent))
-      | inr more ↦ lies (z ∷ xs) h.1 (λ m at. alive m (inr at)) k more
-    ]
-
     left_alive : (k : ℕ) → Among k (x ∷ behind) → lives (c ++ past) k ≡ true
     left_alive k a = lives_on k (chain_alive c b.child (x ∷ behind) row_here here k a) (elim a [
       | inl same ↦ omega arith
@@ -431,7 +463,7 @@ module _ (set : Setup) (c : List Entry) (b : Birth) (run : IsLegalRun set c) (he
     inner_step : (y : Living) (parent job : ℕ) → Contains (family_of set (c ++ past)) y → y.from ≡ Some (parent, job) → InnerOne parent → Among y.number within × (x < y.number)
     inner_step y parent job at from up =
         let m = member set (c ++ past) y at in
-        let f = born (birth_of (c ++ past) y.number) (ap (λ (l : Living). l.from) (sym {a = y} m.is) ∙ from) in
+        let f = born_of (birth_of (c ++ past) y.number) parent job (ap (λ (l : Living). l.from) (sym {a = y} m.is) ∙ from) in
         let isk : birth_of c y.number ≡ Some f.0 = sym (birth_left c past n y.number) ∙ f.1 in
         let was : lives c y.number ≡ true = (lived_left c past n y.number m.lives_so).0 in
         let low : f.0.parent < y.number = parents_first set c run y.number f.0 isk in
@@ -446,10 +478,6 @@ module _ (set : Setup) (c : List Entry) (b : Birth) (run : IsLegalRun set c) (he
           | inr more ↦ (more.0, (let low : x < parent = more.1 in omega arith))
         ]
 
-        born : (o : Option Birth) → from_of o ≡ Some (parent, job) → (d : Birth) × (o ≡ Some d) × (parent ≡ d.parent)
-        born None e = cc
-        born (Some d) e = (d, refl, sym (ap (first_in 0) e))
-
     inner : (k : ℕ) → LiesIn (family_of set (c ++ past)) x k → InnerOne k
     inner k itself = inl refl
     inner k (below y parent job at from up) = inr (inner_step y parent job at from (inner parent up))
@@ -459,7 +487,7 @@ module _ (set : Setup) (c : List Entry) (b : Birth) (run : IsLegalRun set c) (he
       lives = in_family set (c ++ past) x here_alive;
       outer = living_in set (c ++ past) b.child;
       over = over_still;
-      inside = lies (x ∷ behind) row_here left_alive x (inl refl);
+      inside = lies set c b.child (c ++ past) (birth_left c past n) (x ∷ behind) row_here left_alive x (inl refl);
       alone = λ other at lie. elim (inner other.number lie) [
         | inl same ↦ same
         | inr more ↦
