@@ -1,6 +1,6 @@
 -- What an instance of a run is given keeps to its limits.
 use Rattle.std.proofs.Common.{◌≡◌, ℕ, zero, suc, ◌+◌, ◌<◌, ◌≤◌, ◌%◌, ◌==◌, ◌^◌, inl, inr, List, [], ◌∷◌, ◌++◌, length, Bool, true, false, cond, Option, Some, None, filter_map, map, count_by, sum_by, All, refl, sym, ap, ap₂, ◌∙◌, subst, arith, true≢false, mod-lt}
-use Rattle.std.specs.Prelude.{IfSome, filter, is_some, slice_get, if◌then◌else◌}
+use Rattle.std.specs.Prelude.{IfSome, filter, is_some, slice_get, slice_index_or, if◌then◌else◌}
 use Rattle.std.specs.Option.{option_and_then}
 use Rattle.std.specs.List.{cons_option, list_any}
 use Rattle.std.proofs.lemmas.Bool.{eqb-true, false_from_ne_true, or_cases, or_left, or_right}
@@ -114,8 +114,7 @@ module _ (work : Workload) (label : Option (List ℕ)) (size : ℕ) where
   within all some h = record {
     actors = (let n = mapped_length (placed size) work.actors in let few = h.actors in omega arith);
     lines = (let low = fewer keeps work.lines in let few = h.lines in omega arith);
-    ranks = All-map (λ a. (a.of ≡ None) → a.rank < size) (placed size) work.actors
-        (All-weaker (λ a. a.of ≡ None) (λ a. (a.of ≡ None) → a.rank % size < size) (λ a top again. mod-lt a.rank (let pos : zero < size = omega arith in pos)) work.actors h.tops);
+    ranks = All-map (λ a. (a.of ≡ None) → a.rank < size) (placed size) work.actors (λ k d low top. mod-lt (slice_index_or work.actors k d).rank (let pos : zero < size = omega arith in pos));
     tops = All-map (λ a. a.of ≡ None) (placed size) work.actors h.tops;
     known = All-filter keeps (λ l. l.actor < length (map (placed size) work.actors)) work.lines
         (subst (λ n. All (λ l. l.actor < n) work.lines) (sym (mapped_length (placed size) work.actors)) h.known);
