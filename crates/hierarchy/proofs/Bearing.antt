@@ -11,7 +11,7 @@ use Rattle.kvs_rules.proofs.Sequences.{each_along, each_push}
 use Rattle.resource_set.proofs.Booleans.{same_name}
 use Rattle.resource_set.specs.declared.node.Resources.{Resources}
 use Rattle.workload.specs.Actors.{are_together, home_of}
-use Rattle.answers.specs.Chronicle.{Setup, top}
+use Rattle.answers.specs.Chronicle.{Setup, replies_to, top}
 use Rattle.answers.specs.Legal.{IsLegal, IsLegalEntry}
 use Rattle.answers.specs.Whole.{IsEarlierEntry}
 use Rattle.answers.specs.declared.chronicle.Entry.{Entry}
@@ -20,7 +20,7 @@ use Rattle.hierarchy.specs.Births.{Birth, birth_in, births, ends, has_home, is_a
 use Rattle.hierarchy.specs.Growing.{ActsAlike, AreLabelled, GoesOn}
 use Rattle.hierarchy.specs.Legal.{AreOwnLegal, IsLegalBirth, IsLegalRun, IsLegalRunEntry}
 use Rattle.hierarchy.specs.Own.{begins, child_setup, only_if, own_entry, own_of, setup_in, work_for}
-use Rattle.hierarchy.proofs.OneEntry.{alike_push, each_more, legal_more, quiet_push, together_all}
+use Rattle.hierarchy.proofs.OneEntry.{alike_push, count_none, each_more, legal_more, quiet_push, together_all}
 use Rattle.hierarchy.proofs.Nested.{born_is, numbered_born}
 use Rattle.hierarchy.proofs.Owning.{alive, births_push, born_kept, born_push, label_kept, lived, own_born, own_push, setup_kept}
 use Rattle.hierarchy.proofs.Steps.{unended}
@@ -28,14 +28,14 @@ use Rattle.hierarchy.proofs.Steps.{unended}
 -- ---- the beginning
 
 module _ (set : Setup) where
-  own_none : (i : ℕ) → own_of set [] i ≡ []
+  pub own_none : (i : ℕ) → own_of set [] i ≡ []
   own_none i = by (i == top)
     where
       by : (b : Bool) → filter_map (own_entry set.work.actors (label_of [] i) i) (until (ends i) (cond b [] [])) ≡ []
       by true = refl
       by false = refl
 
-  first_top : (i : ℕ) → is_born [] i ≡ true → i ≡ top
+  pub first_top : (i : ℕ) → is_born [] i ≡ true → i ≡ top
   first_top i h = by (i == top) refl h
     where
       by : (b : Bool) → (i == top) ≡ b → (b || is_some (cond {A = Option Birth} b None None)) ≡ true → i ≡ top
@@ -48,7 +48,7 @@ module _ (set : Setup) where
     own = λ i h. subst (IsLegal (setup_in set [] i)) (sym (own_none i)) tt;
     early = tt;
     labelled = λ i k bi bk together. first_top i bi ∙ sym (first_top k bk);
-    acts = λ i actor h here. subst (λ own. ActsAlike own [] actor) (sym (own_none i)) (record { issued = refl; replied = λ k. refl });
+    acts = λ i actor h here. subst (λ own. ActsAlike own [] actor) (sym (own_none i)) (record { issued = refl; replied = λ k. refl; counted = λ k. refl });
     quiet = λ actor none. record { issued = refl; replied = λ k. refl };
   }
 
@@ -199,7 +199,7 @@ module _ (set : Setup) (c : List Entry) (on : GoesOn set c) (child parent job : 
                 let there : is_at set.work.actors (Some label) actor ≡ true = ap (λ l. is_at set.work.actors l actor) (sym (ap (label_of (c ++ x ∷ [])) one ∙ label_is)) ∙ here in
                 let none = quiet_push c x actor (on.quiet actor (new_home actor there)) (refl, λ k. refl) in
                 subst (λ own. ActsAlike own (c ++ x ∷ []) actor) (sym (own_born set c x i begun.0 begun.1))
-                (record { issued = sym none.issued; replied = λ k. sym (none.replied k) })
+                (record { issued = sym none.issued; replied = λ k. sym (none.replied k); counted = λ k. sym (count_none (replies_to (record { actor = actor; command = k })) (c ++ x ∷ []) (none.replied k)) })
           ]
 
 -- ---- the child

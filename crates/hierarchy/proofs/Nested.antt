@@ -49,7 +49,7 @@ cons_joined : {A : Type 0} (o : Option A) (xs ys : List A) → cons_option o xs 
 cons_joined None xs ys = refl
 cons_joined (Some x) xs ys = refl
 
-happenings_joined : (work : Workload) (c xs ys : List Entry) → happenings_after work c (xs ++ ys) ≡ happenings_after work c xs ++ happenings_after work (c ++ xs) ys
+pub happenings_joined : (work : Workload) (c xs ys : List Entry) → happenings_after work c (xs ++ ys) ≡ happenings_after work c xs ++ happenings_after work (c ++ xs) ys
 happenings_joined work c [] ys = ap (λ b. happenings_after work b ys) (sym (append-nil c))
 happenings_joined work c (x ∷ xs) ys =
     ap (cons_option (happening_of work c x)) (happenings_joined work (c ++ x ∷ []) xs ys ∙ ap (λ b. happenings_after work (c ++ x ∷ []) xs ++ happenings_after work b ys) (append_assoc c (x ∷ []) xs))
@@ -237,6 +237,11 @@ module _ (set : Setup) where
           by : (t : Bool) → ◌≡◌ {A = Option Birth} (cond t None None) (Some b) → lives [] b.parent ≡ true
           by true is = cc
           by false is = cc
+
+  -- a living child has a living parent
+  pub parent_lives : (c : List Entry) → IsLegalRun set c → (i : ℕ) (b : Birth) → lives c i ≡ true → birth_of c i ≡ Some b → lives c b.parent ≡ true
+  unfolding ParentsLive
+  parent_lives c l i b h is = parents_live c l i b h is
 
 -- ---- the resources of jobs with living children
 

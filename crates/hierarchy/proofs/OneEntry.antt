@@ -2,9 +2,9 @@
 use Rattle.std.proofs.Common.{◌≡◌, ℕ, ◌+◌, ◌==◌, inl, inr, List, [], ◌∷◌, ◌++◌, Bool, true, false, cond, not, ◌&&◌, ◌||◌, Option, Some, None, is_some, option_map, map, count_by, refl, sym, ap, ap₂, ◌∙◌, subst, append-nil, true≢false, bytes_eq}
 use Rattle.std.specs.Prelude.{IfSome, find, if◌then◌else◌}
 use Rattle.std.specs.List.{AllByRecursion as Each, cons_option, list_any}
-use Rattle.std.proofs.lemmas.Bool.{and_parts, eq-eqb, eqb-true, or_cases}
+use Rattle.std.proofs.lemmas.Bool.{and_parts, eq-eqb, eqb-true, or_cases, or_parts}
 use Rattle.std.proofs.lemmas.List.Folds.{list_any-append}
-use Rattle.std.proofs.lemmas.List.Sums.{sum_by-append}
+use Rattle.std.proofs.lemmas.List.Sums.{sum_by-append, sum_by-cons}
 use Rattle.kvs_txn.specs.declared.txn.By.{By}
 use Rattle.kvs_rules.proofs.Sequences.{each_push}
 use Rattle.resource_set.proofs.Booleans.{same_name}
@@ -42,6 +42,13 @@ count_seen p None e h = ap (λ b. count_of b) (sym h)
     count_of : Bool → ℕ
     count_of b = 0 + cond b 1 0
 count_seen p (Some f) e h = ap (λ b. 0 + cond b 1 0) h
+
+-- where none passes there are none
+pub count_none : (p : Entry → Bool) (xs : List Entry) → list_any p xs ≡ false → count_by p xs ≡ 0
+count_none p [] h = refl
+count_none p (x ∷ xs) h =
+    let parts = or_parts (p x) (list_any p xs) h in
+    sum_by-cons (λ x. cond (p x) 1 0) x xs ∙ ap₂ (λ b n. cond b 1 0 + n) parts.0 (count_none p xs parts.1)
 
 any_seen : (p : Entry → Bool) (o : Option Entry) (e : Entry) → Sees p o e → list_any p (cons_option o []) ≡ list_any p (e ∷ [])
 any_seen p None e h = ap (λ b. b || false) (sym h)
@@ -96,6 +103,9 @@ module _ (actors : List Actor) (label : Option (List ℕ)) (i actor : ℕ) (here
         replied = λ k.
             let p = replies_to (record { actor = actor; command = k }) in
             list_any-append p own (cons_option o []) ∙ ap₂ (λ a b. a || b) (h.replied k) (any_seen p o e (sees_replies k e)) ∙ sym (list_any-append p c (e ∷ []));
+        counted = λ k.
+            let p = replies_to (record { actor = actor; command = k }) in
+            sum_by-append (λ x. cond (p x) 1 0) own (cons_option o []) ∙ ap₂ (λ a b. a + b) (h.counted k) (count_seen p o e (sees_replies k e)) ∙ sym (sum_by-append (λ x. cond (p x) 1 0) c (e ∷ []));
       }
 
 -- ---- homes
@@ -212,7 +222,7 @@ module _ (c : List Entry) (e : Entry) (unborn : birth_in e ≡ None) (plain : is
   labelled_same : AreLabelled c → AreLabelled (c ++ e ∷ [])
   labelled_same h i k bi bk together = h i k (sym (born_same i) ∙ bi) (sym (born_same k) ∙ bk) (sym (ap₂ are_together (label_same i) (label_same k)) ∙ together)
 
-  homed_same : (test next : ℕ → Bool) → ((i : ℕ) → next i ≡ test i) → (actors : List Actor) (actor : ℕ)
+  pub homed_same : (test next : ℕ → Bool) → ((i : ℕ) → next i ≡ test i) → (actors : List Actor) (actor : ℕ)
       → is_homed next actors (c ++ e ∷ []) actor ≡ is_homed test actors c actor
   homed_same test next same actors actor =
       ap (list_any (λ i. next i && is_at actors (label_of (c ++ e ∷ []) i) actor)) numbers_same ∙ any_same (numbers c)
@@ -242,7 +252,7 @@ module _ (set : Setup) (c : List Entry) (e : Entry) (unborn : birth_in e ≡ Non
       subst (λ s. IsLegal s (own_of set (c ++ e ∷ []) i)) (sym (setup_kept set c (e ∷ []) i (alive c i was).0))
       (subst (IsLegal (setup_in set c i)) (sym (own_more i was)) (legal_more (setup_in set c i) (own_of set c i) _ (legal i was) (follows i was)))
 
-  home_same : (actor : ℕ) → has_home set.work.actors (c ++ e ∷ []) actor ≡ has_home set.work.actors c actor
+  pub home_same : (actor : ℕ) → has_home set.work.actors (c ++ e ∷ []) actor ≡ has_home set.work.actors c actor
   home_same actor = homed_same c e unborn plain (is_born c) (is_born (c ++ e ∷ [])) (born_same c e unborn plain) set.work.actors actor
 
 -- whoever has done nothing, and does nothing in the entry, has done nothing behind it
@@ -268,7 +278,7 @@ any_weaker p q (x ∷ xs) w h = elim (or_cases (p x) (list_any p xs) h) [
     or_more false b h = h
 
 -- a home that lives, or that has gone, is one
-living_home : (actors : List Actor) (c : List Entry) (actor : ℕ) → has_living_home actors c actor ≡ true → has_home actors c actor ≡ true
+pub living_home : (actors : List Actor) (c : List Entry) (actor : ℕ) → has_living_home actors c actor ≡ true → has_home actors c actor ≡ true
 living_home actors c actor h =
     any_weaker (λ i. lives c i && is_at actors (label_of c i) actor) (λ i. is_born c i && is_at actors (label_of c i) actor) (numbers c)
     (λ i both. let p = and_parts (lives c i) (is_at actors (label_of c i) actor) both in ap₂ (λ a b. a && b) (alive c i p.0).0 p.1) h

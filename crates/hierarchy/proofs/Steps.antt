@@ -32,7 +32,7 @@ use Rattle.hierarchy.proofs.Owning.{alive, setup_kept}
 -- ---- the commands of an instance's actors
 
 -- the lines of one actor among those of its instance
-lines_of : (passes : ℕ → Bool) (actor : ℕ) → passes actor ≡ true → (lines : List Line)
+pub lines_of : (passes : ℕ → Bool) (actor : ℕ) → passes actor ≡ true → (lines : List Line)
     → filter_map (λ line. if line.actor == actor then Some line.command else None) (filter (λ line. passes line.actor) lines)
     ≡ filter_map (λ line. if line.actor == actor then Some line.command else None) lines
 lines_of passes actor h [] = refl
@@ -52,7 +52,7 @@ lines_of passes actor h (line ∷ lines) = by (passes line.actor) refl (lines_of
     by true is same = ap (cons_option (if line.actor == actor then Some line.command else None)) same
     by false is same = same ∙ sym (ap (λ o. cons_option o (filter_map (λ line. if line.actor == actor then Some line.command else None) lines)) (none is (line.actor == actor) refl))
 
-work_in : (set : Setup) (o : Option Birth) → (n : ℕ) × ((option_map_or (child_setup set) o (record set { work = work_for set.work None set.size })).work ≡ work_for set.work (option_map (λ b. b.label) o) n)
+pub work_in : (set : Setup) (o : Option Birth) → (n : ℕ) × ((option_map_or (child_setup set) o (record set { work = work_for set.work None set.size })).work ≡ work_for set.work (option_map (λ b. b.label) o) n)
 work_in set None = (set.size, refl)
 work_in set (Some b) = ((child_setup set b).size, refl)
 
@@ -91,7 +91,7 @@ early_in i (entry.Got instance broker reference) h = h
 early_in i (entry.Dropped instance broker reference) h = h
 early_in i _ h = h
 
-replies_so : (set : Setup) (c : List Entry) (s : Setup) (own : List Entry) (by : By) (number : Option ℕ) (given : Reply) → has_living_home set.work.actors c by.actor ≡ true
+pub replies_so : (set : Setup) (c : List Entry) (s : Setup) (own : List Entry) (by : By) (number : Option ℕ) (given : Reply) → has_living_home set.work.actors c by.actor ≡ true
     → HasReplyGrounds s own by number given → HasHomeFor set c by number given
 replies_so set c s own by number reply.Gone home g = absurd g
 replies_so set c s own by number reply.UnfinishedUnborn home g = absurd g
@@ -180,7 +180,7 @@ module _ (set : Setup) (c : List Entry) (on : GoesOn set c) (second : ℕ) (may 
 
 module _ (set : Setup) (c : List Entry) (on : GoesOn set c) (actor : ℕ) (lost : has_lost_home set.work.actors c actor ≡ true) where
   -- no living instance is theirs
-  not_here : (k : ℕ) → lives c k ≡ true → is_at set.work.actors (label_of c k) actor ≡ false
+  pub not_here : (k : ℕ) → lives c k ≡ true → is_at set.work.actors (label_of c k) actor ≡ false
   not_here k there = by (is_at set.work.actors (label_of c k) actor) refl
     where
       home : (i : ℕ) × Among i (numbers c) × ((is_gone c i && is_at set.work.actors (label_of c i) actor) ≡ true)

@@ -4,7 +4,7 @@ use Rattle.std.specs.Prelude.{◌≡◌, ℕ, List, ◌∷◌, ◌++◌, [], fal
 use Rattle.std.specs.List.{AllByRecursion as Each}
 use Rattle.workload.specs.Actors.{are_together}
 use Rattle.workload.specs.declared.work.Actor.{Actor}
-use Rattle.answers.specs.Chronicle.{Setup, is_replied, issues_of, top}
+use Rattle.answers.specs.Chronicle.{Setup, is_replied, issues_of, replies_to, top}
 use Rattle.answers.specs.Whole.{IsEarlierEntry}
 use Rattle.answers.specs.declared.chronicle.Entry.{Entry}
 use Rattle.answers.specs.declared.chronicle.Entry.TheVariants as entry
@@ -19,11 +19,13 @@ abbrev pub AreLabelled : List Entry → Type 0
 AreLabelled c = (i k : ℕ) → IsTrue (is_born c i) → IsTrue (is_born c k)
     → IsTrue (are_together (label_of c i) (label_of c k)) → i ≡ k
 
--- as many commands of the actor are issued in both, and the same ones are replied
+-- as many commands of the actor are issued in both, and the same ones are replied, as often
 pub record ActsAlike (own c : List Entry) (actor : ℕ) : Type 0 where
   pub issued : count_by (issues_of actor) own ≡ count_by (issues_of actor) c
   pub replied : (k : ℕ) → is_replied (record { actor = actor; command = k }) own
       ≡ is_replied (record { actor = actor; command = k }) c
+  pub counted : (k : ℕ) → count_by (replies_to (record { actor = actor; command = k })) own
+      ≡ count_by (replies_to (record { actor = actor; command = k })) c
 
 -- none of the actor's commands is issued or replied
 pub record HasNotActed (c : List Entry) (actor : ℕ) : Type 0 where
@@ -69,6 +71,11 @@ pub record GrowsBy (set : Setup) (c : List Entry) (i : ℕ) (own : List Entry) :
 pub record GoesOnBy (set : Setup) (c : List Entry) (e : Entry) : Type 0 where
   pub legal : IsLegalRunEntry set c e
   pub on : GoesOn set (c ++ e ∷ [])
+
+-- an entry issues no command
+abbrev pub IssuesNothing : Entry → Type 0
+IssuesNothing (entry.Issued actor command) = ⊥
+IssuesNothing _ = Unit {0}
 
 -- the parent of the instance that an entry ends is ended among these
 abbrev pub ParentGoes : List Entry → Entry → Type 0

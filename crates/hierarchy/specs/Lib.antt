@@ -7,3 +7,6 @@ pub mod Stretches
 pub mod Headline
 pub mod Growing
 pub mod Laws
+pub mod Closing
+pub mod Grows
+pub mod Inside

@@ -1,21 +1,26 @@
 //! How a run grows: what the world that makes it owes at each step.
-ghost use Rattle.std.specs.Prelude.{◌≡◌, ◌∷◌, ◌++◌, [], ℕ, Bool, false, List, None, Some, IsTrue};
+ghost use Rattle.std.specs.Prelude.{◌≡◌, ◌+◌, ◌≤◌, ◌∷◌, ◌++◌, [], ℕ, Bool, false, List, None, Some, IsTrue, map};
 ghost use Rattle.std.specs.List.{AllByRecursion as Each};
 ghost use Rattle.kvs_rules.specs.Sequence.{EachAfter};
 ghost use Rattle.resource_set.specs.declared.node.Resources.{Resources};
 ghost use Rattle.workload.specs.Actors.{are_together};
+ghost use Rattle.workload.specs.Laws.{HasOwnLabels};
+ghost use Rattle.workload.specs.Tallies.{seconds_in};
 ghost use Rattle.instance_rules.specs.Family.{MayTick};
+ghost use Rattle.run_laws.specs.Times.{seconds_issued};
 ghost use Rattle.answers.specs.Chronicle.{IsOpenCommand, Setup, top};
-ghost use Rattle.answers.specs.Legal.{IsLegalEntry, IsLegalIssue};
+ghost use Rattle.answers.specs.Legal.{IsLegalEntry, IsLegalIssue, RestsAtIssue};
+ghost use Rattle.answers.specs.Stretches.{IsIssueStretch};
 ghost use Rattle.answers.specs.Whole.{IsEarlierEntry};
 ghost use Rattle.answers.specs.declared.chronicle.Entry.{Entry};
 ghost use Rattle.answers.specs.declared.chronicle.Entry.TheVariants as entry;
 ghost use Rattle.answers.specs.declared.chronicle.Reply.TheVariants as reply;
 ghost use Rattle.hierarchy.specs.Births.{has_lost_home, is_born, label_of, lives};
 ghost use Rattle.hierarchy.specs.Families.{family_of, left_in, second_in};
-ghost use Rattle.hierarchy.specs.Growing.{GoesOn, GoesOnBy, GrowsBy, IsMadeIn, ParentGoes};
-ghost use Rattle.hierarchy.specs.Legal.{HasRunGrounds, IsLegalBirth, IsLegalRunEntry};
+ghost use Rattle.hierarchy.specs.Growing.{GoesOn, GoesOnBy, GrowsBy, IsMadeIn, IssuesNothing, ParentGoes};
+ghost use Rattle.hierarchy.specs.Legal.{HasRunGrounds, HasRunRest, IsLegalBirth, IsLegalRunEntry, RunRestsAtIssue};
 ghost use Rattle.hierarchy.specs.Own.{child_setup, own_of, setup_in};
+ghost use Rattle.hierarchy.specs.Stretches.{entered_in};
 
 /// A run in which nothing has happened goes on.
 pub fn a_run_begins()
@@ -29,6 +34,20 @@ pub fn what_an_instance_makes_is_legal()
         → IsTrue (lives c i) → EachAfter (IsLegalEntry (setup_in set c i)) (own_of set c i) own
         → Each (IsMadeIn set.work.actors (label_of c i)) own → Each IsEarlierEntry own
         → GrowsBy set c i own }
+{}
+
+/// A run that rests where an instance issues a command stays settled, as the instance does; and so
+/// does one where nothing is issued.
+pub fn a_run_stays_settled()
+    ensures issues { (set : Setup) (c : List Entry) (i actor : ℕ) (own : List Entry) → GoesOn set c
+        → IsTrue (lives c i) → HasRunRest set c
+        → IsIssueStretch (setup_in set c i).work actor own
+        → EachAfter (IsLegalEntry (setup_in set c i)) (own_of set c i) own
+        → Each (IsMadeIn set.work.actors (label_of c i)) own → Each IsEarlierEntry own
+        → EachAfter (RestsAtIssue (setup_in set c i)) (own_of set c i) own
+        → EachAfter (RunRestsAtIssue set) c (map (entered_in i) own) }
+    ensures others { (set : Setup) (c more : List Entry) → Each IssuesNothing more
+        → EachAfter (RunRestsAtIssue set) c more }
 {}
 
 /// Time goes on to a second where the family lets it and each living instance does.
@@ -68,6 +87,15 @@ pub fn a_birth_is_legal()
         }) }
 {}
 
+/// Where no two lines submit under one label, a birth has a label that no other one had.
+pub fn a_birth_has_a_new_label()
+    ensures { (set : Setup) (c : List Entry) (child parent job : ℕ) (label : List ℕ) (second : ℕ)
+        (grant : Resources) (i : ℕ) → GoesOn set c
+        → IsLegalBirth set c child parent job label second grant
+        → HasOwnLabels set.work.lines → IsTrue (is_born c i)
+        → are_together (label_of c i) (Some label) ≡ false }
+{}
+
 /// An instance goes with all within it, each before its parent, where the parent of the last one is
 /// told.
 pub fn ends_are_legal()
@@ -98,4 +126,12 @@ pub fn those_left_are_told()
         → IsTrue (has_lost_home set.work.actors c actor)
         → IsOpenCommand (record { actor = actor; command = command }) c
         → GoesOnBy set c (entry.Replied actor command reply.Gone None) }
+{}
+
+/// Whatever the run has issued, a living instance has time for its own lines ahead: those that it
+/// has issued and the rest of the run's make up all.
+pub fn time_is_left_for_lines_ahead()
+    ensures { (set : Setup) (c : List Entry) (i : ℕ) → GoesOn set c → IsTrue (lives c i)
+        → seconds_issued set.work c + seconds_in (setup_in set c i).work.lines
+        ≤ seconds_issued (setup_in set c i).work (own_of set c i) + seconds_in set.work.lines }
 {}

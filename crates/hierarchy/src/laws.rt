@@ -1,17 +1,19 @@
 //! The laws of runs, each the contract of a function.
-ghost use Rattle.std.specs.Prelude.{◌≡◌, ◌↔◌, ℕ, List, [], ◌∷◌, ◌++◌, IsTrue, false};
+ghost use Rattle.std.specs.Prelude.{◌≡◌, ◌+◌, ◌≤◌, ◌↔◌, ℕ, List, [], ◌∷◌, ◌++◌, All, IsTrue, false};
 ghost use Rattle.std.specs.List.{AllByRecursion as Each};
-ghost use Rattle.instance_rules.specs.Family.{AreNested, MayClose};
+ghost use Rattle.instance_rules.specs.Family.{AreNested, MayClose, MayTick};
 ghost use Rattle.instance_rules.specs.Legal.{IsSound};
 ghost use Rattle.run_laws.specs.Jobs.{JobsStaySound, LogsOnlyGrow};
+ghost use Rattle.run_laws.specs.Times.{HasTime, KeepsTime, seconds_issued};
+ghost use Rattle.workload.specs.Tallies.{seconds_in};
 ghost use Rattle.answers.specs.declared.chronicle.Entry.{Entry};
 ghost use Rattle.answers.specs.Chronicle.{Setup};
-ghost use Rattle.answers.specs.Jobs.{instance_of, log_in};
+ghost use Rattle.answers.specs.Jobs.{instance_of, log_in, second_of};
 ghost use Rattle.answers.specs.Legal.{IsLegal, IsSettled};
 ghost use Rattle.answers.specs.Runs.{IsFamilySettled, IsInTime, family_of as alone_in};
 ghost use Rattle.answers.specs.Whole.{IsWhole};
-ghost use Rattle.hierarchy.specs.Births.{is_gone, lives};
-ghost use Rattle.hierarchy.specs.Families.{family_of};
+ghost use Rattle.hierarchy.specs.Births.{births, is_gone, lives};
+ghost use Rattle.hierarchy.specs.Families.{family_of, left_in, second_in};
 ghost use Rattle.hierarchy.specs.Laws.{IsChildless, IsKept, IsOfOthers, IsOfTop};
 ghost use Rattle.hierarchy.specs.Legal.{IsLegalRun, IsSettledRun, is_end};
 ghost use Rattle.hierarchy.specs.Own.{own_of, setup_in};
@@ -63,4 +65,26 @@ pub fn logs_only_grow_in_all()
 pub fn children_stay_nested()
     ensures { (set : Setup) (c : List Entry) → IsLegalRun set c
         → ((i : ℕ) → IsTrue (lives c i) → IsKept set c i) → AreNested (family_of set c) }
+{}
+
+/// Time goes no further than the advances that a run has issued let it, and each of these is one
+/// line of its workload. All living instances have one second, and each birth was at one not above
+/// it. So the seconds of all have their place in 64 bits, where those of the lines have.
+pub fn time_stays_within_the_run()
+    ensures issued { (set : Setup) (c : List Entry) → IsLegalRun set c
+        → second_in set c ≤ set.birth + seconds_issued set.work c }
+    ensures within { (set : Setup) (c : List Entry) → IsLegalRun set c
+        → second_in set c ≤ set.birth + seconds_in set.work.lines }
+    ensures next { (set : Setup) (c : List Entry) (second : ℕ) → IsLegalRun set c
+        → MayTick (family_of set c) (second_in set c) (left_in set c) second
+        → second ≤ set.birth + seconds_issued set.work c }
+    ensures reaches { (set : Setup) (c : List Entry) (second : ℕ) → IsLegalRun set c
+        → MayTick (family_of set c) (second_in set c) (left_in set c) second
+        → second ≤ set.birth + seconds_in set.work.lines }
+    ensures shared { (set : Setup) (c : List Entry) (i : ℕ) → IsLegalRun set c
+        → IsTrue (lives c i) → second_of (setup_in set c i) (own_of set c i) ≡ second_in set c }
+    ensures births { (set : Setup) (c : List Entry) → IsLegalRun set c
+        → All (λ b. b.second ≤ second_in set c) (births c) }
+    ensures kept { (set : Setup) (c : List Entry) (i : ℕ) → HasTime set → IsLegalRun set c
+        → IsTrue (lives c i) → KeepsTime (setup_in set c i) (own_of set c i) }
 {}
