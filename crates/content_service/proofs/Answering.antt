@@ -15,8 +15,8 @@ use Rattle.kvs_rules.specs.Log.{Happened, Log, before_asked, same_command}
 use Rattle.kvs_rules.specs.Namespaces.{Setting, Request}
 use Rattle.kvs_rules.specs.Brokers.{IsContent, has_got, holds}
 use Rattle.kvs_rules.specs.Answers.{HasGrounds, IsClash, IsDroppedSince, IsStoredAt}
-use Rattle.kvs_content.specs.declared.contents.Load.{Load}
-use Rattle.kvs_content.specs.declared.contents.Load.TheVariants as load
+use Rattle.kvs_content.specs.declared.outcomes.Load.{Load}
+use Rattle.kvs_content.specs.declared.outcomes.Load.TheVariants as load
 use Rattle.kvs_content.specs.declared.node.Flush.{Flush}
 use Rattle.kvs_content.specs.declared.node.Flush.TheVariants as flush
 use Rattle.cache_node.specs.Cache.{dirty_at}

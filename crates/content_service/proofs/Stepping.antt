@@ -12,7 +12,7 @@ use Rattle.kvs_rules.specs.Log.{Happened, Log, asks_now, is_asked, same_command}
 use Rattle.kvs_rules.specs.Namespaces.{Setting, Request}
 use Rattle.kvs_rules.specs.Steps.{IsBrokersWork}
 use Rattle.kvs_rules.proofs.Asking.{command_is}
-use Rattle.kvs_content.specs.declared.contents.Answer.{Answer}
+use Rattle.kvs_content.specs.declared.outcomes.Answer.{Answer}
 use Rattle.kvs_content.specs.Agrees.{AgreesContent, FollowsAlways, MayAnswer, MayTell as MayTellBytes, told_so}
 use Rattle.kvs_content.specs.Messages.{loads_of}
 use Rattle.kvs_content.specs.Node.{GetsOrDrops}

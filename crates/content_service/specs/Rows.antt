@@ -6,9 +6,9 @@ use Rattle.kvs_rules.specs.Log.{same_command}
 use Rattle.kvs_rules.specs.declared.events.KvsAsk.{KvsAsk}
 use Rattle.kvs_rules.specs.declared.events.KvsAsk.TheVariants as ask
 use Rattle.kvs_rules.specs.declared.events.KvsAnswer.TheVariants as answer
-use Rattle.kvs_content.specs.declared.contents.Answer.{Answer}
-use Rattle.kvs_content.specs.declared.contents.Load.{Load}
-use Rattle.kvs_content.specs.declared.contents.Load.TheVariants as load
+use Rattle.kvs_content.specs.declared.outcomes.Answer.{Answer}
+use Rattle.kvs_content.specs.declared.outcomes.Load.{Load}
+use Rattle.kvs_content.specs.declared.outcomes.Load.TheVariants as load
 use Rattle.kvs_content.specs.declared.node.Flush.{Flush}
 use Rattle.kvs_content.specs.declared.node.Flush.TheVariants as flush
 use Rattle.kvs_content.specs.Agrees.{told_so}

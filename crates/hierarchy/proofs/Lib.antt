@@ -23,3 +23,7 @@ pub mod Once
 pub mod Ahead
 pub mod Homes
 pub mod Settling
+pub mod Numbering
+pub mod Growth
+pub mod Within
+pub mod Inside

@@ -238,6 +238,11 @@ module _ (set : Setup) where
           by true is = cc
           by false is = cc
 
+  -- a living child has a living parent
+  pub parent_lives : (c : List Entry) → IsLegalRun set c → (i : ℕ) (b : Birth) → lives c i ≡ true → birth_of c i ≡ Some b → lives c b.parent ≡ true
+  unfolding ParentsLive
+  parent_lives c l i b h is = parents_live c l i b h is
+
 -- ---- the resources of jobs with living children
 
 -- in a chronicle of its own the parent has the job with the resources of its living child

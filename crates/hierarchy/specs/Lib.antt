@@ -8,3 +8,5 @@ pub mod Headline
 pub mod Growing
 pub mod Laws
 pub mod Closing
+pub mod Grows
+pub mod Inside

@@ -1,14 +1,16 @@
 //! Runs with child instances: who lives, which entries are whose, and when the chronicle of a run
 //! is legal and whole.
 //!
-//! The definitions stand in `specs/`, and the functions of `laws`, `growing`, `family` and `closing`
-//! state their laws.
+//! The definitions stand in `specs/`, and the functions of the modules state their laws.
 #![tactic(auto)]
 
 pub mod closing;
+pub mod ends;
 pub mod family;
 pub mod growing;
+pub mod grown;
 pub mod laws;
+pub mod workloads;
 
 pub use laws::{
     a_run_without_children_is_of_one_instance, children_stay_nested, jobs_stay_sound_in_all,

@@ -22,6 +22,7 @@ use Rattle.instance_rules.specs.Log as rules
 use Rattle.instance_rules.specs.Log.{Instance, Log as InstanceLog, service_of}
 use Rattle.job_clock.specs.Children.{SubmitsNoChild}
 use Rattle.job_clock.specs.Standing.{IsLiving}
+use Rattle.job_service.specs.Children.{is_due as jobs_due}
 use Rattle.job_service.specs.Replies.{can_reply}
 use Rattle.job_service.specs.Still.{awaited}
 use Rattle.job_states.specs.declared.job.State.{State}
@@ -51,7 +52,8 @@ use Rattle.instance.specs.declared.seats.Waiting.TheVariants as waiting
 use Rattle.instance.specs.Seats.{is_free, replied_of, last_command, has_come}
 use Rattle.instance.specs.Closings.{closings_at, closings_of, fence_at, fence_of, is_served, left_reply, open_command, unfinished_as, waits_in}
 use Rattle.instance.specs.Agrees.{command_of, Waits, ActorStands, IsSeat}
-use Rattle.instance.specs.Steps.{IsOver, can_post, can_tick, has_answer}
+use Rattle.instance.specs.Family.{is_due, targets_left}
+use Rattle.instance.specs.Steps.{IsOver, can_post, has_answer}
 use Rattle.instance.specs.Value.{InstanceValue}
 use Rattle.instance.proofs.Owning.{Own, DoesAgree}
 use Rattle.instance.proofs.Given.{no_shutdown}
@@ -510,23 +512,26 @@ nothing_found (Some x) e = absurd (true≢false e)
 pub record CanDoNothing (v : InstanceValue) : Type 0 where
   pub steps : (s : KvsStep) → can_step v.services s ≡ false
   pub answers : (a : ℕ) → has_answer v.services v.seats a ≡ false
-  pub posts : can_post v ≡ false
-  pub ticks : can_tick v ≡ false
-
--- no child is to be born where no command submits a job that begins an instance
-abbrev pub IsUnborn : ServicesValue → Type 0
-IsUnborn services = (i : Instance) (l : InstanceLog) → AgreesServices services i l → SubmitsNoChild i → services.jobs.bearing ≡ None
+  pub due : is_due v ≡ false
 
 -- there the services are still
-pub still_so : (v : Own) → DoesAgree v → IsUnborn v.instance.services → CanDoNothing v.instance → IsStill v.instance.services
-still_so v h childless rest = record {
+pub still_so : (v : Own) → DoesAgree v → CanDoNothing v.instance → IsStill v.instance.services
+still_so v h rest = record {
   steps = rest.steps;
   answers = none_taken v h rest.answers;
-  unfound = nothing_found v.instance.services.jobs.found rest.posts;
-  unborn = childless (instance_of v.set) (log_in v.set.work v.chronicle) h.agrees (submits_no_child v.set h.known);
-  late = rest.ticks;
+  due = rest.due;
   untold = none_told v h rest.answers;
 }
+
+-- nothing is due where no child is to be born
+abbrev pub IsFreeSo : ServicesValue → Type 0
+IsFreeSo services = (i : Instance) (l : InstanceLog) → AgreesServices services i l → SubmitsNoChild i → ((s : KvsStep) → can_step services s ≡ false) → ((by : By) → can_take services by ≡ false)
+    → services.jobs.found ≡ None → jobs_due services.jobs ≡ false
+
+-- so as long as no line begins an instance
+pub free_so : (v : Own) → DoesAgree v → IsFreeSo v.instance.services → ((s : KvsStep) → can_step v.instance.services s ≡ false) → ((a : ℕ) → has_answer v.instance.services v.instance.seats a ≡ false) → can_post v.instance ≡ false → is_due v.instance ≡ false
+free_so v h childless steps answers posts =
+    childless (instance_of v.set) (log_in v.set.work v.chronicle) h.agrees (submits_no_child v.set h.known) steps (none_taken v h answers) (nothing_found v.instance.services.jobs.found posts)
 
 -- the core stands where the log of the service leaves it
 pub core_agrees : (v : Own) → DoesAgree v → Agrees v.instance.services.jobs.manager.core (setting_of v.set) (log_of v.set.work top v.chronicle)
@@ -537,14 +542,13 @@ pub record IsStillSo (v : Own) : Type 0 where
   pub quiet : (i : Instance) (l : InstanceLog) → AgreesServices v.instance.services i l → IsStill v.instance.services → IsQuiet i.service (service_of l)
   pub heard : (i : Instance) (l : InstanceLog) → AgreesServices v.instance.services i l → IsStill v.instance.services → (broker : ℕ) (space : Name) → broker < i.service.size → is_live (service_of l) space ≡ true → IsSome (heard (service_of l) broker space)
   pub idle : (i : Instance) (l : InstanceLog) → AgreesServices v.instance.services i l → IsStill v.instance.services → OfDesk i l IsIdle
-  pub advanced : (i : Instance) (l : InstanceLog) (living : Living) → AgreesServices v.instance.services i l → IsStill v.instance.services → IsLiving i l living → (target : ℕ) → HasTarget living target → ⊥
-  pub childless : IsUnborn v.instance.services
-  pub left : (i : Instance) (l : InstanceLog) → AgreesServices v.instance.services i l → IsStill v.instance.services → (by : By) → IsSome (i.asks by) → i.asks by ≢ Some rules.Shutdown → rules.IsOpen by l → IsSome (awaited v.instance.services.jobs by)
+  pub advanced : (i : Instance) (l : InstanceLog) (living : Living) → AgreesServices v.instance.services i l → IsStill v.instance.services → targets_left v.instance ≡ [] → IsLiving i l living → (target : ℕ) → HasTarget living target → ⊥
+  pub left : (i : Instance) (l : InstanceLog) → AgreesServices v.instance.services i l → IsStill v.instance.services → targets_left v.instance ≡ [] → (by : By) → IsSome (i.asks by) → i.asks by ≢ Some rules.Shutdown → rules.IsOpen by l → IsSome (awaited v.instance.services.jobs by)
   pub results : (i : Instance) (l : InstanceLog) (living : Living) → AgreesServices v.instance.services i l → IsLiving i l living → (by : By) (where_ : State) → awaited v.instance.services.jobs by ≡ Some where_ → IsLeftResult living by where_
 
 module _ (v : Own) (h : DoesAgree v) (rest : CanDoNothing v.instance) (promise : IsStillSo v) where
   still_here : IsStill v.instance.services
-  still_here = still_so v h promise.childless rest
+  still_here = still_so v h rest
 
   pub quiet_so : IsQuiet (setting_of v.set) (log_of v.set.work top v.chronicle)
   quiet_so = subst (IsQuiet (setting_of v.set)) (served_log v.set.work v.chronicle) (promise.quiet (instance_of v.set) (log_in v.set.work v.chronicle) h.agrees still_here)
@@ -560,12 +564,12 @@ module _ (v : Own) (h : DoesAgree v) (rest : CanDoNothing v.instance) (promise :
       (promise.idle (instance_of v.set) (log_in v.set.work v.chronicle) h.agrees still_here)
 
   -- and no advance waits
-  pub advanced_so : HasNoAdvance v.set v.chronicle
-  advanced_so = no_advance_left v.set v.chronicle (λ living is. promise.advanced (instance_of v.set) (log_in v.set.work v.chronicle) living h.agrees still_here is)
+  pub advanced_so : targets_left v.instance ≡ [] → HasNoAdvance v.set v.chronicle
+  advanced_so late = no_advance_left v.set v.chronicle (λ living is. promise.advanced (instance_of v.set) (log_in v.set.work v.chronicle) living h.agrees still_here late is)
 
   -- the job commands that are open wait for results
-  pub results_so : AreResults v h
-  results_so by asks waits = on (awaited v.instance.services.jobs by) refl (promise.left (instance_of v.set) (log_in v.set.work v.chronicle) h.agrees still_here by asks (no_shutdown v.set.work h.known by) waits)
+  pub results_so : targets_left v.instance ≡ [] → AreResults v h
+  results_so late by asks waits = on (awaited v.instance.services.jobs by) refl (promise.left (instance_of v.set) (log_in v.set.work v.chronicle) h.agrees still_here late by asks (no_shutdown v.set.work h.known by) waits)
     where
       on : (o : Option State) → awaited v.instance.services.jobs by ≡ o → IsSome o → IsStuckResult v by
       on None e some = absurd (true≢false (sym some))

@@ -148,13 +148,13 @@ module _ (v : Own) (h : DoesAgree v) (over : IsOver v.set.work.lines v.instance)
   whole = told ++ entry.Closed ∷ []
 
   rest : CanDoNothing v.instance
-  rest = record { steps = over.steps; answers = over.answers; posts = over.posts; ticks = over.ticks }
+  rest = record { steps = over.steps; answers = over.answers; due = over.due }
 
   quiet : IsQuiet (setting_of v.set) log
   quiet = quiet_so v h rest promise
 
   results : AreResults v h
-  results = results_so v h rest promise
+  results = results_so v h rest promise over.targets
 
   ends : (a : ℕ) → IsDone v a ⊎ IsLeft v a
   ends a = left_of v h over quiet results a
@@ -661,7 +661,7 @@ module _ (v : Own) (h : DoesAgree v) (over : IsOver v.set.work.lines v.instance)
     answered = λ by some. replied_once by some;
     no_other = λ by none. not_replied by none;
     rests = rests_at_end v.set v.chronicle left closing_all (rest_so v h rest promise);
-    advanced = advanced_at_end v.set v.chronicle left closing_all (advanced_so v h rest promise);
+    advanced = advanced_at_end v.set v.chronicle left closing_all (advanced_so v h rest promise over.targets);
   }
 
   pub close_ends : Ends v.set v.chronicle left

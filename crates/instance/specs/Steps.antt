@@ -1,5 +1,5 @@
 -- Which steps an instance can make.
-use Rattle.std.specs.Prelude.{◌≡◌, ℕ, ◌&&◌, nat_lt, Bool, false, List, is_some, length, slice_get}
+use Rattle.std.specs.Prelude.{◌≡◌, ℕ, ◌&&◌, nat_lt, Bool, false, List, [], is_some, length, slice_get}
 use Rattle.std.specs.Option.{option_map_or}
 use Rattle.kvs_rules.specs.declared.events.KvsStep.{KvsStep}
 use Rattle.job_service.specs.Still.{can_tick as jobs_can_tick}
@@ -9,6 +9,7 @@ use Rattle.workload.specs.declared.work.Line.{Line}
 use Rattle.answers.specs.declared.steps.Step.{Step}
 use Rattle.answers.specs.declared.steps.Step.TheVariants as step
 use Rattle.instance.specs.declared.seats.Seat.{Seat}
+use Rattle.instance.specs.Family.{is_due, targets_left}
 use Rattle.instance.specs.Seats.{is_free, last_command, has_come}
 use Rattle.instance.specs.Value.{InstanceValue}
 
@@ -42,19 +43,19 @@ can_post v = is_some v.services.jobs.found
 abbrev pub can_tick : InstanceValue → Bool
 can_tick v = jobs_can_tick v.services.jobs
 
--- nothing can be made but an issue and the end
+-- no step of the services and no reply can be made, and nothing is posted or due: an issue, the end
+-- or the time goes on
 pub record IsAtRest (v : InstanceValue) : Type 0 where
   pub steps : (s : KvsStep) → can_step v.services s ≡ false
   pub answers : (actor : ℕ) → can_answer v actor ≡ false
-  pub posts : can_post v ≡ false
-  pub ticks : can_tick v ≡ false
+  pub due : is_due v ≡ false
 
--- nothing can happen but the end
+-- nothing can happen but the end: no advance waits for a later second, and nothing is to be issued
 pub record IsOver (lines : List Line) (v : InstanceValue) : Type 0 where
   pub steps : (s : KvsStep) → can_step v.services s ≡ false
   pub answers : (actor : ℕ) → can_answer v actor ≡ false
-  pub posts : can_post v ≡ false
-  pub ticks : can_tick v ≡ false
+  pub due : is_due v ≡ false
+  pub targets : targets_left v ≡ []
   pub issues : (actor : ℕ) → can_issue lines v actor ≡ false
 
 -- the step issues a command

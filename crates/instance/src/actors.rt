@@ -18,6 +18,7 @@ ghost use Rattle.services.specs.Steps.{can_step};
 ghost use Rattle.instance.specs.declared.seats.Seat.{Seat as SeatValue};
 ghost use Rattle.instance.specs.Agrees.{AgreesOwn, AreLinesOf};
 ghost use Rattle.instance.specs.Closings.{closings, numbers_in};
+ghost use Rattle.instance.specs.Family.{is_due, targets_left};
 ghost use Rattle.instance.specs.First.{AreFirstSeats};
 ghost use Rattle.instance.specs.Floors.{floor_in, risen_in};
 ghost use Rattle.instance.specs.Makes.{Ends, Makes, MakesOf};
@@ -376,10 +377,12 @@ impl Instance {
         self.services.jobs().can_post()
     }
 
-    /// Whether time can go on.
+    /// Whether time can go on. Where it can't and nothing is posted or due, no advance waits for a
+    /// later second.
     pub fn can_tick(&self) -> bool
         requires { self.now.spent ≡ false }
-        ensures { result ≡ can_tick self.now }
+        ensures exact { result ≡ can_tick self.now }
+        ensures up { result ≡ false → is_due self.now ≡ false → targets_left self.now ≡ [] }
     {
         self.services.jobs().next_second().is_some()
     }
@@ -440,8 +443,8 @@ impl Instance {
     }
 
     /// What the commands that didn't finish are told at the end, by actor, of the workload with
-    /// these lines. Where no step can be made, these replies and the end make each chronicle whole
-    /// that agrees.
+    /// these lines. Where nothing but the end can happen, these replies and the end make each
+    /// chronicle whole that agrees.
     pub fn closings(&self, lines: &[Line]) -> Result<Chronicle, AllocError>
         requires ready { self.now.spent ≡ false }
         requires lines { AreLinesOf self.now lines.now }
@@ -463,12 +466,17 @@ impl Instance {
         close_off(self.alloc, core, jobs, lines, &self.seats)
     }
 
-    /// Where nothing but an issue or the end can be made, the instance has come to rest: all its
-    /// brokers are told, and nothing is due.
+    /// Where no step of the services and no reply can be made and nothing is posted or due, the
+    /// instance has come to rest: all its brokers are told, and nothing is due by its chronicle. As
+    /// long as no line begins an instance, nothing is due once nothing is to be posted.
     pub fn still(&self)
         requires { self.now.spent ≡ false }
         ensures rests { (set : Setup) (own : List EntryValue) → AgreesOwn self.now set own
             → IsAtRest self.now → HasComeToRest set own }
+        ensures childless { (set : Setup) (own : List EntryValue) → AgreesOwn self.now set own
+            → ((step : KvsStep) → can_step self.now.services step ≡ false)
+            → ((actor : ℕ) → can_answer self.now actor ≡ false)
+            → can_post self.now ≡ false → is_due self.now ≡ false }
     {
         self.services.still();
     }

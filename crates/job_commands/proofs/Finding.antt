@@ -1,10 +1,11 @@
 -- The jobs that labels name, as the table of labels is seen.
-use Rattle.std.proofs.Common.{◌≡◌, ℕ, Bool, true, false, cond, List, [], ◌∷◌, Option, Some, refl, sym, ap, ◌∙◌, subst, true≢false, bytes_eq}
-use Rattle.std.specs.Map.{lookup}
+use Rattle.std.proofs.Common.{◌≡◌, ◌≢◌, ℕ, ◌||◌, Bool, true, false, cond, List, [], ◌∷◌, Option, Some, refl, sym, ap, ◌∙◌, subst, true≢false, bytes_eq}
+use Rattle.std.specs.List.{list_any}
+use Rattle.std.specs.Map.{keys_of, lookup}
 use Rattle.std.specs.Global.{Vec}
 use Rattle.std.specs.Cmp.Lexicographic.{bytes_decides}
 use Rattle.indexmap.specs.IndexMap.{insert_entry}
-use Rattle.job_commands.specs.Rows.{job_at}
+use Rattle.job_commands.specs.Rows.{Labels, job_at}
 use Rattle.job_commands.specs.Shown.{shown}
 
 abbrev pub Table : Type 0
@@ -64,3 +65,30 @@ lookup_put label (e ∷ es) key id = at (bytes_eq key.items e.0.items) refl (loo
     at false t more =
         ap (cond (bytes_eq label e.0.items) (Some e.1)) more
         ∙ passed label key.items e.0.items id e.1 (job_at label (shown es)) t
+
+-- ---- a label of a job
+
+-- each label that names the job is among these
+abbrev pub AreLeft : Labels → ℕ → List (Vec ℕ) → Type 0
+AreLeft labels id left = (label : List ℕ) → job_at label labels ≡ Some id → list_any (λ k. bytes_eq label k.items) left ≡ true
+
+pub all_left : (es : Table) (id : ℕ) → AreLeft (shown es) id (keys_of es)
+all_left [] id label e = cc
+all_left (x ∷ es) id label e = at (bytes_eq label x.0.items) e (all_left es id label)
+  where
+    at : (b : Bool) → cond b (Some x.1) (job_at label (shown es)) ≡ Some id → (job_at label (shown es) ≡ Some id → list_any (λ k. bytes_eq label k.items) (keys_of es) ≡ true)
+        → (b || list_any (λ k. bytes_eq label k.items) (keys_of es)) ≡ true
+    at true e more = refl
+    at false e more = more e
+
+pub left_on : (labels : Labels) (id : ℕ) (x : Vec ℕ) (rest : List (Vec ℕ)) → job_at x.items labels ≢ Some id → AreLeft labels id (x ∷ rest) → AreLeft labels id rest
+left_on labels id x rest apart left label e = at (bytes_eq label x.items) refl (left label e)
+  where
+    at : (b : Bool) → bytes_eq label x.items ≡ b → (b || list_any (λ k. bytes_eq label k.items) rest) ≡ true → list_any (λ k. bytes_eq label k.items) rest ≡ true
+    at true same more = absurd (apart (subst (λ l. job_at l labels ≡ Some id) (bytes_same label x.items same) e))
+    at false other more = more
+
+pub none_left : (labels : Labels) (id : ℕ) (rest : List (Vec ℕ)) → rest ≡ [] → AreLeft labels id rest → (label : List ℕ) → job_at label labels ≢ Some id
+none_left labels id rest none left label e =
+    let some : false ≡ true = subst (λ r. list_any (λ k. bytes_eq label k.items) r ≡ true) none (left label e) in
+    true≢false (sym some)

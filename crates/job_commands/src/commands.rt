@@ -190,7 +190,7 @@ impl Commands {
     }
 
     /// The label under which a command submits a job, if it does.
-    fn label_of(&self, by: By) -> Result<Option<Bytes>, AllocError>
+    fn label_asked(&self, by: By) -> Result<Option<Bytes>, AllocError>
         ensures { IfOk result (λ label. label
             ≡ option_and_then (λ row. submitted_label row.ask)
             (find (is_of by) self.now.rows)) }
@@ -218,7 +218,7 @@ impl Commands {
         ensures children { OnOk result (self.new.children ≡ self.old.children) }
         ensures kept { OnErr result (self.new ≡ self.old) }
     {
-        let label = self.label_of(by)?;
+        let label = self.label_asked(by)?;
         self.labels.name(label, id)?;
         carry(&mut self.rows, by, number);
         Ok(())
@@ -262,6 +262,17 @@ impl Commands {
             → (result ≡ Some id) ↔ Names inst log label.now id }
     {
         self.labels.get(label)
+    }
+
+    /// A label that names a job, if one does.
+    pub fn label_of(&self, job: u64) -> Option<&[u8]>
+        ensures named { IfSome result (λ label. job_at label.now self.now.labels ≡ Some job) }
+        ensures unnamed { IfNone result ((label : List ℕ)
+            → job_at label self.now.labels ≢ Some job) }
+        ensures names { IfSome result (λ label. (inst : Instance) (log : Log)
+            → AgreesCommands self.now inst log → Names inst log label.now job) }
+    {
+        self.labels.of(job)
     }
 
     /// The rows of the open commands.

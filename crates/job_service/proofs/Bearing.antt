@@ -1,5 +1,5 @@
 -- Which births and ends are due by the log, and the grants of children.
-use Rattle.std.proofs.Common.{◌≡◌, ℕ, ◌==◌, ◌||◌, ◌⊎◌, inl, inr, List, [], ◌∷◌, Bool, true, false, cond, Option, Some, None, Contains, refl, sym, ap, ◌∙◌, subst, true≢false}
+use Rattle.std.proofs.Common.{◌≡◌, ◌≢◌, ℕ, ◌≤◌, ◌==◌, ◌||◌, ◌⊎◌, inl, inr, List, [], ◌∷◌, Bool, true, false, cond, Option, Some, None, Contains, refl, sym, ap, ◌∙◌, subst, arith, length, true≢false}
 use Rattle.std.specs.Prelude.{IfNone, IfSome, IsSome, IsTrue, is_some, not, option_and_then}
 use Rattle.std.specs.List.{AllByRecursion as Each}
 use Rattle.std.specs.Option.{option_map_or}
@@ -9,7 +9,7 @@ use Rattle.instance_rules.specs.Desks.{IsDeskOf}
 use Rattle.instance_rules.specs.Legal.{IsLegalMoment, OfDesk}
 use Rattle.instance_rules.specs.Log.{Born, Gone, Instance, Log, service_of}
 use Rattle.job_book.proofs.Whys.{found_job}
-use Rattle.job_book.specs.Contract.{BirthIn, IsFirstBirth as IsFirstIn, NoBirth as NoneIn, r_at}
+use Rattle.job_book.specs.Contract.{BirthIn, IsFirstBirth as IsFirstIn, IsKept, NoBirth as NoneIn, r_at}
 use Rattle.job_clock.proofs.Bearing.{no_births}
 use Rattle.job_clock.proofs.Standing.{jobs_same, of_desk}
 use Rattle.job_clock.specs.Children.{AreChildless}
@@ -18,17 +18,21 @@ use Rattle.job_commands.proofs.Children.{living_told}
 use Rattle.job_commands.proofs.Desks.{children_alone, children_stand}
 use Rattle.job_commands.specs.Children.{all_children}
 use Rattle.job_commands.specs.Desks.{asked_of, desk_of}
-use Rattle.job_commands.specs.Rows.{CommandsValue}
+use Rattle.job_commands.specs.Rows.{CommandsValue, job_at as job_named}
 use Rattle.job_book.specs.Value.{BookValue}
 use Rattle.job_manager.specs.Managed.{IsManaged}
 use Rattle.job_manager.specs.Posts.{is_posted_for}
 use Rattle.job_manager.specs.Value.{ManagerValue}
-use Rattle.job_rules.proofs.Among.{Among, among_from, contains_from, distinct_rising, each_at, each_from, same_image}
+use Rattle.job_rules.proofs.Among.{Among, among_from, among_mapped, contains_from, distinct_rising, each_at, each_from, same_image}
 use Rattle.job_states.specs.Table.{is_state}
 use Rattle.job_states.specs.declared.job.State.{State}
 use Rattle.job_states.specs.declared.job.State.TheVariants as state
 use Rattle.kvs_core.specs.Posted.{newest_of}
 use Rattle.kvs_rules.specs.Namespaces.{newest_store, primary}
+use Rattle.job_rules.specs.Fits.{IsUnitSet, Satisfies, SatisfiesAs}
+use Rattle.job_spec.specs.Sound.{IsCount, IsSpec}
+use Rattle.job_spec.specs.declared.spec.JobSpec.{JobSpec}
+use Rattle.job_submissions.specs.Made.{AreLabelled}
 use Rattle.manager_rules.specs.Dependencies.{job_at}
 use Rattle.manager_rules.specs.Due.{IsEnding}
 use Rattle.manager_rules.specs.Jobs.{StoredJob, ids_of, is_live}
@@ -39,12 +43,27 @@ use Rattle.manager_rules.specs.Scene.{has_living_child}
 use Rattle.manager_rules.specs.Times.{IsBirthDue, IsEndDue}
 use Rattle.manager_rules.specs.declared.asked.Asked.{Asked}
 use Rattle.manager_rules.specs.declared.asked.Asked.TheVariants as asked
-use Rattle.resource_set.specs.Units.{units_of}
+use Rattle.resource_set.specs.declared.node.Node.{Node}
 use Rattle.resource_set.specs.declared.node.Resources.{Resources}
 use Rattle.job_service.specs.Agrees.{AgreesJobs}
-use Rattle.job_service.specs.Children.{IsBearing, IsFirstBirth, IsGrantedBy, NoBirth, is_end_due, is_ending, may_end}
+use Rattle.job_service.specs.Children.{IsBearing, IsFirstBirth, IsGrantedBy, NoBirth, grant_from, is_end_due, is_ending, may_end}
 use Rattle.job_service.specs.Value.{JobServiceValue}
 use Rattle.job_service.proofs.Running.{running_is_live}
+
+-- ---- what a job holds
+
+-- what satisfies a job has a host
+some_hosts : (count : Option ℕ) (spec : JobSpec) (grant nodes : List Node) → IfSome count IsCount → 1 ≤ spec.slots → SatisfiesAs count spec grant nodes → 1 ≤ length nodes
+some_hosts None spec grant [] few slots none = (let zero : spec.slots ≡ 0 = none in absurd (omega (arith, slots, zero)))
+some_hosts None spec grant (node ∷ nodes) few slots h = omega arith
+some_hosts (Some count) spec grant nodes few slots h = (let same : length nodes ≡ count = h.0 in let low : 1 ≤ count = few.0 in omega (arith, same, low))
+
+held_hosts : (book : BookValue) → IsKept book → (j : StoredJob) (r : Resources) → Among j book.jobs → j.r ≡ Some r → 1 ≤ length r.nodes
+held_hosts book kept j r i e =
+    let spec = each_at (λ k. IsSpec k.spec) book.jobs j kept.specs i in
+    let served = each_at (IsServed book.grant.nodes) book.jobs j kept.sound.served i in
+    let fits : IfSome (Some r) (λ r. IsUnitSet r.nodes × Satisfies j.spec book.grant.nodes r.nodes) = subst (λ o. IfSome o (λ r. IsUnitSet r.nodes × Satisfies j.spec book.grant.nodes r.nodes)) e served.satisfied in
+    some_hosts j.spec.nodes j.spec book.grant.nodes r.nodes spec.nodes spec.slots.0 fits.1
 
 -- ---- jobs by id
 
@@ -208,8 +227,8 @@ module _ (v : JobServiceValue) (inst : Instance) (log : Log) (a : AgreesJobs v i
 
     -- ---- grants
 
-    granted : (job : ℕ) (j : StoredJob) (r grant : Resources) → job_at jobs job ≡ Some j → j.r ≡ Some r → units_of grant.nodes ≡ units_of r.nodes → IsGrantedBy inst log job grant
-    granted job j r grant f held units =
+    granted : IsKept v.manager.book → (job : ℕ) (j : StoredJob) (r grant : Resources) → job_at jobs job ≡ Some j → j.r ≡ Some r → grant ≡ grant_from r → IsGrantedBy inst log job grant
+    granted kept job j r grant f held given =
         let there = found_job jobs job j f in
         record {
           store = newest_of v.manager.core;
@@ -221,15 +240,16 @@ module _ (v : JobServiceValue) (inst : Instance) (log : Log) (a : AgreesJobs v i
           is = there.1;
           r = r;
           held = held;
-          units = units;
+          some = held_hosts v.manager.book kept j r there.0 held;
+          given = given;
         }
 
-    pub granted_of : (job : ℕ) (r grant : Resources) → r_at jobs job ≡ Some r → units_of grant.nodes ≡ units_of r.nodes → IsGrantedBy inst log job grant
-    granted_of job r grant held units = at (job_at jobs job) refl
+    pub granted_of : IsKept v.manager.book → (job : ℕ) (r grant : Resources) → r_at jobs job ≡ Some r → grant ≡ grant_from r → IsGrantedBy inst log job grant
+    granted_of kept job r grant held given = at (job_at jobs job) refl
       where
         at : (o : Option StoredJob) → job_at jobs job ≡ o → IsGrantedBy inst log job grant
         at None f = absurd (let wrong : None ≡ Some r = sym (ap (option_and_then (λ k. k.r)) f) ∙ held in cc)
-        at (Some j) f = granted job j r grant f (sym (ap (option_and_then (λ k. k.r)) f) ∙ held) units
+        at (Some j) f = granted kept job j r grant f (sym (ap (option_and_then (λ k. k.r)) f) ∙ held) given
 
 -- where a job holds nothing, it isn't live
 pub none_held : (jobs : List StoredJob) → IsStrictlyIncreasing (ids_of jobs) → Each (λ j. is_live j.job ≡ true → IsSome j.r) jobs → (job : ℕ) → r_at jobs job ≡ None → (j : StoredJob) → Contains jobs j → j.id ≡ job → is_live j.job ≡ false
@@ -266,7 +286,19 @@ pub childless_bears : (v : CommandsValue) (book : BookValue) (bearing : Option �
 childless_bears v book None none h = refl
 childless_bears v book (Some job) none h = absurd (no_births _ none job h.0)
 
+-- a job whose child is to be born has a label
+pub bearing_named : (v : CommandsValue) (book : BookValue) (job : ℕ) → IsBearing v book (Some job) → AreLabelled v.labels book.jobs → ((label : List ℕ) → job_named label v.labels ≢ Some job) → ⊥
+bearing_named v book job h labelled none =
+    let b = h.0 in
+    let here : Contains (ids_of book.jobs) job = subst (Contains (ids_of book.jobs)) b.named (contains_from (ids_of book.jobs) b.j.id (among_mapped (λ j. j.id) book.jobs b.j (among_from book.jobs b.j b.known))) in
+    let l = labelled job here in
+    none l.0 l.1
+
 -- ---- what may be there
+
+pub some_unless : {A : Type 0} {P : Type 0} (o : Option A) → IfNone o P → (P → ⊥) → IsSome o
+some_unless None h not_so = absurd (not_so h)
+some_unless (Some x) h not_so = refl
 
 pub some_found : {A : Type 0} {P : A → Type 0} (o : Option A) → ((x : A) → o ≡ Some x → P x) → IfSome o P
 some_found None h = tt

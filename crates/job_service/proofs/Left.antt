@@ -54,11 +54,13 @@ use Rattle.job_service.specs.Judged.{CanBeMade, WasRefused}
 use Rattle.job_service.specs.Refusals.{fault_for, is_refusal_of, row_in}
 use Rattle.job_service.specs.Replies.{is_ready_in, is_undone}
 use Rattle.job_service.specs.Still.{IsStill, awaited, awaited_by, unless_over}
+use Rattle.job_service.specs.Times.{targets_left}
 use Rattle.job_service.specs.Value.{JobServiceValue}
 use Rattle.job_service.specs.View.{IsFit}
 use Rattle.job_submissions.specs.Made.{Submits}
 use Rattle.job_service.proofs.Calls.{rank_within}
-use Rattle.job_service.proofs.Resting.{IsNamedBy, job_named, late_still}
+use Rattle.job_service.proofs.Resting.{IsNamedBy, all_reached, job_named}
+use Rattle.job_service.proofs.Ticking.{free_parts}
 
 -- ---- numbers of landings
 
@@ -140,7 +142,10 @@ unanswered labels jobs x label e = at (job_in labels jobs label) refl e
 still_over : (s : State) → is_inactive s ≡ false → IsSome (unless_over s)
 still_over s e = subst (λ b. IsSome (cond b None (Some s))) (sym e) refl
 
-module _ (v : JobServiceValue) (i : IsFit v) (inst : Instance) (log : Log) (a : AgreesJobs v inst log) (still : IsStill v) (unposted : v.manager.posted ≡ None) where
+module _ (v : JobServiceValue) (i : IsFit v) (inst : Instance) (log : Log) (a : AgreesJobs v inst log) (still : IsStill v) (late : targets_left v ≡ []) where
+  unposted : v.manager.posted ≡ None
+  unposted = (free_parts v still.due).0
+
   abbrev labels : Labels
   labels = v.commands.labels
 
@@ -152,7 +157,7 @@ module _ (v : JobServiceValue) (i : IsFit v) (inst : Instance) (log : Log) (a : 
 
   nothing : IsFound v.commands v.manager.book v.second v.birth None
   nothing =
-      subst (λ f. IsFoundBeside None v.commands v.manager.book v.second v.birth f) still.unfound
+      subst (λ f. IsFoundBeside None v.commands v.manager.book v.second v.birth f) (free_parts v still.due).1
       (subst (λ p. IsFoundBeside p v.commands v.manager.book v.second v.birth v.found) unposted i.sought)
 
   none_due : (j : StoredJob) → Contains jobs j → (deed : Deed) → MayDo scene j deed → ⊥
@@ -208,7 +213,7 @@ module _ (v : JobServiceValue) (i : IsFit v) (inst : Instance) (log : Log) (a : 
         subst (λ o. IsSome (option_and_then unless_over (option_map (λ j. j.job.state) o))) (sym u.there) (still_over u.j.job.state u.fails)
     waiting_left row known (ask.Advance seconds) e w unrefused unready =
         let target : Contains (targets_of v.commands) (row.issued + seconds) = target_of_row v.commands row (row.issued + seconds) (among_from v.commands.rows row known) (target_is row seconds e w) in
-        let low : row.issued + seconds ≤ v.second = all_at (λ t. t ≤ v.second) (targets_of v.commands) (row.issued + seconds) (late_still v still unposted) (among_from (targets_of v.commands) (row.issued + seconds) target) in
+        let low : row.issued + seconds ≤ v.second = all_at (λ t. t ≤ v.second) (targets_of v.commands) (row.issued + seconds) (all_reached v late) (among_from (targets_of v.commands) (row.issued + seconds) target) in
         absurd (true≢false (sym (and_from (nat_le row.issued v.second) (nat_le seconds (v.second - row.issued)) (le-leb row.issued v.second (omega (arith, low))) (le-leb seconds (v.second - row.issued) (omega (arith, low)))) ∙ unready))
 
     -- what a landing has carried out

@@ -1,7 +1,7 @@
 -- A job service in which nothing can go on.
 use Rattle.std.proofs.Common.{◌≡◌, ℕ, ◌≤◌, List, [], ◌∷◌, Bool, true, false, ◌&&◌, ◌||◌, not, Option, Some, None, Contains, cond, refl, sym, ap, ◌∙◌, subst, arith, true≢false}
-use Rattle.std.specs.Prelude.{All, IfNone, IfSome, is_some, nat_lt, option_and_then, option_map}
-use Rattle.std.specs.List.{list_any}
+use Rattle.std.specs.Prelude.{All, IfNone, IfSome, filter, is_some, nat_lt, option_and_then, option_map}
+use Rattle.std.specs.List.{AllByRecursion as Each, list_any}
 use Rattle.std.proofs.lemmas.Bool.{false_from_ne_true, lt-ltb, ltb-false, ltb-true}
 use Rattle.instance_rules.specs.Family.{IsLeftResult, Living}
 use Rattle.instance_rules.specs.Log.{Instance, IsOpen, Log, service_of}
@@ -19,7 +19,7 @@ use Rattle.job_commands.specs.declared.row.Row.{Row}
 use Rattle.job_manager.specs.Managed.{IsManaged, IsOutstanding}
 use Rattle.job_manager.specs.Value.{ManagerValue}
 use Rattle.job_replies.specs.Ready.{is_inactive, job_in, state_in}
-use Rattle.job_rules.proofs.Among.{Among, all_at, all_from, among_from, any_at, any_from, contains_from}
+use Rattle.job_rules.proofs.Among.{Among, all_at, all_from, among_from, among_kept, any_at, any_from, contains_from, each_from}
 use Rattle.job_states.specs.declared.job.State.{State}
 use Rattle.kvs_core.specs.Posted.{newest_of, posted}
 use Rattle.kvs_rules.specs.Namespaces.{newest_store, primary}
@@ -28,7 +28,8 @@ use Rattle.manager_rules.specs.Dependencies.{job_at as stored_at}
 use Rattle.manager_rules.specs.Jobs.{StoredJob}
 use Rattle.job_service.specs.Children.{is_due}
 use Rattle.job_service.specs.Refusals.{row_in}
-use Rattle.job_service.specs.Still.{IsStill, awaited, awaited_by, can_tick, unless_over}
+use Rattle.job_service.specs.Still.{awaited, awaited_by, can_tick, unless_over}
+use Rattle.job_service.specs.Times.{IsTimeUp, targets_left}
 use Rattle.job_service.specs.Value.{JobServiceValue}
 
 -- ---- time
@@ -36,10 +37,6 @@ use Rattle.job_service.specs.Value.{JobServiceValue}
 -- whether a later second is waited for
 abbrev waits_later : ℕ → List ℕ → Bool
 waits_later now targets = list_any (λ target. nat_lt now target) targets
-
-none_later : (now : ℕ) (targets : List ℕ) → waits_later now targets ≡ false → All (λ target. target ≤ now) targets
-none_later now targets none =
-    all_from (λ target. target ≤ now) targets (λ target i. ltb-false now target (false_from_ne_true (nat_lt now target) (λ later. true≢false (sym (any_at (λ t. nat_lt now t) targets target i later) ∙ none))))
 
 next_later : (now : ℕ) (targets ends : List ℕ) (o : Option ℕ) → IfSome o (λ second. IsNextTick targets ends now second) → IfNone o (All (λ target. target ≤ now) targets) → is_some o ≡ waits_later now targets
 next_later now targets ends (Some second) some none = sym (any_at (λ t. nat_lt now t) targets some.target (among_from targets some.target some.wanted) (lt-ltb now some.target some.unreached))
@@ -75,10 +72,25 @@ unposted_still m managed none = at m.posted refl managed.outstanding
     at None e h = e
     at (Some post) e h = absurd (let wrong : _ ∷ [] ≡ [] = sym h.0 ∙ none in cc)
 
-pub late_still : (v : JobServiceValue) → IsStill v → v.manager.posted ≡ None → All (λ target. target ≤ v.second) (targets_of v.commands)
-late_still v still unposted =
-    let later = waits_later v.second (targets_of v.commands) in
-    none_later v.second (targets_of v.commands) (sym (free_tick (is_due v) later (none_now v unposted still.unfound still.unborn)) ∙ still.late)
+-- ---- no target is left
+
+none_ahead : (now : ℕ) (targets : List ℕ) → Each (λ target. target ≤ now) targets → filter (λ target. nat_lt now target) targets ≡ []
+none_ahead now [] low = refl
+none_ahead now (target ∷ targets) low = at (nat_lt now target) refl (none_ahead now targets low.1)
+  where
+    at : (b : Bool) → nat_lt now target ≡ b → filter (λ t. nat_lt now t) targets ≡ [] → cond b (target ∷ filter (λ t. nat_lt now t) targets) (filter (λ t. nat_lt now t) targets) ≡ []
+    at true later none = (let above = ltb-true now target later in let reached : target ≤ now = low.0 in absurd (omega (arith, above, reached)))
+    at false later none = none
+
+-- where the next second isn't there, time is up
+pub time_up : (v : JobServiceValue) (o : Option ℕ) → IfNone o (All (λ target. target ≤ v.second) (targets_of v.commands)) → IfNone o (IsTimeUp v)
+time_up v None low = λ free. none_ahead v.second (targets_of v.commands) (each_from (λ target. target ≤ v.second) (targets_of v.commands) (λ target i. all_at (λ t. t ≤ v.second) (targets_of v.commands) target low i))
+time_up v (Some second) low = tt
+
+pub all_reached : (v : JobServiceValue) → targets_left v ≡ [] → All (λ target. target ≤ v.second) (targets_of v.commands)
+all_reached v none = all_from (λ target. target ≤ v.second) (targets_of v.commands) (λ target i. ltb-false v.second target (false_from_ne_true (nat_lt v.second target) (λ later.
+    let left = among_kept (λ t. nat_lt v.second t) (targets_of v.commands) target i later in
+    subst (Among target) none left)))
 
 -- ---- the job of a label
 

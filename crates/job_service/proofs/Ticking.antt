@@ -63,7 +63,7 @@ none_of : {A : Type 0} (o : Option A) → is_some o ≡ false → o ≡ None
 none_of None e = refl
 none_of (Some x) e = absurd (true≢false e)
 
-free_parts : (v : JobServiceValue) → is_due v ≡ false → (v.manager.posted ≡ None) × (v.found ≡ None) × (v.bearing ≡ None)
+pub free_parts : (v : JobServiceValue) → is_due v ≡ false → (v.manager.posted ≡ None) × (v.found ≡ None) × (v.bearing ≡ None)
 free_parts v free =
     let both = or_parts (is_some v.manager.posted || is_some v.found) (is_some v.bearing) free in
     let two = or_parts (is_some v.manager.posted) (is_some v.found) both.0 in

@@ -1,11 +1,10 @@
 -- The children of an instance's jobs: which is born next and with which grant, and which may go.
-use Rattle.std.specs.Prelude.{◌≡◌, ◌||◌, ◌&&◌, ◌≤◌, ℕ, List, Bool, false, Option, Some, None, Contains, is_some, not}
+use Rattle.std.specs.Prelude.{◌≡◌, ◌||◌, ◌&&◌, ◌≤◌, ℕ, List, Bool, false, Option, Some, None, Contains, is_some, length, not}
 use Rattle.std.specs.Option.{option_map_or}
 use Rattle.child_grant.specs.Child.{numbered}
 use Rattle.instance_rules.specs.Log.{Instance, Log, service_of}
 use Rattle.kvs_model.specs.Store.{Store}
 use Rattle.kvs_rules.specs.Namespaces.{newest_store, primary}
-use Rattle.resource_set.specs.Units.{units_of}
 use Rattle.resource_set.specs.declared.node.Resources.{Resources}
 use Rattle.job_book.specs.Contract.{IsFirstBirth as IsFirstIn, NoBirth as NoneIn}
 use Rattle.job_book.specs.Value.{BookValue}
@@ -62,7 +61,7 @@ is_due v = (is_some v.manager.posted || is_some v.found) || is_some v.bearing
 abbrev pub grant_from : Resources → Resources
 grant_from r = record r { nodes = numbered 0 r.nodes }
 
--- the grant has the units of the resources that the job holds in the newest store
+-- the grant is of the resources that the job holds in the newest store, and they have a host
 pub record IsGrantedBy (inst : Instance) (log : Log) (job : ℕ) (grant : Resources) : Type 0 where
   pub store : Store
   pub standing : newest_store inst.service (service_of log) primary ≡ Some store
@@ -73,4 +72,5 @@ pub record IsGrantedBy (inst : Instance) (log : Log) (job : ℕ) (grant : Resour
   pub is : j.id ≡ job
   pub r : Resources
   pub held : j.r ≡ Some r
-  pub units : units_of grant.nodes ≡ units_of r.nodes
+  pub some : 1 ≤ length r.nodes
+  pub given : grant ≡ grant_from r

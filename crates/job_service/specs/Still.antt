@@ -20,13 +20,11 @@ use Rattle.job_service.specs.Value.{JobServiceValue}
 abbrev pub can_tick : JobServiceValue → Bool
 can_tick v = not (is_due v) && list_any (λ target. nat_lt v.second target) (targets_of v.commands)
 
--- no step of the key-value service can be made and none of its answers waits, nothing is to be
--- posted, no child is to be born, time doesn't go on, and no job command can be told
+-- nothing but time can go on: no step of the key-value service can be made and none of its answers
+-- waits, nothing is posted or due, and no job command can be told
 pub record IsStill (v : JobServiceValue) : Type 0 where
   pub core : CoreIsStill v.manager.core
-  pub unfound : v.found ≡ None
-  pub unborn : v.bearing ≡ None
-  pub late : can_tick v ≡ false
+  pub due : is_due v ≡ false
   pub untold : (by : By) → can_reply v by ≡ false
 
 -- the state of a job that isn't over

@@ -1,5 +1,5 @@
 -- How far time goes on.
-use Rattle.std.specs.Prelude.{◌≡◌, ℕ, ◌+◌, ◌-◌, ◌≤◌, List, false, All, None, filter, max, nat_lt}
+use Rattle.std.specs.Prelude.{◌≡◌, ℕ, ◌+◌, ◌-◌, ◌≤◌, List, [], false, None, filter, max, nat_lt}
 use Rattle.job_book.specs.Contract.{seconds_left}
 use Rattle.job_clock.specs.Standing.{PassesNone}
 use Rattle.job_clock.specs.Targets.{IsNextTick, targets_of}
@@ -62,4 +62,4 @@ pub record CountsTo (second : ℕ) (old new : JobServiceValue) : Type 0 where
 
 -- something is posted or due, or no open advance waits for a later second
 abbrev pub IsTimeUp : JobServiceValue → Type 0
-IsTimeUp v = is_due v ≡ false → All (λ target. target ≤ v.second) (targets_of v.commands)
+IsTimeUp v = is_due v ≡ false → targets_left v ≡ []

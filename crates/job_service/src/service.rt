@@ -7,7 +7,7 @@ ghost use Rattle.instance_rules.specs.Legal.{IsLegalMoment, OfDesk};
 ghost use Rattle.job_commands.specs.Asks.{told};
 ghost use Rattle.job_replies.specs.Told.{MayTell};
 ghost use Rattle.job_rules.specs.Fits.{IsGrant};
-ghost use Rattle.kvs_core.specs.Steps.{can_step, can_take};
+ghost use Rattle.kvs_core.specs.Steps.{IsStill as CoreIsStill, can_step, can_take};
 ghost use Rattle.kvs_requests.specs.Rows.{IsKnownAsk};
 ghost use Rattle.kvs_rules.specs.Log.{Asked as AskedAt, Happened};
 ghost use Rattle.kvs_rules.specs.Quiet.{AreAllTold};
@@ -370,6 +370,7 @@ impl JobService {
     {
         self.manager.keeps();
         self.manager.core().standing();
+        self.manager.book().keeps();
         match self.manager.book().r(job) {
             Some(r) => Ok(Some(child(self.alloc, r)?)),
             None => Ok(None),
@@ -382,6 +383,16 @@ impl JobService {
             → (result ≡ Some id) ↔ Names inst log label.now id }
     {
         self.commands.job_of(label)
+    }
+
+    /// A label that names a job, which stands for each job whose child is to be born.
+    pub fn label_of(&self, job: u64) -> Option<&[u8]>
+        requires { self.now.spent ≡ false }
+        ensures bears { self.now.bearing ≡ Some job → IsSome result }
+        ensures names { IfSome result (λ label. (inst : Instance) (log : Log)
+            → AgreesJobs self.now inst log → Names inst log label.now job) }
+    {
+        self.commands.label_of(job)
     }
 
     /// Issues a job command at its broker. A submission is looked at once, here: where it is
@@ -458,6 +469,13 @@ impl JobService {
         self.manager.keeps();
         self.manager.core().standing();
         self.manager.is_waiting() || self.found.is_some() || self.bearing.is_some()
+    }
+
+    /// The present second.
+    pub fn second(&self) -> u64
+        ensures { result ≡ self.now.second }
+    {
+        self.second
     }
 
     /// The least second ahead that an open advance waits for. This takes no memory.
@@ -546,23 +564,26 @@ impl JobService {
         awaited(&self.commands, self.manager.book(), row)
     }
 
-    /// Where nothing can go on, nothing is due by the log of the instance and none of its advances
-    /// is left. Where all brokers are told besides, a job command that is left waits for the result
-    /// of a job that isn't over; shutdowns are another's. No child is to be born where no command
-    /// submits a job that begins an instance.
+    /// Where nothing but time can go on, nothing is due by the log of the instance. Where no target
+    /// is left besides, none of its advances is; and where all brokers are told, a job command that
+    /// is left waits for the result of a job that isn't over; shutdowns are another's. Where no
+    /// command submits a job that begins an instance, nothing is due once nothing is to be posted.
     pub fn still(&self)
         requires { self.now.spent ≡ false }
         ensures idle { (inst : Instance) (log : Log) → AgreesJobs self.now inst log
             → IsStill self.now → OfDesk inst log IsIdle }
         ensures advanced { (inst : Instance) (log : Log) (l : Living) → AgreesJobs self.now inst log
-            → IsStill self.now → IsLiving inst log l → (target : ℕ) → HasTarget l target → ⊥ }
+            → IsStill self.now → targets_left self.now ≡ []
+            → IsLiving inst log l → (target : ℕ) → HasTarget l target → ⊥ }
         ensures alone { (inst : Instance) (log : Log) (l : Living) → AgreesJobs self.now inst log
-            → IsStill self.now → IsTop inst log l
+            → IsStill self.now → targets_left self.now ≡ [] → IsTop inst log l
             → (target : ℕ) → IsTarget (l ∷ []) [] target → ⊥ }
         ensures childless { (inst : Instance) (log : Log) → AgreesJobs self.now inst log
-            → SubmitsNoChild inst → self.now.bearing ≡ None }
+            → SubmitsNoChild inst → CoreIsStill self.now.manager.core → self.now.found ≡ None
+            → is_due self.now ≡ false }
         ensures left { (inst : Instance) (log : Log) → AgreesJobs self.now inst log
-            → IsStill self.now → AreAllTold inst.service (service_of log) → (by : Command)
+            → IsStill self.now → targets_left self.now ≡ []
+            → AreAllTold inst.service (service_of log) → (by : Command)
             → IsSome (inst.asks by) → inst.asks by ≢ Some Shutdown → IsOpen by log
             → IsSome (awaited self.now by) }
         ensures results { (inst : Instance) (log : Log) (l : Living) → AgreesJobs self.now inst log

@@ -16,9 +16,9 @@ use Rattle.kvs_rules.specs.Log.{Log, Happened, before_asked, is_asked}
 use Rattle.kvs_rules.specs.Namespaces.{Setting, Request}
 use Rattle.kvs_rules.specs.Brokers.{IsContent, has_got, holds, parent}
 use Rattle.kvs_rules.specs.Answers.{HasGrounds, IsClash, IsLegalAfter, IsStoredAt}
-use Rattle.kvs_content.specs.declared.contents.Answer.{Answer}
-use Rattle.kvs_content.specs.declared.contents.Load.{Load}
-use Rattle.kvs_content.specs.declared.contents.Load.TheVariants as load
+use Rattle.kvs_content.specs.declared.outcomes.Answer.{Answer}
+use Rattle.kvs_content.specs.declared.outcomes.Load.{Load}
+use Rattle.kvs_content.specs.declared.outcomes.Load.TheVariants as load
 use Rattle.kvs_content.specs.declared.offers.Offer.{Offer}
 use Rattle.kvs_content.specs.declared.offers.OfferStage.{OfferStage}
 use Rattle.kvs_content.specs.declared.offers.OfferStage.TheVariants as offered

@@ -4,9 +4,9 @@ use Rattle.std.specs.List.{list_any}
 use Rattle.fl_digest.specs.declared.BlobRef.{BlobRef}
 use Rattle.kvs_txn.specs.declared.txn.By.{By}
 use Rattle.kvs_rules.specs.Log.{same_command}
-use Rattle.kvs_content.specs.declared.contents.Answer.{Answer}
-use Rattle.kvs_content.specs.declared.contents.Load.{Load}
-use Rattle.kvs_content.specs.declared.contents.Load.TheVariants as load
+use Rattle.kvs_content.specs.declared.outcomes.Answer.{Answer}
+use Rattle.kvs_content.specs.declared.outcomes.Load.{Load}
+use Rattle.kvs_content.specs.declared.outcomes.Load.TheVariants as load
 use Rattle.kvs_content.specs.Messages.{is_offer_of, is_offer_on, is_want_on}
 use Rattle.kvs_content.specs.Sound.{IsDirty}
 use Rattle.kvs_content.specs.Value.{ContentValue, size_of}

@@ -19,6 +19,7 @@ ghost use Rattle.kvs_content.specs.Agrees.{AgreesContent, Follows, FollowsAlways
 
 use crate::node::{Flush, KvsEvents, Node};
 use crate::offers::{Offer, OfferStage, first_offer, is_offered, settle};
+use crate::outcomes::{Answer, Delivery, Load, Loaded, Stored};
 use crate::wants::{Gift, Want, WantStage, bytes_of, first_want, is_waiting, is_wanted, toward};
 use blob_store::{BlobStore, PutFault};
 use fl_digest::{BlobRef, Hash};
@@ -53,41 +54,6 @@ impl Model for Contents {
       offers = c.offers.items;
       wants = c.wants.items;
     } };
-}
-
-/// What a store made: the reference of the bytes, and what happened.
-#[derive(Drop)]
-pub struct Stored {
-    pub reference: BlobRef,
-    pub events: KvsEvents,
-}
-
-/// What a load comes to: it waits for a delivery, or it is told bytes, or that rank 0 has none.
-#[derive(Drop)]
-pub enum Load {
-    Waits,
-    Told(Option<Bytes>),
-}
-
-/// What a load made.
-#[derive(Drop)]
-pub struct Loaded {
-    pub load: Load,
-    pub events: KvsEvents,
-}
-
-/// What a load is told that waited: bytes, or that rank 0 has none.
-#[derive(Drop)]
-pub struct Answer {
-    pub by: By,
-    pub bytes: Option<Bytes>,
-}
-
-/// What a delivery made.
-#[derive(Drop)]
-pub struct Delivery {
-    pub answer: Option<Answer>,
-    pub events: KvsEvents,
 }
 
 /// What became of a content that came to rank 0.

@@ -5,9 +5,11 @@
 mod contents;
 mod node;
 mod offers;
+mod outcomes;
 mod wants;
 
-pub use contents::{Answer, Contents, Delivery, Load, Loaded, Stored};
+pub use contents::Contents;
 pub use node::{Flush, KvsEvents, Node};
 pub use offers::{Offer, OfferStage};
+pub use outcomes::{Answer, Delivery, Load, Loaded, Stored};
 pub use wants::{Gift, Want, WantStage};

@@ -265,8 +265,8 @@ fn tick(service: &mut JobService) -> Result<(), Fail>
     Ok(())
 }
 
-/// The child of a job is born, if one is to be: whether it has a grant then, and whether it may go
-/// by its shutdown and without one.
+/// The child of a job is born, if one is to be: whether it has its label and a grant then, and
+/// whether it may go by its shutdown and without one.
 fn bear(alloc: Global, service: &mut JobService, told: &mut String) -> Result<bool, Fail>
     requires { service.old.spent ≡ false }
     ensures { OnOk result (service.new.spent ≡ false) }
@@ -274,11 +274,15 @@ fn bear(alloc: Global, service: &mut JobService, told: &mut String) -> Result<bo
     let Some(job) = service.birth() else {
         return Ok(false);
     };
+    let named = match service.label_of(job) {
+        Some(label) => label == b"one".as_slice(),
+        None => false,
+    };
     let granted = service.grant_of(job)?.is_some();
     service.born(job)?;
     let shuts = service.may_end(job, true);
     let ends = service.may_end(job, false);
-    let words = format!(in alloc; "born {granted}, may go {shuts} {ends}; ")?;
+    let words = format!(in alloc; "born {named} {granted}, may go {shuts} {ends}; ")?;
     told.push_str(words.as_str())?;
     Ok(true)
 }
@@ -442,7 +446,7 @@ fn a_job_ends_well_once_its_child_has_shut_down(rt: HostRuntime) -> Result<(), F
     let told = shutdown_told(rt.alloc())?;
     assert_eq!(rt;
         told.as_str(),
-        "submitted 0; born true, may go true false; gone, due false true, may go false; ended 0; "
+        "submitted 0; born true true, may go true false; gone, due false true, may go false; ended 0; "
     );
     Ok(())
 }
@@ -468,7 +472,7 @@ fn a_job_that_is_ending_waits_for_its_child(rt: HostRuntime) -> Result<(), Fail>
     let told = timeout_told(rt.alloc(), false)?;
     assert_eq!(rt;
         told.as_str(),
-        "submitted 0; born true, may go true false; gone, due false true, may go false; advanced 10; "
+        "submitted 0; born true true, may go true false; gone, due false true, may go false; advanced 10; "
     );
     Ok(())
 }

@@ -2,13 +2,14 @@
 use Rattle.std.proofs.Common.{◌≡◌, ◌||◌, Bool, true, false, refl, ◌∙◌, true≢false}
 use Rattle.kvs_rules.specs.Log.{IsOpen, Log}
 use Rattle.kvs_rules.specs.Namespaces.{Setting}
+use Rattle.kvs_rules.specs.declared.events.KvsStep.{KvsStep}
 use Rattle.kvs_txn.specs.declared.txn.By.{By}
 use Rattle.kvs_requests.specs.Rows.{asks_contents}
 use Rattle.kvs_core.specs.Steps.{IsStill as CoreIsStill, can_step as core_can_step, can_take as core_can_take}
 use Rattle.content_service.specs.Asks.{asks_content}
 use Rattle.content_service.specs.Steps.{IsStill as ContentsAreStill, can_step as contents_can_step, can_take as contents_can_take}
 use Rattle.job_service.specs.Still.{IsStill as JobsAreStill}
-use Rattle.services.specs.Steps.{IsStill}
+use Rattle.services.specs.Steps.{IsStill, can_step, can_take}
 use Rattle.services.specs.Value.{ServicesValue}
 use Rattle.services.proofs.Beside.{same_asks}
 
@@ -16,11 +17,14 @@ pub or_none : (a b : Bool) → (a || b) ≡ false → (a ≡ false) × (b ≡ fa
 or_none true b h = absurd (true≢false h)
 or_none false b h = (refl, h)
 
-pub core_still : (v : ServicesValue) → IsStill v → CoreIsStill v.jobs.manager.core
-core_still v h = record {
-  steps = λ s. (or_none (core_can_step v.jobs.manager.core s) (contents_can_step v.contents s) (h.steps s)).0;
-  answers = λ by. (or_none (core_can_take v.jobs.manager.core by) (contents_can_take v.contents by) (h.answers by)).0;
+pub core_rests : (v : ServicesValue) → ((s : KvsStep) → can_step v s ≡ false) → ((by : By) → can_take v by ≡ false) → CoreIsStill v.jobs.manager.core
+core_rests v steps answers = record {
+  steps = λ s. (or_none (core_can_step v.jobs.manager.core s) (contents_can_step v.contents s) (steps s)).0;
+  answers = λ by. (or_none (core_can_take v.jobs.manager.core by) (contents_can_take v.contents by) (answers by)).0;
 }
+
+pub core_still : (v : ServicesValue) → IsStill v → CoreIsStill v.jobs.manager.core
+core_still v h = core_rests v h.steps h.answers
 
 pub contents_still : (v : ServicesValue) → IsStill v → ContentsAreStill v.contents
 contents_still v h = record {
@@ -29,7 +33,7 @@ contents_still v h = record {
 }
 
 pub jobs_still : (v : ServicesValue) → IsStill v → JobsAreStill v.jobs
-jobs_still v h = record { core = core_still v h; unfound = h.unfound; unborn = h.unborn; late = h.late; untold = h.untold }
+jobs_still v h = record { core = core_still v h; due = h.due; untold = h.untold }
 
 -- where no open command asks of contents, each is one of the core's
 pub open_are_cores : (set : Setting) (log : Log) → ((by : By) → asks_content set by ≡ true → IsOpen by log → ⊥) → (by : By) → IsOpen by log → asks_contents set by ≡ false

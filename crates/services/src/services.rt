@@ -13,10 +13,10 @@ ghost use Rattle.job_clock.specs.Children.{SubmitsNoChild};
 ghost use Rattle.job_clock.specs.Standing.{IsLiving, IsTop};
 ghost use Rattle.job_commands.specs.Asks.{told};
 ghost use Rattle.job_service.specs.Agrees.{HasRoom, IsNewCommand, MayIssue};
-ghost use Rattle.job_service.specs.Children.{may_end};
+ghost use Rattle.job_service.specs.Children.{is_due, may_end};
 ghost use Rattle.job_service.specs.Replies.{can_reply};
 ghost use Rattle.job_service.specs.Still.{awaited};
-ghost use Rattle.job_service.specs.Times.{Counts, CountsTo, HasTime, MayGoTo, MayPassTo};
+ghost use Rattle.job_service.specs.Times.{Counts, CountsTo, HasTime, MayGoTo, MayPassTo, targets_left};
 ghost use Rattle.job_rules.specs.Fits.{IsGrant};
 ghost use Rattle.job_states.specs.declared.job.State.{State};
 ghost use Rattle.kvs_txn.specs.declared.txn.By.{By as Command};
@@ -441,10 +441,11 @@ impl Services {
         Ok(())
     }
 
-    /// Where nothing can go on, each broker has heard the last landing and of each live namespace;
-    /// a command waits for a number that hasn't landed, for members of a fence that haven't come,
-    /// or for the result of a job that isn't over; nothing is due, and no advance is left. No child
-    /// is to be born where no command submits a job that begins an instance.
+    /// Where nothing but time can go on, each broker has heard the last landing and of each live
+    /// namespace, and nothing is due. Where no target is left besides, no advance is, and a command
+    /// waits for a number that hasn't landed, for members of a fence that haven't come, or for the
+    /// result of a job that isn't over. Where no command submits a job that begins an instance,
+    /// nothing is due once nothing is to be posted.
     pub fn still(&self)
         requires { self.now.spent ≡ false }
         ensures quiet { (inst : Instance) (log : Log) → AgreesServices self.now inst log
@@ -455,13 +456,17 @@ impl Services {
         ensures idle { (inst : Instance) (log : Log) → AgreesServices self.now inst log
             → IsStill self.now → OfDesk inst log IsIdle }
         ensures advanced { (inst : Instance) (log : Log) (l : Living)
-            → AgreesServices self.now inst log → IsStill self.now → IsLiving inst log l
+            → AgreesServices self.now inst log → IsStill self.now
+            → targets_left self.now.jobs ≡ [] → IsLiving inst log l
             → (target : ℕ) → HasTarget l target → ⊥ }
         ensures childless { (inst : Instance) (log : Log) → AgreesServices self.now inst log
-            → SubmitsNoChild inst → self.now.jobs.bearing ≡ None }
+            → SubmitsNoChild inst → ((step : KvsStep) → can_step self.now step ≡ false)
+            → ((by : Command) → can_take self.now by ≡ false) → self.now.jobs.found ≡ None
+            → is_due self.now.jobs ≡ false }
         ensures left { (inst : Instance) (log : Log) → AgreesServices self.now inst log
-            → IsStill self.now → (by : Command) → IsSome (inst.asks by)
-            → inst.asks by ≢ Some Shutdown → IsOpen by log → IsSome (awaited self.now.jobs by) }
+            → IsStill self.now → targets_left self.now.jobs ≡ [] → (by : Command)
+            → IsSome (inst.asks by) → inst.asks by ≢ Some Shutdown → IsOpen by log
+            → IsSome (awaited self.now.jobs by) }
         ensures results { (inst : Instance) (log : Log) (l : Living)
             → AgreesServices self.now inst log → IsLiving inst log l → (by : Command)
             (where_ : State) → awaited self.now.jobs by ≡ Some where_ → IsLeftResult l by where_ }

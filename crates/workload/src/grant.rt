@@ -7,7 +7,7 @@ ghost use Rattle.resource_set.specs.Writing.{r_text};
 ghost use Rattle.workload.specs.Grants.{is_past_grant, is_past_host};
 
 use crate::limits::{MOST_CORES, MOST_GPUS, MOST_HOSTS};
-use lists::Bytes;
+use lists::{Bytes, Copied};
 use resource_set::{Node, RFault, Resources, print, read};
 use std::alloc::{AllocError, Global};
 use std::marker::Model;
@@ -29,6 +29,14 @@ impl Model for Grant {
     ghost use Rattle.resource_set.specs.Valid.{IsR};
 
     ghost invariant = { λ grant. IsR grant.resources };
+}
+
+impl Copied for Grant {
+    fn copy(&self) -> Result<Grant, AllocError> {
+        Ok(Grant {
+            resources: self.resources.copy()?,
+        })
+    }
 }
 
 /// Whether a host has more than 256 cores or 16 GPUs.

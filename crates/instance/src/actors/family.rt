@@ -2,7 +2,7 @@
 ghost use Rattle.std.specs.Prelude.{◌≡◌, ◌↔◌, ◌<◌, ◌≤◌, ◌+◌, ℕ, false, true, All, Contains, IfNone, IfOk, IfSome, IsSome, IsTrue, List, OnErr, OnOk, Some};
 ghost use Rattle.answers.specs.declared.chronicle.Entry.{Entry as EntryValue};
 ghost use Rattle.answers.specs.Chronicle.{Setup};
-ghost use Rattle.answers.specs.Jobs.{instance_of, log_in};
+ghost use Rattle.answers.specs.Jobs.{instance_of, log_in, second_of};
 ghost use Rattle.instance_rules.specs.Desks.{Names};
 ghost use Rattle.instance_rules.specs.Family.{HasTarget, Living, OfLiving};
 ghost use Rattle.job_book.specs.Seconds.{IsSoonest};
@@ -96,6 +96,17 @@ impl Instance {
         self.services.jobs().job_of(label)
     }
 
+    /// A label that names a job, which stands for each job whose child is to be born.
+    pub fn label_of(&self, job: u64) -> Option<&[u8]>
+        requires { self.now.spent ≡ false }
+        ensures bears { bearing self.now ≡ Some job → IsSome result }
+        ensures names { IfSome result (λ label. (set : Setup) (own : List EntryValue)
+            → AgreesOwn self.now set own
+            → Names (instance_of set) (log_in set.work own) label.now job) }
+    {
+        self.services.jobs().label_of(job)
+    }
+
     /// Whether something is posted or due: a post, or a birth. This takes no memory.
     pub fn is_due(&self) -> bool
         requires { self.now.spent ≡ false }
@@ -104,6 +115,16 @@ impl Instance {
             → result ≡ false → OfOwn set own IsIdle }
     {
         self.services.jobs().is_due()
+    }
+
+    /// The present second, that of the run.
+    pub fn second(&self) -> u64
+        requires { self.now.spent ≡ false }
+        ensures value { result ≡ present self.now }
+        ensures agrees { (set : Setup) (own : List EntryValue) → AgreesOwn self.now set own
+            → (present self.now ≡ second_of set own) × (birth_of self.now ≡ set.birth) }
+    {
+        self.services.jobs().second()
     }
 
     /// The least second ahead that an open advance waits for. This takes no memory.

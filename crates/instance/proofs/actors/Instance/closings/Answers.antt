@@ -41,7 +41,6 @@ returns-clause-ends c = IfOk-weaker c.close_off.result _ _
       heard = c.still.ensures.heard;
       idle = c.still.ensures.idle;
       advanced = c.still.ensures.advanced;
-      childless = c.still.ensures.childless;
       left = c.still.ensures.left;
       results = c.still.ensures.results;
     } in

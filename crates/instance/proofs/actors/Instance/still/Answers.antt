@@ -1,7 +1,11 @@
-use Rattle.std.proofs.Common.{subst}
-use Rattle.instance.proofs.Closing.{IsStillSo, rest_so}
-use Rattle.instance.proofs.Owning.{own_of}
+use Rattle.std.proofs.Common.{◌∙◌, ap, sym, subst}
+use Rattle.services.specs.Steps.{can_step}
+use Rattle.instance.specs.Agrees.{AgreesOwn}
+use Rattle.instance.specs.Family.{is_due}
+use Rattle.instance.specs.Steps.{can_answer, can_post}
 use Rattle.instance.specs.View.{value_of}
+use Rattle.instance.proofs.Closing.{IsStillSo, free_so, rest_so}
+use Rattle.instance.proofs.Owning.{own_of}
 use Rattle.instance.proofs.actors.Instance.still.Goals as goal
 
 pub returns : goal.returns
@@ -12,11 +16,17 @@ returns c = record {
         heard = c.still.ensures.heard;
         idle = c.still.ensures.idle;
         advanced = c.still.ensures.advanced;
-        childless = c.still.ensures.childless;
         left = c.still.ensures.left;
         results = c.still.ensures.results;
       } in
       rest_so (own_of c.args.self.now set own) agrees
-      (record { steps = rest.steps; answers = rest.answers; posts = rest.posts; ticks = rest.ticks })
+      (record { steps = rest.steps; answers = rest.answers; due = rest.due })
       (subst (λ v. IsStillSo (own_of v set own)) c.self.view_is promise);
+  childless = λ set own agrees steps answers posts.
+      let v = value_of c.self.inside in
+      sym (ap is_due c.self.view_is)
+      ∙ free_so (own_of v set own) (subst (λ x. AgreesOwn x set own) (sym c.self.view_is) agrees) c.still.ensures.childless
+      (λ s. ap (λ x. can_step x.services s) c.self.view_is ∙ steps s)
+      (λ a. ap (λ x. can_answer x a) c.self.view_is ∙ answers a)
+      (ap can_post c.self.view_is ∙ posts);
 }

@@ -1,4 +1,4 @@
-use Rattle.std.proofs.Common.{◌≡◌, ◌∙◌, ◌<◌, ℕ, [], Some, IsSome, sym, ap, subst}
+use Rattle.std.proofs.Common.{◌≡◌, ◌∙◌, ◌<◌, ℕ, [], Some, None, IsSome, sym, ap, subst}
 use Rattle.instance_rules.specs.Log.{service_of}
 use Rattle.kvs_core.specs.Agrees.{Agrees}
 use Rattle.kvs_core.specs.Posted.{newest_of, posted}
@@ -7,66 +7,64 @@ use Rattle.kvs_core.specs.Steps.{IsStill as CoreIsStill}
 use Rattle.kvs_rules.specs.Brokers.{heard}
 use Rattle.kvs_rules.specs.Namespaces.{newest_store, primary}
 use Rattle.job_service.specs.Agrees.{AgreesJobs}
+use Rattle.job_service.specs.Children.{is_due}
 use Rattle.job_service.specs.Still.{IsStill, awaited}
+use Rattle.job_service.specs.Times.{targets_left}
 use Rattle.job_service.specs.View.{value_of}
 use Rattle.job_service.proofs.Bearing.{childless_bears}
 use Rattle.job_service.proofs.Left.{left_open}
-use Rattle.job_service.proofs.Resting.{late_still, left_result, unposted_still}
-use Rattle.job_service.proofs.Ticking.{idle_now, none_left, none_left_alone}
+use Rattle.job_service.proofs.Resting.{all_reached, left_result, none_now, unposted_still}
+use Rattle.job_service.proofs.Ticking.{free_parts, idle_free, none_left, none_left_alone}
 use Rattle.job_service.proofs.service.JobService.still.Goals as goal
 
 pub returns-clause-idle : goal.returns-clause-idle
 returns-clause-idle c = λ inst log a rest.
-    let held = c.self.invariant (ap (λ v. v.spent) c.self.view_is ∙ c.requires) in
-    let i = held.fit in
+    let i = (c.self.invariant (ap (λ v. v.spent) c.self.view_is ∙ c.requires)).fit in
     let v = value_of c.self.inside in
     let still = subst IsStill (sym c.self.view_is) rest in
-    let nothing = subst (λ k. posted k ≡ []) c.core.ensures (c.standing.ensures.landed (subst CoreIsStill (sym c.core.ensures) still.core)) in
-    let unposted = unposted_still c.self.inside.manager c.keeps.ensures nothing in
     let b = subst (λ w. AgreesJobs w inst log) (sym c.self.view_is) a in
     let newest = subst (λ k. newest_store inst.service (service_of log) primary ≡ Some (newest_of k)) c.core.ensures (c.standing.ensures.newest inst.service (service_of log) (subst (λ k. Agrees k inst.service (service_of log)) (sym c.core.ensures) b.core)) in
-    idle_now v inst log b c.keeps.ensures newest i.bearing unposted still.unfound still.unborn
+    idle_free v inst log b c.keeps.ensures newest i.bearing still.due
 
 pub returns-clause-advanced : goal.returns-clause-advanced
-returns-clause-advanced c = λ inst log l a rest lives target t.
-    let held = c.self.invariant (ap (λ v. v.spent) c.self.view_is ∙ c.requires) in
-    let i = held.fit in
+returns-clause-advanced c = λ inst log l a rest late lives target t.
+    let i = (c.self.invariant (ap (λ v. v.spent) c.self.view_is ∙ c.requires)).fit in
     let v = value_of c.self.inside in
     let still = subst IsStill (sym c.self.view_is) rest in
-    let nothing = subst (λ k. posted k ≡ []) c.core.ensures (c.standing.ensures.landed (subst CoreIsStill (sym c.core.ensures) still.core)) in
-    let unposted = unposted_still c.self.inside.manager c.keeps.ensures nothing in
+    let free = free_parts v still.due in
     let b = subst (λ w. AgreesJobs w inst log) (sym c.self.view_is) a in
     let newest = subst (λ k. newest_store inst.service (service_of log) primary ≡ Some (newest_of k)) c.core.ensures (c.standing.ensures.newest inst.service (service_of log) (subst (λ k. Agrees k inst.service (service_of log)) (sym c.core.ensures) b.core)) in
-    none_left v inst log b c.keeps.ensures newest i.bearing unposted still.unfound still.unborn (late_still v still unposted) still.untold l lives target t
+    none_left v inst log b c.keeps.ensures newest i.bearing free.0 free.1 free.2 (all_reached v (ap targets_left c.self.view_is ∙ late)) still.untold l lives target t
 
 pub returns-clause-alone : goal.returns-clause-alone
-returns-clause-alone c = λ inst log l a rest top target t.
-    let held = c.self.invariant (ap (λ v. v.spent) c.self.view_is ∙ c.requires) in
-    let i = held.fit in
+returns-clause-alone c = λ inst log l a rest late top target t.
+    let i = (c.self.invariant (ap (λ v. v.spent) c.self.view_is ∙ c.requires)).fit in
     let v = value_of c.self.inside in
     let still = subst IsStill (sym c.self.view_is) rest in
-    let nothing = subst (λ k. posted k ≡ []) c.core.ensures (c.standing.ensures.landed (subst CoreIsStill (sym c.core.ensures) still.core)) in
-    let unposted = unposted_still c.self.inside.manager c.keeps.ensures nothing in
+    let free = free_parts v still.due in
     let b = subst (λ w. AgreesJobs w inst log) (sym c.self.view_is) a in
     let newest = subst (λ k. newest_store inst.service (service_of log) primary ≡ Some (newest_of k)) c.core.ensures (c.standing.ensures.newest inst.service (service_of log) (subst (λ k. Agrees k inst.service (service_of log)) (sym c.core.ensures) b.core)) in
-    none_left_alone v inst log b c.keeps.ensures newest i.bearing unposted still.unfound still.unborn (late_still v still unposted) still.untold l top target t
+    none_left_alone v inst log b c.keeps.ensures newest i.bearing free.0 free.1 free.2 (all_reached v (ap targets_left c.self.view_is ∙ late)) still.untold l top target t
 
 pub returns-clause-childless : goal.returns-clause-childless
-returns-clause-childless c = λ inst log a none.
+returns-clause-childless c = λ inst log a none core unfound.
     let i = (c.self.invariant (ap (λ v. v.spent) c.self.view_is ∙ c.requires)).fit in
+    let v = value_of c.self.inside in
     let b = subst (λ w. AgreesJobs w inst log) (sym c.self.view_is) a in
-    sym (ap (λ w. w.bearing) c.self.view_is) ∙ childless_bears c.self.inside.commands c.self.inside.manager.book c.self.inside.bearing (b.childless none) i.bearing
+    let rests = subst (λ w. CoreIsStill w.manager.core) (sym c.self.view_is) core in
+    let nothing = subst (λ k. posted k ≡ []) c.core.ensures (c.standing.ensures.landed (subst CoreIsStill (sym c.core.ensures) rests)) in
+    let unposted = unposted_still c.self.inside.manager c.keeps.ensures nothing in
+    let unborn = childless_bears c.self.inside.commands c.self.inside.manager.book c.self.inside.bearing (b.childless none) i.bearing in
+    sym (ap is_due c.self.view_is) ∙ none_now v unposted (ap (λ w. w.found) c.self.view_is ∙ unfound) unborn
 
 pub returns-clause-left : goal.returns-clause-left
-returns-clause-left c = λ inst log a rest told by some other waits.
+returns-clause-left c = λ inst log a rest late told by some other waits.
     let held = c.self.invariant (ap (λ v. v.spent) c.self.view_is ∙ c.requires) in
     let v = value_of c.self.inside in
     let still = subst IsStill (sym c.self.view_is) rest in
-    let nothing = subst (λ k. posted k ≡ []) c.core.ensures (c.standing.ensures.landed (subst CoreIsStill (sym c.core.ensures) still.core)) in
-    let unposted = unposted_still c.self.inside.manager c.keeps.ensures nothing in
     let b = subst (λ w. AgreesJobs w inst log) (sym c.self.view_is) a in
     let hears = subst (λ k. (broker : ℕ) → broker < k.size → heard (service_of log) broker primary ≡ Some (primary_heard k broker)) c.core.ensures (c.standing.ensures.heard inst.service (service_of log) (subst (λ k. Agrees k inst.service (service_of log)) (sym c.core.ensures) b.core)) in
-    subst (λ w. IsSome (awaited w by)) c.self.view_is (left_open v held.fit inst log b still unposted told hears by some other waits)
+    subst (λ w. IsSome (awaited w by)) c.self.view_is (left_open v held.fit inst log b still (ap targets_left c.self.view_is ∙ late) told hears by some other waits)
 
 pub returns-clause-results : goal.returns-clause-results
 returns-clause-results c = λ inst log l a lives by where_ e.

@@ -2,11 +2,13 @@ use Rattle.std.proofs.Common.{◌∙◌, IsSome, ap, sym, subst}
 use Rattle.instance_rules.specs.Log.{service_of}
 use Rattle.kvs_core.specs.Agrees.{Agrees}
 use Rattle.kvs_core.specs.Steps.{IsStill as CoreIsStill}
+use Rattle.job_service.specs.Children.{is_due}
 use Rattle.job_service.specs.Still.{awaited}
+use Rattle.job_service.specs.Times.{targets_left}
 use Rattle.services.specs.Agrees.{AgreesServices}
-use Rattle.services.specs.Steps.{IsStill}
+use Rattle.services.specs.Steps.{IsStill, can_step, can_take}
 use Rattle.services.specs.View.{value_of}
-use Rattle.services.proofs.Resting.{contents_still, core_still, jobs_still, open_are_cores}
+use Rattle.services.proofs.Resting.{contents_still, core_rests, core_still, jobs_still, open_are_cores}
 use Rattle.services.proofs.services.Services.still.Goals as goal
 
 pub returns-clause-quiet : goal.returns-clause-quiet
@@ -32,20 +34,21 @@ returns-clause-idle c = λ inst log a₀ still₀.
     c.still-3.ensures.idle inst log a.jobs (jobs_still (value_of c.self.inside) (subst IsStill (sym c.self.view_is) still₀))
 
 pub returns-clause-advanced : goal.returns-clause-advanced
-returns-clause-advanced c = λ inst log l a₀ still₀.
+returns-clause-advanced c = λ inst log l a₀ still₀ late.
     let a = subst (λ v. AgreesServices v inst log) (sym c.self.view_is) a₀ in
-    c.still-3.ensures.advanced inst log l a.jobs (jobs_still (value_of c.self.inside) (subst IsStill (sym c.self.view_is) still₀))
+    c.still-3.ensures.advanced inst log l a.jobs (jobs_still (value_of c.self.inside) (subst IsStill (sym c.self.view_is) still₀)) (ap (λ v. targets_left v.jobs) c.self.view_is ∙ late)
 
 pub returns-clause-childless : goal.returns-clause-childless
-returns-clause-childless c = λ inst log a₀ none.
+returns-clause-childless c = λ inst log a₀ none steps answers unfound.
     let a = subst (λ v. AgreesServices v inst log) (sym c.self.view_is) a₀ in
-    sym (ap (λ v. v.jobs.bearing) c.self.view_is) ∙ c.still-3.ensures.childless inst log a.jobs none
+    let core = core_rests (value_of c.self.inside) (λ s. ap (λ v. can_step v s) c.self.view_is ∙ steps s) (λ by. ap (λ v. can_take v by) c.self.view_is ∙ answers by) in
+    sym (ap (λ v. is_due v.jobs) c.self.view_is) ∙ c.still-3.ensures.childless inst log a.jobs none core (ap (λ v. v.jobs.found) c.self.view_is ∙ unfound)
 
 pub returns-clause-left : goal.returns-clause-left
-returns-clause-left c = λ inst log a₀ still₀ by some other waits.
+returns-clause-left c = λ inst log a₀ still₀ late by some other waits.
     let a = subst (λ v. AgreesServices v inst log) (sym c.self.view_is) a₀ in
     subst (λ v. IsSome (awaited v.jobs by)) c.self.view_is
-    (c.still-3.ensures.left inst log a.jobs (jobs_still (value_of c.self.inside) (subst IsStill (sym c.self.view_is) still₀)) (returns-clause-quiet c inst log a₀ still₀).told by some other waits)
+    (c.still-3.ensures.left inst log a.jobs (jobs_still (value_of c.self.inside) (subst IsStill (sym c.self.view_is) still₀)) (ap (λ v. targets_left v.jobs) c.self.view_is ∙ late) (returns-clause-quiet c inst log a₀ still₀).told by some other waits)
 
 pub returns-clause-results : goal.returns-clause-results
 returns-clause-results c = λ inst log l a₀ top by where_ is.

@@ -36,7 +36,7 @@ returns-in-Ok-nth_of_one-2-clause-value c =
     let number = c.in-Err-nth_answer.left in
     let later = c.in-Err-nth_of_one.left in
     let unposted = ap (λ b. nth (if b then step.Post 0 ∷ [] else []) number) (sym c.can_post.ensures) ∙ sym c.in-Err-nth_of_one.ensures.value in
-    let ticked = ap (λ b. nth (if b then step.Tick ∷ [] else []) later) (sym c.can_tick.ensures) ∙ sym c.in-Ok-nth_of_one-2.ensures.value in
+    let ticked = ap (λ b. nth (if b then step.Tick ∷ [] else []) later) (sym c.can_tick.ensures.exact) ∙ sym c.in-Ok-nth_of_one-2.ensures.value in
     subst (λ w. Ok c.in-Ok-nth_of_one-2.step ≡ nth (before_end w) c.args.number) c.self.view_is
     (sym (past-service v c.args.number c.in-Err.left (sym c.in-Err.ensures.value)
     ∙ past-answers v c.in-Err.left number (sym c.in-Err-nth_answer.ensures.value)
@@ -50,7 +50,7 @@ returns-in-Ok-nth_issue-clause-value c =
     let later = c.in-Err-nth_of_one.left in
     let last = c.in-Err-nth_of_one-2.left in
     let unposted = ap (λ b. nth (if b then step.Post 0 ∷ [] else []) number) (sym c.can_post.ensures) ∙ sym c.in-Err-nth_of_one.ensures.value in
-    let unticked = ap (λ b. nth (if b then step.Tick ∷ [] else []) later) (sym c.can_tick.ensures) ∙ sym c.in-Err-nth_of_one-2.ensures.value in
+    let unticked = ap (λ b. nth (if b then step.Tick ∷ [] else []) later) (sym c.can_tick.ensures.exact) ∙ sym c.in-Err-nth_of_one-2.ensures.value in
     let here = subst (λ ls. Ok c.in-Ok-nth_issue.actor ≡ nth (issues ls v.instance) last) c.as_slice.ensures c.in-Ok-nth_issue.ensures.value in
     subst (λ w. Ok (step.Issue c.in-Ok-nth_issue.actor) ≡ nth (before_end w) c.args.number) c.self.view_is
     (sym (past-service v c.args.number c.in-Err.left (sym c.in-Err.ensures.value)
@@ -66,7 +66,7 @@ returns-in-Err-nth_issue-clause-value c =
     let later = c.in-Err-nth_of_one.left in
     let last = c.in-Err-nth_of_one-2.left in
     let unposted = ap (λ b. nth (if b then step.Post 0 ∷ [] else []) number) (sym c.can_post.ensures) ∙ sym c.in-Err-nth_of_one.ensures.value in
-    let unticked = ap (λ b. nth (if b then step.Tick ∷ [] else []) later) (sym c.can_tick.ensures) ∙ sym c.in-Err-nth_of_one-2.ensures.value in
+    let unticked = ap (λ b. nth (if b then step.Tick ∷ [] else []) later) (sym c.can_tick.ensures.exact) ∙ sym c.in-Err-nth_of_one-2.ensures.value in
     let here = subst (λ ls. Err c.in-Err-nth_issue.left ≡ nth (issues ls v.instance) last) c.as_slice.ensures c.in-Err-nth_issue.ensures.value in
     subst (λ w. Err c.in-Err-nth_issue.left ≡ nth (before_end w) c.args.number) c.self.view_is
     (sym (past-service v c.args.number c.in-Err.left (sym c.in-Err.ensures.value)
