@@ -43,14 +43,14 @@ among_same p q xs same a = subst (λ n. Among n xs) same a
 
 module _ (c : List Entry) (child : ℕ) where
   -- it lives, its parent is behind it, and so are smaller numbers alone
-  record Link (x : ℕ) (behind : List ℕ) : Type 0 where
-    b : Birth
-    alive : lives c x ≡ true
-    is : birth_of c x ≡ Some b
-    parent : Among b.parent behind
-    above : (y : ℕ) → Among y behind → y < x
+  pub record Link (x : ℕ) (behind : List ℕ) : Type 0 where
+    pub b : Birth
+    pub alive : lives c x ≡ true
+    pub is : birth_of c x ≡ Some b
+    pub parent : Among b.parent behind
+    pub above : (y : ℕ) → Among y behind → y < x
 
-  abbrev Chain : List ℕ → Type 0
+  abbrev pub Chain : List ℕ → Type 0
   Chain [] = ⊥
   Chain (x ∷ []) = x ≡ child
   Chain (x ∷ (y ∷ behind)) = Link x (y ∷ behind) × Chain (y ∷ behind)
@@ -67,7 +67,7 @@ module _ (c : List Entry) (child : ℕ) where
   ]
 
   -- the first is the greatest
-  chain_high : (x : ℕ) (behind : List ℕ) → Chain (x ∷ behind) → (k : ℕ) → Among k behind → k < x
+  pub chain_high : (x : ℕ) (behind : List ℕ) → Chain (x ∷ behind) → (k : ℕ) → Among k behind → k < x
   chain_high x [] h k a = absurd a
   chain_high x (y ∷ behind) h k a = h.0.above k a
 
@@ -89,7 +89,7 @@ module _ (c : List Entry) (child : ℕ) where
   ]
 
   -- each of them lives
-  chain_alive : (xs : List ℕ) → Chain xs → lives c child ≡ true → (k : ℕ) → Among k xs → lives c k ≡ true
+  pub chain_alive : (xs : List ℕ) → Chain xs → lives c child ≡ true → (k : ℕ) → Among k xs → lives c k ≡ true
   chain_alive [] h here k a = absurd h
   chain_alive (x ∷ []) h here k a = elim a [
     | inl same ↦ ap (lives c) (sym same ∙ h) ∙ here
@@ -101,10 +101,10 @@ module _ (c : List Entry) (child : ℕ) where
   ]
 
   -- what is found among the numbers below this one
-  record Found (m : ℕ) (found : List ℕ) : Type 0 where
-    chain : Chain found
-    under : (k : ℕ) → Among k found → (k < m) ⊎ (k ≡ child)
-    complete : (k : ℕ) (b : Birth) → k < m → lives c k ≡ true → birth_of c k ≡ Some b → Among b.parent found → Among k found
+  pub record Found (m : ℕ) (found : List ℕ) : Type 0 where
+    pub chain : Chain found
+    pub under : (k : ℕ) → Among k found → (k < m) ⊎ (k ≡ child)
+    pub complete : (k : ℕ) (b : Birth) → k < m → lives c k ≡ true → birth_of c k ≡ Some b → Among b.parent found → Among k found
 
   test_from : (p : ℕ) (found : List ℕ) → Among p found → list_any (λ n. n == p) found ≡ true
   test_from p found a = any_at (λ n. n == p) found p a (eq-eqb p p refl)
@@ -188,7 +188,7 @@ module _ (c : List Entry) (child : ℕ) where
       subst (λ k. Found k (fold (found_with c) (found_with c found m) (range_with_len (m + 1) n))) (let e : (m + 1) + n ≡ m + suc n = omega arith in e)
       (found_all set run n (m + 1) (found_with c found m) (step set run m found f))
 
-  found_inside : (set : Setup) → IsLegalRun set c → Found (length (numbers c)) (inside_of c child)
+  pub found_inside : (set : Setup) → IsLegalRun set c → Found (length (numbers c)) (inside_of c child)
   found_inside set run =
       let n = length (numbers c) in
       subst (λ ns. Found n (fold (found_with c) (child ∷ []) ns)) (sym (numbers_are set c run))
@@ -219,7 +219,7 @@ module _ (set : Setup) (c : List Entry) (run : IsLegalRun set c) (child : ℕ) (
   row_all : Found c child (length (numbers c)) (inside_of c child)
   row_all = found_inside c child set run
 
-  has_last : (xs : List ℕ) → Chain c child xs → Among child xs
+  pub has_last : (xs : List ℕ) → Chain c child xs → Among child xs
   has_last [] h = absurd h
   has_last (x ∷ []) h = inl h
   has_last (x ∷ (y ∷ xs)) h = inr (has_last (y ∷ xs) h.1)

@@ -27,3 +27,4 @@ pub mod Numbering
 pub mod Growth
 pub mod Within
 pub mod Inside
+pub mod Marks

@@ -1,5 +1,5 @@
 -- The instances that lie within one of a run, and their ends in order.
-use Rattle.std.specs.Prelude.{◌≡◌, ℕ, ◌==◌, ◌&&◌, not, List, [], ◌∷◌, ◌++◌, Bool, false, Option, IsTrue, filter_map, fold, option_map, if◌then◌else◌}
+use Rattle.std.specs.Prelude.{◌≡◌, ℕ, zero, suc, ◌<◌, ◌==◌, ◌&&◌, ◌||◌, not, List, [], ◌∷◌, ◌++◌, Bool, false, Option, IsTrue, filter_map, fold, length, option_map, if◌then◌else◌}
 use Rattle.std.specs.List.{list_any}
 use Rattle.std.specs.Option.{option_map_or}
 use Rattle.answers.specs.Chronicle.{Setup}
@@ -32,6 +32,22 @@ end_in set c i =
 -- the ends of an instance and of all within it, each before that of its parent
 abbrev pub ends_within : Setup → List Entry → ℕ → List Entry
 ends_within set c child = filter_map (end_in set c) (inside_of c child)
+
+-- the marked numbers below this one, the greatest first
+abbrev pub marked_below : (ℕ → Bool) → ℕ → List ℕ
+marked_below marked zero = []
+marked_below marked (suc n) =
+    if marked n then n ∷ marked_below marked n else marked_below marked n
+
+-- whether the parent of an instance of this birth is marked
+abbrev pub is_parent_marked : (ℕ → Bool) → Option Birth → Bool
+is_parent_marked marked birth = option_map_or (λ b. marked b.parent) birth false
+
+-- of the instances that were born those are marked that live and are this one, or have their
+-- parent marked
+abbrev pub AreMarked : List Entry → ℕ → (ℕ → Bool) → Type 0
+AreMarked c child marked = (i : ℕ) → i < length (numbers c)
+    → marked i ≡ (lives c i && ((i == child) || is_parent_marked marked (birth_of c i)))
 
 -- an instance of this birth goes with all within it, and its parent is told and lives on
 pub record GoesWithAll (set : Setup) (c : List Entry) (b : Birth) : Type 0 where
