@@ -1,7 +1,6 @@
 -- What a birth, an end and a tick of all instances leave of one of them.
-use Rattle.std.proofs.Common.{◌≡◌, ℕ, ◌+◌, ◌-◌, ◌≤◌, ◌<◌, ◌||◌, All, List, [], ◌∷◌, ◌++◌, Bool, true, false, is_some, Option, Some, None, max, refl, sym, ap, ◌∙◌, subst, arith, true≢false}
+use Rattle.std.proofs.Common.{◌≡◌, ℕ, ◌+◌, ◌-◌, ◌≤◌, ◌<◌, ◌||◌, All, List, [], ◌∷◌, ◌++◌, Bool, true, false, is_some, Option, Some, None, refl, sym, ap, ◌∙◌, subst, true≢false}
 use Rattle.std.specs.Prelude.{IfNone, slice_get}
-use Rattle.std.proofs.Math.Nat.{max-le}
 use Rattle.kvs_model.specs.Store.{Name}
 use Rattle.kvs_rules.specs.Log.{Log}
 use Rattle.kvs_rules.proofs.Sequences.{each_push}
@@ -10,15 +9,13 @@ use Rattle.instance_rules.specs.Legal.{IsLegalMoment}
 use Rattle.instance_rules.specs.Log as rules
 use Rattle.instance_rules.specs.Log.{Instance, Log as InstanceLog, Moment}
 use Rattle.job_service.specs.Agrees.{AgreesJobs}
-use Rattle.job_service.specs.Times.{CountsTo, MayPassTo}
+use Rattle.job_service.specs.Times.{MayPassTo}
 use Rattle.job_service.specs.Value.{JobServiceValue}
 use Rattle.resource_set.specs.declared.node.Resources.{Resources}
 use Rattle.services.specs.Agrees.{AgreesServices}
 use Rattle.services.specs.Asks.{Keeps}
 use Rattle.services.specs.Value.{ServicesValue}
-use Rattle.workload.specs.declared.work.Line.{Line}
 use Rattle.workload.specs.Limits.{most_seconds}
-use Rattle.workload.specs.Tallies.{seconds_in, submits_in}
 use Rattle.answers.specs.declared.chronicle.Entry.{Entry}
 use Rattle.answers.specs.declared.chronicle.Entry.TheVariants as entry
 use Rattle.answers.specs.declared.steps.Step.TheVariants as step
@@ -30,8 +27,8 @@ use Rattle.answers.specs.Services.{log_of, moment_of}
 use Rattle.answers.specs.Whole.{IsEarlierEntry}
 use Rattle.answers.proofs.Floors.{floor_push}
 use Rattle.answers.proofs.Services.{asks_of, log_push}
-use Rattle.instance.specs.Agrees.{ActorStands, AgreesOwn, IsTallied, command_of, lines_ahead}
-use Rattle.instance.specs.Family.{LeavesTime, birth_of, ends_left, is_due, present}
+use Rattle.instance.specs.Agrees.{ActorStands, AgreesOwn, IsTallied, command_of}
+use Rattle.instance.specs.Family.{birth_of, ends_left, is_due, present}
 use Rattle.instance.specs.Makes.{Follows}
 use Rattle.instance.specs.Value.{InstanceValue}
 use Rattle.instance.proofs.Families.{legal_tick, made_tick, rests_at_tick}
@@ -156,21 +153,6 @@ ticked_apart set c second = record {
   early = tt;
 }
 
-both_fit : (a b n most : ℕ) → a + n ≤ most → b + n ≤ most → max a b + n ≤ most
-both_fit a b n most h g =
-    let left : a ≤ most - n = omega arith in
-    let right : b ≤ most - n = omega arith in
-    let one = max-le left right in
-    omega (arith, one)
-
--- time is left for the lines ahead
-tallied_to : (v : InstanceValue) (services : ServicesValue) (lines : List Line) (second : ℕ) → CountsTo second v.services.jobs services.jobs → LeavesTime v lines second → IsTallied v lines → IsTallied (stepped v.seats services) lines
-tallied_to v services lines second counts leaves h = record {
-  submits = ap (λ n. n + submits_in (lines_ahead v.seats lines)) counts.submitted ∙ h.submits;
-  seconds = subst (λ n. n + seconds_in (lines_ahead v.seats lines) ≤ most_seconds) (sym counts.span)
-      (both_fit v.services.jobs.span (second - v.services.jobs.birth) (seconds_in (lines_ahead v.seats lines)) most_seconds h.seconds leaves);
-}
-
 -- where nothing is posted or due, time may go on
 pub may_pass : (v : InstanceValue) (second : ℕ) → is_due v ≡ false → present v < second → All (λ other. second ≤ other) (ends_left v) → second ≤ birth_of v + most_seconds → MayPassTo v.services.jobs second
 may_pass v second free above before near =
@@ -194,19 +176,19 @@ may_pass v second free above before near =
 
 -- what the services say of a tick that an advance of any instance asked for
 pub record IsPassed (old new : ServicesValue) (second : ℕ) : Type 0 where
-  pub counts : CountsTo second old.jobs new.jobs
+  pub keeps : Keeps old new
   pub legal : (i : Instance) (l : InstanceLog) → AgreesServices old i l → IsLegalMoment i l (rules.Ticked second)
   pub agrees : (i : Instance) (l : InstanceLog) → AgreesServices old i l → AgreesServices new i (l ++ rules.Ticked second ∷ [])
 
-pub passes_follow : (v : Own) → DoesAgree v → (second : ℕ) (services : ServicesValue) → IsPassed v.instance.services services second → LeavesTime v.instance v.set.work.lines second →
+pub passes_follow : (v : Own) → DoesAgree v → (second : ℕ) (services : ServicesValue) → IsPassed v.instance.services services second →
     Follows v.set v.chronicle step.Tick (stepped v.instance.seats services) (entry.Ticked second ∷ [])
-passes_follow v h second services p leaves =
+passes_follow v h second services p =
     let legal : IsLegalEntry v.set v.chronicle (entry.Ticked second) = legal_tick v.set v.chronicle second (unended v.chronicle h.early) (p.legal (instance_of v.set) (log_in v.set.work v.chronicle) h.agrees) in
     record {
       made = made_tick v.set.work v.chronicle second;
       legal = (legal, tt);
       settled = λ told. rests_at_tick v.set v.chronicle second;
       agrees = apart_agrees v h (entry.Ticked second) (rules.Ticked second) (ticked_apart v.set v.chronicle second) services
-          (tallied_to v.instance services v.set.work.lines second p.counts leaves h.tallied)
+          (tallied_on v.instance (stepped v.instance.seats services) v.set.work.lines p.keeps.counts (same_lines v.instance.seats) h.tallied)
           legal (p.agrees (instance_of v.set) (log_in v.set.work v.chronicle) h.agrees);
     }

@@ -69,11 +69,6 @@ pub legal_tick : (set : Setup) (c : List Entry) (second : ℕ) → has_ended c �
 legal_tick set c second goes_on legal = record { goes_on = goes_on; grounds = legal }
 
 -- it comes in time where it may be made in each top instance of the log
-pub timely_tick : (set : Setup) (c : List Entry) (second : ℕ)
-    → ((l : Living) → IsTop (instance_of set) (log_in set.work c) l → MayTick (l ∷ []) (now_of (instance_of set) (log_in set.work c)) [] second)
-    → EachAfter (ComesInTime set) c (entry.Ticked second ∷ [])
-timely_tick set c second may = (may (living_of set c) (is_top set c), tt)
-
 pub made_tick : (work : Workload) (c : List Entry) (second : ℕ) → IsStretch work c step.Tick (entry.Ticked second ∷ [])
 made_tick work c second = record { second = second; split = refl }
 

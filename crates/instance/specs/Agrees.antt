@@ -102,8 +102,8 @@ is_ahead seats at = option_map_or (λ seat. nat_le seat.next at.0) (slice_get se
 abbrev pub lines_ahead : List Seat → List Line → List Line
 lines_ahead seats lines = map (λ at. at.1) (filter (is_ahead seats) (enumerate_from 0 lines))
 
--- what was issued and what is ahead submit as many jobs as all lines, and the seconds by which time
--- has gone on or may go on leave room for those that the lines ahead let pass
+-- what was issued and what is ahead submit as many jobs as all lines, and the seconds of the advances
+-- that were issued leave room for those of the lines ahead
 pub record IsTallied (v : InstanceValue) (lines : List Line) : Type 0 where
   pub submits : v.services.jobs.submitted + submits_in (lines_ahead v.seats lines)
       ≡ submits_in lines

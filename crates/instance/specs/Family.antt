@@ -1,5 +1,5 @@
 -- An instance among others: the children of its jobs, and what time asks of it.
-use Rattle.std.specs.Prelude.{◌+◌, ◌-◌, ◌≤◌, ℕ, Bool, List, Option}
+use Rattle.std.specs.Prelude.{ℕ, Bool, List, Option}
 use Rattle.answers.specs.declared.chronicle.Entry.{Entry}
 use Rattle.answers.specs.Chronicle.{Setup}
 use Rattle.answers.specs.Jobs.{instance_of, log_in}
@@ -12,10 +12,6 @@ use Rattle.job_service.specs.Times as times
 use Rattle.manager_rules.specs.Posts.{Desk}
 use Rattle.resource_set.specs.declared.node.Resources.{Resources}
 use Rattle.std.specs.Option.{option_map}
-use Rattle.workload.specs.declared.work.Line.{Line}
-use Rattle.workload.specs.Limits.{most_seconds}
-use Rattle.workload.specs.Tallies.{seconds_in}
-use Rattle.instance.specs.Agrees.{lines_ahead}
 use Rattle.instance.specs.Value.{InstanceValue}
 
 -- ---- by a chronicle of its own
@@ -65,8 +61,3 @@ targets_left v = times.targets_left v.services.jobs
 
 abbrev pub ends_left : InstanceValue → List ℕ
 ends_left v = seconds_left v.services.jobs.second v.services.jobs.manager.book
-
--- once time has gone on to this second, time is left for the lines ahead
-abbrev pub LeavesTime : InstanceValue → List Line → ℕ → Type 0
-LeavesTime v lines second =
-    (second - birth_of v) + seconds_in (lines_ahead v.seats lines) ≤ most_seconds

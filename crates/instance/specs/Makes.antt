@@ -13,7 +13,6 @@ use Rattle.answers.specs.Legal.{IsLegalEntry, RestsAtIssue}
 use Rattle.answers.specs.Stretches.{IsStretch}
 use Rattle.answers.specs.Whole.{HasComeToRest, IsClosingEntry, IsWhole}
 use Rattle.instance.specs.Agrees.{AgreesOwn}
-use Rattle.instance.specs.Family.{LeavesTime}
 use Rattle.instance.specs.Steps.{IsIssue}
 use Rattle.instance.specs.Value.{InstanceValue}
 
@@ -49,10 +48,9 @@ abbrev pub LetsGo : InstanceValue → ℕ → Bool → InstanceValue → Type 0
 LetsGo old job shut new = (set : Setup) (own : List Entry) → AgreesOwn old set own
     → (child : ℕ) → Follows set own (step.End child) new (entry.Gone child top job shut ∷ [])
 
--- and a tick to this second, where it leaves time for the lines ahead
+-- and a tick to this second
 abbrev pub PassesTo : InstanceValue → ℕ → InstanceValue → Type 0
 PassesTo old second new = (set : Setup) (own : List Entry) → AgreesOwn old set own
-    → LeavesTime old set.work.lines second
     → Follows set own step.Tick new (entry.Ticked second ∷ [])
 
 -- closing replies and the end follow the chronicle, and make it whole

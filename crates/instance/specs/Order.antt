@@ -1,5 +1,5 @@
 -- The actors that can be replied to or issued a command, in the order in which these steps are
--- made, and the steps of the job manager and of time.
+-- made, and the posts of the job manager.
 use Rattle.std.specs.Prelude.{ℕ, ◌==◌, ◌&&◌, List, [], ◌∷◌, Bool, false, Option, Some, None, length, filter_map, slice_get, option_and_then, if◌then◌else◌}
 use Rattle.std.specs.List.{filter, range_with_len}
 use Rattle.std.specs.Option.{option_map_or}
@@ -8,7 +8,7 @@ use Rattle.instance.specs.declared.seats.Seat.{Seat}
 use Rattle.instance.specs.Seats.{is_free}
 use Rattle.answers.specs.declared.steps.Step.{Step}
 use Rattle.answers.specs.declared.steps.Step.TheVariants as step
-use Rattle.instance.specs.Steps.{can_answer, can_post, can_tick}
+use Rattle.instance.specs.Steps.{can_answer, can_post}
 use Rattle.instance.specs.Value.{InstanceValue}
 
 -- the actors whose open command can be replied
@@ -18,10 +18,6 @@ answers v = filter (can_answer v) (range_with_len 0 (length v.seats))
 -- the post of what is due, if something is to be posted
 abbrev pub posts : InstanceValue → List Step
 posts v = if can_post v then step.Post 0 ∷ [] else []
-
--- the tick, if time can go on
-abbrev pub ticks : InstanceValue → List Step
-ticks v = if can_tick v then step.Tick ∷ [] else []
 
 -- whether the actor's next command stands in this line, and the actor waits for nothing
 abbrev pub is_next_line : List Seat → ℕ → ℕ → Bool

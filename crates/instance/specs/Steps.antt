@@ -2,7 +2,6 @@
 use Rattle.std.specs.Prelude.{◌≡◌, ℕ, ◌&&◌, nat_lt, Bool, false, List, [], is_some, length, slice_get}
 use Rattle.std.specs.Option.{option_map_or}
 use Rattle.kvs_rules.specs.declared.events.KvsStep.{KvsStep}
-use Rattle.job_service.specs.Still.{can_tick as jobs_can_tick}
 use Rattle.services.specs.Steps.{can_step}
 use Rattle.services.specs.Value.{ServicesValue}
 use Rattle.workload.specs.declared.work.Line.{Line}
@@ -38,10 +37,6 @@ can_answer v actor = has_answer v.services v.seats actor
 -- whether something that is due can be posted
 abbrev pub can_post : InstanceValue → Bool
 can_post v = is_some v.services.jobs.found
-
--- whether time can go on
-abbrev pub can_tick : InstanceValue → Bool
-can_tick v = jobs_can_tick v.services.jobs
 
 -- no step of the services and no reply can be made, and nothing is posted or due: an issue, the end
 -- or the time goes on

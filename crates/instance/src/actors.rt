@@ -4,12 +4,10 @@ ghost use Rattle.workload.specs.Laws.{HasOwnLabels, IsBuilt, IsWithin, KeepsTall
 ghost use Rattle.answers.specs.declared.chronicle.Entry.{Entry as EntryValue};
 ghost use Rattle.answers.specs.Chronicle.{Setup, top};
 ghost use Rattle.answers.specs.Entering.{entered};
-ghost use Rattle.answers.specs.Runs.{ComesInTime};
 ghost use Rattle.answers.specs.Services.{log_of};
 ghost use Rattle.answers.specs.Whole.{HasComeToRest};
 ghost use Rattle.job_service.specs.Still.{awaited};
 ghost use Rattle.kvs_model.specs.Store.{Name};
-ghost use Rattle.kvs_rules.specs.Sequence.{EachAfter};
 ghost use Rattle.resource_set.specs.Valid.{IsR};
 ghost use Rattle.resource_set.specs.Writing.{r_text};
 ghost use Rattle.services.specs.Asks.{Keeps};
@@ -18,14 +16,14 @@ ghost use Rattle.services.specs.Steps.{can_step};
 ghost use Rattle.instance.specs.declared.seats.Seat.{Seat as SeatValue};
 ghost use Rattle.instance.specs.Agrees.{AgreesOwn, AreLinesOf};
 ghost use Rattle.instance.specs.Closings.{closings, numbers_in};
-ghost use Rattle.instance.specs.Family.{is_due, targets_left};
+ghost use Rattle.instance.specs.Family.{is_due};
 ghost use Rattle.instance.specs.First.{AreFirstSeats};
 ghost use Rattle.instance.specs.Floors.{floor_in, risen_in};
 ghost use Rattle.instance.specs.Makes.{Ends, Makes, MakesOf};
 ghost use Rattle.instance.specs.Order.{answers, issues};
 ghost use Rattle.instance.specs.Replies.{IsGiven};
 ghost use Rattle.instance.specs.Seats.{has_come, is_telling};
-ghost use Rattle.instance.specs.Steps.{IsAtRest, IsOver, can_answer, can_issue, can_post, can_tick};
+ghost use Rattle.instance.specs.Steps.{IsAtRest, IsOver, can_answer, can_issue, can_post};
 
 mod family;
 mod walk;
@@ -200,7 +198,7 @@ impl Instance {
         requires built { All (λ l. IsBuilt l.command) work.now.lines }
         requires labels { HasOwnLabels work.now.lines }
         requires few { KeepsTallies work.now.lines }
-        requires early { birth + 1000000000 < 2 ^ 64 }
+        requires early { birth + 2000000000 < 2 ^ 64 }
         ensures ready { IfOk result (λ v. v.spent ≡ false) }
         ensures agrees { IfOk result (λ v. (set : Setup) → set.size ≡ setting.size
             → set.fanout ≡ setting.fanout → set.hash ≡ setting.hash → set.grant ≡ r_text grant.now
@@ -348,43 +346,12 @@ impl Instance {
         Ok(())
     }
 
-    /// Lets time go on to the next second at which something happens, and gives what happened: it
-    /// comes in time in a run of this instance alone. After an error the instance is spent.
-    pub fn tick(&mut self) -> Result<Chronicle, AllocError>
-        requires ready { self.old.spent ≡ false }
-        requires can { can_tick self.old ≡ true }
-        ensures ready { OnOk result (self.new.spent ≡ false) }
-        ensures makes { IfOk result (Makes self.old Step.Tick self.new) }
-        ensures in_time { IfOk result (λ made. (set : Setup) (own : List EntryValue)
-            → AgreesOwn self.old set own → EachAfter (ComesInTime set) own made) }
-        ensures spent { OnErr result (self.new.spent ≡ true) }
-    {
-        let Some(second) = self.services.jobs().next_second() else {
-            unreachable!()
-        };
-        self.spent = true;
-        self.services.tick(second)?;
-        let made = only(self.alloc, Entry::Ticked { second })?;
-        self.spent = false;
-        Ok(made)
-    }
-
     /// Whether something that is due can be posted.
     pub fn can_post(&self) -> bool
         requires { self.now.spent ≡ false }
         ensures { result ≡ can_post self.now }
     {
         self.services.jobs().can_post()
-    }
-
-    /// Whether time can go on. Where it can't and nothing is posted or due, no advance waits for a
-    /// later second.
-    pub fn can_tick(&self) -> bool
-        requires { self.now.spent ≡ false }
-        ensures exact { result ≡ can_tick self.now }
-        ensures up { result ≡ false → is_due self.now ≡ false → targets_left self.now ≡ [] }
-    {
-        self.services.jobs().next_second().is_some()
     }
 
     /// Whether a step of the services can be made.

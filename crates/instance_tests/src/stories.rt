@@ -1,5 +1,6 @@
 //! Instances whose actors act in a given order, with what the rules say of it.
-ghost use Rattle.std.specs.Prelude.{◌≡◌, false, IfOk, OnOk};
+ghost use Rattle.std.specs.Prelude.{◌≡◌, ◌≤◌, ◌⊎◌, false, IfOk, IfSome, List, OnOk, Some};
+ghost use Rattle.workload.specs.declared.work.Line.{Line as LineValue};
 ghost use Rattle.instance.specs.Agrees.{AreLinesOf};
 
 use answers::{Entry, Reply};
@@ -306,7 +307,6 @@ fn tell_seen(alloc: Global, text: &mut Vec<u8>, entries: &[Entry]) -> Result<(),
             Entry::Replied { actor, reply, .. } => {
                 format!(in alloc; "{actor} {}, ", word_of(reply))?
             }
-            Entry::Ticked { second } => format!(in alloc; "ticked {second}, ")?,
             _ => String::new(alloc),
         };
         text.extend_from_slice(words.as_bytes())?;
@@ -332,6 +332,39 @@ fn settle(alloc: Global, instance: &mut Instance, lines: &[Line]) -> Result<(), 
     Ok(())
 }
 
+/// The sooner of two seconds, of which there may be one.
+fn sooner(target: u64, end: Option<u64>) -> u64
+    ensures one { (result ≡ target) ⊎ (end ≡ Some result) }
+    ensures first { IfSome end (λ end. result ≤ end) }
+{
+    match end {
+        Some(end) => target.min(end),
+        None => target,
+    }
+}
+
+/// Lets time go on to the next second at which something happens, where nothing is due and an
+/// advance waits, and gives that second.
+fn pass_to_target(instance: &mut Instance) -> Result<Option<u64>, Fail>
+    requires { instance.old.spent ≡ false }
+    ensures ready { OnOk result (instance.new.spent ≡ false) }
+    ensures lines { OnOk result ((lines : List LineValue) → AreLinesOf instance.old lines
+        → AreLinesOf instance.new lines) }
+{
+    if instance.is_due() {
+        return Ok(None);
+    }
+    let Some(target) = instance.next_target() else {
+        return Ok(None);
+    };
+    let second = sooner(target, instance.next_end());
+    if second > 1_000_000_000 {
+        return Ok(None);
+    }
+    instance.tick_to(second)?;
+    Ok(Some(second))
+}
+
 /// Replies to the first actor, or else issues its next command, or else lets time go on, and tells
 /// whether one could be done.
 fn go_ahead(
@@ -353,11 +386,12 @@ fn go_ahead(
         tell_seen(alloc, text, instance.issue(lines, 0)?.as_slice())?;
         return Ok(true);
     }
-    if instance.can_tick() {
-        tell_seen(alloc, text, instance.tick()?.as_slice())?;
-        return Ok(true);
-    }
-    Ok(false)
+    let Some(second) = pass_to_target(instance)? else {
+        return Ok(false);
+    };
+    let words = format!(in alloc; "ticked {second}, ")?;
+    text.extend_from_slice(words.as_bytes())?;
+    Ok(true)
 }
 
 /// What is seen of a whole run.

@@ -13,7 +13,7 @@ use Rattle.job_book.specs.Contract.{Finds, SaysAs}
 use Rattle.job_book.specs.Value.{BookValue, scene_of}
 use Rattle.job_clock.proofs.Times.{begins_in_time}
 use Rattle.job_clock.specs.Children.{AreChildless, IsChildless, SubmitsNoChild}
-use Rattle.job_clock.specs.Targets.{AreInTime}
+use Rattle.job_clock.specs.Targets.{AreInTime, targets_of}
 use Rattle.job_commands.proofs.Desks.{submits_true}
 use Rattle.job_commands.proofs.Steps.{names_kept}
 use Rattle.job_commands.proofs.Tables.{found}
@@ -28,7 +28,7 @@ use Rattle.job_landings.specs.Landings.{happening}
 use Rattle.job_manager.specs.Follows.{Finds as FindsPost, Keeps, Stays}
 use Rattle.job_manager.specs.Value.{ManagerValue}
 use Rattle.job_replies.specs.Told.{MayTell, Stands}
-use Rattle.job_rules.proofs.Among.{Among, all_from, among_from, contains_from}
+use Rattle.job_rules.proofs.Among.{Among, all_at, all_from, among_from, contains_from}
 use Rattle.job_rules.specs.Fits.{IsGrant}
 use Rattle.job_submissions.specs.Made.{AreLabelled}
 use Rattle.job_submissions.specs.declared.faults.Fault.{Fault}
@@ -251,8 +251,14 @@ module _ (spent : Bool) (birth size fanout : ℕ) (grant : Resources) (manager :
   no_rows [] none = refl
   no_rows (row ∷ rows) none = absurd (none row (contains_from (row ∷ rows) row (inl refl)))
 
-  pub begun_timed : AreInTime commands birth birth 0
-  begun_timed = begins_in_time commands plain (set plain)
+  pub begun_timed : AreInTime commands birth birth (1000000000 + 0)
+  begun_timed =
+      let timed = begins_in_time commands plain (set plain) in
+      record {
+        present = omega arith;
+        targets = all_from (λ target. target ≤ birth + (1000000000 + 0)) (targets_of commands) (λ target i.
+            (let low : target ≤ birth + 0 = all_at (λ t. t ≤ birth + 0) (targets_of commands) target timed.targets i in omega (arith, low)));
+      }
 
   pub begun_childless : AreChildless manager.book.jobs
   begun_childless = all_from (λ j. IsChildless j.spec) manager.book.jobs (λ j i. absurd (no_jobs j (contains_from manager.book.jobs j i)))
@@ -331,7 +337,7 @@ labelled_still v new inst log m jobs old later h = λ id c.
 
 -- of the time, of children, and of submissions
 pub record GoesOn (v : JobServiceValue) (manager : ManagerValue) (commands : CommandsValue) (refused : List Refused) (submitted span : ℕ) (bearing : Option ℕ) : Type 0 where
-  pub timed : AreInTime commands v.birth v.second span
+  pub timed : AreInTime commands v.birth v.second (1000000000 + span)
   pub near : span ≤ 1000000000
   pub bears : IsBearing commands manager.book bearing
   pub drawn : (rank : ℕ) → rank < length commands.issued → slice_index commands.issued rank ≤ submitted
@@ -339,7 +345,7 @@ pub record GoesOn (v : JobServiceValue) (manager : ManagerValue) (commands : Com
   pub judged : AreJudged commands manager.book.jobs refused
 
 pub is_soon : (v : JobServiceValue) → IsFit v → 1000 * (v.second - v.birth) < 2 ^ 40
-is_soon v i = let present = i.timed.present in let near = i.near in omega (arith, present, near)
+is_soon v i = let soon = i.soon in omega (arith, soon)
 
 pub alone_in : (v : JobServiceValue) → IsFit v → IsAlone v.manager.posted v.found
 alone_in v i = found-alone v.commands v.manager.book v.second v.birth v.manager.posted v.found i.sought
@@ -352,6 +358,7 @@ fit v i spent manager commands refused later submitted span bearing ready size s
   size = same ∙ i.size ∙ sym size;
   few = subst (λ n. n ≤ 32) (sym size) i.few;
   order = i.order;
+  soon = i.soon;
   early = i.early;
   timed = goes.timed;
   near = goes.near;

@@ -1,7 +1,7 @@
 -- What the code rests on after its calls.
-use Rattle.std.proofs.Common.{◌≡◌, ℕ, ◌+◌, ◌-◌, ◌<◌, ◌≤◌, List, Bool, false, length, arith, Option, Some, None, count_by, refl, sym, ap, ◌∙◌, subst}
+use Rattle.std.proofs.Common.{◌≡◌, ℕ, ◌+◌, ◌<◌, ◌≤◌, List, Bool, false, length, arith, Option, Some, None, count_by, refl, sym, ap, ◌∙◌, subst}
 use Rattle.std.specs.Global.{Vec}
-use Rattle.std.specs.Prelude.{max, option_map, slice_index}
+use Rattle.std.specs.Prelude.{option_map, slice_index}
 use Rattle.job_clock.specs.Targets.{AreInTime}
 use Rattle.job_commands.specs.Rows.{AreMarkedBy, CommandsValue, is_submit}
 use Rattle.job_commands.specs.declared.child.Child.{Child}
@@ -19,7 +19,6 @@ use Rattle.job_service.specs.View.{IsHeld, value_of}
 use Rattle.job_service.specs.declared.refusals.Refused.{Refused}
 use Rattle.job_service.specs.declared.service.JobService.TheInside.{Inside}
 use Rattle.job_service.proofs.Calls.{fit, fit_still, spanned, with_parts}
-use Rattle.job_clock.proofs.Times.{in_time_later}
 use Rattle.job_service.proofs.Born.{named_as, timed_as}
 use Rattle.job_service.proofs.Ticking.{ticked_value}
 use Rattle.job_service.proofs.Outgoing.{book_posted, id_known, named_posted, size_posted, sought_posted}
@@ -35,7 +34,7 @@ held_still s h spent manager ready size book posted agreed = record {
 
 -- where the manager stays, and what is due is looked for anew
 pub held_next : (s : Inside) → IsHeld s → (spent : Bool) (commands : CommandsValue) (refused : Vec Refused) (later : Option Post) (submitted span : ℕ) (bearing : Option ℕ) → length commands.issued ≡ length s.commands.issued → IsNamed commands s.birth s.manager.posted
-    → length s.manager.book.jobs + count_by is_submit commands.rows ≤ submitted → submitted ≤ 1000 → AreInTime commands s.birth s.second span → span ≤ 1000000000 → IsBearing commands s.manager.book bearing → ((rank : ℕ) → rank < length commands.issued → slice_index commands.issued rank ≤ submitted) → AreMarkedBy commands s.second → AreJudged commands s.manager.book.jobs refused.items
+    → length s.manager.book.jobs + count_by is_submit commands.rows ≤ submitted → submitted ≤ 1000 → AreInTime commands s.birth s.second (1000000000 + span) → span ≤ 1000000000 → IsBearing commands s.manager.book bearing → ((rank : ℕ) → rank < length commands.issued → slice_index commands.issued rank ≤ submitted) → AreMarkedBy commands s.second → AreJudged commands s.manager.book.jobs refused.items
     → IsFoundBeside s.manager.posted commands s.manager.book s.second s.birth (option_map post_of later)
     → IsAgreed (spanned (with_parts (value_of s) spent s.manager commands refused.items (option_map post_of later) submitted) span bearing) → IsHeld (record s { spent = spent; commands = commands; refused = refused; found = later; bearing = bearing; submitted = submitted; span = span })
 held_next s h spent commands refused later submitted span bearing size named counted bounded timed near bears drawn marked judged found agreed =
@@ -60,7 +59,7 @@ held_posted s h spent manager id left post none ready is p agreed =
 
 -- where a post has landed
 pub held_landed : (s : Inside) → IsHeld s → (spent : Bool) (manager : ManagerValue) (commands : CommandsValue) (refused : Vec Refused) (later : Option Post) (bearing : Option ℕ) → manager.spent ≡ false → manager.core.size ≡ s.manager.core.size → manager.posted ≡ None → length commands.issued ≡ length s.commands.issued
-    → length manager.book.jobs + count_by is_submit commands.rows ≤ s.submitted → AreInTime commands s.birth s.second s.span → IsBearing commands manager.book bearing → ((rank : ℕ) → rank < length commands.issued → slice_index commands.issued rank ≤ s.submitted) → AreMarkedBy commands s.second → AreJudged commands manager.book.jobs refused.items
+    → length manager.book.jobs + count_by is_submit commands.rows ≤ s.submitted → AreInTime commands s.birth s.second (1000000000 + s.span) → IsBearing commands manager.book bearing → ((rank : ℕ) → rank < length commands.issued → slice_index commands.issued rank ≤ s.submitted) → AreMarkedBy commands s.second → AreJudged commands manager.book.jobs refused.items
     → IsFoundBeside manager.posted commands manager.book s.second s.birth (option_map post_of later)
     → IsAgreed (spanned (with_parts (value_of s) spent manager commands refused.items (option_map post_of later) s.submitted) s.span bearing) → IsHeld (record s { spent = spent; manager = manager; commands = commands; refused = refused; found = later; bearing = bearing; submitting = None })
 held_landed s h spent manager commands refused later bearing ready size posted same counted timed bears drawn marked judged found agreed =
@@ -71,9 +70,9 @@ held_landed s h spent manager commands refused later bearing ready size posted s
     }
 
 -- where time has gone on
-pub held_ticked : (s : Inside) → IsHeld s → (spent : Bool) (second span : ℕ) (later : Option Post) → s.manager.posted ≡ None → MayPassTo (value_of s) second → span ≡ max s.span (second - s.birth)
-    → IsFoundBeside s.manager.posted s.commands s.manager.book second s.birth (option_map post_of later) → IsAgreed (ticked_value (value_of s) spent second span (option_map post_of later)) → IsHeld (record s { spent = spent; second = second; found = later; span = span })
-held_ticked s h spent second span later posted may is found agreed =
+pub held_ticked : (s : Inside) → IsHeld s → (spent : Bool) (second : ℕ) (later : Option Post) → s.manager.posted ≡ None → MayPassTo (value_of s) second
+    → IsFoundBeside s.manager.posted s.commands s.manager.book second s.birth (option_map post_of later) → IsAgreed (ticked_value (value_of s) spent second (option_map post_of later)) → IsHeld (record s { spent = spent; second = second; found = later })
+held_ticked s h spent second later posted may found agreed =
     let i = h.fit in
     let f = option_map post_of later in
     let above = may.passes.above in
@@ -83,9 +82,10 @@ held_ticked s h spent second span later posted may is found agreed =
         size = i.size;
         few = i.few;
         order = (let a = i.order in omega (arith, a, above));
+        soon = may.near;
         early = i.early;
-        timed = subst (AreInTime s.commands s.birth second) (sym is) (in_time_later s.commands s.birth s.second second s.span (omega (arith, above)) i.timed);
-        near = (let a = i.near in let b = may.near in omega (arith, a, b, is));
+        timed = record { present = (let b = may.near in omega (arith, b)); targets = i.timed.targets };
+        near = i.near;
         sought = found;
         posted = i.posted;
         named = found-named s.commands s.manager.book second s.birth s.manager.posted f found;
@@ -112,7 +112,7 @@ held_child s h spent commands children later bearing is bears found agreed =
     (subst (λ w. IsNamed w s.birth s.manager.posted) so (named_as s.commands children s.birth s.manager.posted i.posted))
     (subst (λ w. length s.manager.book.jobs + count_by is_submit w.rows ≤ s.submitted) so i.counted)
     i.bounded
-    (subst (λ w. AreInTime w s.birth s.second s.span) so (timed_as s.commands children s.birth s.second s.span i.timed))
+    (subst (λ w. AreInTime w s.birth s.second (1000000000 + s.span)) so (timed_as s.commands children s.birth s.second (1000000000 + s.span) i.timed))
     i.near bears
     (subst (λ (w : CommandsValue). (rank : ℕ) → rank < length w.issued → slice_index w.issued rank ≤ s.submitted) so i.drawn)
     (subst (λ w. AreMarkedBy w s.second) so i.marked)

@@ -287,7 +287,7 @@ issued_drawn v inst log old commands by asked more submits asks later size s is 
 
 -- ---- time
 
-pub issued_time : (v new : CommandsValue) (by : By) (rank now birth span : ℕ) (asked : JobAsk) → new.rows ≡ v.rows ++ issued_row v by rank now asked ∷ [] → AreInTime v birth now span → AreInTime new birth now (span + seconds_asked asked)
+issued_time : (v new : CommandsValue) (by : By) (rank now birth span : ℕ) (asked : JobAsk) → new.rows ≡ v.rows ++ issued_row v by rank now asked ∷ [] → AreInTime v birth now span → AreInTime new birth now (span + seconds_asked asked)
 issued_time v new by rank now birth span (ask.Advance seconds) rows h = advance_in_time v new (issued_row v by rank now (ask.Advance seconds)) birth now span seconds rows refl refl h
 issued_time v new by rank now birth span (ask.Submit label urgency needs text) rows h = subst (AreInTime new birth now) (sym (plus-none span)) (other_in_time v new (issued_row v by rank now (ask.Submit label urgency needs text)) birth now span rows refl h)
 issued_time v new by rank now birth span (ask.Cancel label) rows h = subst (AreInTime new birth now) (sym (plus-none span)) (other_in_time v new (issued_row v by rank now (ask.Cancel label)) birth now span rows refl h)
@@ -298,6 +298,12 @@ issued_time v new by rank now birth span (ask.Info label key) rows h = subst (Ar
 issued_time v new by rank now birth span ask.Jobs rows h = subst (AreInTime new birth now) (sym (plus-none span)) (other_in_time v new (issued_row v by rank now ask.Jobs) birth now span rows refl h)
 issued_time v new by rank now birth span (ask.Why label) rows h = subst (AreInTime new birth now) (sym (plus-none span)) (other_in_time v new (issued_row v by rank now (ask.Why label)) birth now span rows refl h)
 issued_time v new by rank now birth span (ask.ResultOf label) rows h = subst (AreInTime new birth now) (sym (plus-none span)) (other_in_time v new (issued_row v by rank now (ask.ResultOf label)) birth now span rows refl h)
+
+pub issued_within : (v new : CommandsValue) (by : By) (rank now birth span : ℕ) (asked : JobAsk) → new.rows ≡ v.rows ++ issued_row v by rank now asked ∷ [] → AreInTime v birth now (1000000000 + span) → AreInTime new birth now (1000000000 + (span + seconds_asked asked))
+issued_within v new by rank now birth span asked rows h =
+    let more = seconds_asked asked in
+    let same : (1000000000 + span) + more ≡ 1000000000 + (span + more) = omega arith in
+    subst (AreInTime new birth now) same (issued_time v new by rank now birth (1000000000 + span) asked rows h)
 
 pub time_left : (v : JobServiceValue) (asked : JobAsk) → HasTime v asked → v.span ≤ 1000000000 → v.span + seconds_asked asked ≤ 1000000000
 time_left v (ask.Advance seconds) h near = h

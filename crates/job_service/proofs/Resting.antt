@@ -1,14 +1,13 @@
 -- A job service in which nothing can go on.
-use Rattle.std.proofs.Common.{◌≡◌, ℕ, ◌≤◌, List, [], ◌∷◌, Bool, true, false, ◌&&◌, ◌||◌, not, Option, Some, None, Contains, cond, refl, sym, ap, ◌∙◌, subst, arith, true≢false}
-use Rattle.std.specs.Prelude.{All, IfNone, IfSome, filter, is_some, nat_lt, option_and_then, option_map}
-use Rattle.std.specs.List.{AllByRecursion as Each, list_any}
-use Rattle.std.proofs.lemmas.Bool.{false_from_ne_true, lt-ltb, ltb-false, ltb-true}
+use Rattle.std.proofs.Common.{◌≡◌, ℕ, ◌≤◌, List, [], ◌∷◌, Bool, true, false, ◌||◌, Option, Some, None, Contains, cond, refl, sym, ap, ◌∙◌, subst, true≢false}
+use Rattle.std.specs.Prelude.{All, is_some, nat_lt, option_and_then, option_map}
+use Rattle.std.proofs.lemmas.Bool.{false_from_ne_true, ltb-false}
 use Rattle.instance_rules.specs.Family.{IsLeftResult, Living}
 use Rattle.instance_rules.specs.Log.{Instance, IsOpen, Log, service_of}
 use Rattle.job_book.proofs.Whys.{found_job}
 use Rattle.job_clock.proofs.Standing.{at_living}
 use Rattle.job_clock.specs.Standing.{IsLiving}
-use Rattle.job_clock.specs.Targets.{IsNextTick, targets_of}
+use Rattle.job_clock.specs.Targets.{targets_of}
 use Rattle.job_commands.proofs.Tables.{found}
 use Rattle.job_commands.specs.Agrees.{AgreesCommands}
 use Rattle.job_commands.specs.Asks.{told}
@@ -19,7 +18,7 @@ use Rattle.job_commands.specs.declared.row.Row.{Row}
 use Rattle.job_manager.specs.Managed.{IsManaged, IsOutstanding}
 use Rattle.job_manager.specs.Value.{ManagerValue}
 use Rattle.job_replies.specs.Ready.{is_inactive, job_in, state_in}
-use Rattle.job_rules.proofs.Among.{Among, all_at, all_from, among_from, among_kept, any_at, any_from, contains_from, each_from}
+use Rattle.job_rules.proofs.Among.{Among, all_from, among_kept, contains_from}
 use Rattle.job_states.specs.declared.job.State.{State}
 use Rattle.kvs_core.specs.Posted.{newest_of, posted}
 use Rattle.kvs_rules.specs.Namespaces.{newest_store, primary}
@@ -28,36 +27,9 @@ use Rattle.manager_rules.specs.Dependencies.{job_at as stored_at}
 use Rattle.manager_rules.specs.Jobs.{StoredJob}
 use Rattle.job_service.specs.Children.{is_due}
 use Rattle.job_service.specs.Refusals.{row_in}
-use Rattle.job_service.specs.Still.{awaited, awaited_by, can_tick, unless_over}
-use Rattle.job_service.specs.Times.{IsTimeUp, targets_left}
+use Rattle.job_service.specs.Still.{awaited, awaited_by, unless_over}
+use Rattle.job_service.specs.Times.{targets_left}
 use Rattle.job_service.specs.Value.{JobServiceValue}
-
--- ---- time
-
--- whether a later second is waited for
-abbrev waits_later : ℕ → List ℕ → Bool
-waits_later now targets = list_any (λ target. nat_lt now target) targets
-
-next_later : (now : ℕ) (targets ends : List ℕ) (o : Option ℕ) → IfSome o (λ second. IsNextTick targets ends now second) → IfNone o (All (λ target. target ≤ now) targets) → is_some o ≡ waits_later now targets
-next_later now targets ends (Some second) some none = sym (any_at (λ t. nat_lt now t) targets some.target (among_from targets some.target some.wanted) (lt-ltb now some.target some.unreached))
-next_later now targets ends None some none = sym (false_from_ne_true (waits_later now targets) (λ later. no (any_from (λ t. nat_lt now t) targets later)))
-  where
-    no : (t : ℕ) × Among t targets × (nat_lt now t ≡ true) → ⊥
-    no (t, i, late) = let low = all_at (λ target. target ≤ now) targets t none i in let above = ltb-true now t late in absurd (omega (arith, low, above))
-
-free_tick : (d a : Bool) → d ≡ false → (not d && a) ≡ a
-free_tick true a e = cc
-free_tick false a e = refl
-
-busy_tick : (d a : Bool) → d ≡ true → (not d && a) ≡ false
-busy_tick true a e = refl
-busy_tick false a e = cc
-
-pub can_next : (v : JobServiceValue) (ends : List ℕ) (o : Option ℕ) → is_due v ≡ false → IfSome o (λ second. IsNextTick (targets_of v.commands) ends v.second second) → IfNone o (All (λ target. target ≤ v.second) (targets_of v.commands)) → is_some o ≡ can_tick v
-can_next v ends o free some none = next_later v.second (targets_of v.commands) ends o some none ∙ sym (free_tick (is_due v) (waits_later v.second (targets_of v.commands)) free)
-
-pub no_next : (v : JobServiceValue) → is_due v ≡ true → false ≡ can_tick v
-no_next v busy = sym (busy_tick (is_due v) (waits_later v.second (targets_of v.commands)) busy)
 
 -- whether something is posted or due, from its parts
 pub none_now : (v : JobServiceValue) → v.manager.posted ≡ None → v.found ≡ None → v.bearing ≡ None → is_due v ≡ false
@@ -73,19 +45,6 @@ unposted_still m managed none = at m.posted refl managed.outstanding
     at (Some post) e h = absurd (let wrong : _ ∷ [] ≡ [] = sym h.0 ∙ none in cc)
 
 -- ---- no target is left
-
-none_ahead : (now : ℕ) (targets : List ℕ) → Each (λ target. target ≤ now) targets → filter (λ target. nat_lt now target) targets ≡ []
-none_ahead now [] low = refl
-none_ahead now (target ∷ targets) low = at (nat_lt now target) refl (none_ahead now targets low.1)
-  where
-    at : (b : Bool) → nat_lt now target ≡ b → filter (λ t. nat_lt now t) targets ≡ [] → cond b (target ∷ filter (λ t. nat_lt now t) targets) (filter (λ t. nat_lt now t) targets) ≡ []
-    at true later none = (let above = ltb-true now target later in let reached : target ≤ now = low.0 in absurd (omega (arith, above, reached)))
-    at false later none = none
-
--- where the next second isn't there, time is up
-pub time_up : (v : JobServiceValue) (o : Option ℕ) → IfNone o (All (λ target. target ≤ v.second) (targets_of v.commands)) → IfNone o (IsTimeUp v)
-time_up v None low = λ free. none_ahead v.second (targets_of v.commands) (each_from (λ target. target ≤ v.second) (targets_of v.commands) (λ target i. all_at (λ t. t ≤ v.second) (targets_of v.commands) target low i))
-time_up v (Some second) low = tt
 
 pub all_reached : (v : JobServiceValue) → targets_left v ≡ [] → All (λ target. target ≤ v.second) (targets_of v.commands)
 all_reached v none = all_from (λ target. target ≤ v.second) (targets_of v.commands) (λ target i. ltb-false v.second target (false_from_ne_true (nat_lt v.second target) (λ later.

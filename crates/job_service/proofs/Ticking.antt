@@ -1,20 +1,17 @@
 -- A job service when time goes on, and when nothing is left to be done.
 use Rattle.std.proofs.Common.{◌≡◌, ℕ, ◌+◌, ◌-◌, ◌*◌, ◌^◌, ◌<◌, ◌≤◌, [], ◌∷◌, ◌++◌, length, Bool, true, false, ◌&&◌, ◌||◌, not, Option, Some, None, Contains, refl, sym, ap, ◌∙◌, subst, arith, true≢false}
-use Rattle.std.specs.Prelude.{All, IfSome, flat_map, is_some, nat_le, nat_lt}
+use Rattle.std.specs.Prelude.{All, is_some, nat_le, nat_lt}
 use Rattle.std.specs.List.{AllByRecursion as Each}
 use Rattle.std.specs.Option.{option_map_or}
 use Rattle.std.proofs.lemmas.Bool.{lt-ltb, ltb-true, or_parts, or_right}
-use Rattle.instance_rules.specs.Family.{HasTarget, IsTarget, Living, MayTick, OfLiving}
+use Rattle.instance_rules.specs.Family.{HasTarget, IsTarget, Living, OfLiving}
 use Rattle.instance_rules.specs.Legal.{IsLegalMoment, OfDesk}
 use Rattle.instance_rules.specs.Log.{Instance, Log, Ticked, before_issue, now_of, service_of}
 use Rattle.job_book.specs.Contract.{seconds_left}
-use Rattle.job_book.specs.Seconds.{IsSoonest}
-use Rattle.job_book.specs.Value.{BookValue}
-use Rattle.job_clock.proofs.Standing.{at_living, at_top, end_known, end_there, has_known, has_there, may_tick, of_desk, pass_legal, target_here}
+use Rattle.job_clock.proofs.Standing.{at_living, at_top, end_known, end_there, has_known, has_there, of_desk, pass_legal, target_here}
 use Rattle.job_clock.proofs.Targets.{reached_row}
-use Rattle.job_clock.proofs.Times.{in_time_at}
 use Rattle.job_clock.specs.Standing.{IsLiving, IsTop, PassesNone, StandsWith}
-use Rattle.job_clock.specs.Targets.{IsNextTick, IsReached, targets_of}
+use Rattle.job_clock.specs.Targets.{IsReached, targets_of}
 use Rattle.job_commands.proofs.Tables.{found, not_found}
 use Rattle.job_commands.specs.Agrees.{AgreesCommands, StageAgrees}
 use Rattle.job_commands.specs.Asks.{told}
@@ -26,20 +23,20 @@ use Rattle.job_commands.specs.declared.row.Stage.{Stage}
 use Rattle.job_commands.specs.declared.row.Stage.TheVariants as stage
 use Rattle.job_manager.specs.Managed.{IsManaged}
 use Rattle.job_replies.specs.Ready.{is_ready, is_ready_at}
-use Rattle.job_rules.proofs.Among.{all_at, all_from, among_filter, among_from, among_kept, among_right, contains_from}
+use Rattle.job_rules.proofs.Among.{all_at, among_filter, among_from, among_kept, contains_from}
 use Rattle.kvs_core.specs.Agrees.{Agrees}
 use Rattle.kvs_core.specs.Posted.{newest_of}
 use Rattle.kvs_rules.specs.Answers.{IsLegalLog}
 use Rattle.kvs_rules.specs.Namespaces.{newest_store, primary}
 use Rattle.kvs_txn.specs.declared.txn.By.{By}
 use Rattle.manager_rules.specs.Posts.{Desk, Post}
-use Rattle.manager_rules.specs.Times.{IsIdle, seconds_ahead, seconds_of}
+use Rattle.manager_rules.specs.Times.{IsIdle, seconds_ahead}
 use Rattle.job_service.specs.Agrees.{AgreesJobs}
 use Rattle.job_service.specs.Children.{IsBearing, is_due}
 use Rattle.job_service.specs.Due.{IsFoundBeside, Owes, OwesNothing}
 use Rattle.job_service.specs.Refusals.{fault_for, row_in}
 use Rattle.job_service.specs.Replies.{can_reply, is_ready_in, is_undone}
-use Rattle.job_service.specs.Times.{MayGoTo, MayPassTo, targets_left}
+use Rattle.job_service.specs.Times.{MayPassTo, targets_left}
 use Rattle.job_service.specs.Value.{JobServiceValue}
 use Rattle.job_service.specs.View.{IsFit}
 use Rattle.job_service.proofs.Bearing.{none_due, stands}
@@ -48,8 +45,8 @@ use Rattle.job_service.proofs.Facts.{ticked_facts, ticked_service}
 use Rattle.job_service.proofs.Owing.{MadeAreDue, UnmadeAreNot, beside-owes}
 
 -- the service at a later second
-abbrev pub ticked_value : JobServiceValue → Bool → ℕ → ℕ → Option Post → JobServiceValue
-ticked_value v spent second span later = record v { spent = spent; second = second; span = span; found = later }
+abbrev pub ticked_value : JobServiceValue → Bool → ℕ → Option Post → JobServiceValue
+ticked_value v spent second later = record v { spent = spent; second = second; found = later }
 
 -- the later second is near enough
 pub then_soon : (v : JobServiceValue) → IsFit v → (second : ℕ) → MayPassTo v second → (v.birth ≤ second) × (1000 * (second - v.birth) < 2 ^ 40)
@@ -68,33 +65,6 @@ free_parts v free =
     let both = or_parts (is_some v.manager.posted || is_some v.found) (is_some v.bearing) free in
     let two = or_parts (is_some v.manager.posted) (is_some v.found) both.0 in
     (none_of v.manager.posted two.0, none_of v.found two.1, none_of v.bearing both.1)
-
--- where nothing is due, the next second of the only instance is one to which time may go
-pub goes_to : (v : JobServiceValue) → IsFit v → is_due v ≡ false → (second : ℕ) → IsNextTick (targets_of v.commands) (seconds_left v.second v.manager.book) v.second second → MayGoTo v second
-goes_to v i free second next =
-    let parts = free_parts v free in
-    let present = (in_time_at v.commands (seconds_left v.second v.manager.book) v.birth v.second second v.span next i.timed).present in
-    let near = i.near in
-    record {
-      pass = record {
-        unposted = parts.0;
-        unfound = parts.1;
-        unborn = parts.2;
-        passes = record {
-          above = next.above;
-          before = all_from (λ other. second ≤ other) (seconds_left v.second v.manager.book) (λ other i.
-              let kept = among_filter (λ t. nat_lt v.second t) (flat_map seconds_of v.manager.book.jobs) other i in
-              next.least other (contains_from (targets_of v.commands ++ seconds_left v.second v.manager.book) other (among_right (targets_of v.commands) (seconds_left v.second v.manager.book) other i)) (ltb-true v.second other kept.1));
-        };
-        near = omega (arith, present, near);
-      };
-      within = present;
-      next = next;
-    }
-
-pub goes_all : (v : JobServiceValue) → IsFit v → is_due v ≡ false → (book : BookValue) → book ≡ v.manager.book → (o : Option ℕ) → IfSome o (λ second. IsNextTick (targets_of v.commands) (seconds_left v.second book) v.second second) → IfSome o (MayGoTo v)
-goes_all v i free book same None h = tt
-goes_all v i free book same (Some second) h = goes_to v i free second (subst (λ b. IsNextTick (targets_of v.commands) (seconds_left v.second b) v.second second) same h)
 
 module _ (v : JobServiceValue) (inst : Instance) (log : Log) (a : AgreesJobs v inst log) (m : IsManaged v.manager) (newest : newest_store inst.service (service_of log) primary ≡ Some (newest_of v.manager.core))
     (bears : IsBearing v.commands v.manager.book v.bearing) (unposted : v.manager.posted ≡ None) (unfound : v.found ≡ None) (unborn : v.bearing ≡ None) where
@@ -119,15 +89,6 @@ module _ (v : JobServiceValue) (inst : Instance) (log : Log) (a : AgreesJobs v i
 
     pub ticks_legal : IsLegalMoment inst log (Ticked second)
     ticks_legal = pass_legal v.commands v.manager.book.jobs inst log stand second idle passes
-
-  module _ (second : ℕ) (may : MayGoTo v second) where
-    next : IsNextTick (targets_of v.commands) (seconds_ahead desk.scene) (now_of inst log) second
-    next = subst (λ n. IsNextTick (targets_of v.commands) (seconds_left n v.manager.book) n second) (sym a.second) may.next
-
-    pub ticks_may : (l : Living) → IsTop inst log l → MayTick (l ∷ []) (now_of inst log) [] second
-    ticks_may l top =
-        at_top l inst log top (λ i g. StandsWith v.commands v.manager.book.jobs i g → IsIdle (desk_of v.commands i g v.manager.book.jobs) → IsNextTick (targets_of v.commands) (seconds_ahead (desk_of v.commands i g v.manager.book.jobs).scene) (now_of i g) second → MayTick (l ∷ []) (now_of i g) [] second)
-        (λ s at_rest first. may_tick v.commands v.manager.book.jobs l top.from s second at_rest first) stand idle next
 
   -- ---- no advance is left
 
@@ -215,19 +176,12 @@ module _ (v : JobServiceValue) (inst : Instance) (log : Log) (a : AgreesJobs v i
         × (Contains (seconds_ahead (desk_of v.commands i g v.manager.book.jobs).scene) second → OfLiving l (λ d. Contains (seconds_ahead d.scene) second)))
         (λ s. (end_known v.commands v.manager.book.jobs l.inst l.log s second, end_there v.commands v.manager.book.jobs l.inst l.log s second)) (stands v inst log a m newest))
 
--- the least target ahead is no later than the advances let time go
-pub target_within : (v : JobServiceValue) → IsFit v → (o : Option ℕ) → IsSoonest (targets_left v) o → IfSome o (λ target. target ≤ v.birth + v.span)
-target_within v i None h = tt
-target_within v i (Some target) h =
-    all_at (λ t. t ≤ v.birth + v.span) (targets_of v.commands) target i.timed.targets
-    (among_filter (λ n. nat_lt v.second n) (targets_of v.commands) target (among_from (targets_left v) target h.one)).0
-
 -- ---- behind the second
 
 module _ (v : JobServiceValue) (inst : Instance) (log : Log) (a : AgreesJobs v inst log) (second : ℕ) (unposted : v.manager.posted ≡ None) where
-  pub ticked_agrees : (spent : Bool) (span : ℕ) (later : Option Post) → Each (λ j. j.id < 2 ^ 64) v.manager.book.jobs → 1000 * (second - v.birth) < 2 ^ 40 → length v.commands.issued ≤ 32 → MadeAreDue → UnmadeAreNot → IsFoundBeside v.manager.posted v.commands v.manager.book second v.birth later
-      → AgreesJobs (ticked_value v spent second span later) inst (log ++ Ticked second ∷ [])
-  ticked_agrees spent span later smalls soon short made-due unmade-not h =
+  pub ticked_agrees : (spent : Bool) (later : Option Post) → Each (λ j. j.id < 2 ^ 64) v.manager.book.jobs → 1000 * (second - v.birth) < 2 ^ 40 → length v.commands.issued ≤ 32 → MadeAreDue → UnmadeAreNot → IsFoundBeside v.manager.posted v.commands v.manager.book second v.birth later
+      → AgreesJobs (ticked_value v spent second later) inst (log ++ Ticked second ∷ [])
+  ticked_agrees spent later smalls soon short made-due unmade-not h =
       let f = ticked_facts v.commands v.refused v.second second inst log (facts v inst log a) in
       let same = ticked_service log second in
       record {

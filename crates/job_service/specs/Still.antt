@@ -1,7 +1,5 @@
 -- When nothing of an instance's jobs can go on, and what open commands then wait for.
-use Rattle.std.specs.Prelude.{◌≡◌, ◌&&◌, not, nat_lt, Bool, false, List, Option, Some, None, option_and_then, if◌then◌else◌}
-use Rattle.std.specs.List.{list_any}
-use Rattle.job_clock.specs.Targets.{targets_of}
+use Rattle.std.specs.Prelude.{◌≡◌, false, List, Option, Some, None, option_and_then, if◌then◌else◌}
 use Rattle.job_commands.specs.declared.ask.JobAsk.{JobAsk}
 use Rattle.job_commands.specs.declared.ask.JobAsk.TheVariants as ask
 use Rattle.job_commands.specs.Rows.{Labels}
@@ -14,11 +12,6 @@ use Rattle.job_service.specs.Children.{is_due}
 use Rattle.job_service.specs.Refusals.{row_in}
 use Rattle.job_service.specs.Replies.{can_reply}
 use Rattle.job_service.specs.Value.{JobServiceValue}
-
--- whether time can go on by an advance of its own: nothing is posted or due, and one waits for a
--- later second
-abbrev pub can_tick : JobServiceValue → Bool
-can_tick v = not (is_due v) && list_any (λ target. nat_lt v.second target) (targets_of v.commands)
 
 -- nothing but time can go on: no step of the key-value service can be made and none of its answers
 -- waits, nothing is posted or due, and no job command can be told

@@ -1,11 +1,10 @@
 -- How far time goes on.
-use Rattle.std.specs.Prelude.{◌≡◌, ℕ, ◌+◌, ◌-◌, ◌≤◌, List, [], false, None, filter, max, nat_lt}
+use Rattle.std.specs.Prelude.{◌≡◌, ℕ, ◌+◌, ◌≤◌, List, None, filter, nat_lt}
 use Rattle.job_book.specs.Contract.{seconds_left}
 use Rattle.job_clock.specs.Standing.{PassesNone}
-use Rattle.job_clock.specs.Targets.{IsNextTick, targets_of}
+use Rattle.job_clock.specs.Targets.{targets_of}
 use Rattle.job_commands.specs.declared.ask.JobAsk.{JobAsk}
 use Rattle.job_commands.specs.declared.ask.JobAsk.TheVariants as ask
-use Rattle.job_service.specs.Children.{is_due}
 use Rattle.job_service.specs.Value.{JobServiceValue}
 
 -- the seconds by which a command lets time go on
@@ -29,13 +28,13 @@ pub record KeepsCounts (old new : JobServiceValue) : Type 0 where
   pub submitted : new.submitted ≡ old.submitted
   pub span : new.span ≡ old.span
 
--- all advances together let time go on by no more than 1,000,000,000 seconds
+-- all advances of the instance together let time go on by no more than 1,000,000,000 seconds
 abbrev pub HasTime : JobServiceValue → JobAsk → Type 0
 HasTime v (ask.Advance seconds) = v.span + seconds ≤ 1000000000
 HasTime v _ = Unit {0}
 
--- nothing is posted and nothing is due, and time may go on to this second by whatever advance: no
--- command and no resources end before it, and it isn't too far from the birth
+-- nothing is posted and nothing is due, and time may go on to this second by whatever advance of
+-- the run: no command and no resources end before it, and it isn't too far from the birth
 pub record MayPassTo (v : JobServiceValue) (second : ℕ) : Type 0 where
   pub unposted : v.manager.posted ≡ None
   pub unfound : v.found ≡ None
@@ -43,23 +42,6 @@ pub record MayPassTo (v : JobServiceValue) (second : ℕ) : Type 0 where
   pub passes : PassesNone (seconds_left v.second v.manager.book) v.second second
   pub near : second ≤ v.birth + 1000000000
 
--- and it is the next second where no other instance lives
-pub record MayGoTo (v : JobServiceValue) (second : ℕ) : Type 0 where
-  pub pass : MayPassTo v second
-  pub within : second ≤ v.birth + v.span
-  pub next : IsNextTick (targets_of v.commands)
-      (seconds_left v.second v.manager.book) v.second second
-
 -- the seconds ahead that open advances wait for
 abbrev pub targets_left : JobServiceValue → List ℕ
 targets_left v = filter (λ target. nat_lt v.second target) (targets_of v.commands)
-
--- as many brokers and submissions as before, and time has gone on to this second
-pub record CountsTo (second : ℕ) (old new : JobServiceValue) : Type 0 where
-  pub size : new.manager.core.size ≡ old.manager.core.size
-  pub submitted : new.submitted ≡ old.submitted
-  pub span : new.span ≡ max old.span (second - old.birth)
-
--- something is posted or due, or no open advance waits for a later second
-abbrev pub IsTimeUp : JobServiceValue → Type 0
-IsTimeUp v = is_due v ≡ false → targets_left v ≡ []

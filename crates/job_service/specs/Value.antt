@@ -7,8 +7,8 @@ use Rattle.job_service.specs.declared.refusals.Refused.{Refused}
 
 -- the second of its birth and the present one, the manager with the service below it, the open job
 -- commands and the children, submissions that are refused, what is due and isn't posted, the first
--- job whose child is to be born, how many submissions were issued, and by how many seconds time has
--- gone on or may go on by the advances that were issued
+-- job whose child is to be born, how many submissions were issued, and the seconds of all advances
+-- that were issued
 pub record JobServiceValue : Type 0 where
   pub spent : Bool
   pub birth : ℕ

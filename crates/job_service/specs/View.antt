@@ -31,8 +31,9 @@ pub record IsFit (v : JobServiceValue) : Type 0 where
   pub size : length v.commands.issued ≡ v.manager.core.size
   pub few : v.manager.core.size ≤ 32
   pub order : v.birth ≤ v.second
-  pub early : v.birth + 1000000000 < 2 ^ 64
-  pub timed : AreInTime v.commands v.birth v.second v.span
+  pub soon : v.second ≤ v.birth + 1000000000
+  pub early : v.birth + 2000000000 < 2 ^ 64
+  pub timed : AreInTime v.commands v.birth v.second (1000000000 + v.span)
   pub near : v.span ≤ 1000000000
   pub sought : IsFoundBeside v.manager.posted v.commands v.manager.book v.second v.birth v.found
   pub posted : IsNamed v.commands v.birth v.manager.posted

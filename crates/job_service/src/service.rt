@@ -1,8 +1,8 @@
 //! The jobs of an instance.
 ghost use Rattle.std.specs.Prelude.{◌≡◌, ◌≢◌, ◌↔◌, ◌<◌, ◌≤◌, ◌+◌, ◌^◌, ◌++◌, ◌∷◌, [], true, false, ℕ, Some, IsSome, Contains, IsTrue, is_some, None, IfNone, IfOk, IfSome, OnErr, OnOk, option_map};
 ghost use Rattle.instance_rules.specs.Desks.{Names, is_submission};
-ghost use Rattle.instance_rules.specs.Family.{HasTarget, IsLeftResult, IsTarget, Living, MayTick, OfLiving};
-ghost use Rattle.instance_rules.specs.Log.{Born, Gone, Instance, IsOpen, Issued, Log, Served, Shutdown, Ticked, now_of, service_of};
+ghost use Rattle.instance_rules.specs.Family.{HasTarget, IsLeftResult, IsTarget, Living, OfLiving};
+ghost use Rattle.instance_rules.specs.Log.{Born, Gone, Instance, IsOpen, Issued, Log, Served, Shutdown, Ticked, service_of};
 ghost use Rattle.instance_rules.specs.Legal.{IsLegalMoment, OfDesk};
 ghost use Rattle.job_commands.specs.Asks.{told};
 ghost use Rattle.job_replies.specs.Told.{MayTell};
@@ -23,8 +23,8 @@ ghost use Rattle.job_clock.specs.Standing.{IsLiving, IsTop};
 ghost use Rattle.kvs_txn.specs.declared.txn.By.{By as Command};
 ghost use Rattle.manager_rules.specs.Jobs.{StoredJob, is_live};
 ghost use Rattle.manager_rules.specs.Times.{IsEndDue, IsIdle, seconds_ahead};
-ghost use Rattle.job_service.specs.Still.{IsStill, awaited, can_tick};
-ghost use Rattle.job_service.specs.Times.{Counts, CountsTo, HasTime, IsTimeUp, KeepsCounts, MayGoTo, MayPassTo, targets_left};
+ghost use Rattle.job_service.specs.Still.{IsStill, awaited};
+ghost use Rattle.job_service.specs.Times.{Counts, HasTime, KeepsCounts, MayPassTo, targets_left};
 ghost use Rattle.job_states.specs.declared.job.State.{State as StateValue};
 ghost use Rattle.job_service.specs.Replies.{Answers, can_reply, is_kept_back, is_ready_in};
 
@@ -39,7 +39,7 @@ use crate::refusals::{
 use crate::rest::awaited;
 use crate::time::{is_within, seconds_asked};
 use child_grant::child;
-use job_clock::{next_target, next_tick};
+use job_clock::next_target;
 use job_commands::{Commands, JobAsk};
 use job_landings::{number_of_post, what_is_posted_lands_as_it_is_due};
 use job_manager::{Manager, Post};
@@ -76,8 +76,7 @@ pub struct JobService {
     bearing: Option<u64>,
     /// How many submissions were issued.
     submitted: u64,
-    /// By how many seconds time has gone on or may go on by the advances that were issued: their
-    /// seconds together, or more where it has gone on by others.
+    /// The seconds of all advances that were issued.
     span: u64,
 }
 
@@ -105,7 +104,7 @@ impl JobService {
         requires size { (1 ≤ setting.size) × (setting.size ≤ 32) }
         requires fanout { (1 ≤ setting.fanout) × (setting.fanout ≤ 32) }
         requires grant { IsR grant.now }
-        requires early { birth + 1000000000 < 2 ^ 64 }
+        requires early { birth + 2000000000 < 2 ^ 64 }
         ensures ready { IfOk result (λ v. v.spent ≡ false) }
         ensures size { IfOk result (λ v. v.manager.core.size ≡ setting.size) }
         ensures start { IfOk result (λ v. (v.submitted ≡ 0) × (v.span ≡ 0)) }
@@ -486,7 +485,6 @@ impl JobService {
             → AgreesJobs self.now inst log → IsLiving inst log l
             → (HasTarget l target × (self.now.second < target))
             ↔ Contains (targets_left self.now) target }
-        ensures within { IfSome result (λ target. target ≤ self.now.birth + self.now.span) }
     {
         next_target(&self.commands, self.second)
     }
@@ -506,35 +504,17 @@ impl JobService {
         self.manager.book().next_second(self.second)
     }
 
-    /// The second to which time goes next where no other instance lives, if it goes on: nothing is
-    /// posted or due, and an open advance waits for a later second. This takes no memory.
-    pub fn next_second(&self) -> Option<u64>
-        requires { self.now.spent ≡ false }
-        ensures can { is_some result ≡ can_tick self.now }
-        ensures some { IfSome result (MayGoTo self.now) }
-        ensures none { IfNone result (IsTimeUp self.now) }
-    {
-        if self.is_due() {
-            return None;
-        }
-        next_tick(&self.commands, self.manager.book(), self.second)
-    }
-
-    /// Lets time go on to this second, by an advance of this instance or of another one. After an
-    /// error the service is spent.
+    /// Lets time go on to this second, by an advance of whatever instance of the run. After an error
+    /// the service is spent.
     pub fn tick(&mut self, second: u64) -> Result<(), AllocError>
         requires ready { self.old.spent ≡ false }
         requires may { MayPassTo self.old second }
         ensures ready { OnOk result (self.new.spent ≡ false) }
-        ensures counts { OnOk result (CountsTo second self.old self.new) }
-        ensures keeps { OnOk result (MayGoTo self.old second → KeepsCounts self.old self.new) }
+        ensures counts { OnOk result (KeepsCounts self.old self.new) }
         ensures second { OnOk result (self.new.second ≡ second) }
         ensures spent { OnErr result (self.new.spent ≡ true) }
         ensures legal { OnOk result ((inst : Instance) (log : Log) → AgreesJobs self.old inst log
             → IsLegalMoment inst log (Ticked second)) }
-        ensures may { OnOk result ((inst : Instance) (log : Log) (l : Living)
-            → AgreesJobs self.old inst log → IsTop inst log l → MayGoTo self.old second
-            → MayTick (l ∷ []) (now_of inst log) [] second) }
         ensures agrees { OnOk result ((inst : Instance) (log : Log) → AgreesJobs self.old inst log
             → AgreesJobs self.new inst (log ++ Ticked second ∷ [])) }
     {
@@ -544,7 +524,6 @@ impl JobService {
         self.manager.book().keeps();
         what_is_made_is_due();
         self.second = second;
-        self.span = self.span.max(second - self.birth);
         self.found = look(
             self.alloc,
             &self.commands,

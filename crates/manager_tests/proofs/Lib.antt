@@ -1,2 +1,3 @@
 mod Submitted
 mod Issued
+mod Passing

@@ -1,5 +1,5 @@
 //! What the first command of an instance is told at once, if it is told.
-ghost use Rattle.std.specs.Prelude.{◌≡◌, ◌++◌, ◌∷◌, [], false, true, IfOk, IfSome, IsTrue, OnOk, Some};
+ghost use Rattle.std.specs.Prelude.{◌≡◌, ◌≤◌, ◌⊎◌, ◌++◌, ◌∷◌, [], false, true, IfOk, IfSome, IsTrue, OnOk, Some};
 ghost use Rattle.instance_rules.specs.Desks.{is_submission};
 ghost use Rattle.instance_rules.specs.Log.{Instance, IsInRange, Issued, Log};
 ghost use Rattle.job_commands.specs.Asks.{told};
@@ -254,12 +254,31 @@ fn tell(alloc: Global, service: &mut JobService, told: &mut String) -> Result<bo
     Ok(true)
 }
 
-/// Lets time go on, if it does.
+/// The sooner of two seconds, of which there may be one.
+fn sooner(target: u64, end: Option<u64>) -> u64
+    ensures one { (result ≡ target) ⊎ (end ≡ Some result) }
+    ensures first { IfSome end (λ end. result ≤ end) }
+{
+    match end {
+        Some(end) => target.min(end),
+        None => target,
+    }
+}
+
+/// Lets time go on to the next second at which something happens, where nothing is due and an
+/// advance waits.
 fn tick(service: &mut JobService) -> Result<(), Fail>
     requires { service.old.spent ≡ false }
     ensures { OnOk result (service.new.spent ≡ false) }
 {
-    if let Some(second) = service.next_second() {
+    if service.is_due() {
+        return Ok(());
+    }
+    let Some(target) = service.next_target() else {
+        return Ok(());
+    };
+    let second = sooner(target, service.next_end());
+    if second <= 1_000_000_000 {
         service.tick(second)?;
     }
     Ok(())

@@ -6,17 +6,17 @@ ghost use Rattle.kvs_rules.specs.Quiet.{IsQuiet};
 ghost use Rattle.kvs_rules.specs.Brokers.{heard};
 ghost use Rattle.content_service.specs.Asks.{is_content};
 ghost use Rattle.instance_rules.specs.Desks.{is_submission};
-ghost use Rattle.instance_rules.specs.Family.{HasTarget, IsLeftResult, Living, MayTick};
+ghost use Rattle.instance_rules.specs.Family.{HasTarget, IsLeftResult, Living};
 ghost use Rattle.instance_rules.specs.Legal.{IsLegalMoment, OfDesk};
-ghost use Rattle.instance_rules.specs.Log.{Born, Gone, Instance, IsOpen, Issued, Log, Shutdown, Ticked, now_of, service_of};
+ghost use Rattle.instance_rules.specs.Log.{Born, Gone, Instance, IsOpen, Issued, Log, Shutdown, Ticked, service_of};
 ghost use Rattle.job_clock.specs.Children.{SubmitsNoChild};
-ghost use Rattle.job_clock.specs.Standing.{IsLiving, IsTop};
+ghost use Rattle.job_clock.specs.Standing.{IsLiving};
 ghost use Rattle.job_commands.specs.Asks.{told};
 ghost use Rattle.job_service.specs.Agrees.{HasRoom, IsNewCommand, MayIssue};
 ghost use Rattle.job_service.specs.Children.{is_due, may_end};
 ghost use Rattle.job_service.specs.Replies.{can_reply};
 ghost use Rattle.job_service.specs.Still.{awaited};
-ghost use Rattle.job_service.specs.Times.{Counts, CountsTo, HasTime, MayGoTo, MayPassTo, targets_left};
+ghost use Rattle.job_service.specs.Times.{Counts, HasTime, MayPassTo, targets_left};
 ghost use Rattle.job_rules.specs.Fits.{IsGrant};
 ghost use Rattle.job_states.specs.declared.job.State.{State};
 ghost use Rattle.kvs_txn.specs.declared.txn.By.{By as Command};
@@ -92,7 +92,7 @@ impl Services {
         requires size { (1 ≤ setting.size) × (setting.size ≤ 32) }
         requires fanout { (1 ≤ setting.fanout) × (setting.fanout ≤ 32) }
         requires grant { IsR grant.now }
-        requires early { birth + 1000000000 < 2 ^ 64 }
+        requires early { birth + 2000000000 < 2 ^ 64 }
         ensures ready { IfOk result (λ v. v.spent ≡ false) }
         ensures size { IfOk result (λ v. v.size ≡ setting.size) }
         ensures start { IfOk result (λ v. (v.jobs.submitted ≡ 0) × (v.jobs.span ≡ 0)) }
@@ -416,21 +416,16 @@ impl Services {
         Ok(())
     }
 
-    /// Lets time go on to this second, by an advance of this instance or of another one. After an
-    /// error the services are spent.
+    /// Lets time go on to this second, by an advance of whatever instance of the run. After an error
+    /// the services are spent.
     pub fn tick(&mut self, second: u64) -> Result<(), AllocError>
         requires ready { self.old.spent ≡ false }
         requires may { MayPassTo self.old.jobs second }
         ensures ready { OnOk result (self.new.spent ≡ false) }
-        ensures size { OnOk result (self.new.size ≡ self.old.size) }
-        ensures counts { OnOk result (CountsTo second self.old.jobs self.new.jobs) }
-        ensures keeps { OnOk result (MayGoTo self.old.jobs second → Keeps self.old self.new) }
+        ensures keeps { OnOk result (Keeps self.old self.new) }
         ensures spent { OnErr result (self.new.spent ≡ true) }
         ensures legal { OnOk result ((inst : Instance) (log : Log)
             → AgreesServices self.old inst log → IsLegalMoment inst log (Ticked second)) }
-        ensures may { OnOk result ((inst : Instance) (log : Log) (l : Living)
-            → AgreesServices self.old inst log → IsTop inst log l → MayGoTo self.old.jobs second
-            → MayTick (l ∷ []) (now_of inst log) [] second) }
         ensures agrees { OnOk result ((inst : Instance) (log : Log)
             → AgreesServices self.old inst log
             → AgreesServices self.new inst (log ++ Ticked second ∷ [])) }

@@ -152,9 +152,9 @@ impl Instance {
         self.services.jobs().next_end()
     }
 
-    /// Lets time go on to this second, by an advance of this instance or of another one: nothing is
-    /// posted or due, and no command and no resources end before. After an error the instance is
-    /// spent.
+    /// Lets time go on to this second, by an advance of whatever instance of the run: nothing is
+    /// posted or due, no command and no resources end before, and it is no more than 1,000,000,000
+    /// seconds behind the birth. After an error the instance is spent.
     pub fn tick_to(&mut self, second: u64) -> Result<(), AllocError>
         requires ready { self.old.spent ≡ false }
         requires idle { is_due self.old ≡ false }

@@ -1,7 +1,7 @@
 use Rattle.std.proofs.Common.{◌<◌, ◌≤◌, ◌+◌, ◌∙◌, All, ap, sym, subst}
 use Rattle.workload.specs.Limits.{most_seconds}
 use Rattle.instance.specs.Agrees.{AgreesOwn}
-use Rattle.instance.specs.Family.{LeavesTime, birth_of, ends_left, is_due, present}
+use Rattle.instance.specs.Family.{birth_of, ends_left, is_due, present}
 use Rattle.instance.specs.View.{value_of}
 use Rattle.instance.proofs.Bearing.{may_pass, passes_follow}
 use Rattle.instance.proofs.Owning.{own_of}
@@ -13,7 +13,6 @@ tick-requires-clause-may c =
     (subst (λ w. All (λ other. c.args.second ≤ other) (ends_left w)) (sym c.self.view_is) c.requires.before) (subst (λ w. c.args.second ≤ birth_of w + most_seconds) (sym c.self.view_is) c.requires.near)
 
 pub returns-clause-makes : goal.returns-clause-makes
-returns-clause-makes c = λ set own agrees leaves.
+returns-clause-makes c = λ set own agrees.
     passes_follow (own_of (value_of c.self.inside) set own) (subst (λ x. AgreesOwn x set own) (sym c.self.view_is) agrees) c.args.second c.tick.new.self
-    (record { counts = c.in_ok-tick.ensures.counts; legal = c.in_ok-tick.ensures.legal; agrees = c.in_ok-tick.ensures.agrees })
-    (subst (λ x. LeavesTime x set.work.lines c.args.second) (sym c.self.view_is) leaves)
+    (record { keeps = c.in_ok-tick.ensures.keeps; legal = c.in_ok-tick.ensures.legal; agrees = c.in_ok-tick.ensures.agrees })

@@ -16,6 +16,7 @@ invariant_of-result c = λ _.
         size = c.in_ok-commands.ensures.size ∙ sym m.size;
         few = subst (λ n. n ≤ 32) (sym m.size) c.requires.size.1;
         order = omega arith;
+        soon = omega arith;
         early = c.requires.early;
         timed = begun_timed false c.args.birth c.args.setting.size c.args.setting.fanout c.args.grant.now c.in_ok-manager.manager c.in_ok-commands.commands m.book m.posted c.in_ok-commands.ensures.agrees m.agrees;
         near = omega arith;

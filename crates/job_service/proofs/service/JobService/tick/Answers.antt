@@ -7,14 +7,14 @@ use Rattle.kvs_core.specs.Agrees.{Agrees}
 use Rattle.kvs_core.specs.Posted.{newest_of}
 use Rattle.kvs_rules.specs.Namespaces.{newest_store, primary}
 use Rattle.job_service.specs.Agrees.{AgreesJobs}
-use Rattle.job_service.specs.Times.{MayGoTo, MayPassTo}
+use Rattle.job_service.specs.Times.{MayPassTo}
 use Rattle.job_service.specs.View.{value_of}
 use Rattle.job_service.proofs.Calls.{facts}
 use Rattle.job_service.proofs.Facts.{ticked_facts}
 use Rattle.job_service.proofs.Held.{held_ticked}
 use Rattle.job_service.proofs.Issuing.{short_next}
 use Rattle.job_service.proofs.Owing.{can-look}
-use Rattle.job_service.proofs.Ticking.{then_soon, ticked_agrees, ticks_legal, ticks_may}
+use Rattle.job_service.proofs.Ticking.{then_soon, ticked_agrees, ticks_legal}
 use Rattle.job_service.proofs.service.JobService.tick.Goals as goal
 
 pub look-requires : goal.look-requires
@@ -37,11 +37,11 @@ invariant_of-self-2 c = λ _.
     let may = subst (λ w. MayPassTo w c.args.second) (sym c.self.view_is) c.requires.may in
     let smalls = subst (λ b. Each (λ j. j.id < 2 ^ 64) b.jobs) c.book.ensures c.keeps-2.ensures.small in
     let g = i.agreed in
-    held_ticked c.self.inside held false c.args.second c.max-self-inside.result c.in_ok-self-inside.field-0 may.unposted may c.max-self-inside.ensures c.in_ok-self-inside.ensures
+    held_ticked c.self.inside held false c.args.second c.in_ok-self-inside.field-0 may.unposted may c.in_ok-self-inside.ensures
     (record {
       inst = g.inst;
       log = g.log ++ Ticked c.args.second ∷ [];
-      agrees = ticked_agrees v g.inst g.log g.agrees c.args.second may.unposted false c.max-self-inside.result (option_map post_of c.in_ok-self-inside.field-0) smalls (then_soon v i c.args.second may).1 (short_next v i c.self.inside.commands refl) c.what_is_made_is_due.ensures.some c.what_is_made_is_due.ensures.none c.in_ok-self-inside.ensures;
+      agrees = ticked_agrees v g.inst g.log g.agrees c.args.second may.unposted false (option_map post_of c.in_ok-self-inside.field-0) smalls (then_soon v i c.args.second may).1 (short_next v i c.self.inside.commands refl) c.what_is_made_is_due.ensures.some c.what_is_made_is_due.ensures.none c.in_ok-self-inside.ensures;
     })
 
 pub returns-clause-legal : goal.returns-clause-legal
@@ -54,16 +54,6 @@ returns-clause-legal c = λ inst log a.
     let newest = subst (λ k. newest_store inst.service (service_of log) primary ≡ Some (newest_of k)) c.core.ensures (c.standing.ensures.newest inst.service (service_of log) (subst (λ k. Agrees k inst.service (service_of log)) (sym c.core.ensures) b.core)) in
     ticks_legal v inst log b c.keeps.ensures newest i.bearing may.unposted may.unfound may.unborn c.args.second may
 
-pub returns-clause-may : goal.returns-clause-may
-returns-clause-may c = λ inst log l a top goes.
-    let held = c.self.invariant (ap (λ v. v.spent) c.self.view_is ∙ c.requires.ready) in
-    let i = held.fit in
-    let v = value_of c.self.inside in
-    let next = subst (λ w. MayGoTo w c.args.second) (sym c.self.view_is) goes in
-    let b = subst (λ w. AgreesJobs w inst log) (sym c.self.view_is) a in
-    let newest = subst (λ k. newest_store inst.service (service_of log) primary ≡ Some (newest_of k)) c.core.ensures (c.standing.ensures.newest inst.service (service_of log) (subst (λ k. Agrees k inst.service (service_of log)) (sym c.core.ensures) b.core)) in
-    ticks_may v inst log b c.keeps.ensures newest i.bearing next.pass.unposted next.pass.unfound next.pass.unborn c.args.second next l top
-
 pub returns-clause-agrees : goal.returns-clause-agrees
 returns-clause-agrees c = λ inst log a.
     let held = c.self.invariant (ap (λ v. v.spent) c.self.view_is ∙ c.requires.ready) in
@@ -72,4 +62,4 @@ returns-clause-agrees c = λ inst log a.
     let may = subst (λ w. MayPassTo w c.args.second) (sym c.self.view_is) c.requires.may in
     let smalls = subst (λ b. Each (λ j. j.id < 2 ^ 64) b.jobs) c.book.ensures c.keeps-2.ensures.small in
     let b = subst (λ w. AgreesJobs w inst log) (sym c.self.view_is) a in
-    ticked_agrees v inst log b c.args.second may.unposted false c.max-self-inside.result (option_map post_of c.in_ok-self-inside.field-0) smalls (then_soon v i c.args.second may).1 (short_next v i c.self.inside.commands refl) c.what_is_made_is_due.ensures.some c.what_is_made_is_due.ensures.none c.in_ok-self-inside.ensures
+    ticked_agrees v inst log b c.args.second may.unposted false (option_map post_of c.in_ok-self-inside.field-0) smalls (then_soon v i c.args.second may).1 (short_next v i c.self.inside.commands refl) c.what_is_made_is_due.ensures.some c.what_is_made_is_due.ensures.none c.in_ok-self-inside.ensures

@@ -1,6 +1,5 @@
 use Rattle.std.proofs.Common.{◌∙◌, ◌++◌, ◌∷◌, [], ap, sym, subst, refl}
 use Rattle.instance_rules.specs.Log.{Ticked}
-use Rattle.job_service.specs.Times.{CountsTo, MayGoTo}
 use Rattle.services.specs.Agrees.{AgreesServices}
 use Rattle.services.specs.Asks.{Keeps}
 use Rattle.services.specs.View.{IsFit, value_of}
@@ -15,22 +14,12 @@ invariant_of-self-2 c = λ _.
     let e = c.in_ok-tick.ensures in
     jobs-fit v fit c.tick.new.self e.ready e.counts.size (jobs-later v fit c.tick.new.self (λ inst log. log ++ Ticked c.args.second ∷ []) e.agrees)
 
-pub returns-clause-counts : goal.returns-clause-counts
-returns-clause-counts c = subst (λ w. CountsTo c.args.second w.jobs c.tick.new.self) c.self.view_is c.in_ok-tick.ensures.counts
-
 pub returns-clause-keeps : goal.returns-clause-keeps
-returns-clause-keeps c = λ may.
-    let v = value_of c.self.inside in
-    let kept = c.in_ok-tick.ensures.keeps (subst (λ v. MayGoTo v.jobs c.args.second) (sym c.self.view_is) may) in
-    subst (λ w. Keeps w (with_jobs v c.tick.new.self)) c.self.view_is (record { size = refl; counts = kept })
+returns-clause-keeps c =
+    subst (λ w. Keeps w (with_jobs (value_of c.self.inside) c.tick.new.self)) c.self.view_is (record { size = refl; counts = c.in_ok-tick.ensures.counts })
 
 pub returns-clause-legal : goal.returns-clause-legal
 returns-clause-legal c = λ inst log a. c.in_ok-tick.ensures.legal inst log (subst (λ v. AgreesServices v inst log) (sym c.self.view_is) a).jobs
-
-pub returns-clause-may : goal.returns-clause-may
-returns-clause-may c = λ inst log l a top may.
-    c.in_ok-tick.ensures.may inst log l (subst (λ v. AgreesServices v inst log) (sym c.self.view_is) a).jobs top
-    (subst (λ v. MayGoTo v.jobs c.args.second) (sym c.self.view_is) may)
 
 pub returns-clause-agrees : goal.returns-clause-agrees
 returns-clause-agrees c = λ inst log a₀.
