@@ -195,6 +195,7 @@ impl Instance {
         requires size { (1 ≤ setting.size) × (setting.size ≤ 32) }
         requires fanout { (1 ≤ setting.fanout) × (setting.fanout ≤ 32) }
         requires within { IsWithin setting.size work.now }
+        requires ranks { All (λ a. a.rank < setting.size) work.now.actors }
         requires built { All (λ l. IsBuilt l.command) work.now.lines }
         requires labels { HasOwnLabels work.now.lines }
         requires few { KeepsTallies work.now.lines }
@@ -434,16 +435,11 @@ impl Instance {
     }
 
     /// Where no step of the services and no reply can be made and nothing is posted or due, the
-    /// instance has come to rest: all its brokers are told, and nothing is due by its chronicle. As
-    /// long as no line begins an instance, nothing is due once nothing is to be posted.
+    /// instance has come to rest: all its brokers are told, and nothing is due by its chronicle.
     pub fn still(&self)
         requires { self.now.spent ≡ false }
         ensures rests { (set : Setup) (own : List EntryValue) → AgreesOwn self.now set own
             → IsAtRest self.now → HasComeToRest set own }
-        ensures childless { (set : Setup) (own : List EntryValue) → AgreesOwn self.now set own
-            → ((step : KvsStep) → can_step self.now.services step ≡ false)
-            → ((actor : ℕ) → can_answer self.now actor ≡ false)
-            → can_post self.now ≡ false → is_due self.now ≡ false }
     {
         self.services.still();
     }

@@ -1,5 +1,5 @@
 -- What a text spells is built, with its keys and values within their limits.
-use Rattle.std.proofs.Common.{◌≡◌, ℕ, ◌≤◌, true, false, List, [], ◌∷◌, ◌++◌, length, not, refl, arith, true≢false}
+use Rattle.std.proofs.Common.{◌≡◌, ℕ, ◌≤◌, true, false, List, [], ◌∷◌, ◌++◌, length, not, refl, arith}
 use Rattle.std.specs.Prelude.{Option, Some, None, All}
 use Rattle.std.specs.Option.{option_map_or}
 use Rattle.std.specs.Str.{IsUtf8}
@@ -10,8 +10,7 @@ use Rattle.kvs_txn.specs.Keys.{components}
 use Rattle.workload.specs.Limits.{most_members, most_severity, most_urgency, most_value}
 use Rattle.workload.specs.Words.{first_word, behind_word, is_number_within, number_value}
 use Rattle.workload.specs.Verbs.{first_of, faults_of, is_past_key, is_past_value, name_and_number, one_content, one_key, key_and_text, two_keys, raising, urging, submission, said}
-use Rattle.workload.specs.Submits.{begins_instance, json_of, options_of, urgency_in}
-use Rattle.workload.specs.Offered.{asks_child}
+use Rattle.workload.specs.Submits.{options_of, urgency_in}
 use Rattle.workload.specs.Reading.{first_fault, spelled}
 use Rattle.workload.specs.Laws.{IsBuilt, IsKeyPath}
 use Rattle.workload.proofs.Along.{none_applies, stands}
@@ -74,31 +73,30 @@ raised_built work number tail text none =
       behind_utf8 (behind_word (behind_word tail)) (behind_utf8 (behind_word tail) (behind_utf8 tail text)),
     )
 
-submitted_built : (work : Workload) (number : ℕ) (tail : List ℕ) → begins_instance (json_of tail) ≡ false
+submitted_built : (work : Workload) (number : ℕ) (tail : List ℕ)
     → first_of (faults_of number (submission work tail)) ≡ None → IsBuilt (submission work tail).command
-submitted_built work number tail childless none =
+submitted_built work number tail none =
     let tests = none_applies (faults_of number (submission work tail)) none in
-    (urgency_within (urgency_in (options_of tail)) tests.1.1.0, childless)
+    urgency_within (urgency_in (options_of tail)) tests.1.1.0
 
-verb_built : (work : Workload) (number : ℕ) (tail : List ℕ) (v : Verb) → IsUtf8 tail → asks_child v tail ≡ false
+verb_built : (work : Workload) (number : ℕ) (tail : List ℕ) (v : Verb) → IsUtf8 tail
     → first_of (faults_of number (said work v tail)) ≡ None → IsBuilt (said work v tail).command
-verb_built work number tail verb.Put text offered none = key_and_text_built number tail none
-verb_built work number tail verb.Append text offered none = key_and_text_built number tail none
-verb_built work number tail verb.Unlink text offered none = one_key_built number tail none
-verb_built work number tail verb.Mkdir text offered none = one_key_built number tail none
-verb_built work number tail verb.Symlink text offered none = two_keys_built number tail none
-verb_built work number tail verb.Commit text offered none = tt
-verb_built work number tail verb.Fence text offered none = fence_built number tail none
-verb_built work number tail verb.Get text offered none = one_key_built number tail none
-verb_built work number tail verb.Ls text offered none = one_key_built number tail none
-verb_built work number tail verb.Readlink text offered none = one_key_built number tail none
-verb_built work number tail verb.ContentStore text offered none = content_built number tail none
-verb_built work number tail verb.Submit text offered none = submitted_built work number tail offered none
-verb_built work number tail verb.Shutdown text offered none = absurd (true≢false offered)
-verb_built work number tail verb.Raise text offered none = raised_built work number tail text none
-verb_built work number tail verb.Urgency text offered none =
+verb_built work number tail verb.Put text none = key_and_text_built number tail none
+verb_built work number tail verb.Append text none = key_and_text_built number tail none
+verb_built work number tail verb.Unlink text none = one_key_built number tail none
+verb_built work number tail verb.Mkdir text none = one_key_built number tail none
+verb_built work number tail verb.Symlink text none = two_keys_built number tail none
+verb_built work number tail verb.Commit text none = tt
+verb_built work number tail verb.Fence text none = fence_built number tail none
+verb_built work number tail verb.Get text none = one_key_built number tail none
+verb_built work number tail verb.Ls text none = one_key_built number tail none
+verb_built work number tail verb.Readlink text none = one_key_built number tail none
+verb_built work number tail verb.ContentStore text none = content_built number tail none
+verb_built work number tail verb.Submit text none = submitted_built work number tail none
+verb_built work number tail verb.Raise text none = raised_built work number tail text none
+verb_built work number tail verb.Urgency text none =
     number_at_most most_urgency (first_word (behind_word tail)) (none_applies (faults_of number (urging work tail)) none).1.1.0
-verb_built work number tail v text offered none = tt
+verb_built work number tail v text none = tt
 
 AreBuilt : List Line → Type 0
 AreBuilt lines = All (λ l. IsBuilt l.command) lines
@@ -107,7 +105,7 @@ one_built : (work : Workload) (by number : ℕ) (tail : List ℕ) (v : Verb) →
     → AreBuilt (work.lines ++ record { actor = by; command = (said work v tail).command } ∷ [])
 unfolding AreBuilt
 one_built work by number tail v is h =
-    All-push (λ l. IsBuilt l.command) work.lines (record { actor = by; command = (said work v tail).command }) h (verb_built work number tail v is.text is.offered is.none)
+    All-push (λ l. IsBuilt l.command) work.lines (record { actor = by; command = (said work v tail).command }) h (verb_built work number tail v is.text is.none)
 
 pub text_built : (size : ℕ) (text : List ℕ) → first_fault size text ≡ None → All (λ l. IsBuilt l.command) (spelled text).lines
 unfolding AreBuilt

@@ -8,10 +8,9 @@ use Rattle.std.proofs.lemmas.List.Quantifiers.{position-Some}
 use Rattle.workload.specs.Limits.{most_commands}
 use Rattle.workload.specs.Words.{first_word, behind_word}
 use Rattle.workload.specs.Actors.{place_of}
-use Rattle.workload.specs.Offered.{asks_child}
 use Rattle.workload.specs.Verbs.{Saying, first_of, faults_of, is_in_place, said, said_by, verb_of}
-use Rattle.workload.specs.Reading.{first_fault, spelled, spoken_faults, with_command, command_faults, verb_faults}
-use Rattle.workload.proofs.Along.{none_applies, one_by_one, some_is_not_none, stands, text_keeps}
+use Rattle.workload.specs.Reading.{first_fault, spelled, with_command, command_faults, verb_faults}
+use Rattle.workload.proofs.Along.{none_applies, some_is_not_none, stands, text_keeps}
 use Rattle.workload.proofs.Texts.{behind_utf8}
 use Rattle.workload.specs.declared.work.Actor.{Actor}
 use Rattle.workload.specs.declared.work.Command.{Command}
@@ -25,7 +24,6 @@ use Rattle.workload.specs.declared.verbs.Verb.{Verb}
 pub record IsSpoken (work : Workload) (by number : ℕ) (v : Verb) (tail : List ℕ) : Type 0 where
   pub text : IsUtf8 tail
   pub known : by < length work.actors
-  pub offered : asks_child v tail ≡ false
   pub placed : is_in_place work.actors by (said work v tail).command ≡ true
   pub none : first_of (faults_of number (said work v tail)) ≡ None
 
@@ -62,13 +60,12 @@ record HasVerb (work : Workload) (by number : ℕ) (tail : List ℕ) (o : Option
   more : option_to_list (option_map (line_by by) (option_map (λ v. (said work v tail).command) o)) ≡ line_by by (said work verb tail).command ∷ []
 
 has_verb : (work : Workload) (by number : ℕ) (tail : List ℕ) → IsUtf8 tail → by < length work.actors → (o : Option Verb)
-    → first_of (option_map_or (λ v. spoken_faults work by number v tail) o ((true, line_fault.BadCommand number) ∷ [])) ≡ None
+    → first_of (option_map_or (λ v. faults_of number (said_by work by v tail)) o ((true, line_fault.BadCommand number) ∷ [])) ≡ None
     → HasVerb work by number tail o
 has_verb work by number tail text known None none = absurd (some_is_not_none none)
 has_verb work by number tail text known (Some v) none =
-    let both = one_by_one (asks_child v tail) (line_fault.BadCommand number) (faults_of number (said_by work by v tail)) none in
-    let free = passed number (said work v tail) (is_in_place work.actors by (said work v tail).command) both.1 in
-    record { verb = v; spoken = record { text = text; known = known; offered = both.0; placed = free.0; none = free.1 }; more = refl }
+    let free = passed number (said work v tail) (is_in_place work.actors by (said work v tail).command) none in
+    record { verb = v; spoken = record { text = text; known = known; placed = free.0; none = free.1 }; more = refl }
 
 place_below : (name : List ℕ) (actors : List Actor) (place : Option ℕ) → place_of name actors ≡ place → is_none place ≡ false → unwrap_or place 0 < length actors
 place_below name actors None is some = let wrong : true ≡ false = some in cc

@@ -12,7 +12,6 @@ use crate::faults::{LineFault, Which};
 use crate::grant::Grant;
 use crate::homes::said_by;
 use crate::limits::{MOST_ACTORS, MOST_COMMANDS, MOST_LINE, MOST_TEXT};
-use crate::offered::{asks_child, is_of_child};
 use crate::verbs::Verb;
 use crate::words::{can_name, cut, number};
 use crate::work::{Actor, ActorList, Command, Line, Workload, place};
@@ -107,9 +106,6 @@ fn actor(
             which: Which::Actors,
         });
     }
-    if is_of_child(tail) {
-        return Err(LineFault::BadCommand { line });
-    }
     declared(alloc, size, actors, line, tail)
 }
 
@@ -131,9 +127,6 @@ fn order(
     let Some(verb) = Verb::of(word) else {
         return Err(LineFault::BadCommand { line });
     };
-    if asks_child(alloc, verb, tail)? {
-        return Err(LineFault::BadCommand { line });
-    }
     said_by(alloc, work, by, verb, line, tail)
 }
 
