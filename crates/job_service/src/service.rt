@@ -545,8 +545,7 @@ impl JobService {
 
     /// Where nothing but time can go on, nothing is due by the log of the instance. Where no target
     /// is left besides, none of its advances is; and where all brokers are told, a job command that
-    /// is left waits for the result of a job that isn't over; shutdowns are another's. Where no
-    /// command submits a job that begins an instance, nothing is due once nothing is to be posted.
+    /// is left waits for the result of a job that isn't over; shutdowns are another's.
     pub fn still(&self)
         requires { self.now.spent ≡ false }
         ensures idle { (inst : Instance) (log : Log) → AgreesJobs self.now inst log
@@ -557,9 +556,6 @@ impl JobService {
         ensures alone { (inst : Instance) (log : Log) (l : Living) → AgreesJobs self.now inst log
             → IsStill self.now → targets_left self.now ≡ [] → IsTop inst log l
             → (target : ℕ) → IsTarget (l ∷ []) [] target → ⊥ }
-        ensures childless { (inst : Instance) (log : Log) → AgreesJobs self.now inst log
-            → SubmitsNoChild inst → CoreIsStill self.now.manager.core → self.now.found ≡ None
-            → is_due self.now ≡ false }
         ensures left { (inst : Instance) (log : Log) → AgreesJobs self.now inst log
             → IsStill self.now → targets_left self.now ≡ []
             → AreAllTold inst.service (service_of log) → (by : Command)
