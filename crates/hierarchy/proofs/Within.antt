@@ -115,7 +115,6 @@ module _ (work : Workload) (label : Option (List ℕ)) (size : ℕ) where
     actors = (let n = mapped_length (placed size) work.actors in let few = h.actors in omega arith);
     lines = (let low = fewer keeps work.lines in let few = h.lines in omega arith);
     ranks = All-map (λ a. (a.of ≡ None) → a.rank < size) (placed size) work.actors (λ k d low top. mod-lt (slice_index_or work.actors k d).rank (let pos : zero < size = omega arith in pos));
-    tops = All-map (λ a. a.of ≡ None) (placed size) work.actors h.tops;
     known = All-filter keeps (λ l. l.actor < length (map (placed size) work.actors)) work.lines
         (subst (λ n. All (λ l. l.actor < n) work.lines) (sym (mapped_length (placed size) work.actors)) h.known);
     placed = All-filter keeps (λ l. is_in_place (map (placed size) work.actors) l.actor l.command ≡ true) work.lines
