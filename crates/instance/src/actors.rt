@@ -436,10 +436,15 @@ impl Instance {
 
     /// Where no step of the services and no reply can be made and nothing is posted or due, the
     /// instance has come to rest: all its brokers are told, and nothing is due by its chronicle.
+    /// Nothing is due either where nothing is to be posted and no child is to be born.
     pub fn still(&self)
         requires { self.now.spent ≡ false }
         ensures rests { (set : Setup) (own : List EntryValue) → AgreesOwn self.now set own
             → IsAtRest self.now → HasComeToRest set own }
+        ensures free { (set : Setup) (own : List EntryValue) → AgreesOwn self.now set own
+            → ((step : KvsStep) → can_step self.now.services step ≡ false)
+            → ((actor : ℕ) → can_answer self.now actor ≡ false)
+            → can_post self.now ≡ false → bearing self.now ≡ None → is_due self.now ≡ false }
     {
         self.services.still();
     }

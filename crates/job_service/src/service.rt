@@ -545,7 +545,8 @@ impl JobService {
 
     /// Where nothing but time can go on, nothing is due by the log of the instance. Where no target
     /// is left besides, none of its advances is; and where all brokers are told, a job command that
-    /// is left waits for the result of a job that isn't over; shutdowns are another's.
+    /// is left waits for the result of a job that isn't over; shutdowns are another's. Nothing is due
+    /// where the core is still, nothing is to be posted and no child is to be born.
     pub fn still(&self)
         requires { self.now.spent ≡ false }
         ensures idle { (inst : Instance) (log : Log) → AgreesJobs self.now inst log
@@ -556,6 +557,8 @@ impl JobService {
         ensures alone { (inst : Instance) (log : Log) (l : Living) → AgreesJobs self.now inst log
             → IsStill self.now → targets_left self.now ≡ [] → IsTop inst log l
             → (target : ℕ) → IsTarget (l ∷ []) [] target → ⊥ }
+        ensures free { CoreIsStill self.now.manager.core → self.now.found ≡ None
+            → self.now.bearing ≡ None → is_due self.now ≡ false }
         ensures left { (inst : Instance) (log : Log) → AgreesJobs self.now inst log
             → IsStill self.now → targets_left self.now ≡ []
             → AreAllTold inst.service (service_of log) → (by : Command)

@@ -439,7 +439,8 @@ impl Services {
     /// Where nothing but time can go on, each broker has heard the last landing and of each live
     /// namespace, and nothing is due. Where no target is left besides, no advance is, and a command
     /// waits for a number that hasn't landed, for members of a fence that haven't come, or for the
-    /// result of a job that isn't over.
+    /// result of a job that isn't over. Nothing is due where no step of the key-value service can be
+    /// made, nothing is to be posted and no child is to be born.
     pub fn still(&self)
         requires { self.now.spent ≡ false }
         ensures quiet { (inst : Instance) (log : Log) → AgreesServices self.now inst log
@@ -453,6 +454,9 @@ impl Services {
             → AgreesServices self.now inst log → IsStill self.now
             → targets_left self.now.jobs ≡ [] → IsLiving inst log l
             → (target : ℕ) → HasTarget l target → ⊥ }
+        ensures free { ((step : KvsStep) → can_step self.now step ≡ false)
+            → ((by : Command) → can_take self.now by ≡ false) → self.now.jobs.found ≡ None
+            → self.now.jobs.bearing ≡ None → is_due self.now.jobs ≡ false }
         ensures left { (inst : Instance) (log : Log) → AgreesServices self.now inst log
             → IsStill self.now → targets_left self.now.jobs ≡ [] → (by : Command)
             → IsSome (inst.asks by) → inst.asks by ≢ Some Shutdown → IsOpen by log
