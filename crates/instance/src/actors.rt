@@ -16,7 +16,7 @@ ghost use Rattle.services.specs.Steps.{can_step};
 ghost use Rattle.instance.specs.declared.seats.Seat.{Seat as SeatValue};
 ghost use Rattle.instance.specs.Agrees.{AgreesOwn, AreLinesOf};
 ghost use Rattle.instance.specs.Closings.{closings, numbers_in};
-ghost use Rattle.instance.specs.Family.{is_due};
+ghost use Rattle.instance.specs.Family.{bearing, is_due};
 ghost use Rattle.instance.specs.First.{AreFirstSeats};
 ghost use Rattle.instance.specs.Floors.{floor_in, risen_in};
 ghost use Rattle.instance.specs.Makes.{Ends, Makes, MakesOf};

@@ -18,7 +18,6 @@ ghost use Rattle.job_service.specs.Children.{IsFirstBirth, IsGrantedBy, NoBirth,
 ghost use Rattle.job_service.specs.Makes.{Makes};
 ghost use Rattle.job_book.specs.Contract.{r_at, seconds_left};
 ghost use Rattle.job_book.specs.Seconds.{IsSoonest};
-ghost use Rattle.job_clock.specs.Children.{SubmitsNoChild};
 ghost use Rattle.job_clock.specs.Standing.{IsLiving, IsTop};
 ghost use Rattle.kvs_txn.specs.declared.txn.By.{By as Command};
 ghost use Rattle.manager_rules.specs.Jobs.{StoredJob, is_live};

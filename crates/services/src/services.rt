@@ -9,7 +9,6 @@ ghost use Rattle.instance_rules.specs.Desks.{is_submission};
 ghost use Rattle.instance_rules.specs.Family.{HasTarget, IsLeftResult, Living};
 ghost use Rattle.instance_rules.specs.Legal.{IsLegalMoment, OfDesk};
 ghost use Rattle.instance_rules.specs.Log.{Born, Gone, Instance, IsOpen, Issued, Log, Shutdown, Ticked, service_of};
-ghost use Rattle.job_clock.specs.Children.{SubmitsNoChild};
 ghost use Rattle.job_clock.specs.Standing.{IsLiving};
 ghost use Rattle.job_commands.specs.Asks.{told};
 ghost use Rattle.job_service.specs.Agrees.{HasRoom, IsNewCommand, MayIssue};
