@@ -20,7 +20,6 @@ use Rattle.instance_rules.specs.Family.{HasTarget, IsLeftResult, Living}
 use Rattle.instance_rules.specs.Legal.{OfDesk}
 use Rattle.instance_rules.specs.Log as rules
 use Rattle.instance_rules.specs.Log.{Instance, Log as InstanceLog, service_of}
-use Rattle.job_clock.specs.Children.{SubmitsNoChild}
 use Rattle.job_clock.specs.Standing.{IsLiving}
 use Rattle.job_service.specs.Children.{is_due as jobs_due}
 use Rattle.job_service.specs.Replies.{can_reply}
@@ -52,12 +51,11 @@ use Rattle.instance.specs.declared.seats.Waiting.TheVariants as waiting
 use Rattle.instance.specs.Seats.{is_free, replied_of, last_command, has_come}
 use Rattle.instance.specs.Closings.{closings_at, closings_of, fence_at, fence_of, is_served, left_reply, open_command, unfinished_as, waits_in}
 use Rattle.instance.specs.Agrees.{command_of, Waits, ActorStands, IsSeat}
-use Rattle.instance.specs.Family.{is_due, targets_left}
+use Rattle.instance.specs.Family.{bearing, is_due, targets_left}
 use Rattle.instance.specs.Steps.{IsOver, can_post, has_answer}
 use Rattle.instance.specs.Value.{InstanceValue}
 use Rattle.instance.proofs.Owning.{Own, DoesAgree}
 use Rattle.instance.proofs.Given.{no_shutdown}
-use Rattle.instance.proofs.Childless.{submits_no_child}
 use Rattle.instance.proofs.Families.{has_rest, is_living, no_advance_left}
 use Rattle.instance.proofs.Listing.{any_counted, none_counted}
 use Rattle.instance.proofs.Logs.{log_issued, log_open, served_log}
@@ -523,15 +521,15 @@ still_so v h rest = record {
   untold = none_told v h rest.answers;
 }
 
--- nothing is due where no child is to be born
+-- nothing is due where nothing is found and no child is to be born
 abbrev pub IsFreeSo : ServicesValue → Type 0
-IsFreeSo services = (i : Instance) (l : InstanceLog) → AgreesServices services i l → SubmitsNoChild i → ((s : KvsStep) → can_step services s ≡ false) → ((by : By) → can_take services by ≡ false)
-    → services.jobs.found ≡ None → jobs_due services.jobs ≡ false
+IsFreeSo services = ((s : KvsStep) → can_step services s ≡ false) → ((by : By) → can_take services by ≡ false)
+    → services.jobs.found ≡ None → services.jobs.bearing ≡ None → jobs_due services.jobs ≡ false
 
--- so as long as no line begins an instance
-pub free_so : (v : Own) → DoesAgree v → IsFreeSo v.instance.services → ((s : KvsStep) → can_step v.instance.services s ≡ false) → ((a : ℕ) → has_answer v.instance.services v.instance.seats a ≡ false) → can_post v.instance ≡ false → is_due v.instance ≡ false
-free_so v h childless steps answers posts =
-    childless (instance_of v.set) (log_in v.set.work v.chronicle) h.agrees (submits_no_child v.set h.known) steps (none_taken v h answers) (nothing_found v.instance.services.jobs.found posts)
+-- so for the instance, by what it has to post
+pub free_so : (v : Own) → DoesAgree v → IsFreeSo v.instance.services → ((s : KvsStep) → can_step v.instance.services s ≡ false)
+    → ((a : ℕ) → has_answer v.instance.services v.instance.seats a ≡ false) → can_post v.instance ≡ false → bearing v.instance ≡ None → is_due v.instance ≡ false
+free_so v h free steps answers posts unborn = free steps (none_taken v h answers) (nothing_found v.instance.services.jobs.found posts) unborn
 
 -- the core stands where the log of the service leaves it
 pub core_agrees : (v : Own) → DoesAgree v → Agrees v.instance.services.jobs.manager.core (setting_of v.set) (log_of v.set.work top v.chronicle)

@@ -8,7 +8,6 @@ mod Tallies
 mod Lining
 mod Waiting
 mod Given
-mod Childless
 mod Results
 mod News
 mod Serving

@@ -1,5 +1,4 @@
 pub mod Targets
 pub mod Least
 pub mod Standing
-pub mod Bearing
 pub mod Times

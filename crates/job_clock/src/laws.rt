@@ -3,7 +3,6 @@ ghost use Rattle.std.specs.Prelude.{◌≡◌, ◌↔◌, ◌<◌, ◌≤◌, �
 ghost use Rattle.instance_rules.specs.Family.{HasTarget, IsTarget, Living, MayClose, MayTick, OfLiving};
 ghost use Rattle.instance_rules.specs.Legal.{IsLegalMoment};
 ghost use Rattle.instance_rules.specs.Log.{Advance, Instance, Issued, Log, Moment, Ticked, now_of, service_of};
-ghost use Rattle.job_clock.specs.Children.{AreChildless, SubmitNoChild, SubmitsNoChild};
 ghost use Rattle.job_clock.specs.Standing.{IsLiving, IsTop, PassesNone, StandsWith};
 ghost use Rattle.job_clock.specs.Targets.{AreInTime, IsNewTarget, IsNextTick, IsReached, target_in, targets_of};
 ghost use Rattle.job_commands.specs.Agrees.{AgreesCommands};
@@ -68,24 +67,6 @@ pub fn runs_may_close()
         (l : Living) → IsTop inst log l → StandsWith v jobs inst log
         → IsIdle (desk_of v inst log jobs) → targets_of v ≡ []
         → AreAllTold inst.service (service_of log) → MayClose (l ∷ []) [] }
-{}
-
-/// No child is due to be born for jobs whose commands begin no instance.
-pub fn childless_jobs_have_no_births()
-    ensures { (scene : Scene) → AreChildless scene.jobs → (id : ℕ) → IsBirthDue scene id → ⊥ }
-{}
-
-/// Jobs stay childless: what is submitted tells no child, and an event changes no jobspec.
-pub fn posts_keep_jobs_childless()
-    ensures { (d : Desk) (post : Post) → AreChildless d.scene.jobs → SubmitNoChild d
-        → IsDuePost d post → AreChildless (jobs_after post d.scene.jobs) }
-{}
-
-/// What the manager looks at tells no child where no command of the instance submits one.
-pub fn submissions_tell_no_child()
-    ensures { (v : CommandsValue) (inst : Instance) (log : Log) (jobs : List StoredJob)
-        → AgreesCommands v inst log → SubmitsNoChild inst
-        → SubmitNoChild (desk_of v inst log jobs) }
 {}
 
 /// An advance whose target is reached can be told so.

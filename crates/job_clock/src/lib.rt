@@ -6,8 +6,7 @@ pub mod laws;
 pub mod ticks;
 
 pub use laws::{
-    childless_jobs_have_no_births, living_instances_have_these_seconds, no_open_advance_is_left,
-    posts_keep_jobs_childless, reached_advances_can_be_told, runs_may_close,
-    submissions_tell_no_child, ticks_may_be_made, times_follow_the_log, times_stay_within,
+    living_instances_have_these_seconds, no_open_advance_is_left, reached_advances_can_be_told,
+    runs_may_close, ticks_may_be_made, times_follow_the_log, times_stay_within,
 };
 pub use ticks::{next_target, next_tick};

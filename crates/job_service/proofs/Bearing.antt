@@ -10,9 +10,7 @@ use Rattle.instance_rules.specs.Legal.{IsLegalMoment, OfDesk}
 use Rattle.instance_rules.specs.Log.{Born, Gone, Instance, Log, service_of}
 use Rattle.job_book.proofs.Whys.{found_job}
 use Rattle.job_book.specs.Contract.{BirthIn, IsFirstBirth as IsFirstIn, IsKept, NoBirth as NoneIn, r_at}
-use Rattle.job_clock.proofs.Bearing.{no_births}
 use Rattle.job_clock.proofs.Standing.{jobs_same, of_desk}
-use Rattle.job_clock.specs.Children.{AreChildless}
 use Rattle.job_clock.specs.Standing.{StandsWith}
 use Rattle.job_commands.proofs.Children.{living_told}
 use Rattle.job_commands.proofs.Desks.{children_alone, children_stand}
@@ -280,11 +278,6 @@ bearing_of v book list None is some none = subst (NoneIn book) is none
 -- what may go is to go, and no event of its job waits to land
 pub may_parts : (v : JobServiceValue) (job : ℕ) (shut : Bool) → may_end v job shut ≡ true → (not (is_posted_for job v.manager.posted) ≡ true) × (is_end_due v job shut ≡ true)
 may_parts v job shut e = and_parts (not (is_posted_for job v.manager.posted)) (is_end_due v job shut) e
-
--- no child is to be born for jobs whose commands begin no instance
-pub childless_bears : (v : CommandsValue) (book : BookValue) (bearing : Option ℕ) → AreChildless book.jobs → IsBearing v book bearing → bearing ≡ None
-childless_bears v book None none h = refl
-childless_bears v book (Some job) none h = absurd (no_births _ none job h.0)
 
 -- a job whose child is to be born has a label
 pub bearing_named : (v : CommandsValue) (book : BookValue) (job : ℕ) → IsBearing v book (Some job) → AreLabelled v.labels book.jobs → ((label : List ℕ) → job_named label v.labels ≢ Some job) → ⊥

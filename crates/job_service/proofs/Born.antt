@@ -78,7 +78,7 @@ module _ (v : JobServiceValue) (inst : Instance) (log : Log) (a : AgreesJobs v i
         (joined v inst log a spent v.manager commands v.refused later v.submitted (log ++ moment ∷ []) refl
         (subst (Agrees v.manager.core inst.service) (sym same) a.core)
         (subst (IsLegalLog inst.service) (sym same) a.legal)
-        labelled a.childless
+        labelled
         (owes_next v inst log a commands v.refused moment f labelled smalls soon short made-due unmade-not stays leaves children later h)
         f)
 

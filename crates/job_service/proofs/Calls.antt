@@ -12,7 +12,6 @@ use Rattle.instance_rules.specs.Replies.{IsLegalReply}
 use Rattle.job_book.specs.Contract.{Finds, SaysAs}
 use Rattle.job_book.specs.Value.{BookValue, scene_of}
 use Rattle.job_clock.proofs.Times.{begins_in_time}
-use Rattle.job_clock.specs.Children.{AreChildless, IsChildless, SubmitsNoChild}
 use Rattle.job_clock.specs.Targets.{AreInTime, targets_of}
 use Rattle.job_commands.proofs.Desks.{submits_true}
 use Rattle.job_commands.proofs.Steps.{names_kept}
@@ -94,7 +93,6 @@ respan v inst log span bearing a = record {
   legal = a.legal;
   commands = a.commands;
   second = a.second;
-  childless = a.childless;
   owes = a.owes;
   labelled = a.labelled;
   refused = a.refused;
@@ -106,9 +104,9 @@ module _ (v : JobServiceValue) (inst : Instance) (log : Log) (a : AgreesJobs v i
   facts = record { commands = a.commands; second = a.second; refused = a.refused; untold = a.untold }
 
   pub joined : (spent : Bool) (manager : ManagerValue) (commands : CommandsValue) (refused : List Refused) (found : Option Post) (submitted : ℕ) (later : Log) → manager.book.grant ≡ v.manager.book.grant
-      → Agrees manager.core inst.service (service_of later) → IsLegalLog inst.service (service_of later) → AreLabelled commands.labels manager.book.jobs → (SubmitsNoChild inst → AreChildless manager.book.jobs) → Owes manager.posted found (desk_of commands inst later manager.book.jobs) → Facts commands refused v.second inst later
+      → Agrees manager.core inst.service (service_of later) → IsLegalLog inst.service (service_of later) → AreLabelled commands.labels manager.book.jobs → Owes manager.posted found (desk_of commands inst later manager.book.jobs) → Facts commands refused v.second inst later
       → AgreesJobs (with_parts v spent manager commands refused found submitted) inst later
-  joined spent manager commands refused found submitted later grant core legal labelled childless owes f = record {
+  joined spent manager commands refused found submitted later grant core legal labelled owes f = record {
     kind = record {
       valid = a.kind.valid;
       unique = a.kind.unique;
@@ -121,7 +119,6 @@ module _ (v : JobServiceValue) (inst : Instance) (log : Log) (a : AgreesJobs v i
     legal = legal;
     commands = f.commands;
     second = f.second;
-    childless = childless;
     owes = owes;
     labelled = labelled;
     refused = f.refused;
@@ -143,7 +140,7 @@ module _ (v : JobServiceValue) (inst : Instance) (log : Log) (a : AgreesJobs v i
       → AgreesJobs (with_parts v spent manager v.commands v.refused v.found v.submitted) inst later
   stays spent manager later book posted same core legal f =
       joined spent manager v.commands v.refused v.found v.submitted later (ap (λ b. b.grant) book) core legal
-      (subst (λ b. AreLabelled v.commands.labels b.jobs) (sym book) a.labelled) (λ none. subst (λ b. AreChildless b.jobs) (sym book) (a.childless none)) (owed manager later book posted same) f
+      (subst (λ b. AreLabelled v.commands.labels b.jobs) (sym book) a.labelled) (owed manager later book posted same) f
 
   served : (spent : Bool) (manager : ManagerValue) (m : service.Moment) → Keeps v.manager manager → IsLegalAfter inst.service (service_of log) (m ∷ []) → Agrees manager.core inst.service (service_of log ++ m ∷ [])
       → Facts v.commands v.refused v.second inst (log ++ Served m ∷ []) → AgreesJobs (with_parts v spent manager v.commands v.refused v.found v.submitted) inst (log ++ Served m ∷ [])
@@ -260,9 +257,6 @@ module _ (spent : Bool) (birth size fanout : ℕ) (grant : Resources) (manager :
             (let low : target ≤ birth + 0 = all_at (λ t. t ≤ birth + 0) (targets_of commands) target timed.targets i in omega (arith, low)));
       }
 
-  pub begun_childless : AreChildless manager.book.jobs
-  begun_childless = all_from (λ j. IsChildless j.spec) manager.book.jobs (λ j i. absurd (no_jobs j (contains_from manager.book.jobs j i)))
-
   pub begun_bearing : IsBearing commands manager.book None
   begun_bearing id b = no_jobs b.j b.known
 
@@ -297,7 +291,6 @@ module _ (spent : Bool) (birth size fanout : ℕ) (grant : Resources) (manager :
     legal = tt;
     commands = set inst;
     second = of.birth;
-    childless = λ none. begun_childless;
     owes = begun_owes inst;
     labelled = λ id c. absurd (among_from [] id (subst (λ b. Contains (ids_of b.jobs) id) book c));
     refused = λ r c. absurd (among_from [] r c);

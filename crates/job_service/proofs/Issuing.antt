@@ -107,7 +107,7 @@ module _ (v : JobServiceValue) (inst : Instance) (log : Log) (a : AgreesJobs v i
         (joined v inst log a spent v.manager commands (v.refused ++ refusals_of by fault) later submitted (log ++ Issued by ∷ []) refl
         (subst (Agrees v.manager.core inst.service) (sym same) a.core)
         (subst (IsLegalLog inst.service) (sym same) a.legal)
-        labelled_next a.childless
+        labelled_next
         (owes_next commands (v.refused ++ refusals_of by fault) (Issued by) issued_facts labelled_next smalls soon short made-due unmade-not stays (λ post e other c. record { unanswered = refl; undecided = refl })
         (λ post e. leaves_children (asked_of v.commands) v.manager.book.jobs (Issued by) (λ id. refl) post) later h)
         issued_facts)
@@ -213,7 +213,7 @@ module _ (v : JobServiceValue) (inst : Instance) (log : Log) (a : AgreesJobs v i
           agrees = joined v inst log a spent v.manager commands (filter (λ x. not (is_refusal_of by x)) v.refused) later v.submitted (log ++ Replied by t.reply number ∷ []) refl
               (subst (Agrees v.manager.core inst.service) (sym same) a.core)
               (subst (IsLegalLog inst.service) (sym same) a.legal)
-              labelled_told a.childless
+              labelled_told
               (owes_next commands (filter (λ x. not (is_refusal_of by x)) v.refused) (Replied by t.reply number) replied_facts labelled_told smalls soon short made-due unmade-not stays
               (λ post e other c. record { unanswered = differs other by (not_kept by free post e other c); undecided = refl })
               (λ post e. leaves_children (asked_of v.commands) v.manager.book.jobs (Replied by t.reply number) (λ id. refl) post) later h)

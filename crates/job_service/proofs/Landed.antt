@@ -6,9 +6,7 @@ use Rattle.std.specs.Option.{option_map_or}
 use Rattle.std.proofs.lemmas.List.{map-append}
 use Rattle.instance_rules.specs.Desks.{Begins}
 use Rattle.instance_rules.specs.Log.{Instance, Log, service_of}
-use Rattle.job_clock.proofs.Bearing.{posts_childless, submissions_childless}
 use Rattle.job_clock.proofs.Times.{carried_in_time}
-use Rattle.job_clock.specs.Children.{AreChildless, SubmitsNoChild}
 use Rattle.job_clock.specs.Targets.{AreInTime}
 use Rattle.job_commands.proofs.Landings.{now_begun}
 use Rattle.job_commands.specs.Desks.{desk_of}
@@ -280,11 +278,6 @@ module _ (v : JobServiceValue) (inst : Instance) (log : Log) (a : AgreesJobs v i
         subst (λ b. all b.jobs commands ≤ all jobs v.commands) (sym l.book)
         (landed_count jobs v.commands commands v.refused refused id p.number v.birth l.post (is ∙ ap id_posted l.waited) (subst (IsNamed v.commands v.birth) l.waited named) landed)
 
-    landed_childless : SubmitsNoChild inst → AreChildless manager.book.jobs
-    landed_childless none =
-        subst (λ b. AreChildless b.jobs) (sym l.book)
-        (posts_childless desk l.post (a.childless none) (submissions_childless v.commands inst log jobs a.commands none) (posted-due v.manager.posted v.found desk a.owes l.post l.waited))
-
     abbrev later : Log
     later = log ++ map happening events
 
@@ -310,7 +303,7 @@ module _ (v : JobServiceValue) (inst : Instance) (log : Log) (a : AgreesJobs v i
         joined v inst log a spent manager commands refused found v.submitted later grant
         (subst (Agrees manager.core inst.service) (sym same) (makes.agrees inst.service (service_of log) a.core))
         (subst (IsLegalLog inst.service) (sym same) (legal_joined inst.service [] (service_of log) (map service.Happened events) a.legal (makes.legal inst.service (service_of log) a.core)))
-        labelled_later landed_childless
+        labelled_later
         (beside-owes commands manager.book v.second v.birth inst later facts_later.commands a.kind.valid facts_later.second a.kind.answer a.kind.birth (grant ∙ a.kind.grant)
         labelled_later smalls soon short made-due unmade-not manager.posted found
         (λ post e. absurd (let wrong : None ≡ Some post = sym l.posted ∙ e in cc)) h)

@@ -5,7 +5,6 @@ use Rattle.std.specs.List.{list_any}
 use Rattle.std.specs.Prelude.{is_some}
 use Rattle.instance_rules.proofs.Sounds.{desk_kept}
 use Rattle.instance_rules.specs.Log.{Instance, IsPending, Log, service_of}
-use Rattle.job_clock.specs.Children.{AreChildless}
 use Rattle.job_commands.proofs.Desks.{desk_is}
 use Rattle.job_commands.specs.Desks.{desk_of}
 use Rattle.job_landings.proofs.Open.{event_open, submit_open}
@@ -91,7 +90,7 @@ module _ (v : JobServiceValue) (inst : Instance) (log : Log) (a : AgreesJobs v i
   placed spent manager post d p =
       joined v inst log a spent manager v.commands v.refused None v.submitted log (ap (λ b. b.grant) p.book)
       (p.agrees inst.service (service_of log) a.core (new_post post d)) a.legal
-      (subst (λ b. Rattle.job_submissions.specs.Made.AreLabelled v.commands.labels b.jobs) (sym p.book) a.labelled) (λ none. subst (λ b. AreChildless b.jobs) (sym p.book) (a.childless none))
+      (subst (λ b. Rattle.job_submissions.specs.Made.AreLabelled v.commands.labels b.jobs) (sym p.book) a.labelled)
       (subst (λ o. Owes o None (desk_of v.commands inst log manager.book.jobs)) (sym p.posted) (subst (λ b. IsDuePost (desk_of v.commands inst log b.jobs) post) (sym p.book) d))
       (facts v inst log a)
 

@@ -190,7 +190,6 @@ module _ (v : JobServiceValue) (inst : Instance) (log : Log) (a : AgreesJobs v i
         legal = subst (IsLegalLog inst.service) (sym same) a.legal;
         commands = f.commands;
         second = f.second;
-        childless = a.childless;
         owes = beside-owes v.commands v.manager.book second v.birth inst (log ++ Ticked second ∷ []) f.commands a.kind.valid f.second a.kind.answer a.kind.birth a.kind.grant a.labelled smalls soon short made-due unmade-not v.manager.posted later
             (λ post e. absurd (let wrong : None ≡ Some post = sym unposted ∙ e in cc)) h;
         labelled = a.labelled;

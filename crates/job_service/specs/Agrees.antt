@@ -9,7 +9,6 @@ use Rattle.kvs_model.specs.Store.{Name}
 use Rattle.kvs_txn.specs.declared.txn.By.{By}
 use Rattle.instance_rules.specs.Log.{Instance, IsInstance, Log, is_decided, is_issued, is_replied, now_of, service_of}
 use Rattle.instance_rules.specs.Replies.{IsLegalReply}
-use Rattle.job_clock.specs.Children.{AreChildless, SubmitsNoChild}
 use Rattle.job_commands.specs.Agrees.{AgreesCommands, HasUniqueLabels}
 use Rattle.job_commands.specs.Asks.{told}
 use Rattle.job_commands.specs.Desks.{desk_of}
@@ -48,15 +47,13 @@ pub record IsUntold (by : By) (log : Log) : Type 0 where
   pub unanswered : is_replied by log ≡ false
   pub undecided : is_decided by log ≡ false
 
--- the service stands where the log leaves it; its jobs begin no instance where no command submits
--- one that does
+-- the service stands where the log leaves it
 pub record AgreesJobs (v : JobServiceValue) (inst : Instance) (log : Log) : Type 0 where
   pub kind : IsOf inst v
   pub core : Agrees v.manager.core inst.service (service_of log)
   pub legal : IsLegalLog inst.service (service_of log)
   pub commands : AgreesCommands v.commands inst log
   pub second : now_of inst log ≡ v.second
-  pub childless : SubmitsNoChild inst → AreChildless v.manager.book.jobs
   pub owes : Owes v.manager.posted v.found (desk_of v.commands inst log v.manager.book.jobs)
   pub labelled : AreLabelled v.commands.labels v.manager.book.jobs
   pub refused : (r : Refused) → Contains v.refused r

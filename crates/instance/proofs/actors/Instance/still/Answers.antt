@@ -1,7 +1,7 @@
 use Rattle.std.proofs.Common.{◌∙◌, ap, sym, subst}
 use Rattle.services.specs.Steps.{can_step}
 use Rattle.instance.specs.Agrees.{AgreesOwn}
-use Rattle.instance.specs.Family.{is_due}
+use Rattle.instance.specs.Family.{bearing, is_due}
 use Rattle.instance.specs.Steps.{can_answer, can_post}
 use Rattle.instance.specs.View.{value_of}
 use Rattle.instance.proofs.Closing.{IsStillSo, free_so, rest_so}
@@ -22,11 +22,12 @@ returns c = record {
       rest_so (own_of c.args.self.now set own) agrees
       (record { steps = rest.steps; answers = rest.answers; due = rest.due })
       (subst (λ v. IsStillSo (own_of v set own)) c.self.view_is promise);
-  childless = λ set own agrees steps answers posts.
+  free = λ set own agrees steps answers posts unborn.
       let v = value_of c.self.inside in
       sym (ap is_due c.self.view_is)
-      ∙ free_so (own_of v set own) (subst (λ x. AgreesOwn x set own) (sym c.self.view_is) agrees) c.still.ensures.childless
+      ∙ free_so (own_of v set own) (subst (λ x. AgreesOwn x set own) (sym c.self.view_is) agrees) c.still.ensures.free
       (λ s. ap (λ x. can_step x.services s) c.self.view_is ∙ steps s)
       (λ a. ap (λ x. can_answer x a) c.self.view_is ∙ answers a)
-      (ap can_post c.self.view_is ∙ posts);
+      (ap can_post c.self.view_is ∙ posts)
+      (ap bearing c.self.view_is ∙ unborn);
 }

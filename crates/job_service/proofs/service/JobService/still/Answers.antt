@@ -11,7 +11,6 @@ use Rattle.job_service.specs.Children.{is_due}
 use Rattle.job_service.specs.Still.{IsStill, awaited}
 use Rattle.job_service.specs.Times.{targets_left}
 use Rattle.job_service.specs.View.{value_of}
-use Rattle.job_service.proofs.Bearing.{childless_bears}
 use Rattle.job_service.proofs.Left.{left_open}
 use Rattle.job_service.proofs.Resting.{all_reached, left_result, none_now, unposted_still}
 use Rattle.job_service.proofs.Ticking.{free_parts, idle_free, none_left, none_left_alone}
@@ -46,16 +45,13 @@ returns-clause-alone c = λ inst log l a rest late top target t.
     let newest = subst (λ k. newest_store inst.service (service_of log) primary ≡ Some (newest_of k)) c.core.ensures (c.standing.ensures.newest inst.service (service_of log) (subst (λ k. Agrees k inst.service (service_of log)) (sym c.core.ensures) b.core)) in
     none_left_alone v inst log b c.keeps.ensures newest i.bearing free.0 free.1 free.2 (all_reached v (ap targets_left c.self.view_is ∙ late)) still.untold l top target t
 
-pub returns-clause-childless : goal.returns-clause-childless
-returns-clause-childless c = λ inst log a none core unfound.
-    let i = (c.self.invariant (ap (λ v. v.spent) c.self.view_is ∙ c.requires)).fit in
+pub returns-clause-free : goal.returns-clause-free
+returns-clause-free c = λ core unfound unborn.
     let v = value_of c.self.inside in
-    let b = subst (λ w. AgreesJobs w inst log) (sym c.self.view_is) a in
     let rests = subst (λ w. CoreIsStill w.manager.core) (sym c.self.view_is) core in
     let nothing = subst (λ k. posted k ≡ []) c.core.ensures (c.standing.ensures.landed (subst CoreIsStill (sym c.core.ensures) rests)) in
     let unposted = unposted_still c.self.inside.manager c.keeps.ensures nothing in
-    let unborn = childless_bears c.self.inside.commands c.self.inside.manager.book c.self.inside.bearing (b.childless none) i.bearing in
-    sym (ap is_due c.self.view_is) ∙ none_now v unposted (ap (λ w. w.found) c.self.view_is ∙ unfound) unborn
+    sym (ap is_due c.self.view_is) ∙ none_now v unposted (ap (λ w. w.found) c.self.view_is ∙ unfound) (ap (λ w. w.bearing) c.self.view_is ∙ unborn)
 
 pub returns-clause-left : goal.returns-clause-left
 returns-clause-left c = λ inst log a rest late told by some other waits.

@@ -38,11 +38,10 @@ returns-clause-advanced c = λ inst log l a₀ still₀ late.
     let a = subst (λ v. AgreesServices v inst log) (sym c.self.view_is) a₀ in
     c.still-3.ensures.advanced inst log l a.jobs (jobs_still (value_of c.self.inside) (subst IsStill (sym c.self.view_is) still₀)) (ap (λ v. targets_left v.jobs) c.self.view_is ∙ late)
 
-pub returns-clause-childless : goal.returns-clause-childless
-returns-clause-childless c = λ inst log a₀ none steps answers unfound.
-    let a = subst (λ v. AgreesServices v inst log) (sym c.self.view_is) a₀ in
+pub returns-clause-free : goal.returns-clause-free
+returns-clause-free c = λ steps answers unfound unborn.
     let core = core_rests (value_of c.self.inside) (λ s. ap (λ v. can_step v s) c.self.view_is ∙ steps s) (λ by. ap (λ v. can_take v by) c.self.view_is ∙ answers by) in
-    sym (ap (λ v. is_due v.jobs) c.self.view_is) ∙ c.still-3.ensures.childless inst log a.jobs none core (ap (λ v. v.jobs.found) c.self.view_is ∙ unfound)
+    sym (ap (λ v. is_due v.jobs) c.self.view_is) ∙ c.still-3.ensures.free core (ap (λ v. v.jobs.found) c.self.view_is ∙ unfound) (ap (λ v. v.jobs.bearing) c.self.view_is ∙ unborn)
 
 pub returns-clause-left : goal.returns-clause-left
 returns-clause-left c = λ inst log a₀ still₀ late by some other waits.
