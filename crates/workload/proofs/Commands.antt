@@ -10,7 +10,7 @@ use Rattle.workload.specs.Words.{first_word, behind_word}
 use Rattle.workload.specs.Actors.{place_of}
 use Rattle.workload.specs.Verbs.{Saying, first_of, faults_of, is_in_place, said, said_by, verb_of}
 use Rattle.workload.specs.Reading.{first_fault, spelled, with_command, command_faults, verb_faults}
-use Rattle.workload.proofs.Along.{none_applies, some_is_not_none, stands, text_keeps}
+use Rattle.workload.proofs.Along.{none_applies, one_by_one, some_is_not_none, stands, text_keeps}
 use Rattle.workload.proofs.Texts.{behind_utf8}
 use Rattle.workload.specs.declared.work.Actor.{Actor}
 use Rattle.workload.specs.declared.work.Command.{Command}
