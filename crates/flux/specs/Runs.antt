@@ -7,12 +7,11 @@ use Rattle.run_options.specs.Words.{options_of}
 use Rattle.workload.specs.declared.work.Workload.{Workload}
 use Rattle.workload.specs.Reading.{first_fault, spelled}
 use Rattle.answers.specs.Chronicle.{Setup}
-use Rattle.answers.specs.Headline.{IsTrueRun}
-use Rattle.answers.specs.Stretches.{AreStretches}
 use Rattle.world.specs.declared.order.Schedule.{Schedule}
 use Rattle.world.specs.declared.order.Schedule.TheVariants as schedule
 use Rattle.flux_tools.specs.Tools.{AreToolWords, HasAnswer}
-use Rattle.run_laws.specs.Jobs.{JobsStaySound, LogsOnlyGrow}
+use Rattle.hierarchy.specs.Headline.{ChildrenStayNested, IsTrueRun, JobsStaySoundInAll, LogsOnlyGrowInAll}
+use Rattle.hierarchy.specs.Stretches.{AreRunStretches}
 use Rattle.world.specs.Grant.{first_resources, grant_text}
 use Rattle.flux.specs.declared.call.Run.{Run}
 use Rattle.flux.specs.Sides.{Side}
@@ -63,17 +62,19 @@ pub record IsSpelled (size : ℕ) (input : Side) (work : Workload) : Type 0 wher
   pub sound : first_fault size text ≡ None
   pub means : work ≡ spelled text
 
--- the source was read to its end, its text is a workload's, the chronicle of that workload is legal
--- and whole, in time, and settled where no drawn order is asked for, the text prints it, and the
--- steps made tell the whole of it; after each first part of it jobs stand well in the grant, and no
--- event of a job is lost or changed
+-- the source was read to its end, its text is a workload's, the chronicle of that workload is a
+-- legal and whole one, settled where no drawn order is asked for, the text prints it, and the steps
+-- made tell the whole of it; after each first part of it the jobs of each living instance stand
+-- well in its grant, that of a child lies in what a job of its parent holds, and no event of a job
+-- is lost or changed
 pub record HasRun (o : Options) (input : Side) (run : Run) (text : List ℕ) : Type 0 where
   pub work : Workload
   pub spelled_so : IsSpelled o.size input work
   pub true_run : IsTrueRun (setup_of o work) (is_settled o) o.journal run.chronicle text
-  pub stretches : AreStretches work run.steps.items run.ends.items run.chronicle
-  pub sound : JobsStaySound (setup_of o work) run.chronicle
-  pub grows : LogsOnlyGrow (setup_of o work) run.chronicle
+  pub stretches : AreRunStretches (setup_of o work) run.steps.items run.ends.items run.chronicle
+  pub sound : JobsStaySoundInAll (setup_of o work) run.chronicle
+  pub nested : ChildrenStayNested (setup_of o work) run.chronicle
+  pub grows : LogsOnlyGrowInAll (setup_of o work) run.chronicle
 
 -- what a command writes: a run what its options ask for of its one chronicle, a tool the text that
 -- it prints

@@ -2,19 +2,19 @@
 ghost use Rattle.std.specs.Prelude.{◌≡◌, [], false, true, All, IfOk, OnOk};
 ghost use Rattle.run_options.specs.Given.{AreWithin};
 ghost use Rattle.workload.specs.Laws.{HasOwnLabels, IsBuilt, IsWithin, KeepsTallies};
-ghost use Rattle.answers.specs.Headline.{IsTrueRun, output_text};
-ghost use Rattle.answers.specs.Legal.{IsSettled};
-ghost use Rattle.answers.specs.Stretches.{AreStretches};
-ghost use Rattle.answers.specs.Jobs.{instance_of};
-ghost use Rattle.instance_rules.specs.Log.{IsInstance};
-ghost use Rattle.run_laws.specs.Jobs.{JobsStaySound, LogsOnlyGrow};
+ghost use Rattle.answers.specs.Headline.{output_text};
+ghost use Rattle.hierarchy.specs.Headline.{ChildrenStayNested, IsTrueRun, JobsStaySoundInAll, LogsOnlyGrowInAll};
+ghost use Rattle.hierarchy.specs.Laws.{AreValid};
+ghost use Rattle.hierarchy.specs.Legal.{IsSettledRun};
+ghost use Rattle.hierarchy.specs.Stretches.{AreRunStretches};
 ghost use Rattle.world.specs.Choice.{order_of};
 ghost use Rattle.world.specs.declared.order.Order.TheVariants as order;
 ghost use Rattle.flux.specs.Runs.{is_settled, schedule_of, setup_of};
 
 use answers::{Chronicle, print_answers, print_journal};
+use hierarchy::a_run_stays_sound;
 use kvs_core::CoreFault;
-use run_laws::{jobs_stay_sound, logs_only_grow, time_stays_within};
+use run_laws::time_stays_within;
 use run_options::Options;
 use std::alloc::{AllocError, Global};
 use workload::Workload;
@@ -40,12 +40,12 @@ fn schedule_of(options: Options) -> Schedule
 /// Makes every step until the run has ended.
 fn make_steps(world: &mut World) -> Result<(), CoreFault>
     requires ready { world.old.spent ≡ false }
-    requires settled { IsSettled world.old.set world.old.chronicle }
+    requires settled { IsSettledRun world.old.set world.old.chronicle }
     ensures ready { OnOk result (world.new.spent ≡ false) }
     ensures set { OnOk result (world.new.set ≡ world.old.set) }
     ensures closed { OnOk result (world.new.closed ≡ true) }
     ensures settled { world.old.order ≡ order.Settled
-        → OnOk result (IsSettled world.new.set world.new.chronicle) }
+        → OnOk result (IsSettledRun world.new.set world.new.chronicle) }
 {
     for _ in 0..u64::MAX {
         match world.next(0) {
@@ -74,8 +74,7 @@ fn output(
     Ok(text)
 }
 
-/// The world of a workload with its options, before anything has happened. It is one of an
-/// instance.
+/// The world of a workload with its options, before anything has happened.
 fn begun(alloc: Global, options: Options, work: Workload) -> Result<World, CoreFault>
     requires options { AreWithin options }
     requires within { IsWithin options.size work }
@@ -86,7 +85,6 @@ fn begun(alloc: Global, options: Options, work: Workload) -> Result<World, CoreF
     ensures set { IfOk result (λ world. world.set ≡ setup_of options work) }
     ensures order { IfOk result (λ world. world.order ≡ order_of (schedule_of options)) }
     ensures empty { IfOk result (λ world. world.chronicle ≡ []) }
-    ensures valid { OnOk result (IsInstance (instance_of (setup_of options work))) }
 {
     let setting = Setting {
         size: options.size,
@@ -107,9 +105,10 @@ fn run(alloc: Global, options: Options, work: Workload) -> Result<Played, CoreFa
     requires few { KeepsTallies work.lines }
     ensures run { IfOk result (λ played. IsTrueRun (setup_of options work)
         (is_settled options) options.journal played.ended.chronicle played.text.items) }
-    ensures stretches { IfOk result (λ played.
-        AreStretches work played.ended.steps.items played.ended.ends.items played.ended.chronicle) }
-    ensures valid { OnOk result (IsInstance (instance_of (setup_of options work))) }
+    ensures stretches { IfOk result (λ played. AreRunStretches (setup_of options work)
+        played.ended.steps.items played.ended.ends.items played.ended.chronicle) }
+    ensures valid { IfOk result
+        (λ played. AreValid (setup_of options work) played.ended.chronicle) }
 {
     let mut world = begun(alloc, options, work)?;
     // a fault lets go of the world by a call: in place it is some six minutes of proof
@@ -134,7 +133,8 @@ fn run(alloc: Global, options: Options, work: Workload) -> Result<Played, CoreFa
     }
 }
 
-/// Runs a workload to its end. Its jobs stay sound, and their logs only grow.
+/// Runs a workload to its end. In each of its instances jobs stay sound, and their logs only grow;
+/// children stay within what jobs of their parents hold.
 pub fn play(alloc: Global, options: Options, work: Workload) -> Result<Played, CoreFault>
     requires options { AreWithin options }
     requires within { IsWithin options.size work }
@@ -143,15 +143,16 @@ pub fn play(alloc: Global, options: Options, work: Workload) -> Result<Played, C
     requires few { KeepsTallies work.lines }
     ensures run { IfOk result (λ played. IsTrueRun (setup_of options work)
         (is_settled options) options.journal played.ended.chronicle played.text.items) }
-    ensures stretches { IfOk result (λ played.
-        AreStretches work played.ended.steps.items played.ended.ends.items played.ended.chronicle) }
+    ensures stretches { IfOk result (λ played. AreRunStretches (setup_of options work)
+        played.ended.steps.items played.ended.ends.items played.ended.chronicle) }
     ensures sound { IfOk result
-        (λ played. JobsStaySound (setup_of options work) played.ended.chronicle) }
+        (λ played. JobsStaySoundInAll (setup_of options work) played.ended.chronicle) }
+    ensures nested { IfOk result
+        (λ played. ChildrenStayNested (setup_of options work) played.ended.chronicle) }
     ensures grows { IfOk result
-        (λ played. LogsOnlyGrow (setup_of options work) played.ended.chronicle) }
+        (λ played. LogsOnlyGrowInAll (setup_of options work) played.ended.chronicle) }
 {
     time_stays_within();
-    jobs_stay_sound();
-    logs_only_grow();
+    a_run_stays_sound();
     run(alloc, options, work)
 }

@@ -28,3 +28,4 @@ pub mod Growth
 pub mod Within
 pub mod Inside
 pub mod Marks
+pub mod Throughout

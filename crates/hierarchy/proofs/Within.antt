@@ -223,7 +223,7 @@ stands (l ∷ lines) actor number c e = by (l.actor == actor) refl number e (λ 
     by false is k e again = further (again k e)
 
 in_range : (c : Command) → IsBuilt c → IfSome (job_ask_of c) IsInRange
-in_range (command.Submit label urgency depends spec) h = let high : urgency ≤ most_urgency = h.0 in omega arith
+in_range (command.Submit label urgency depends spec) h = let high : urgency ≤ most_urgency = h in omega arith
 in_range (command.Raise label kind severity note) h = let high : severity ≤ most_severity = h.0 in (omega arith, h.1, h.2)
 in_range (command.Urgency label urgency) h = let high : urgency ≤ most_urgency = h in omega arith
 in_range _ h = tt

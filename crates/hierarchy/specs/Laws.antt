@@ -1,5 +1,5 @@
 -- What the laws speak of.
-use Rattle.std.specs.Prelude.{◌≡◌, ◌≢◌, ◌<◌, ℕ, List, None, All}
+use Rattle.std.specs.Prelude.{◌≡◌, ◌≢◌, ◌<◌, ℕ, List, None, All, IsTrue}
 use Rattle.std.specs.List.{AllByRecursion as Each}
 use Rattle.instance_rules.specs.Log.{IsInstance}
 use Rattle.run_laws.specs.Times.{KeepsTime}
@@ -7,6 +7,7 @@ use Rattle.answers.specs.Chronicle.{Setup}
 use Rattle.answers.specs.Jobs.{instance_of}
 use Rattle.answers.specs.declared.chronicle.Entry.{Entry}
 use Rattle.answers.specs.declared.chronicle.Entry.TheVariants as entry
+use Rattle.hierarchy.specs.Births.{is_born}
 use Rattle.hierarchy.specs.Own.{own_of, setup_in}
 
 -- all actors of the run are of the top, each at one of its brokers
@@ -39,3 +40,7 @@ IsOfOthers i _ = Unit {0}
 pub record IsKept (set : Setup) (c : List Entry) (i : ℕ) : Type 0 where
   pub valid : IsInstance (instance_of (setup_in set c i))
   pub timely : KeepsTime (setup_in set c i) (own_of set c i)
+
+-- what each instance that was born is given is within its ranges
+abbrev pub AreValid : Setup → List Entry → Type 0
+AreValid set c = (i : ℕ) → IsTrue (is_born c i) → IsInstance (instance_of (setup_in set c i))

@@ -14,7 +14,8 @@ ghost use Rattle.answers.specs.Runs.{IsFamilySettled, IsInTime, family_of as alo
 ghost use Rattle.answers.specs.Whole.{IsWhole};
 ghost use Rattle.hierarchy.specs.Births.{births, is_gone, lives};
 ghost use Rattle.hierarchy.specs.Families.{family_of, left_in, second_in};
-ghost use Rattle.hierarchy.specs.Laws.{IsChildless, IsKept, IsOfOthers, IsOfTop};
+ghost use Rattle.hierarchy.specs.Headline.{ChildrenStayNested, JobsStaySoundInAll, LogsOnlyGrowInAll};
+ghost use Rattle.hierarchy.specs.Laws.{AreValid, IsChildless, IsKept, IsOfOthers, IsOfTop};
 ghost use Rattle.hierarchy.specs.Legal.{IsLegalRun, IsSettledRun, is_end};
 ghost use Rattle.hierarchy.specs.Own.{own_of, setup_in};
 ghost use Rattle.hierarchy.specs.Whole.{IsWholeRun};
@@ -87,4 +88,16 @@ pub fn time_stays_within_the_run()
         → All (λ b. b.second ≤ second_in set c) (births c) }
     ensures kept { (set : Setup) (c : List Entry) (i : ℕ) → HasTime set → IsLegalRun set c
         → IsTrue (lives c i) → KeepsTime (setup_in set c i) (own_of set c i) }
+{}
+
+/// All the way through a legal run jobs stay sound in each living instance, children stay nested in
+/// their parents, and logs only grow: where what each instance is given is within its ranges, and
+/// the seconds of all have their place in 64 bits.
+pub fn a_run_stays_sound()
+    ensures sound { (set : Setup) (c : List Entry) → HasTime set → AreValid set c
+        → IsLegalRun set c → JobsStaySoundInAll set c }
+    ensures nested { (set : Setup) (c : List Entry) → HasTime set → AreValid set c
+        → IsLegalRun set c → ChildrenStayNested set c }
+    ensures grows { (set : Setup) (c : List Entry) → HasTime set → AreValid set c
+        → IsLegalRun set c → LogsOnlyGrowInAll set c }
 {}

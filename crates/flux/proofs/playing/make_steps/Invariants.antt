@@ -1,5 +1,5 @@
 use Rattle.std.proofs.Common.{◌≡◌, false}
-use Rattle.answers.specs.Legal.{IsSettled}
+use Rattle.hierarchy.specs.Legal.{IsSettledRun}
 use Rattle.world.specs.declared.order.Order.TheVariants as order
 use Rattle.flux.proofs.playing.make_steps.Given as goal
 
@@ -8,5 +8,5 @@ invariant-loop l = record {
   ready : l.world.spent ≡ false;
   set : l.world.set ≡ l.initial.world.set;
   fixed : l.initial.world.order ≡ order.Settled → l.world.order ≡ order.Settled;
-  settled : l.initial.world.order ≡ order.Settled → IsSettled l.world.set l.world.chronicle;
+  settled : l.initial.world.order ≡ order.Settled → IsSettledRun l.world.set l.world.chronicle;
 }

@@ -1,31 +1,35 @@
-use Rattle.std.proofs.Common.{refl}
-use Rattle.std.specs.Prelude.{Ok, Err}
-use Rattle.std.specs.Prelude.{IfOk, OnOk, Result}
-use Rattle.answers.specs.Headline.{IsTrueRun}
-use Rattle.answers.specs.Jobs.{instance_of}
-use Rattle.instance_rules.specs.Log.{IsInstance}
+use Rattle.std.proofs.Common.{List, refl}
+use Rattle.std.specs.Prelude.{Ok, Err, Bool, IfOk, Result}
+use Rattle.answers.specs.Chronicle.{Setup}
+use Rattle.answers.specs.declared.chronicle.Entry.{Entry}
+use Rattle.hierarchy.specs.Headline.{ChildrenStayNested, IsTrueRun, JobsStaySoundInAll, LogsOnlyGrowInAll}
+use Rattle.hierarchy.specs.Laws.{AreValid}
+use Rattle.hierarchy.specs.Legal.{IsLegalRun}
 use Rattle.kvs_core.specs.declared.service.CoreFault.{CoreFault}
-use Rattle.run_laws.specs.Jobs.{JobsStaySound, LogsOnlyGrow}
 use Rattle.flux.specs.Runs.{is_settled, setup_of}
 use Rattle.flux.specs.declared.playing.Played.{Played}
 use Rattle.flux.proofs.playing.play.Goals as goal
 
+-- what holds of each legal run holds of one that is played
+of_played : (set : Setup) (settled journal : Bool) (P : List Entry → Type 0) → ((d : List Entry) → AreValid set d → IsLegalRun set d → P d) → (r : Result Played CoreFault)
+    → IfOk r (λ p. IsTrueRun set settled journal p.ended.chronicle p.text.items) → IfOk r (λ p. AreValid set p.ended.chronicle) → IfOk r (λ p. P p.ended.chronicle)
+of_played set settled journal P law (Ok p) run valid = law p.ended.chronicle valid run.legal
+of_played set settled journal P law (Err fault) run valid = tt
+
 pub returns-clause-sound : goal.returns-clause-sound
-returns-clause-sound c = on c.run.result c.run.ensures.run c.run.ensures.valid
-  where
-    on : (r : Result Played CoreFault) → IfOk r (λ played. IsTrueRun (setup_of c.args.options c.args.work) (is_settled c.args.options) c.args.options.journal played.ended.chronicle played.text.items) → OnOk r (IsInstance (instance_of (setup_of c.args.options c.args.work))) → IfOk r (λ played. JobsStaySound (setup_of c.args.options c.args.work) played.ended.chronicle)
-    on (Ok played) true_run valid =
-        let set = setup_of c.args.options c.args.work in
-        c.jobs_stay_sound.ensures.sound set played.ended.chronicle valid
-        (c.time_stays_within.ensures.kept set played.ended.chronicle (c.time_stays_within.ensures.fits set refl c.requires.few) true_run.legal true_run.in_time) true_run.legal
-    on (Err fault) true_run valid = tt
+returns-clause-sound c =
+    let set = setup_of c.args.options c.args.work in
+    of_played set (is_settled c.args.options) c.args.options.journal (JobsStaySoundInAll set)
+    (λ d valid legal. c.a_run_stays_sound.ensures.sound set d (c.time_stays_within.ensures.fits set refl c.requires.few) valid legal) c.run.result c.run.ensures.run c.run.ensures.valid
+
+pub returns-clause-nested : goal.returns-clause-nested
+returns-clause-nested c =
+    let set = setup_of c.args.options c.args.work in
+    of_played set (is_settled c.args.options) c.args.options.journal (ChildrenStayNested set)
+    (λ d valid legal. c.a_run_stays_sound.ensures.nested set d (c.time_stays_within.ensures.fits set refl c.requires.few) valid legal) c.run.result c.run.ensures.run c.run.ensures.valid
 
 pub returns-clause-grows : goal.returns-clause-grows
-returns-clause-grows c = on c.run.result c.run.ensures.run c.run.ensures.valid
-  where
-    on : (r : Result Played CoreFault) → IfOk r (λ played. IsTrueRun (setup_of c.args.options c.args.work) (is_settled c.args.options) c.args.options.journal played.ended.chronicle played.text.items) → OnOk r (IsInstance (instance_of (setup_of c.args.options c.args.work))) → IfOk r (λ played. LogsOnlyGrow (setup_of c.args.options c.args.work) played.ended.chronicle)
-    on (Ok played) true_run valid =
-        let set = setup_of c.args.options c.args.work in
-        c.logs_only_grow.ensures set played.ended.chronicle valid
-        (c.time_stays_within.ensures.kept set played.ended.chronicle (c.time_stays_within.ensures.fits set refl c.requires.few) true_run.legal true_run.in_time) true_run.legal
-    on (Err fault) true_run valid = tt
+returns-clause-grows c =
+    let set = setup_of c.args.options c.args.work in
+    of_played set (is_settled c.args.options) c.args.options.journal (LogsOnlyGrowInAll set)
+    (λ d valid legal. c.a_run_stays_sound.ensures.grows set d (c.time_stays_within.ensures.fits set refl c.requires.few) valid legal) c.run.result c.run.ensures.run c.run.ensures.valid

@@ -1,0 +1,9 @@
+use Rattle.hierarchy.proofs.Throughout.{all_grow, all_nested, all_sound}
+use Rattle.hierarchy.proofs.laws.a_run_stays_sound.Goals as goal
+
+pub returns : goal.returns
+returns c = record {
+  sound = λ set d fits valid l. all_sound set d fits valid l;
+  nested = λ set d fits valid l. all_nested set d fits valid l;
+  grows = λ set d fits valid l. all_grow set d fits valid l;
+}
