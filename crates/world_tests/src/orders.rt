@@ -33,6 +33,14 @@ const JOBS: &str =
 /// How many commands each of these actors has.
 const JOB_COMMANDS: [u32; 2] = [4, 3];
 
+/// A job that is an instance of two brokers, in which an actor stores something and submits a job
+/// that is an instance of one broker; both are shut down.
+const CHILDREN: &str =
+    "actor a 3\nactor b 1 of j\nactor c 0 of k\na submit j {\"resources\":[{\"type\":\"slot\",\"count\":2,\"with\":[{\"type\":\"core\",\"count\":4}],\"label\":\"task\"}],\"tasks\":[{\"command\":[\"flux\",\"broker\"],\"slot\":\"task\",\"count\":{\"per_slot\":1}}],\"version\":1}\nb put x y\nb commit\nb submit k {\"resources\":[{\"type\":\"slot\",\"count\":1,\"with\":[{\"type\":\"core\",\"count\":1}],\"label\":\"task\"}],\"tasks\":[{\"command\":[\"flux\",\"broker\"],\"slot\":\"task\",\"count\":{\"per_slot\":1}}],\"version\":1}\nc get x\nc shutdown\nb result k\nb shutdown\na advance 1\na result j\n";
+
+/// How many commands each of these actors has.
+const CHILDREN_COMMANDS: [u32; 3] = [3, 5, 2];
+
 /// A job in a grant of two hosts, whose cores are 2 to 5 and whose time ends at second 100.
 const GRANTED: &str =
     "grant {\"version\":1,\"execution\":{\"R_lite\":[{\"rank\":\"0-1\",\"children\":{\"core\":\"2-5\"}}],\"starttime\":0,\"expiration\":100,\"nodelist\":[\"fast[7-8]\"]}}\nactor a 2\na submit j {\"resources\":[{\"type\":\"slot\",\"count\":5,\"with\":[{\"type\":\"core\",\"count\":1}],\"label\":\"task\"}],\"tasks\":[{\"command\":[\"true\"],\"slot\":\"task\",\"count\":{\"per_slot\":1}}],\"version\":1}\na info j R\n";
@@ -158,16 +166,18 @@ fn is_answered_once(entries: &[Entry], by: (u32, u32)) -> bool {
         == 1
 }
 
-/// Whether each of two actors' commands, of which there are so many, has one reply.
-fn are_answered_once(entries: &[Entry], commands: [u32; 2]) -> bool {
-    for actor in 0..2 {
-        for command in 0..commands[actor as usize] {
-            if !is_answered_once(entries, (actor, command)) {
-                return false;
-            }
-        }
+/// Whether each command of an actor, which has so many, has one reply.
+fn is_answered(entries: &[Entry], actor: u32, commands: u32) -> bool {
+    (0..commands).all(|command| is_answered_once(entries, (actor, command)))
+}
+
+/// Whether each of the actors' commands, of which there are so many, has one reply.
+fn are_answered(entries: &[Entry], commands: &[u32]) -> bool {
+    let mut all = true;
+    for (actor, count) in commands.iter().enumerate() {
+        all = all && is_answered(entries, actor as u32, *count);
     }
-    true
+    all
 }
 
 /// What a run has come to: whether it has ended with one reply to each command, and its steps.
@@ -178,11 +188,11 @@ struct Outcome {
 }
 
 /// What the run of a world has come to, whose actors have so many commands.
-fn finish(world: World, commands: [u32; 2]) -> Outcome
+fn finish(world: World, commands: &[u32]) -> Outcome
     requires { world.spent ≡ false }
 {
     let ended = world.quiet() && world.next(0).is_none();
-    let answered = are_answered_once(world.chronicle().as_slice(), commands);
+    let answered = are_answered(world.chronicle().as_slice(), commands);
     let Ended { steps, .. } = world.finish();
     Outcome {
         whole: ended && answered,
@@ -191,7 +201,7 @@ fn finish(world: World, commands: [u32; 2]) -> Outcome
 }
 
 /// A run whose steps are drawn from those that can be made.
-fn drawn_run(alloc: Global, text: &str, commands: [u32; 2], seed: u64) -> Result<Outcome, Fail> {
+fn drawn_run(alloc: Global, text: &str, commands: &[u32], seed: u64) -> Result<Outcome, Fail> {
     let mut world = begin(alloc, text)?;
     match run(&mut world, seed) {
         Ok(()) => Ok(finish(world, commands)),
@@ -203,11 +213,16 @@ fn drawn_run(alloc: Global, text: &str, commands: [u32; 2], seed: u64) -> Result
 }
 
 /// A run that makes the steps which the world says, in this order.
-fn said_run(alloc: Global, how: Schedule) -> Result<Outcome, Fail> {
-    let mut world = begin(alloc, WORK)?;
+fn said_run(
+    alloc: Global,
+    text: &str,
+    commands: &[u32],
+    how: Schedule,
+) -> Result<Outcome, Fail> {
+    let mut world = begin(alloc, text)?;
     world.schedule(how);
     match follow(&mut world) {
-        Ok(()) => Ok(finish(world, COMMANDS)),
+        Ok(()) => Ok(finish(world, commands)),
         Err(fault) => {
             drop(world);
             Err(fault)
@@ -217,7 +232,7 @@ fn said_run(alloc: Global, how: Schedule) -> Result<Outcome, Fail> {
 
 /// Whether runs in twenty-one drawn orders end with one reply to each command, all but the first in
 /// another order.
-fn end_whole(alloc: Global, text: &str, commands: [u32; 2]) -> Result<bool, Fail> {
+fn end_whole(alloc: Global, text: &str, commands: &[u32]) -> Result<bool, Fail> {
     let first = drawn_run(alloc, text, commands, 0)?;
     let mut whole = first.whole;
     for seed in 1..21 {
@@ -229,13 +244,30 @@ fn end_whole(alloc: Global, text: &str, commands: [u32; 2]) -> Result<bool, Fail
 
 #[test]
 fn every_order_ends_with_every_command_answered(rt: HostRuntime) -> Result<(), Fail> {
-    assert_eq!(rt; end_whole(rt.alloc(), WORK, COMMANDS)?, true);
+    assert_eq!(rt; end_whole(rt.alloc(), WORK, &COMMANDS)?, true);
     Ok(())
 }
 
 #[test]
 fn every_order_of_jobs_ends_with_every_command_answered(rt: HostRuntime) -> Result<(), Fail> {
-    assert_eq!(rt; end_whole(rt.alloc(), JOBS, JOB_COMMANDS)?, true);
+    assert_eq!(rt; end_whole(rt.alloc(), JOBS, &JOB_COMMANDS)?, true);
+    Ok(())
+}
+
+/// Whether runs of instances within instances end in the fixed order and in ten drawn ones, with one
+/// reply to each command.
+fn children_end_whole(alloc: Global) -> Result<bool, Fail> {
+    let mut whole = said_run(alloc, CHILDREN, &CHILDREN_COMMANDS, Schedule::Settled)?.whole;
+    for seed in 0..10 {
+        let drawn = said_run(alloc, CHILDREN, &CHILDREN_COMMANDS, Schedule::Shuffled(seed))?;
+        whole = whole && drawn.whole;
+    }
+    Ok(whole)
+}
+
+#[test]
+fn every_order_of_children_ends_with_every_command_answered(rt: HostRuntime) -> Result<(), Fail> {
+    assert_eq!(rt; children_end_whole(rt.alloc())?, true);
     Ok(())
 }
 
@@ -275,11 +307,11 @@ fn a_job_has_resources_of_the_grant(rt: HostRuntime) -> Result<(), Fail> {
 
 #[test]
 fn a_seed_gives_one_order(rt: HostRuntime) -> Result<(), Fail> {
-    let settled = said_run(rt.alloc(), Schedule::Settled)?;
+    let settled = said_run(rt.alloc(), WORK, &COMMANDS, Schedule::Settled)?;
     assert_eq!(rt; settled.whole, true);
     for seed in [0, 1, 2, u64::MAX] {
-        let one = said_run(rt.alloc(), Schedule::Shuffled(seed))?;
-        let again = said_run(rt.alloc(), Schedule::Shuffled(seed))?;
+        let one = said_run(rt.alloc(), WORK, &COMMANDS, Schedule::Shuffled(seed))?;
+        let again = said_run(rt.alloc(), WORK, &COMMANDS, Schedule::Shuffled(seed))?;
         assert_eq!(rt; one.whole && one.steps == again.steps, true);
         assert_eq!(rt; one.steps == settled.steps, false);
     }
