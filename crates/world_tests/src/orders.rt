@@ -174,8 +174,8 @@ fn is_answered(entries: &[Entry], actor: u32, commands: u32) -> bool {
 /// Whether each of the actors' commands, of which there are so many, has one reply.
 fn are_answered(entries: &[Entry], commands: &[u32]) -> bool {
     let mut all = true;
-    for (actor, count) in commands.iter().enumerate() {
-        all = all && is_answered(entries, actor as u32, *count);
+    for (actor, count) in (0..u32::MAX).zip(commands) {
+        all = all && is_answered(entries, actor, *count);
     }
     all
 }
