@@ -87,7 +87,7 @@ fn check(rt: &impl Abort, alloc: Global, cases: &[Long]) -> Result<(), Fail> {
 /// A text, and what is told of it.
 type Short = (&'static [u8], u64, Told);
 
-const SHORT: [Short; 64] = [
+const SHORT: [Short; 66] = [
     (b"", 0, Told::Fine),
     (&[255], 0, Told::NotUtf8),
     (b"b put k v\n", 1, Told::Unknown),
@@ -105,21 +105,23 @@ const SHORT: [Short; 64] = [
     (b"actor a 18446744073709551616", 1, Told::Misnumbered),
     (b"actor a 0\n\n# a note\r\nactor a 1", 4, Told::Unformed),
     (b"actor actor 0", 1, Told::Unformed),
-    (b"actor a 0 of j", 1, Told::Unformed),
-    (b"actor a x of j", 1, Told::Unformed),
+    (b"actor a 9 of j", 0, Told::Fine),
+    (b"actor a x of j", 1, Told::Misnumbered),
+    (b"actor a 0 of j\na shutdown", 0, Told::Fine),
+    (b"actor a 0\nactor b 0 of j\nb tell a", 3, Told::Unformed),
     (b"actor a 0\na shutdown", 2, Told::Unformed),
     (b"actor a 0\nb shutdown", 2, Told::Unknown),
     (
         br#"actor a 0
 a submit j urgency=x {"resources":[{"type":"slot","count":1,"with":[{"type":"core","count":1}],"label":"task"}],"tasks":[{"command":["flux","broker"],"slot":"task","count":{"per_slot":1}}],"version":1}"#,
         2,
-        Told::Unformed,
+        Told::Misnumbered,
     ),
     (
         br#"actor a 0
 a submit j {"resources":[{"type":"slot","count":1,"with":[{"type":"core","count":1}],"label":"task"}],"tasks":[{"command":["flux","broker"],"slot":"task","count":{"per_slot":1}}],"version":1}"#,
-        2,
-        Told::Unformed,
+        0,
+        Told::Fine,
     ),
     (b"grant {}", 1, Told::Unformed),
     (b"actor a 0\na commit k", 2, Told::Unformed),
