@@ -1,4 +1,6 @@
 pub mod Sides
 pub mod Runs
+pub mod Generated
+pub mod Commands
 pub mod Faults
 pub mod Notices

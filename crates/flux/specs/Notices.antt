@@ -8,7 +8,7 @@ use Rattle.flux.specs.declared.call.Run.{Run}
 
 abbrev pub notice_text : Fault → List ℕ
 notice_text fault.Nothing = codes "done"
-notice_text fault.Words = codes "usage: flux_cli run|idset|hostlist|fluid|R|replay, and for run: --size N --fanout N --hash sha1|sha256 --shuffle SEED --journal"
+notice_text fault.Words = codes "usage: flux_cli run|gen|idset|hostlist|fluid|R|replay"
 notice_text (fault.Line f) = line_text f
 notice_text (fault.Tool f) = tool_text f
 notice_text fault.Read = codes "read fault"

@@ -1,5 +1,5 @@
 -- What a run promises.
-use Rattle.std.specs.Prelude.{◌≡◌, ◌≢◌, ◌⊎◌, ℕ, List, [], ◌∷◌, Option, Some, None, Ok, Bool, not, is_some, codes, if◌then◌else◌}
+use Rattle.std.specs.Prelude.{◌≡◌, ◌≢◌, ℕ, List, [], ◌∷◌, Option, Some, None, Bool, not, is_some, codes, if◌then◌else◌}
 use Rattle.std.specs.Str.{bytes_eq}
 use Rattle.std.specs.Io.KnownBytes.{Consumes, IsAtEnd}
 use Rattle.run_options.specs.declared.Options.{Options}
@@ -9,7 +9,6 @@ use Rattle.workload.specs.Reading.{first_fault, spelled}
 use Rattle.answers.specs.Chronicle.{Setup}
 use Rattle.world.specs.declared.order.Schedule.{Schedule}
 use Rattle.world.specs.declared.order.Schedule.TheVariants as schedule
-use Rattle.flux_tools.specs.Tools.{AreToolWords, HasAnswer}
 use Rattle.hierarchy.specs.Headline.{ChildrenStayNested, IsTrueRun, JobsStaySoundInAll, LogsOnlyGrowInAll}
 use Rattle.hierarchy.specs.Stretches.{AreRunStretches}
 use Rattle.world.specs.Grant.{first_resources, grant_text}
@@ -24,10 +23,6 @@ run_options (word ∷ words) = if bytes_eq word (codes "run") then options_of wo
 -- the words of a run of a workload
 abbrev pub AreRunWords : List (List ℕ) → Type 0
 AreRunWords words = run_options words ≢ None
-
--- the words of a command: of a run, or of a tool
-abbrev pub AreWords : List (List ℕ) → Type 0
-AreWords words = AreRunWords words ⊎ AreToolWords words
 
 -- what a run of the workload is given: its options and its grant
 abbrev pub setup_of : Options → Workload → Setup
@@ -54,31 +49,32 @@ schedule_of o = by o.shuffle
     by None = schedule.Settled
     by (Some seed) = schedule.Shuffled seed
 
+-- the workload is what a text spells for so many brokers
+pub record IsWorkOf (size : ℕ) (text : List ℕ) (work : Workload) : Type 0 where
+  pub sound : first_fault size text ≡ None
+  pub means : work ≡ spelled text
+
 -- the source was read to its end, and the text that was read is the workload's, for so many brokers
 pub record IsSpelled (size : ℕ) (input : Side) (work : Workload) : Type 0 where
   pub text : List ℕ
   pub read : Consumes input.before input.after text
   pub ended : IsAtEnd input.after
-  pub sound : first_fault size text ≡ None
-  pub means : work ≡ spelled text
+  pub spelled_so : IsWorkOf size text work
 
--- the source was read to its end, its text is a workload's, the chronicle of that workload is a
--- legal and whole one, settled where no drawn order is asked for, the text prints it, and the steps
--- made tell the whole of it; after each first part of it the jobs of each living instance stand
--- well in its grant, that of a child lies in what a job of its parent holds, and no event of a job
--- is lost or changed
-pub record HasRun (o : Options) (input : Side) (run : Run) (text : List ℕ) : Type 0 where
-  pub work : Workload
-  pub spelled_so : IsSpelled o.size input work
+-- the chronicle of the workload is a legal and whole one, settled where no drawn order is asked for,
+-- the text prints it, and the steps made tell the whole of it; after each first part of it the jobs
+-- of each living instance stand well in its grant, that of a child lies in what a job of its parent
+-- holds, and no event of a job is lost or changed
+pub record IsRunOf (o : Options) (work : Workload) (run : Run) (text : List ℕ) : Type 0 where
   pub true_run : IsTrueRun (setup_of o work) (is_settled o) o.journal run.chronicle text
   pub stretches : AreRunStretches (setup_of o work) run.steps.items run.ends.items run.chronicle
   pub sound : JobsStaySoundInAll (setup_of o work) run.chronicle
   pub nested : ChildrenStayNested (setup_of o work) run.chronicle
   pub grows : LogsOnlyGrowInAll (setup_of o work) run.chronicle
 
--- what a command writes: a run what its options ask for of its one chronicle, a tool the text that
--- it prints
-pub record IsOutput
-    (words : List (List ℕ)) (input : Side) (run : Run) (text : List ℕ) : Type 0 where
-  pub answers : (o : Options) → run_options words ≡ Some o → HasRun o input run text
-  pub line : AreToolWords words → HasAnswer words input.before input.after (Ok text)
+-- the source was read to its end, its text is a workload's, and this is a run of that workload,
+-- which the text prints
+pub record HasRun (o : Options) (input : Side) (run : Run) (text : List ℕ) : Type 0 where
+  pub work : Workload
+  pub spelled_so : IsSpelled o.size input work
+  pub ran : IsRunOf o work run text

@@ -3,9 +3,12 @@ ghost use Rattle.std.specs.Prelude.{◌≡◌, ◌≢◌, ◌≤◌, ◌↔◌, 
 ghost use Rattle.run_options.specs.Given.{AreWithin};
 ghost use Rattle.flux_tools.specs.Tools.{AreReaderWords, AreToolWords, HasAnswer};
 ghost use Rattle.flux.specs.Sides.{side, FailsAt, IsWritten};
-ghost use Rattle.flux.specs.Runs.{AreRunWords, AreWords, HasRun, IsOutput, run_options};
-ghost use Rattle.flux.specs.Faults.{status_of, HasReadCause, IsComplete, IsRefused, IsTaken, IsToolFault};
+ghost use Rattle.flux.specs.Runs.{AreRunWords, HasRun, run_options};
+ghost use Rattle.flux.specs.Generated.{HasSummary};
+ghost use Rattle.flux.specs.Commands.{AreWords, IsOutput};
+ghost use Rattle.flux.specs.Faults.{status_of, HasReadCause, IsComplete, IsDrawnFault, IsRefused, IsTaken, IsToolFault};
 
+use crate::generating::{Generation, drawn_work, generation_of, play_drawn};
 use crate::playing::{Played, play};
 use crate::reading::read_work;
 use answers::{Chronicle, Step};
@@ -146,6 +149,36 @@ fn run_workload<S: Source, K: Sink>(
     }
 }
 
+/// Runs the workload that is drawn, and writes the summary of its run.
+fn run_drawn<K: Sink>(alloc: Global, generation: Generation, sink: &mut K) -> Run
+    ensures status { result.status ≡ status_of result.fault }
+    ensures known { result.status ≢ 2 }
+    ensures done { result.status ≡ 0 → (text : List ℕ) × HasSummary generation result text
+        × IsWritten (side K.held K.faults sink.old sink.new) text }
+    ensures cut { result.status ≡ 5 → (text : List ℕ) × HasSummary generation result text
+        × IsTaken (side K.held K.faults sink.old sink.new) text result.fault }
+    ensures refused { result.status ≡ 1 → IsDrawnFault generation result.fault }
+    ensures read { result.status ≢ 3 }
+    ensures sink { FailsAt 5 (side K.held K.faults sink.old sink.new) result.status }
+    ensures unwritten { (1 ≤ result.status) → (result.status ≤ 4) → sink.new ≡ sink.old }
+{
+    let work = match drawn_work(alloc, generation) {
+        Ok(work) => work,
+        Err(fault) => return Run::without_steps(alloc, fault),
+    };
+    let Ok(Played { text, ended: left }) = play_drawn(alloc, work) else {
+        return Run::without_steps(alloc, Fault::Memory);
+    };
+    let fault = tell(sink, &text);
+    Run {
+        status: status(&fault),
+        fault,
+        steps: left.steps,
+        ends: left.ends,
+        chronicle: left.chronicle,
+    }
+}
+
 /// Writes what a tool prints of the text that it is given.
 fn run_tool<S: Source, K: Sink>(
     alloc: Global,
@@ -196,7 +229,8 @@ fn run_tool<S: Source, K: Sink>(
 /// Carries out the command of the words. `run` reads a workload from the source, runs it in an
 /// instance as its options say, and writes its answers to the sink: one line for each command, in
 /// the workload's order, and with `--journal` the chronicle behind a line `--`. Each command is
-/// issued once nothing else can be made, or, with `--shuffle`, the next step is drawn. A tool
+/// issued once nothing else can be made, or, with `--shuffle`, the next step is drawn. `gen` runs
+/// a workload that a seed draws as `run --size 7` does, and writes the summary of its run. A tool
 /// writes one line: `idset`, `hostlist` and `fluid` of the text in the words, `R` and `replay` of
 /// the text that the source has. The whole output is made before the first byte is written.
 ///
@@ -211,7 +245,8 @@ pub fn flux<S: Source, K: Sink>(
 ) -> Run
     ensures status { result.status ≡ status_of result.fault }
     // the headline: what was written prints the one chronicle, which is legal and whole, and
-    // settled where the words ask for no shuffle, or is a tool's line
+    // settled where the words ask for no shuffle, or is the summary of such a chronicle, or a tool's
+    // line
     ensures true_run { result.status ≡ 0 → (text : List ℕ)
         × IsOutput
         (map string_bytes words.now)
@@ -251,6 +286,9 @@ pub fn flux<S: Source, K: Sink>(
 {
     if let Some(options) = options_of_run(words) {
         return run_workload(alloc, options, source, sink);
+    }
+    if let Some(generation) = generation_of(words) {
+        return run_drawn(alloc, generation, sink);
     }
     if is_tool(words) {
         return run_tool(alloc, words, source, sink);

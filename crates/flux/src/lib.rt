@@ -3,10 +3,12 @@
 
 mod call;
 mod ending;
+mod generating;
 mod notices;
 mod playing;
 mod reading;
 
 pub use call::{Fault, Run, flux};
 pub use ending::{closing_notice, command_words, exit_status, run_without_memory};
+pub use generating::Generation;
 pub use notices::notice;

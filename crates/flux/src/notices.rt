@@ -11,9 +11,7 @@ pub fn notice(alloc: Global, fault: &Fault) -> Result<String, AllocError>
 {
     match fault {
         Fault::Nothing => format!(in alloc; "done"),
-        Fault::Words => format!(in alloc;
-            "usage: flux_cli run|idset|hostlist|fluid|R|replay, and for run: --size N --fanout N --hash sha1|sha256 --shuffle SEED --journal"
-        ),
+        Fault::Words => format!(in alloc; "usage: flux_cli run|gen|idset|hostlist|fluid|R|replay"),
         Fault::Line(fault) => format!(in alloc; "{fault}"),
         Fault::Tool(fault) => format!(in alloc; "{fault}"),
         Fault::Read => format!(in alloc; "read fault"),

@@ -4,4 +4,6 @@
 #[cfg(test)]
 mod children;
 #[cfg(test)]
+mod drawn;
+#[cfg(test)]
 mod runs;

@@ -9,7 +9,7 @@ use std::process::Abort;
 use std::test::Fail;
 
 /// An input with its words, and the status, the output and the notice that it is to come to.
-pub struct Case {
+pub(crate) struct Case {
     pub words: &'static [&'static str],
     pub input: &'static str,
     pub status: u8,
@@ -135,7 +135,7 @@ const RUNS: [Case; 54] = [
         input: "",
         status: 2,
         output: "",
-        notice: "usage: flux_cli run|idset|hostlist|fluid|R|replay, and for run: --size N --fanout N --hash sha1|sha256 --shuffle SEED --journal",
+        notice: "usage: flux_cli run|gen|idset|hostlist|fluid|R|replay",
     },
     Case {
         words: &["run", "--journal"],
@@ -170,42 +170,42 @@ const RUNS: [Case; 54] = [
         input: "actor a 0\n",
         status: 2,
         output: "",
-        notice: "usage: flux_cli run|idset|hostlist|fluid|R|replay, and for run: --size N --fanout N --hash sha1|sha256 --shuffle SEED --journal",
+        notice: "usage: flux_cli run|gen|idset|hostlist|fluid|R|replay",
     },
     Case {
         words: &["run", "--size=4", "--size=4"],
         input: "actor a 0\n",
         status: 2,
         output: "",
-        notice: "usage: flux_cli run|idset|hostlist|fluid|R|replay, and for run: --size N --fanout N --hash sha1|sha256 --shuffle SEED --journal",
+        notice: "usage: flux_cli run|gen|idset|hostlist|fluid|R|replay",
     },
     Case {
         words: &["run", "--"],
         input: "actor a 0\n",
         status: 2,
         output: "",
-        notice: "usage: flux_cli run|idset|hostlist|fluid|R|replay, and for run: --size N --fanout N --hash sha1|sha256 --shuffle SEED --journal",
+        notice: "usage: flux_cli run|gen|idset|hostlist|fluid|R|replay",
     },
     Case {
         words: &["run", "--help"],
         input: "actor a 0\n",
         status: 2,
         output: "",
-        notice: "usage: flux_cli run|idset|hostlist|fluid|R|replay, and for run: --size N --fanout N --hash sha1|sha256 --shuffle SEED --journal",
+        notice: "usage: flux_cli run|gen|idset|hostlist|fluid|R|replay",
     },
     Case {
         words: &["--size", "4"],
         input: "actor a 0\n",
         status: 2,
         output: "",
-        notice: "usage: flux_cli run|idset|hostlist|fluid|R|replay, and for run: --size N --fanout N --hash sha1|sha256 --shuffle SEED --journal",
+        notice: "usage: flux_cli run|gen|idset|hostlist|fluid|R|replay",
     },
     Case {
         words: &["run", "run"],
         input: "actor a 0\n",
         status: 2,
         output: "",
-        notice: "usage: flux_cli run|idset|hostlist|fluid|R|replay, and for run: --size N --fanout N --hash sha1|sha256 --shuffle SEED --journal",
+        notice: "usage: flux_cli run|gen|idset|hostlist|fluid|R|replay",
     },
     Case {
         words: &["run"],
@@ -359,21 +359,21 @@ const RUNS: [Case; 54] = [
         input: "actor a 0\n",
         status: 2,
         output: "",
-        notice: "usage: flux_cli run|idset|hostlist|fluid|R|replay, and for run: --size N --fanout N --hash sha1|sha256 --shuffle SEED --journal",
+        notice: "usage: flux_cli run|gen|idset|hostlist|fluid|R|replay",
     },
     Case {
         words: &[""],
         input: "",
         status: 2,
         output: "",
-        notice: "usage: flux_cli run|idset|hostlist|fluid|R|replay, and for run: --size N --fanout N --hash sha1|sha256 --shuffle SEED --journal",
+        notice: "usage: flux_cli run|gen|idset|hostlist|fluid|R|replay",
     },
     Case {
         words: &[],
         input: "",
         status: 2,
         output: "",
-        notice: "usage: flux_cli run|idset|hostlist|fluid|R|replay, and for run: --size N --fanout N --hash sha1|sha256 --shuffle SEED --journal",
+        notice: "usage: flux_cli run|gen|idset|hostlist|fluid|R|replay",
     },
     Case {
         words: &["run"],
@@ -463,7 +463,7 @@ const TOOLS: [Case; 13] = [
         input: "",
         status: 2,
         output: "",
-        notice: "usage: flux_cli run|idset|hostlist|fluid|R|replay, and for run: --size N --fanout N --hash sha1|sha256 --shuffle SEED --journal",
+        notice: "usage: flux_cli run|gen|idset|hostlist|fluid|R|replay",
     },
     Case {
         words: &[
@@ -473,7 +473,7 @@ const TOOLS: [Case; 13] = [
         input: "",
         status: 2,
         output: "",
-        notice: "usage: flux_cli run|idset|hostlist|fluid|R|replay, and for run: --size N --fanout N --hash sha1|sha256 --shuffle SEED --journal",
+        notice: "usage: flux_cli run|gen|idset|hostlist|fluid|R|replay",
     },
     Case {
         words: &["idset", "[7,1-3,2]"],
@@ -576,7 +576,7 @@ fn run(
 }
 
 /// Runs each case, and compares what came of it.
-pub fn compare(rt: &impl Abort, alloc: Global, cases: &[Case]) -> Result<(), Fail> {
+pub(crate) fn compare(rt: &impl Abort, alloc: Global, cases: &[Case]) -> Result<(), Fail> {
     for case in cases {
         let mut sink = MemSink::new(alloc, 4096, 4096, Vec::new(alloc))?;
         let run = run(alloc, case.words, case.input, 4096, &[], &mut sink)?;

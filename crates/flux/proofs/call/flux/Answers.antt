@@ -1,5 +1,6 @@
 use Rattle.std.proofs.Common.{◌≡◌, rules, map, string_bytes}
 use Rattle.std.specs.Prelude.{None}
+use Rattle.flux.specs.Generated.{generation_of}
 use Rattle.flux.specs.Runs.{run_options}
 use Rattle.flux.proofs.call.flux.Goals as goal
 
@@ -8,7 +9,8 @@ pub returns-then-is_tool-clause-cut : goal.returns-then-is_tool-clause-cut
 returns-then-is_tool-clause-cut g c = λ five.
     let h = c.run_tool.ensures.cut five in
     let none : run_options (map string_bytes c.args.words.now) ≡ None = search rules in
-    (h.0, record { answers = λ o is. cc; line = λ words. h.1 }, h.2)
+    let undrawn : generation_of (map string_bytes c.args.words.now) ≡ None = search rules in
+    (h.0, record { answers = λ o is. cc; summary = λ drawn is. cc; line = λ words. h.1 }, h.2)
 
 -- the words of a run aren't a tool's, so that the run's part is all of the output
 pub returns-in-Some-clause-cut : goal.returns-in-Some-clause-cut

@@ -1,0 +1,21 @@
+-- The commands of the program, and what each writes.
+use Rattle.std.specs.Prelude.{◌≡◌, ◌⊎◌, ℕ, List, Some, Ok}
+use Rattle.run_options.specs.declared.Options.{Options}
+use Rattle.flux_tools.specs.Tools.{AreToolWords, HasAnswer}
+use Rattle.flux.specs.declared.call.Run.{Run}
+use Rattle.flux.specs.declared.generating.Generation.{Generation}
+use Rattle.flux.specs.Generated.{AreDrawnWords, HasSummary, generation_of}
+use Rattle.flux.specs.Runs.{AreRunWords, HasRun, run_options}
+use Rattle.flux.specs.Sides.{Side}
+
+-- the words of a command: of a run, of one whose workload is drawn, or of a tool
+abbrev pub AreWords : List (List ℕ) → Type 0
+AreWords words = AreRunWords words ⊎ AreDrawnWords words ⊎ AreToolWords words
+
+-- what a command writes: a run what its options ask for of its one chronicle, one whose workload is
+-- drawn the summary of its run, a tool the text that it prints
+pub record IsOutput
+    (words : List (List ℕ)) (input : Side) (run : Run) (text : List ℕ) : Type 0 where
+  pub answers : (o : Options) → run_options words ≡ Some o → HasRun o input run text
+  pub summary : (g : Generation) → generation_of words ≡ Some g → HasSummary g run text
+  pub line : AreToolWords words → HasAnswer words input.before input.after (Ok text)

@@ -1,0 +1,123 @@
+//! Workloads that a seed draws, and the summaries of their runs.
+ghost use Rattle.std.specs.Prelude.{◌≡◌, ◌≤◌, ℕ, List, true, false, map, string_bytes, All, IfErr, IfOk};
+ghost use Rattle.workload.specs.Laws.{HasOwnLabels, IsBuilt, IsWithin, KeepsTallies};
+ghost use Rattle.world.specs.Grant.{grant_text};
+ghost use Rattle.hierarchy.specs.Headline.{ChildrenStayNested, IsTrueRun, JobsStaySoundInAll, LogsOnlyGrowInAll};
+ghost use Rattle.hierarchy.specs.Stretches.{AreRunStretches};
+ghost use Rattle.summaries.specs.Summary.{IsSummary};
+ghost use Rattle.flux.specs.Runs.{setup_of};
+ghost use Rattle.flux.specs.Generated.{generated_options, generation_of, IsDrawn};
+ghost use Rattle.flux.specs.Faults.{IsDrawnFault};
+
+use crate::call::Fault;
+use crate::playing::{Played, play};
+use fl_digest::Hash;
+use kvs_core::CoreFault;
+use lists::Bytes;
+use resource_set::print;
+use run_options::Options;
+use std::alloc::{AllocError, Global};
+use summaries::summary;
+use workload::laws::{
+    spelled_commands_are_built, spelled_labels_are_their_own, spelled_tallies_are_kept,
+    spelled_workloads_are_within,
+};
+use workload::words::{number, number_within};
+use workload::{LineFault, Workload, read};
+use workload_generator::generate;
+use world::hosts_of_brokers;
+
+/// What a workload is drawn from: a seed, and how many commands there are, 1 to 10,000.
+#[derive(Clone, Copy, Debug, PartialEq, Eq)]
+pub struct Generation {
+    pub seed: u64,
+    pub count: u32,
+}
+
+/// The most commands of a workload that is drawn.
+const MOST_COMMANDS: u64 = 10_000;
+
+/// The options of its run: those of `run --size 7`.
+const OPTIONS: Options = Options {
+    size: 7,
+    fanout: 2,
+    hash: Hash::Sha1,
+    shuffle: None,
+    journal: false,
+};
+
+/// What the words `gen SEED N` draw a workload from.
+pub fn generation_of(words: &[String]) -> Option<Generation>
+    ensures { result ≡ generation_of (map string_bytes words.now) }
+{
+    match words {
+        [word, seed, count] if word.as_str() == "gen" => Some(Generation {
+            seed: number(seed.as_str())?,
+            count: number_within(count.as_str(), 1, MOST_COMMANDS)? as u32,
+        }),
+        _ => None,
+    }
+}
+
+/// The workload that is drawn.
+pub fn drawn_work(alloc: Global, generation: Generation) -> Result<Workload, Fault>
+    ensures work { IfOk result (λ work. IsDrawn generation work) }
+    ensures within { IfOk result (λ work. IsWithin 7 work) }
+    ensures built { IfOk result (λ work. All (λ line. IsBuilt line.command) work.lines) }
+    ensures labels { IfOk result (λ work. HasOwnLabels work.lines) }
+    ensures few { IfOk result (λ work. KeepsTallies work.lines) }
+    ensures cause { IfErr result (IsDrawnFault generation) }
+{
+    let Ok(text) = generate(alloc, generation.seed, generation.count) else {
+        return Err(Fault::Memory);
+    };
+    match read(alloc, text.as_slice(), OPTIONS.size) {
+        Ok(work) => {
+            spelled_workloads_are_within();
+            spelled_commands_are_built();
+            spelled_labels_are_their_own();
+            spelled_tallies_are_kept();
+            Ok(work)
+        }
+        Err(LineFault::NoMemory) => Err(Fault::Memory),
+        Err(fault) => Err(Fault::Line(fault)),
+    }
+}
+
+/// The text of the grant at which a run of the workload begins.
+fn first_grant(alloc: Global, size: u32, work: &Workload) -> Result<Bytes, AllocError>
+    requires { size ≤ 32 }
+    ensures { IfOk result (λ text. text ≡ grant_text size work.now) }
+{
+    if let Some(grant) = &work.grant {
+        return grant.text(alloc);
+    }
+    let hosts = hosts_of_brokers(alloc, size)?;
+    let text = print(alloc, &hosts)?;
+    Ok(Bytes::from_vec(text))
+}
+
+/// Runs a workload that was drawn to its end. Its text is the run's summary.
+pub fn play_drawn(alloc: Global, work: Workload) -> Result<Played, CoreFault>
+    requires within { IsWithin 7 work }
+    requires built { All (λ line. IsBuilt line.command) work.lines }
+    requires labels { HasOwnLabels work.lines }
+    requires few { KeepsTallies work.lines }
+    ensures run { IfOk result (λ played. (answers : List ℕ)
+        × IsTrueRun (setup_of generated_options work) true false played.ended.chronicle answers) }
+    ensures stretches { IfOk result (λ played. AreRunStretches (setup_of generated_options work)
+        played.ended.steps.items played.ended.ends.items played.ended.chronicle) }
+    ensures sound { IfOk result (λ played.
+        JobsStaySoundInAll (setup_of generated_options work) played.ended.chronicle) }
+    ensures nested { IfOk result (λ played.
+        ChildrenStayNested (setup_of generated_options work) played.ended.chronicle) }
+    ensures grows { IfOk result (λ played.
+        LogsOnlyGrowInAll (setup_of generated_options work) played.ended.chronicle) }
+    ensures summary { IfOk result (λ played. IsSummary
+        (setup_of generated_options work) played.ended.chronicle played.text.items) }
+{
+    let grant = first_grant(alloc, OPTIONS.size, &work)?;
+    let Played { text, ended } = play(alloc, OPTIONS, work)?;
+    let text = summary(alloc, &grant, OPTIONS.hash, &text, &ended.chronicle)?;
+    Ok(Played { text, ended })
+}

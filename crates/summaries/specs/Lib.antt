@@ -1,0 +1,4 @@
+pub mod Counts
+pub mod Landings
+pub mod Roots
+pub mod Summary
