@@ -16,7 +16,7 @@ ghost use Rattle.hierarchy.specs.Births.{births, is_gone, lives};
 ghost use Rattle.hierarchy.specs.Families.{family_of, left_in, second_in};
 ghost use Rattle.hierarchy.specs.Headline.{ChildrenStayNested, JobsStaySoundInAll, LogsOnlyGrowInAll};
 ghost use Rattle.hierarchy.specs.Laws.{AreValid, IsChildless, IsKept, IsOfOthers, IsOfTop};
-ghost use Rattle.hierarchy.specs.Legal.{IsLegalRun, IsSettledRun, is_end};
+ghost use Rattle.hierarchy.specs.Legal.{AreOwnLegal, IsLegalRun, IsSettledRun, is_end};
 ghost use Rattle.hierarchy.specs.Own.{own_of, setup_in};
 ghost use Rattle.hierarchy.specs.Whole.{IsWholeRun};
 
@@ -100,4 +100,10 @@ pub fn a_run_stays_sound()
         → IsLegalRun set c → ChildrenStayNested set c }
     ensures grows { (set : Setup) (c : List Entry) → HasTime set → AreValid set c
         → IsLegalRun set c → LogsOnlyGrowInAll set c }
+{}
+
+/// At the end of a run the own chronicle of each living instance is legal.
+pub fn a_whole_run_is_legal_in_all()
+    ensures { (set : Setup) (c : List Entry) → IsLegalRun set c → IsWholeRun set c
+        → AreOwnLegal set c }
 {}
