@@ -12,6 +12,8 @@ ghost use Rattle.flux.specs.Faults.{IsDrawnFault};
 use crate::call::Fault;
 use crate::playing::{Played, play};
 use fl_digest::Hash;
+use hierarchy::a_whole_run_is_legal_in_all;
+use hierarchy::grown::births_are_numbered;
 use kvs_core::CoreFault;
 use lists::Bytes;
 use resource_set::print;
@@ -116,6 +118,8 @@ pub fn play_drawn(alloc: Global, work: Workload) -> Result<Played, CoreFault>
     ensures summary { IfOk result (λ played. IsSummary
         (setup_of generated_options work) played.ended.chronicle played.text.items) }
 {
+    births_are_numbered();
+    a_whole_run_is_legal_in_all();
     let grant = first_grant(alloc, OPTIONS.size, &work)?;
     let Played { text, ended } = play(alloc, OPTIONS, work)?;
     let text = summary(alloc, &grant, OPTIONS.hash, &text, &ended.chronicle)?;

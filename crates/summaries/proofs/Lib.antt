@@ -4,3 +4,4 @@ pub mod Landed
 pub mod Primary
 pub mod Rooted
 pub mod Said
+mod Owned

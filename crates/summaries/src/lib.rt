@@ -1,12 +1,11 @@
-//! The summary of a run: how often each first word stands among its answers, how often `primary`
-//! landed, and the reference of the root that its last landing left.
+//! The summary of a run: how often each first word stands among its answers, how often `primary` of
+//! the top instance landed, and the reference of the root that its last landing left.
 #![tactic(auto)]
 
 ghost use Rattle.std.specs.Prelude.{◌≡◌, ◌++◌, IfOk, OnOk};
 ghost use Rattle.answers.specs.Chronicle.{Setup};
-ghost use Rattle.answers.specs.Legal.{IsLegal};
 ghost use Rattle.answers.specs.Text.{answers_text};
-ghost use Rattle.summaries.specs.Summary.{last_lines, IsSummary};
+ghost use Rattle.summaries.specs.Summary.{last_lines, IsSummary, IsTopLegal};
 
 mod counts;
 mod landings;
@@ -49,9 +48,9 @@ pub fn summary(
     answers: &[u8],
     chronicle: &Chronicle,
 ) -> Result<Vec<u8>, AllocError>
-    requires { (set : Setup) × (set.grant ≡ grant.now) × IsLegal set chronicle.now }
-    ensures { (set : Setup) → set.grant ≡ grant.now → set.hash ≡ hash → IsLegal set chronicle.now
-        → answers.now ≡ answers_text set.work chronicle.now
+    requires { (set : Setup) × (set.grant ≡ grant.now) × IsTopLegal set chronicle.now }
+    ensures { (set : Setup) → set.grant ≡ grant.now → set.hash ≡ hash
+        → IsTopLegal set chronicle.now → answers.now ≡ answers_text set.work chronicle.now
         → IfOk result (λ text. IsSummary set chronicle.now text.items) }
 {
     let landings = landings(alloc, chronicle)?;
