@@ -84,10 +84,10 @@ refused_asks inst log by r n h = subst IsSome (sym h.made) refl
 
 -- ---- what a moment that is no issue leaves untold
 
-unissued_before : (by : By) (log : Log) (m : Moment) → is_issued by (log ++ m ∷ []) ≡ false → is_issued by log ≡ false
+pub unissued_before : (by : By) (log : Log) (m : Moment) → is_issued by (log ++ m ∷ []) ≡ false → is_issued by log ≡ false
 unissued_before by log m e = (or_parts (is_issued by log) _ (sym (any_push (issues_now by) log m) ∙ e)).0
 
-untold_kept : (by : By) (log : Log) (m : Moment) → replies_now by m ≡ false → decides_now by m ≡ false → IsUntold by log → IsUntold by (log ++ m ∷ [])
+pub untold_kept : (by : By) (log : Log) (m : Moment) → replies_now by m ≡ false → decides_now by m ≡ false → IsUntold by log → IsUntold by (log ++ m ∷ [])
 untold_kept by log m quiet aside h = record {
   unanswered = any_push (replies_now by) log m ∙ or_from (is_replied by log) _ h.unanswered quiet;
   undecided = undecided_kept by log m aside h.undecided;
@@ -170,7 +170,7 @@ left_refusal by list r c =
     (contains_from list r both.0, λ e. true≢false (sym (same_self by) ∙ ap (same_command by) (sym e) ∙ not-true (is_refusal_of by r) both.1))
 
 -- what was issued is no command that wasn't
-unissued_other : (by other : By) (log : Log) → is_issued by log ≡ true → is_issued other log ≡ false → other ≢ by
+pub unissued_other : (by other : By) (log : Log) → is_issued by log ≡ true → is_issued other log ≡ false → other ≢ by
 unissued_other by other log was not_yet e = true≢false (sym was ∙ ap (λ b. is_issued b log) (sym e) ∙ not_yet)
 
 -- ---- a landing that carries out a command
