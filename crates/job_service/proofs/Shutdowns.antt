@@ -12,7 +12,7 @@ use Rattle.kvs_txn.specs.declared.txn.By.{By}
 use Rattle.instance_rules.specs.Log as rules
 use Rattle.instance_rules.specs.Log.{Instance, IsOpen, Log, Moment, Served, Issued, Replied, Ticked, Born, Gone, Shut, Shutdown, is_issued, issues_now, now_of, seconds_from, service_of, ticked}
 use Rattle.instance_rules.specs.Replies.{HasGrounds, IsLegalReply}
-use Rattle.job_commands.proofs.Logs.{differs}
+use Rattle.job_commands.proofs.Logs.{differs, undecided_kept}
 use Rattle.job_commands.proofs.Steps.{reply_agrees, shutdown_agrees}
 use Rattle.job_commands.specs.Agrees.{AgreesCommands}
 use Rattle.job_commands.specs.Asks.{told}
@@ -152,6 +152,7 @@ module _ (v : JobServiceValue) (inst : Instance) (log : Log) (a : AgreesJobs v i
         labelled = a.labelled;
         refused = λ r c. legal_kept inst log m r.by r.fault refl refl (a.refused r c);
         untold = λ other some e. untold_kept other log m refl refl (a.untold other some (unissued_before other log m e));
+        shutdowns = λ other e. undecided_kept other log m refl (a.shutdowns other e);
       }
 
   -- ---- a reply
@@ -184,4 +185,5 @@ module _ (v : JobServiceValue) (inst : Instance) (log : Log) (a : AgreesJobs v i
         untold = λ other some e.
             let before = unissued_before other log m e in
             untold_kept other log m (differs other by (unissued_other by other log waits.issued before)) refl (a.untold other some before);
+        shutdowns = λ other e. undecided_kept other log m refl (a.shutdowns other e);
       }
