@@ -1,5 +1,5 @@
 -- What a birth, an end and a tick of all instances leave of one of them.
-use Rattle.std.proofs.Common.{◌≡◌, ℕ, ◌+◌, ◌-◌, ◌≤◌, ◌<◌, ◌||◌, All, List, [], ◌∷◌, ◌++◌, Bool, true, false, is_some, Option, Some, None, refl, sym, ap, ◌∙◌, subst, true≢false}
+use Rattle.std.proofs.Common.{◌≡◌, ℕ, ◌+◌, ◌≤◌, ◌<◌, ◌||◌, All, List, [], ◌∷◌, ◌++◌, Bool, true, false, is_some, Option, Some, None, refl, sym, ap, ◌∙◌, subst, true≢false}
 use Rattle.std.specs.Prelude.{IfNone, slice_get}
 use Rattle.kvs_model.specs.Store.{Name}
 use Rattle.kvs_rules.specs.Log.{Log}

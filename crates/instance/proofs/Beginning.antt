@@ -80,9 +80,9 @@ first_tallied size work seats services within few first start =
     plain : (n : ℕ) → 0 + n ≡ n
     plain n = omega arith
 
-pub begin_agrees : (set : Setup) (services : ServicesValue) (seats : List Seat) → IsWithin set.size set.work → All (λ l. IsBuilt l.command) set.work.lines → KeepsTallies set.work.lines →
+pub begin_agrees : (set : Setup) (services : ServicesValue) (seats : List Seat) → IsWithin set.size set.work → All (λ a. a.rank < set.size) set.work.actors → All (λ l. IsBuilt l.command) set.work.lines → KeepsTallies set.work.lines →
     (services.jobs.submitted ≡ 0) × (services.jobs.span ≡ 0) → AgreesServices services (instance_of set) [] → AreFirstSeats set.work seats → AgreesOwn (begun seats services) set []
-begin_agrees set services seats within known few start agrees first = record {
+begin_agrees set services seats within ranks known few start agrees first = record {
   within = within;
   known = known;
   few = few;
@@ -106,7 +106,7 @@ begin_agrees set services seats within known few start agrees first = record {
           subst (λ n. Stands [] [] a n (replied_of seat)) (sym one.fresh) (subst (λ n. Stands [] [] a 0 n) (sym replied) (stands_first a)),
           record {
             home = one.home ∙ sym home;
-            inside = subst (λ n. n < set.size) (sym one.home) (subst (λ x. x.rank < set.size) (actor.1 actor.0) (within.ranks a actor.0 low_actor (within.tops a actor.0 low_actor)));
+            inside = subst (λ n. n < set.size) (sym one.home) (subst (λ x. x.rank < set.size) (actor.1 actor.0) (ranks a actor.0 low_actor));
             author = one.author;
             opened = λ some. absurd (omega (arith, some, one.fresh));
             placed = one.placed;

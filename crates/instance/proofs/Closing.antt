@@ -55,7 +55,6 @@ use Rattle.instance.specs.Family.{bearing, is_due, targets_left}
 use Rattle.instance.specs.Steps.{IsOver, can_post, has_answer}
 use Rattle.instance.specs.Value.{InstanceValue}
 use Rattle.instance.proofs.Owning.{Own, DoesAgree}
-use Rattle.instance.proofs.Given.{no_shutdown}
 use Rattle.instance.proofs.Families.{has_rest, is_living, no_advance_left}
 use Rattle.instance.proofs.Listing.{any_counted, none_counted}
 use Rattle.instance.proofs.Logs.{log_issued, log_open, served_log}
@@ -198,6 +197,7 @@ module _ (v : Own) (h : DoesAgree v) where
       on waiting.Jobs is =
           let waits = subst (Waits v.set log a seat.issued) is mine.1.waits in
           absurd (true≢false (sym asked ∙ ap (λ n. is_asked (command_of a n) log) (last waiting.Jobs is refl) ∙ waits.1))
+      on waiting.Shutdown is = absurd (true≢false (ap (has_come v.instance.services (last_command a seat)) (sym is) ∙ idle_so))
 
   -- where nobody can be replied to, no answer waits to be taken
   none_taken : ((a : ℕ) → has_answer v.instance.services v.instance.seats a ≡ false) → (by : By) → can_take v.instance.services by ≡ false
@@ -233,9 +233,12 @@ module _ (v : Own) (h : DoesAgree v) where
             zero_replies : count_by (replies_to by) v.chronicle ≡ 0
             zero_replies = elim (cases_lt 0 (count_by (replies_to by) v.chronicle)) [ inl some ↦ absurd (unreplied some) | inr none ↦ omega arith ]
 
-    -- where its actor can't be replied to, it can't be told
+    -- where its actor can't be replied to, it can't be told, and doesn't shut the instance down
     module _ (idle : has_answer v.instance.services v.instance.seats by.actor ≡ false) where
-      at_seat_of : (seat : Seat) → slice_get v.instance.seats by.actor ≡ Some seat → can_reply v.instance.services.jobs by ≡ false
+      abbrev IsLeftOpen : Type 0
+      IsLeftOpen = (can_reply v.instance.services.jobs by ≡ false) × (job_ask_at v.set.work by ≢ Some rules.Shutdown)
+
+      at_seat_of : (seat : Seat) → slice_get v.instance.seats by.actor ≡ Some seat → IsLeftOpen
       at_seat_of seat at = on seat.waiting refl
         where
           mine : ActorStands v.set log v.chronicle by.actor (Some seat)
@@ -268,7 +271,7 @@ module _ (v : Own) (h : DoesAgree v) where
           come : (w : Waiting) → seat.waiting ≡ w → has_come v.instance.services (last_command by.actor seat) w ≡ false
           come w is = ap (has_come v.instance.services (last_command by.actor seat)) (sym is) ∙ idle_so
 
-          on : (w : Waiting) → seat.waiting ≡ w → can_reply v.instance.services.jobs by ≡ false
+          on : (w : Waiting) → seat.waiting ≡ w → IsLeftOpen
           on waiting.Nothing is =
               let replied : replied_of seat ≡ seat.issued = ap (λ x. cond (is_free x) seat.issued (seat.issued - 1)) is in
               let below = low in
@@ -281,12 +284,18 @@ module _ (v : Own) (h : DoesAgree v) where
           on waiting.Service is =
               let w = subst (Waits v.set log by.actor seat.issued) is mine.1.waits in
               absurd (unserved (ap (λ n. is_asked (command_of by.actor n) log) (last waiting.Service is refl) ∙ w.1))
-          on waiting.Jobs is = ap (λ n. can_reply v.instance.services.jobs (command_of by.actor n)) (last waiting.Jobs is refl) ∙ come waiting.Jobs is
+          on waiting.Jobs is =
+              let w = subst (Waits v.set log by.actor seat.issued) is mine.1.waits in
+              let this : by.command ≡ seat.issued - 1 = last waiting.Jobs is refl in (
+                ap (λ n. can_reply v.instance.services.jobs (command_of by.actor n)) this ∙ come waiting.Jobs is,
+                λ e. w.3 (sym (ap (λ n. job_ask_at v.set.work (command_of by.actor n)) this) ∙ e),
+              )
+          on waiting.Shutdown is = absurd (true≢false (come waiting.Shutdown is))
 
-      untold_so : can_reply v.instance.services.jobs by ≡ false
-      untold_so = sit (slice_get v.instance.seats by.actor) refl
+      pub left_open : IsLeftOpen
+      left_open = sit (slice_get v.instance.seats by.actor) refl
         where
-          sit : (o : Option Seat) → slice_get v.instance.seats by.actor ≡ o → can_reply v.instance.services.jobs by ≡ false
+          sit : (o : Option Seat) → slice_get v.instance.seats by.actor ≡ o → IsLeftOpen
           sit None at =
               let below : by.command < count_by (issues_of by.actor) v.chronicle = issued_below v.set v.chronicle h.legal by issued_so in
               let counted : count_by (issues_of by.actor) v.chronicle ≡ 0 = counted_at by.actor None (subst (ActorStands v.set log v.chronicle by.actor) at (h.actors by.actor)) in
@@ -301,7 +310,7 @@ module _ (v : Own) (h : DoesAgree v) where
       on false t = refl
       on true t =
           let w = reply_waits v.instance.services.jobs inst now h.agrees.jobs by t in
-          absurd (true≢false (sym t ∙ untold_so by w.asks w.waits (idle by.actor)))
+          absurd (true≢false (sym t ∙ (left_open by w.asks w.waits (idle by.actor)).0))
 
   -- each open job command waits for the result of a job that isn't over
   abbrev pub AreResults : Type 0
@@ -385,7 +394,7 @@ module _ (v : Own) (h : DoesAgree v) where
             open_so false t = refl
             open_so true t = absurd (true≢false (sym (answered_replied v.set.work by [] v.chronicle t) ∙ none_counted (replies_to by) v.chronicle (none (ap is_free is))))
 
-        by_jobs : (0 < seat.issued) × (is_asked by log ≡ false) × IsSome (job_ask_at v.set.work by) → seat.waiting ≡ waiting.Jobs → IsResultStuck a seat
+        by_jobs : (0 < seat.issued) × (is_asked by log ≡ false) × IsSome (job_ask_at v.set.work by) × (job_ask_at v.set.work by ≢ Some rules.Shutdown) → seat.waiting ≡ waiting.Jobs → IsResultStuck a seat
         by_jobs waits is =
             let some = waits.0 in
             let begun : is_issued by v.chronicle ≡ true = mine.0.begun (seat.issued - 1) (omega arith) in
@@ -408,6 +417,7 @@ module _ (v : Own) (h : DoesAgree v) where
         on waiting.Using is = absurd (true≢false (come waiting.Using is))
         on waiting.Service is = inr (inl (by_service (subst (Waits v.set log a seat.issued) is mine.1.waits) is))
         on waiting.Jobs is = inr (inr (by_jobs (subst (Waits v.set log a seat.issued) is mine.1.waits) is))
+        on waiting.Shutdown is = absurd (true≢false (come waiting.Shutdown is))
 
     -- an actor that waits for nothing has no line left
     pub past_all : (a : ℕ) (seat : Seat) → slice_get v.instance.seats a ≡ Some seat → is_free seat.waiting ≡ true → length v.set.work.lines ≤ seat.next
@@ -567,7 +577,7 @@ module _ (v : Own) (h : DoesAgree v) (rest : CanDoNothing v.instance) (promise :
 
   -- the job commands that are open wait for results
   pub results_so : targets_left v.instance ≡ [] → AreResults v h
-  results_so late by asks waits = on (awaited v.instance.services.jobs by) refl (promise.left (instance_of v.set) (log_in v.set.work v.chronicle) h.agrees still_here late by asks (no_shutdown v.set.work h.known by) waits)
+  results_so late by asks waits = on (awaited v.instance.services.jobs by) refl (promise.left (instance_of v.set) (log_in v.set.work v.chronicle) h.agrees still_here late by asks (left_open v h by asks waits (rest.answers by.actor)).1 waits)
     where
       on : (o : Option State) → awaited v.instance.services.jobs by ≡ o → IsSome o → IsStuckResult v by
       on None e some = absurd (true≢false (sym some))

@@ -4,9 +4,9 @@ use Rattle.std.specs.List.{AllByRecursion as Each}
 use Rattle.kvs_rules.specs.Quiet.{AreAllTold}
 use Rattle.kvs_rules.specs.Sequence.{EachAfter}
 use Rattle.manager_rules.specs.Times.{IsIdle}
-use Rattle.instance_rules.specs.Family.{HasTarget, Living, MayTick}
+use Rattle.instance_rules.specs.Family.{HasTarget, Living}
 use Rattle.instance_rules.specs.Legal.{IsLegalMoment, OfDesk}
-use Rattle.instance_rules.specs.Log.{Log, Ticked, now_of, service_of}
+use Rattle.instance_rules.specs.Log.{Log, Ticked, service_of}
 use Rattle.job_clock.specs.Standing.{IsLiving, IsTop}
 use Rattle.answers.specs.declared.chronicle.Entry.{Entry}
 use Rattle.answers.specs.declared.chronicle.Entry.TheVariants as entry
@@ -14,7 +14,6 @@ use Rattle.answers.specs.declared.steps.Step.TheVariants as step
 use Rattle.answers.specs.Chronicle.{Setup, top}
 use Rattle.answers.specs.Jobs.{HasNoAdvance, instance_of, living_of, log_in}
 use Rattle.answers.specs.Legal.{IsLegalEntry, RestsAtIssue}
-use Rattle.answers.specs.Runs.{ComesInTime}
 use Rattle.answers.specs.Services.{log_of, setting_of}
 use Rattle.answers.specs.Stretches.{IsStretch}
 use Rattle.answers.specs.Whole.{HasComeToRest, IsClosingEntry, has_ended}

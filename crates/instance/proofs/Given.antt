@@ -104,33 +104,10 @@ some_there (x ∷ xs) zero low = (x, refl)
 some_there (x ∷ xs) (suc k) low = some_there xs k (omega arith)
 
 in_range : (c : Command) → IsBuilt c → IfSome (job_ask_of c) IsInRange
-in_range (command.Submit label urgency depends spec) h = let high : urgency ≤ most_urgency = h.0 in omega arith
+in_range (command.Submit label urgency depends spec) h = let high : urgency ≤ most_urgency = h in omega arith
 in_range (command.Raise label kind severity note) h = let high : severity ≤ most_severity = h.0 in (omega arith, h.1, h.2)
 in_range (command.Urgency label urgency) h = let high : urgency ≤ most_urgency = h in omega arith
 in_range _ h = tt
-
--- ---- shutdowns
-
-never_shuts : (c : Command) → IsBuilt c → job_ask_of c ≡ Some rules.Shutdown → ⊥
-never_shuts (command.Submit label urgency depends spec) b e = cc
-never_shuts (command.Cancel label) b e = cc
-never_shuts (command.Raise label kind severity note) b e = cc
-never_shuts (command.Urgency label urgency) b e = cc
-never_shuts (command.StateOf label) b e = cc
-never_shuts (command.Info label shown) b e = cc
-never_shuts command.Jobs b e = cc
-never_shuts (command.Why label) b e = cc
-never_shuts (command.ResultOf label) b e = cc
-never_shuts (command.Advance seconds) b e = cc
-never_shuts command.Shutdown b e = absurd b
-never_shuts _ b e = cc
-
--- no command of a workload that is read shuts an instance down
-pub no_shutdown : (work : Workload) → All (λ l. IsBuilt l.command) work.lines → (by : By) → job_ask_at work by ≡ Some rules.Shutdown → ⊥
-no_shutdown work built by e =
-    let asked = asked_in work by rules.Shutdown e in
-    let sound = line_at (λ l. IsBuilt l.command) work.lines asked.line.place asked.line.line built asked.line.there in
-    never_shuts asked.command (subst IsBuilt asked.line.is sound) asked.asks
 
 -- ---- what a run is given
 
@@ -154,15 +131,15 @@ module _ (set : Setup) (within : IsWithin set.size set.work) (built : All (λ l.
   }
 
   -- the broker of a command on jobs is one of the instance's
-  pub in_ranks : (by : By) → IsSome (job_ask_at set.work by) → broker_of set.work by.actor < set.size
-  in_ranks by some = on (job_ask_at set.work by) refl some
+  pub in_ranks : All (λ a. a.rank < set.size) set.work.actors → (by : By) → IsSome (job_ask_at set.work by) → broker_of set.work by.actor < set.size
+  in_ranks ranks by some = on (job_ask_at set.work by) refl some
     where
       ranked : (o : Option Actor) → slice_get set.work.actors by.actor ≡ o → by.actor < length set.work.actors → option_map_or (λ a. a.rank) o 0 < set.size
       ranked None e low = absurd (past (some_there set.work.actors by.actor low) e)
         where
           past : {A : Type 0} {o : Option A} → (x : A) × (o ≡ Some x) → o ≡ None → ⊥
           past h e = let never : None ≡ Some h.0 = sym e ∙ h.1 in cc
-      ranked (Some actor) e low = subst (λ (a : Actor). a.rank < set.size) (get_or_from_slice_get set.work.actors by.actor actor actor e) (within.ranks by.actor actor low (within.tops by.actor actor low))
+      ranked (Some actor) e low = subst (λ (a : Actor). a.rank < set.size) (get_or_from_slice_get set.work.actors by.actor actor actor e) (ranks by.actor actor low)
 
       on : (o : Option rules.JobAsk) → job_ask_at set.work by ≡ o → IsSome o → broker_of set.work by.actor < set.size
       on None e s = absurd (true≢false (sym s))
@@ -238,13 +215,13 @@ unique_labels set own a b label urgency other needs named text more asks_a asks_
 -- ---- the whole
 
 pub is_given : (set : Setup) (size fanout : ℕ) (hash : Hash) (grant : Resources) (birth : ℕ) → set.size ≡ size → set.fanout ≡ fanout → set.hash ≡ hash → set.grant ≡ r_text grant → set.resources ≡ grant → set.birth ≡ birth
-    → IsGrant grant.nodes → IsWithin set.size set.work → All (λ l. IsBuilt l.command) set.work.lines → HasOwnLabels set.work.lines → IsGiven (instance_of set) size fanout hash grant birth
-is_given set size fanout hash grant birth brokers children hashed text resources born granted within built own = record {
+    → IsGrant grant.nodes → IsWithin set.size set.work → All (λ a. a.rank < set.size) set.work.actors → All (λ l. IsBuilt l.command) set.work.lines → HasOwnLabels set.work.lines → IsGiven (instance_of set) size fanout hash grant birth
+is_given set size fanout hash grant birth brokers children hashed text resources born granted within ranks built own = record {
   hash = hashed;
   served = record {
     valid = is_instance set (is_setup set within built (text ∙ ap r_text (sym resources)) (subst (λ (r : Resources). IsGrant r.nodes) (sym resources) granted));
     unique = unique_labels set own;
-    ranks = in_ranks set within built;
+    ranks = in_ranks set within built ranks;
     answer = refl;
     birth = born;
     grant = resources;

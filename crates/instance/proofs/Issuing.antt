@@ -20,12 +20,13 @@ use Rattle.kvs_rules.specs.declared.events.KvsAsk.TheVariants as ask
 use Rattle.kvs_rules.specs.Log.{Log, Moment, Asked, is_asked, asks_now, same_command}
 use Rattle.kvs_model.specs.Store.{Name}
 use Rattle.kvs_rules.proofs.Sequences.{each_push}
+use Rattle.instance_rules.specs.Log as rules
 use Rattle.instance_rules.specs.Log.{Instance, Issued, Log as InstanceLog, Served, issues_now, service_of}
 use Rattle.job_commands.specs.Asks.{told}
 use Rattle.job_commands.specs.declared.ask.JobAsk.{JobAsk}
 use Rattle.job_commands.specs.declared.ask.JobAsk.TheVariants as ask_of_jobs
 use Rattle.instance_rules.specs.Desks.{is_submission}
-use Rattle.job_service.specs.Agrees.{HasRoom, IsNewCommand, MayIssue}
+use Rattle.job_service.specs.Agrees.{HasRoom, MayIssue}
 use Rattle.job_service.specs.Times.{HasTime, KeepsCounts, jobs_asked, seconds_asked}
 use Rattle.job_service.specs.Value.{JobServiceValue}
 use Rattle.services.specs.Value.{ServicesValue}
@@ -49,7 +50,9 @@ use Rattle.answers.proofs.Floors.{floor_push}
 use Rattle.instance.specs.declared.seats.Seat.{Seat}
 use Rattle.instance.specs.declared.seats.Waiting.TheVariants as waiting
 use Rattle.workload.specs.Laws.{IsBuilt}
-use Rattle.instance.specs.Jobs.{CountsIn, issues_of as orders_of}
+use Rattle.instance.specs.declared.jobs.Ordered.{Ordered}
+use Rattle.instance.specs.declared.jobs.Ordered.TheVariants as ordered
+use Rattle.instance.specs.Jobs.{CountsIn, IfAsked, IsNewOrder, asked_in, issues_of as orders_of}
 use Rattle.instance.specs.Seats.{replied_of, is_free, waiting_after, ops_after, room_behind, moment_asked, seat_floor, space_after, IsTheAsk, waits_for}
 use Rattle.instance.specs.Agrees.{command_of, Stands, Waits, IsSeat, IsTallied, ActorStands}
 use Rattle.instance.specs.Steps.{can_issue}
@@ -62,7 +65,7 @@ use Rattle.instance.proofs.Pushing.{actor_other, asked_push, answered_push}
 use Rattle.instance.proofs.Replying.{same_self, seat_stands}
 use Rattle.instance.proofs.Going.{unended}
 use Rattle.instance.proofs.Ahead.{MovesOn}
-use Rattle.instance.proofs.Tallies.{room_for, tallied_job, tallied_other, time_for}
+use Rattle.instance.proofs.Tallies.{CountsNone, room_for, tallied_job, tallied_other, time_for}
 use Rattle.instance.proofs.Logs.{job_asks_nothing, job_issued, log_grown, log_unissued, other_issued, served_log}
 
 -- the actor's next command can be issued
@@ -222,14 +225,14 @@ module _ (v : Own) (h : DoesAgree v) (a : ℕ) (seat : Seat) (is : IsIssuing v a
     )
 
     -- the chronicle, its log and what they say of the actor
-    module _ (asked : Option KvsAsk) (eq : asked ≡ ask_of (record { author = author.User a; ops = seat.staged.ops }) cmd) (job : Option JobAsk) (jeq : option_map told job ≡ job_ask_of cmd) where
+    module _ (asked : Option KvsAsk) (eq : asked ≡ ask_of (record { author = author.User a; ops = seat.staged.ops }) cmd) (job : Ordered) (jeq : asked_in job ≡ job_ask_of cmd) where
       abbrev o : Option Moment
       o = option_map (λ x. Asked by seen) asked
 
       log_issued : log_of v.set.work top (v.chronicle ++ e ∷ []) ≡ log ++ cons_option o []
       log_issued = log_push v.set.work top v.chronicle e ∙ ap (λ m. log ++ cons_option m []) (moment_so v.set v.chronicle by asked (subject_of cmd seat.space) seen (asking asked eq) subject (mine.1.floored (subject_of cmd seat.space)))
 
-      job_at : job_ask_at v.set.work by ≡ option_map told job
+      job_at : job_ask_at v.set.work by ≡ asked_in job
       job_at = ap (option_and_then job_ask_of) at ∙ sym jeq
 
       -- the log of the instance once the service is asked, if it is
@@ -240,24 +243,26 @@ module _ (v : Own) (h : DoesAgree v) (a : ℕ) (seat : Seat) (is : IsIssuing v a
       served_one None = refl
       served_one (Some m) = refl
 
-      -- and once the command is issued
+      -- and once the command is issued, if it orders anything
+      with_issue : IsSome (job_ask_at v.set.work by) → now ++ cons_option (happening_of v.set.work v.chronicle e) [] ≡ asked_now ++ Issued by ∷ []
+      with_issue some =
+          let none : asked ≡ None = sym (asking asked eq) ∙ job_asks_nothing v.set.work by some in
+          ap (λ p. now ++ cons_option p []) (job_issued v.set.work v.chronicle by some)
+          ∙ ap (λ l. l ++ Issued by ∷ []) (sym (append-nil now) ∙ ap (λ p. now ++ map Served (moment_asked by seen p)) (sym none))
+
       log_ordered : log_in v.set.work (v.chronicle ++ e ∷ []) ≡ asked_now ++ orders_of by job
       log_ordered = log_grown v.set.work v.chronicle e ∙ on job refl
         where
-          on : (j : Option JobAsk) → job ≡ j → now ++ cons_option (happening_of v.set.work v.chronicle e) [] ≡ asked_now ++ orders_of by job
-          on None is =
+          on : (j : Ordered) → job ≡ j → now ++ cons_option (happening_of v.set.work v.chronicle e) [] ≡ asked_now ++ orders_of by job
+          on ordered.Nothing is =
               ap (λ p. now ++ cons_option p [])
-              (other_issued v.set.work v.chronicle by (job_at ∙ ap (option_map told) is)
+              (other_issued v.set.work v.chronicle by (job_at ∙ ap asked_in is)
               ∙ ap (option_map Served) (moment_so v.set v.chronicle by asked (subject_of cmd seat.space) seen (asking asked eq) subject (mine.1.floored (subject_of cmd seat.space))))
               ∙ ap (λ l. now ++ l) (served_one o)
               ∙ sym (append-nil asked_now)
               ∙ ap (λ j. asked_now ++ orders_of by j) (sym is)
-          on (Some x) is =
-              let some : IsSome (job_ask_at v.set.work by) = ap is_some (job_at ∙ ap (option_map told) is) in
-              let none : asked ≡ None = sym (asking asked eq) ∙ job_asks_nothing v.set.work by some in
-              ap (λ p. now ++ cons_option p []) (job_issued v.set.work v.chronicle by some)
-              ∙ ap (λ l. l ++ Issued by ∷ []) (sym (append-nil now) ∙ ap (λ p. now ++ map Served (moment_asked by seen p)) (sym none))
-              ∙ ap (λ j. asked_now ++ orders_of by j) (sym is)
+          on (ordered.Job x) is = with_issue (ap is_some (job_at ∙ ap asked_in is)) ∙ ap (λ j. asked_now ++ orders_of by j) (sym is)
+          on ordered.Shutdown is = with_issue (ap is_some (job_at ∙ ap asked_in is)) ∙ ap (λ j. asked_now ++ orders_of by j) (sym is)
 
       none_issues : (ms : Log) → list_any (issues_now by) (map Served ms) ≡ false
       none_issues [] = refl
@@ -267,35 +272,38 @@ module _ (v : Own) (h : DoesAgree v) (a : ℕ) (seat : Seat) (is : IsIssuing v a
       or_no true y f g = absurd (true≢false f)
       or_no false y f g = g
 
-      -- so the job manager or time may be asked
-      pub new_command : IfSome job (IsNewCommand inst asked_now by seat.broker)
+      new_there : rules.is_issued by asked_now ≡ false
+      new_there =
+          list_any-append (issues_now by) now (map Served (moment_asked by seen asked))
+          ∙ or_no _ _ (log_unissued v.set.work by v.chronicle unissued) (none_issues (moment_asked by seen asked))
+
+      -- so what is ordered may be issued
+      pub new_command : IsNewOrder inst asked_now by seat.broker job
       new_command = on job refl
         where
-          on : (j : Option JobAsk) → job ≡ j → IfSome j (IsNewCommand inst asked_now by seat.broker)
-          on None is = tt
-          on (Some x) is = record {
-            asks = job_at ∙ ap (option_map told) is;
-            home = sym mine.1.home;
-            new = list_any-append (issues_now by) now (map Served (moment_asked by seen asked))
-                ∙ or_no _ _ (log_unissued v.set.work by v.chronicle unissued) (none_issues (moment_asked by seen asked));
-          }
+          on : (j : Ordered) → job ≡ j → IsNewOrder inst asked_now by seat.broker job
+          on ordered.Nothing is = subst (IsNewOrder inst asked_now by seat.broker) (sym is) tt
+          on (ordered.Job x) is = subst (IsNewOrder inst asked_now by seat.broker) (sym is) (record { asks = job_at ∙ ap asked_in is; home = sym mine.1.home; new = new_there })
+          on ordered.Shutdown is = subst (IsNewOrder inst asked_now by seat.broker) (sym is) (record { asks = job_at ∙ ap asked_in is; new = new_there })
 
       -- there is room for a submission, and time for an advance
-      pub room_so : (middle : ServicesValue) → Keeps v.instance.services middle → IfSome job (λ x. is_submission (Some (told x)) ≡ true → HasRoom middle.jobs)
+      pub room_so : (middle : ServicesValue) → Keeps v.instance.services middle → IfAsked job (λ x. is_submission (Some (told x)) ≡ true → HasRoom middle.jobs)
       room_so middle keeps = on job refl
         where
-          on : (j : Option JobAsk) → job ≡ j → IfSome j (λ x. is_submission (Some (told x)) ≡ true → HasRoom middle.jobs)
-          on None same = tt
-          on (Some x) same = λ one. subst (λ n. n < 1000) (sym keeps.counts.submitted)
-              (room_for v.instance v.set.work.lines h.tallied h.few a seat is.sits is.below (λ l. mine.1.placed.here l is.below) d x (sym jeq ∙ ap (option_map told) same) one)
+          on : (j : Ordered) → job ≡ j → IfAsked j (λ x. is_submission (Some (told x)) ≡ true → HasRoom middle.jobs)
+          on ordered.Nothing same = tt
+          on (ordered.Job x) same = λ one. subst (λ n. n < 1000) (sym keeps.counts.submitted)
+              (room_for v.instance v.set.work.lines h.tallied h.few a seat is.sits is.below (λ l. mine.1.placed.here l is.below) d x (sym jeq ∙ ap asked_in same) one)
+          on ordered.Shutdown same = tt
 
-      pub time_so : (middle : ServicesValue) → Keeps v.instance.services middle → IfSome job (HasTime middle.jobs)
+      pub time_so : (middle : ServicesValue) → Keeps v.instance.services middle → IfAsked job (HasTime middle.jobs)
       time_so middle keeps = on job refl
         where
-          on : (j : Option JobAsk) → job ≡ j → IfSome j (HasTime middle.jobs)
-          on None same = tt
-          on (Some x) same = time_kept v.instance.services.jobs middle.jobs keeps.counts.span x
-              (time_for v.instance v.set.work.lines h.tallied h.few a seat is.sits is.below (λ l. mine.1.placed.here l is.below) d x (sym jeq ∙ ap (option_map told) same))
+          on : (j : Ordered) → job ≡ j → IfAsked j (HasTime middle.jobs)
+          on ordered.Nothing same = tt
+          on (ordered.Job x) same = time_kept v.instance.services.jobs middle.jobs keeps.counts.span x
+              (time_for v.instance v.set.work.lines h.tallied h.few a seat is.sits is.below (λ l. mine.1.placed.here l is.below) d x (sym jeq ∙ ap asked_in same))
+          on ordered.Shutdown same = tt
 
       legal_issue : IsLegalEntry v.set v.chronicle e
       legal_issue = record {
@@ -394,15 +402,18 @@ module _ (v : Own) (h : DoesAgree v) (a : ℕ) (seat : Seat) (is : IsIssuing v a
               let short : length (staged_at v.set.work by) ≤ most_staged = at_most by in
               omega arith
 
-      -- a command on jobs or on time asks the service nothing
-      waits_jobs : (c : Command) → IsSome (job_ask_of c) → c ≡ cmd → asked ≡ None → Waits v.set (log ++ cons_option o []) a (seat.issued + 1) waiting.Jobs
-      waits_jobs c some same none = (
-        omega arith,
-        subst (λ n. is_asked (command_of a n) (log ++ cons_option o []) ≡ false) back
-            (asked_push by log o (ap (λ r. asks_of by (option_map (λ y. Asked by seen) r)) none) ∙ unasked),
-        subst (λ n. IsSome (job_ask_at v.set.work (command_of a n))) back
-            (ap (λ x. is_some (option_and_then job_ask_of x)) at ∙ ap (λ x. is_some (job_ask_of x)) (sym same) ∙ some),
-      )
+      -- a command on jobs or on time asks the service nothing, nor does a shutdown
+      still_unasked : asked ≡ None → is_asked (command_of a (seat.issued + 1 - 1)) (log ++ cons_option o []) ≡ false
+      still_unasked none =
+          subst (λ n. is_asked (command_of a n) (log ++ cons_option o []) ≡ false) back
+          (asked_push by log o (ap (λ r. asks_of by (option_map (λ y. Asked by seen) r)) none) ∙ unasked)
+
+      ask_there : (c : Command) → c ≡ cmd → job_ask_at v.set.work (command_of a (seat.issued + 1 - 1)) ≡ job_ask_of c
+      ask_there c same =
+          subst (λ n. job_ask_at v.set.work (command_of a n) ≡ job_ask_of c) back (ap (option_and_then job_ask_of) at ∙ ap job_ask_of (sym same))
+
+      waits_jobs : (c : Command) → IsSome (job_ask_of c) → job_ask_of c ≢ Some rules.Shutdown → c ≡ cmd → asked ≡ None → Waits v.set (log ++ cons_option o []) a (seat.issued + 1) waiting.Jobs
+      waits_jobs c some other same none = (omega arith, still_unasked none, ap is_some (ask_there c same) ∙ some, λ e. other (sym (ask_there c same) ∙ e))
 
       waits_issued : (c : Command) → IsBuilt c → c ≡ cmd → Waits v.set (log ++ cons_option o []) a (seat.issued + 1) (waiting_after c seat.staged.ops)
       waits_issued (command.Put path bytes) known same = waits_staged (command.Put path bytes) (op.Put path bytes) refl same (eq ∙ ap (ask_of txn) (sym same)) (nat_lt (length seat.staged.ops) most_staged) refl
@@ -435,8 +446,8 @@ module _ (v : Own) (h : DoesAgree v) (a : ℕ) (seat : Seat) (is : IsIssuing v a
       waits_issued command.ContentFlush known same = waits_asked ask.Flush (eq ∙ ap (ask_of txn) (sym same))
       waits_issued command.ContentDrop known same = waits_asked ask.DropClean (eq ∙ ap (ask_of txn) (sym same))
       waits_issued command.Getroot known same = absurd known
-      waits_issued command.Shutdown known same = absurd known
-      waits_issued c known same = waits_jobs c refl same (eq ∙ ap (ask_of txn) (sym same))
+      waits_issued command.Shutdown known same = (omega arith, still_unasked (eq ∙ ap (ask_of txn) (sym same)), ask_there command.Shutdown same)
+      waits_issued c known same = waits_jobs c refl (λ e. cc) same (eq ∙ ap (ask_of txn) (sym same))
 
       -- the actor's seat behind the issue
       module _ (next : ℕ) (after : seat.next + 1 ≤ next) (within : next ≤ length v.set.work.lines)
@@ -506,19 +517,23 @@ module _ (v : Own) (h : DoesAgree v) (a : ℕ) (seat : Seat) (is : IsIssuing v a
         tallied_after : (middle services : ServicesValue) → Keeps v.instance.services middle → CountsIn job middle services → IsTallied (issued_instance services) v.set.work.lines
         tallied_after middle services keeps counts = on job refl counts
           where
-            on : (j : Option JobAsk) → job ≡ j → CountsIn j middle services → IsTallied (issued_instance services) v.set.work.lines
-            on None same kept =
-                tallied_other v.instance v.set.work.lines h.tallied a seat issued_seat moves (issued_instance services) refl d (sym jeq ∙ ap (option_map told) same)
+            none_counted : CountsNone (asked_in job) → services ≡ middle → IsTallied (issued_instance services) v.set.work.lines
+            none_counted none kept =
+                tallied_other v.instance v.set.work.lines h.tallied a seat issued_seat moves (issued_instance services) refl d (subst CountsNone jeq none)
                 (subst (λ (s : ServicesValue). KeepsCounts v.instance.services.jobs s.jobs) (sym kept) keeps.counts)
-            on (Some x) same counted =
-                tallied_job v.instance v.set.work.lines h.tallied a seat issued_seat moves (issued_instance services) refl d x (sym jeq ∙ ap (option_map told) same) (record {
+
+            on : (j : Ordered) → job ≡ j → CountsIn j middle services → IsTallied (issued_instance services) v.set.work.lines
+            on ordered.Nothing same kept = none_counted (subst CountsNone (sym (ap asked_in same)) (refl, refl)) kept
+            on (ordered.Job x) same counted =
+                tallied_job v.instance v.set.work.lines h.tallied a seat issued_seat moves (issued_instance services) refl d x (sym jeq ∙ ap asked_in same) (record {
                   submitted = counted.counts.submitted ∙ ap (λ n. n + jobs_asked x) keeps.counts.submitted;
                   span = counted.counts.span ∙ ap (λ n. n + seconds_asked x) keeps.counts.span;
                 })
+            on ordered.Shutdown same kept = none_counted (subst CountsNone (sym (ap asked_in same)) (refl, refl)) kept
 
         pub issue_follows_so : (middle services : ServicesValue) → Keeps v.instance.services middle → CountsIn job middle services →
             ((i : Instance) (l : InstanceLog) → AgreesServices v.instance.services i l → IsTheAsk i.service by begun_seat asked → is_asked by (service_of l) ≡ false → AgreesServices middle i (l ++ map Served (moment_asked by seen asked))) →
-            ((i : Instance) (l : InstanceLog) → AgreesServices middle i l → IfSome job (IsNewCommand i l by seat.broker) → AgreesServices services i (l ++ orders_of by job)) →
+            ((i : Instance) (l : InstanceLog) → AgreesServices middle i l → IsNewOrder i l by seat.broker job → AgreesServices services i (l ++ orders_of by job)) →
             Follows v.set v.chronicle (step.Issue a) (issued_instance services) (e ∷ [])
         issue_follows_so middle services keeps counts asks orders = record {
           made = record { before = []; command = seat.issued; behind = []; split = refl; others = tt };
@@ -539,10 +554,10 @@ module _ (v : Own) (h : DoesAgree v) (a : ℕ) (seat : Seat) (is : IsIssuing v a
         }
 
 -- what the code does at an issue: the seat that it begins, its next line, and what it asks of the service and of the job manager
-pub record IsIssued (v : Own) (a : ℕ) (seat begun : Seat) (d : Line) (asked : Option KvsAsk) (job : Option JobAsk) (next : ℕ) (middle services : ServicesValue) : Type 0 where
+pub record IsIssued (v : Own) (a : ℕ) (seat begun : Seat) (d : Line) (asked : Option KvsAsk) (job : Ordered) (next : ℕ) (middle services : ServicesValue) : Type 0 where
   pub is : IsIssuing v a seat
   pub eq : asked ≡ ask_of (record { author = author.User a; ops = seat.staged.ops }) (get_or v.set.work.lines seat.next d).command
-  pub jeq : option_map told job ≡ job_ask_of (get_or v.set.work.lines seat.next d).command
+  pub jeq : asked_in job ≡ job_ask_of (get_or v.set.work.lines seat.next d).command
   pub began : begun ≡ record seat {
     staged = record { author = author.User a; ops = ops_after (get_or v.set.work.lines seat.next d).command seat.staged.ops };
     waiting = waiting_after (get_or v.set.work.lines seat.next d).command seat.staged.ops;
@@ -557,10 +572,10 @@ pub record IsIssued (v : Own) (a : ℕ) (seat begun : Seat) (d : Line) (asked : 
   pub counts : CountsIn job middle services
   pub asks : (i : Instance) (l : InstanceLog) → AgreesServices v.instance.services i l → IsTheAsk i.service (command_of a seat.issued) begun asked → is_asked (command_of a seat.issued) (service_of l) ≡ false
       → AgreesServices middle i (l ++ map Served (moment_asked (command_of a seat.issued) (seat_floor begun) asked))
-  pub orders : (i : Instance) (l : InstanceLog) → AgreesServices middle i l → IfSome job (IsNewCommand i l (command_of a seat.issued) begun.broker) → AgreesServices services i (l ++ orders_of (command_of a seat.issued) job)
+  pub orders : (i : Instance) (l : InstanceLog) → AgreesServices middle i l → IsNewOrder i l (command_of a seat.issued) begun.broker job → AgreesServices services i (l ++ orders_of (command_of a seat.issued) job)
 
 -- the same, with the seat as the code has it
-pub issue_follows : (v : Own) → DoesAgree v → (a : ℕ) (seat begun : Seat) (d : Line) (asked : Option KvsAsk) (job : Option JobAsk) (next : ℕ) (middle services : ServicesValue) → IsIssued v a seat begun d asked job next middle services →
+pub issue_follows : (v : Own) → DoesAgree v → (a : ℕ) (seat begun : Seat) (d : Line) (asked : Option KvsAsk) (job : Ordered) (next : ℕ) (middle services : ServicesValue) → IsIssued v a seat begun d asked job next middle services →
     (es : List Entry) → es ≡ entry.Issued a seat.issued ∷ [] →
     Follows v.set v.chronicle (step.Issue a) (record {
       spent = false;
@@ -571,7 +586,7 @@ issue_follows v h a seat begun d asked job next middle services s es same =
     let begun_next : begun.next ≡ seat.next = ap (λ x. x.next) s.began in
     let by = command_of a seat.issued in
     let asks_so = subst (λ (b : Seat). (i : Instance) (l : InstanceLog) → AgreesServices v.instance.services i l → IsTheAsk i.service by b asked → is_asked by (service_of l) ≡ false → AgreesServices middle i (l ++ map Served (moment_asked by (seat_floor b) asked))) s.began s.asks in
-    let orders_so = subst (λ (b : Seat). (i : Instance) (l : InstanceLog) → AgreesServices middle i l → IfSome job (IsNewCommand i l by b.broker) → AgreesServices services i (l ++ orders_of by job)) s.began s.orders in
+    let orders_so = subst (λ (b : Seat). (i : Instance) (l : InstanceLog) → AgreesServices middle i l → IsNewOrder i l by b.broker job → AgreesServices services i (l ++ orders_of by job)) s.began s.orders in
     let after = subst (λ n. n + 1 ≤ next) begun_next s.after in
     let passed : (k : ℕ) (l : Line) → seat.next + 1 ≤ k → k < next → (get_or v.set.work.lines k l).actor ≢ a = λ k l low. s.passed k l (subst (λ n. n + 1 ≤ k) (sym begun_next) low) in
     let so = issue_follows_so v h a seat s.is d asked s.eq job s.jeq next after s.within passed s.here middle services s.keeps s.counts asks_so orders_so in
@@ -591,6 +606,7 @@ may_ask services i l agrees b seat None made fresh = tt
 may_ask services i l agrees b seat (Some x) made fresh = record { inst = i; log = l; agrees = agrees; new = record { asks = made; new = fresh } }
 
 -- and so the command may be issued, if it is one on jobs or on time
-pub may_issue : (services : ServicesValue) (i : Instance) (l : InstanceLog) → AgreesServices services i l → (b : By) (broker : ℕ) (job : Option JobAsk) → IfSome job (IsNewCommand i l b broker) → IfSome job (MayIssue services.jobs b broker)
-may_issue services i l agrees b broker None new = tt
-may_issue services i l agrees b broker (Some x) new = record { inst = i; log = l; agrees = agrees.jobs; new = new }
+pub may_issue : (services : ServicesValue) (i : Instance) (l : InstanceLog) → AgreesServices services i l → (b : By) (broker : ℕ) (job : Ordered) → IsNewOrder i l b broker job → IfAsked job (MayIssue services.jobs b broker)
+may_issue services i l agrees b broker ordered.Nothing new = tt
+may_issue services i l agrees b broker (ordered.Job x) new = record { inst = i; log = l; agrees = agrees.jobs; new = new }
+may_issue services i l agrees b broker ordered.Shutdown new = tt

@@ -18,7 +18,7 @@ use Rattle.answers.specs.declared.chronicle.Entry.{Entry}
 use Rattle.answers.specs.declared.chronicle.Entry.TheVariants as entry
 use Rattle.answers.specs.declared.chronicle.Reply.{Reply}
 use Rattle.answers.specs.declared.chronicle.Reply.TheVariants as reply
-use Rattle.answers.specs.Chronicle.{is_issued, issues, replies_to, top}
+use Rattle.answers.specs.Chronicle.{is_issued, is_replied, issues, replies_to, top}
 use Rattle.answers.specs.Commands.{ask_at, broker_of, subject_at}
 use Rattle.answers.specs.Entering.{entered, reply_of}
 use Rattle.answers.specs.Jobs.{happening_of, happenings_after, job_ask_at, job_reply_of, log_in}
@@ -272,6 +272,9 @@ module _ (work : Workload) (by : By) where
   -- what no entry replies to, no moment does
   pub log_unreplied : (c : List Entry) → count_by (replies_to by) c ≡ 0 → rules.is_replied by (log_in work c) ≡ false
   log_unreplied c none = none_replies [] c (none_counted (replies_to by) c none)
+
+  pub log_unanswered : (c : List Entry) → is_replied by c ≡ false → rules.is_replied by (log_in work c) ≡ false
+  log_unanswered c none = none_replies [] c none
 
   -- what isn't issued there isn't here
   pub log_unissued : (c : List Entry) → is_issued by c ≡ false → rules.is_issued by (log_in work c) ≡ false

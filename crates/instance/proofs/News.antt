@@ -167,7 +167,8 @@ waits_news set log es a issued waiting.TxnFull h = (h.0, asked_news (command_of 
 waits_news set log es a issued (waiting.Tell to) h = (h.0, asked_news (command_of a (issued - 1)) log es ∙ h.1, h.2)
 waits_news set log es a issued waiting.Using h = (h.0, asked_news (command_of a (issued - 1)) log es ∙ h.1, h.2)
 waits_news set log es a issued waiting.Service h = (h.0, asked_news (command_of a (issued - 1)) log es ∙ h.1)
-waits_news set log es a issued waiting.Jobs h = (h.0, asked_news (command_of a (issued - 1)) log es ∙ h.1, h.2)
+waits_news set log es a issued waiting.Jobs h = (h.0, asked_news (command_of a (issued - 1)) log es ∙ h.1, h.2, h.3)
+waits_news set log es a issued waiting.Shutdown h = (h.0, asked_news (command_of a (issued - 1)) log es ∙ h.1, h.2)
 
 seat_news : (set : Setup) (log : Log) (c : List Entry) (es : List KvsEvent) → Each IsNews es → (a : ℕ) (seat : Seat) → IsSeat set log c a seat → IsSeat set (log ++ map Happened es) (c ++ map (entered 0) es) a seat
 seat_news set log c es n a seat h = record {

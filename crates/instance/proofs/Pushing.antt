@@ -53,7 +53,8 @@ waits_other set log o a issued waiting.TxnFull un h = (h.0, asked_push (command_
 waits_other set log o a issued (waiting.Tell to) un h = (h.0, asked_push (command_of a (issued - 1)) log o (un (issued - 1)) ∙ h.1, h.2)
 waits_other set log o a issued waiting.Using un h = (h.0, asked_push (command_of a (issued - 1)) log o (un (issued - 1)) ∙ h.1, h.2)
 waits_other set log o a issued waiting.Service un h = (h.0, asked_push (command_of a (issued - 1)) log o (un (issued - 1)) ∙ h.1)
-waits_other set log o a issued waiting.Jobs un h = (h.0, asked_push (command_of a (issued - 1)) log o (un (issued - 1)) ∙ h.1, h.2)
+waits_other set log o a issued waiting.Jobs un h = (h.0, asked_push (command_of a (issued - 1)) log o (un (issued - 1)) ∙ h.1, h.2, h.3)
+waits_other set log o a issued waiting.Shutdown un h = (h.0, asked_push (command_of a (issued - 1)) log o (un (issued - 1)) ∙ h.1, h.2)
 
 seat_other : (set : Setup) (log : Log) (c : List Entry) (e : Entry) (o : Option Moment) (a : ℕ) (seat : Seat) → IsOthers a e o →
     ((space : Name) → floor set.work (c ++ e ∷ []) a space ≡ floor set.work c a space) → IsSeat set log c a seat → IsSeat set (log ++ cons_option o []) (c ++ e ∷ []) a seat

@@ -1,6 +1,6 @@
 -- What a reply leaves of a world.
-use Rattle.std.proofs.Common.{◌≡◌, ◌≢◌, ℕ, ◌+◌, ◌-◌, ◌<◌, ◌==◌, inl, inr, max, List, [], ◌∷◌, ◌++◌, length, Bool, true, false, ◌&&◌, ◌||◌, cond, refl, sym, ap, ap₂, ◌∙◌, subst, arith, map, append-nil, append_assoc, Option, Some, None, eq-eqb, ne_eqb, true≢false, set, get_or, bytes_eq}
-use Rattle.std.specs.Prelude.{slice_get, nat_lt}
+use Rattle.std.proofs.Common.{◌≡◌, ◌≢◌, ℕ, ◌+◌, ◌-◌, ◌<◌, ◌==◌, inl, inr, max, List, [], ◌∷◌, ◌++◌, length, Bool, true, false, ◌&&◌, ◌||◌, cond, refl, sym, ap, ap₂, ◌∙◌, subst, arith, map, append-nil, append_assoc, Option, Some, None, is_some, eq-eqb, ne_eqb, true≢false, set, get_or, bytes_eq}
+use Rattle.std.specs.Prelude.{IsSome, slice_get, nat_lt}
 use Rattle.std.specs.Option.{option_map, option_map_or}
 use Rattle.std.specs.List.{cons_option}
 use Rattle.std.specs.List.{AllByRecursion as Each}
@@ -34,7 +34,7 @@ use Rattle.workload.specs.declared.work.Command.TheVariants as command
 use Rattle.answers.specs.Commands.{command_at, subject_at}
 use Rattle.answers.specs.Entering.{reply_of}
 use Rattle.answers.specs.Floors.{floor}
-use Rattle.answers.specs.Jobs.{happening_of, instance_of, job_reply_of, log_in, state_by}
+use Rattle.answers.specs.Jobs.{happening_of, instance_of, job_ask_at, job_reply_of, log_in, state_by}
 use Rattle.answers.specs.Legal.{HasReplyGrounds, IsLegal, IsLegalEntry, IsLegalIn, RestsAtIssue}
 use Rattle.answers.specs.Stretches.{ComesBeforeReply}
 use Rattle.answers.specs.Services.{setting_of, log_of, moment_of}
@@ -57,7 +57,7 @@ use Rattle.instance.proofs.Listing.{count-push, any_left, each_append, none_coun
 use Rattle.instance.proofs.Pushing.{IsOthers, actor_other, actor_raised, asked_push, answered_push, stands_other}
 use Rattle.instance.proofs.Going.{unended}
 use Rattle.instance.proofs.Lining.{HaveSameLines, next_at, same_lines, tallied_on}
-use Rattle.instance.proofs.Logs.{job_replied, log_grown, log_without, served_log, service_replied}
+use Rattle.instance.proofs.Logs.{job_replied, log_grown, log_issued, log_unanswered, log_without, served_log, service_replied}
 
 -- a reply that hands on the service's answer is that answer again, is not of the end, and rests on it
 answered_back : (a : KvsAnswer) → answer_of (reply_of a) ≡ Some a
@@ -259,6 +259,28 @@ module _ (set : Setup) (c : List Entry) (old : ServicesValue) (agree : AgreesSer
           told = λ asked. absurd (true≢false (sym asked ∙ waits.1));
         };
       }
+  there services waiting.Shutdown given number waits h =
+      subst (λ g. Stays services g number) (sym h.0) (subst (Stays services reply.Shut) (sym h.1) (subst (λ v. Stays v reply.Shut None) (sym h.2) shut_there))
+    where
+      asks : IsSome (job_ask_at set.work spoken)
+      asks = ap is_some waits.2
+
+      waiting_so : rules.IsOpen spoken (log_in set.work c)
+      waiting_so = record { issued = log_issued set.work spoken c asks ∙ begun; unanswered = log_unanswered set.work spoken c unreplied }
+
+      shut_there : Stays old reply.Shut None
+      shut_there = record {
+        moment = None;
+        happening = Some (rules.Replied spoken rules.Shut None);
+        is = record {
+          moment = refl;
+          happens = job_replied set.work c spoken reply.Shut None rules.Shut refl;
+          legal = record { ask = rules.Shutdown; made = waits.2; waits = waiting_so; tells = agree.jobs.shutdowns spoken waits.2; grounds = (refl, refl) };
+          early = refl;
+          agrees = h.3 (instance_of set) (log_in set.work c) agree waits.2 waiting_so;
+          told = λ asked. absurd (true≢false (sym asked ∙ waits.1));
+        };
+      }
 
 -- a reply is no moment at which a command asks
 replied_asks : (set : Setup) (c : List Entry) (a k : ℕ) (given : Reply) (number : Option ℕ) (by : By) → asks_of by (moment_of set.work top c (entry.Replied a k given number)) ≡ false
@@ -360,6 +382,7 @@ given_waits old core by (waiting.Tell to) given number h = absurd h
 given_waits old core by waiting.Using given number h = refl
 given_waits old core by waiting.Service given number h = refl
 given_waits old core by waiting.Jobs given number h = refl
+given_waits old core by waiting.Shutdown given number h = refl
 
 some_issued : (set : Setup) (log : Log) (a issued : ℕ) (w : Waiting) → is_free w ≡ false → Waits set log a issued w → 0 < issued
 some_issued set log a issued waiting.Nothing e h = absurd (true≢false e)
@@ -369,6 +392,7 @@ some_issued set log a issued (waiting.Tell to) e h = h.0
 some_issued set log a issued waiting.Using e h = h.0
 some_issued set log a issued waiting.Service e h = h.0
 some_issued set log a issued waiting.Jobs e h = h.0
+some_issued set log a issued waiting.Shutdown e h = h.0
 
 -- the instance behind a reply to the actor, where the actors stood so
 abbrev pub replied : ℕ → List Seat → Seat → ServicesValue → Floors → InstanceValue

@@ -1,14 +1,12 @@
 -- What the code knows where it issues a command.
 use Rattle.std.proofs.Common.{◌≡◌, ℕ, ◌+◌, ◌<◌, ◌≤◌, List, ◌++◌, length, map, true, false, Option, Some, get_or, sym, ap, ◌∙◌, subst, arith}
 use Rattle.std.specs.Prelude.{IfSome}
-use Rattle.std.specs.Option.{option_map}
 use Rattle.kvs_txn.specs.declared.txn.Author.TheVariants as author
 use Rattle.kvs_rules.specs.declared.events.KvsAsk.{KvsAsk}
 use Rattle.kvs_rules.specs.Log.{is_asked}
 use Rattle.instance_rules.specs.Desks.{is_submission}
 use Rattle.instance_rules.specs.Log.{Instance, Log, Served, service_of}
 use Rattle.job_commands.specs.Asks.{told}
-use Rattle.job_commands.specs.declared.ask.JobAsk.{JobAsk}
 use Rattle.job_service.specs.Agrees.{HasRoom, MayIssue}
 use Rattle.job_service.specs.Times.{HasTime}
 use Rattle.services.specs.Agrees.{AgreesServices}
@@ -22,6 +20,8 @@ use Rattle.answers.specs.Chronicle.{Setup}
 use Rattle.answers.specs.Commands.{ask_of, subject_of}
 use Rattle.answers.specs.Jobs.{instance_of, job_ask_of, log_in}
 use Rattle.instance.specs.declared.seats.Seat.{Seat}
+use Rattle.instance.specs.declared.jobs.Ordered.{Ordered}
+use Rattle.instance.specs.Jobs.{IfAsked, asked_in}
 use Rattle.instance.specs.Agrees.{AgreesOwn, AreLinesOf, command_of}
 use Rattle.instance.specs.Seats.{IsTheAsk, moment_asked, ops_after, seat_floor, space_after, waiting_after}
 use Rattle.instance.specs.Steps.{can_issue}
@@ -98,23 +98,23 @@ module _ (w : InstanceValue) (lines : List Line) (a : ℕ) (seat : Seat) (s : Is
       start_asks = may_ask w.services (instance_of s.set) (log_in s.set.work s.own) s.agrees.agrees (command_of a seat.issued) begun asked the_ask.0 the_ask.1
 
       -- what is asked of the job manager and of time
-      module _ (job : Option JobAsk) (jeq : option_map told job ≡ job_ask_of (command_in lines seat d)) (middle : ServicesValue) (keeps : Keeps w.services middle)
+      module _ (job : Ordered) (jeq : asked_in job ≡ job_ask_of (command_in lines seat d)) (middle : ServicesValue) (keeps : Keeps w.services middle)
           (asks : (i : Instance) (l : Log) → AgreesServices w.services i l → IsTheAsk i.service (command_of a seat.issued) begun asked → is_asked (command_of a seat.issued) (service_of l) ≡ false
           → AgreesServices middle i (l ++ map Served (moment_asked (command_of a seat.issued) (seat_floor begun) asked))) where
-        job_so : option_map told job ≡ job_ask_of (command_in s.set.work.lines seat d)
+        job_so : asked_in job ≡ job_ask_of (command_in s.set.work.lines seat d)
         job_so = jeq ∙ ap (λ ls. job_ask_of (command_in ls seat d)) (sym s.same)
 
         agrees_then : AgreesServices middle (instance_of s.set) (asked_now v s.agrees a seat s.is d asked asked_so job job_so)
         agrees_then = subst (λ b. AgreesServices middle (instance_of s.set) (log_in s.set.work s.own ++ map Served (moment_asked (command_of a seat.issued) (seat_floor b) asked))) begun_so
             (asks (instance_of s.set) (log_in s.set.work s.own) s.agrees.agrees the_ask.0 the_ask.1)
 
-        pub start_orders : IfSome job (MayIssue middle.jobs (command_of a seat.issued) begun.broker)
-        start_orders = subst (λ b. IfSome job (MayIssue middle.jobs (command_of a seat.issued) b)) (sym (ap (λ (x : Seat). x.broker) begun_so))
+        pub start_orders : IfAsked job (MayIssue middle.jobs (command_of a seat.issued) begun.broker)
+        start_orders = subst (λ b. IfAsked job (MayIssue middle.jobs (command_of a seat.issued) b)) (sym (ap (λ (x : Seat). x.broker) begun_so))
             (may_issue middle (instance_of s.set) (asked_now v s.agrees a seat s.is d asked asked_so job job_so) agrees_then (command_of a seat.issued) seat.broker job
             (new_command v s.agrees a seat s.is d asked asked_so job job_so))
 
-        pub start_room : IfSome job (λ x. is_submission (Some (told x)) ≡ true → HasRoom middle.jobs)
+        pub start_room : IfAsked job (λ x. is_submission (Some (told x)) ≡ true → HasRoom middle.jobs)
         start_room = room_so v s.agrees a seat s.is d asked asked_so job job_so middle keeps
 
-        pub start_time : IfSome job (HasTime middle.jobs)
+        pub start_time : IfAsked job (HasTime middle.jobs)
         start_time = time_so v s.agrees a seat s.is d asked asked_so job job_so middle keeps

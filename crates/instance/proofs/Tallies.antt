@@ -74,11 +74,9 @@ jobs_of c a e = command_jobs c ∙ ap (λ o. option_map_or jobs_by o 0) e ∙ sy
 pub seconds_of_ask : (c : Command) (a : JobAsk) → job_ask_of c ≡ Some (told a) → seconds_of c ≡ seconds_asked a
 seconds_of_ask c a e = command_seconds c ∙ ap (λ o. option_map_or seconds_by o 0) e ∙ sym (seconds_told a)
 
-pub no_jobs_of : (c : Command) → job_ask_of c ≡ None → count_of c ≡ 0
-no_jobs_of c e = command_jobs c ∙ ap (λ o. option_map_or jobs_by o 0) e
-
-pub no_seconds_of : (c : Command) → job_ask_of c ≡ None → seconds_of c ≡ 0
-no_seconds_of c e = command_seconds c ∙ ap (λ o. option_map_or seconds_by o 0) e
+-- what is asked counts for nothing
+abbrev pub CountsNone : Option rules.JobAsk → Type 0
+CountsNone asked = (option_map_or jobs_by asked 0 ≡ 0) × (option_map_or seconds_by asked 0 ≡ 0)
 
 -- a submission counts for one job
 one_job : (a : JobAsk) → is_submission (Some (told a)) ≡ true → jobs_asked a ≡ 1
@@ -162,8 +160,8 @@ module _ (v : InstanceValue) (lines : List Line) (h : IsTallied v lines) (a : �
   }
 
   -- as another one, which counts for nothing
-  pub tallied_other : job_ask_of issued ≡ None → KeepsCounts v.services.jobs after.services.jobs → IsTallied after lines
+  pub tallied_other : CountsNone (job_ask_of issued) → KeepsCounts v.services.jobs after.services.jobs → IsTallied after lines
   tallied_other e keeps = record {
-    submits = let less = submits_less in let is = no_jobs_of issued e in let counted = keeps.submitted in let tallied = h.submits in omega arith;
-    seconds = let less = seconds_less in let is = no_seconds_of issued e in let counted = keeps.span in let tallied = h.seconds in omega arith;
+    submits = let less = submits_less in let is = command_jobs issued ∙ e.0 in let counted = keeps.submitted in let tallied = h.submits in omega arith;
+    seconds = let less = seconds_less in let is = command_seconds issued ∙ e.1 in let counted = keeps.span in let tallied = h.seconds in omega arith;
   }

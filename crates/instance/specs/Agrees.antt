@@ -1,11 +1,12 @@
 -- When an instance stands where a chronicle of its own leaves it.
-use Rattle.std.specs.Prelude.{◌≡◌, ℕ, ◌+◌, ◌-◌, ◌<◌, ◌≤◌, ◌==◌, nat_le, nat_lt, cond, List, Bool, true, false, All, IsSome, Option, Some, None, length, map, take, count_by, slice_get, slice_index_or}
+use Rattle.std.specs.Prelude.{◌≡◌, ◌≢◌, ℕ, ◌+◌, ◌-◌, ◌<◌, ◌≤◌, ◌==◌, nat_le, nat_lt, cond, List, Bool, true, false, All, IsSome, Option, Some, None, length, map, take, count_by, slice_get, slice_index_or}
 use Rattle.std.specs.List.{AllByRecursion as Each, enumerate_from, filter}
 use Rattle.std.specs.Option.{option_map, option_map_or}
 use Rattle.kvs_txn.specs.declared.txn.Author.TheVariants as author
 use Rattle.kvs_txn.specs.declared.txn.By.{By}
 use Rattle.kvs_model.specs.Store.{Name}
 use Rattle.kvs_rules.specs.Log.{Log, is_asked, is_answered}
+use Rattle.instance_rules.specs.Log.{Shutdown}
 use Rattle.services.specs.Agrees.{AgreesServices}
 use Rattle.workload.specs.declared.work.Command.TheVariants as command
 use Rattle.workload.specs.declared.work.Line.{Line}
@@ -60,6 +61,10 @@ Waits set log actor issued waiting.Service =
 Waits set log actor issued waiting.Jobs =
     (0 < issued) × (is_asked (command_of actor (issued - 1)) log ≡ false)
     × IsSome (job_ask_at set.work (command_of actor (issued - 1)))
+    × (job_ask_at set.work (command_of actor (issued - 1)) ≢ Some Shutdown)
+Waits set log actor issued waiting.Shutdown =
+    (0 < issued) × (is_asked (command_of actor (issued - 1)) log ≡ false)
+    × (job_ask_at set.work (command_of actor (issued - 1)) ≡ Some Shutdown)
 
 -- whether a line is the actor's
 abbrev pub is_of : ℕ → Line → Bool

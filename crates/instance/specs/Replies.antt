@@ -1,8 +1,8 @@
 -- What an actor is told.
-use Rattle.std.specs.Prelude.{◌≡◌, ℕ, Option, None}
+use Rattle.std.specs.Prelude.{◌≡◌, ℕ, [], ◌∷◌, ◌++◌, Option, Some, None}
 use Rattle.kvs_txn.specs.declared.txn.By.{By}
 use Rattle.kvs_rules.specs.declared.events.KvsAnswer.{KvsAnswer}
-use Rattle.instance_rules.specs.Log.{Instance, Log}
+use Rattle.instance_rules.specs.Log.{Instance, IsOpen, Log, Replied, Shut, Shutdown}
 use Rattle.services.specs.Agrees.{AgreesServices}
 use Rattle.services.specs.Asks.{Answers, Tells}
 use Rattle.services.specs.Value.{ServicesValue}
@@ -24,6 +24,12 @@ abbrev pub IsToldOf : ServicesValue → ServicesValue → By → Reply → Optio
 IsToldOf old new by given number = (inst : Instance) (log : Log)
     → AgreesServices old inst log → Answers new inst log by given number
 
+-- whatever log agrees, a command that shuts the instance down and is open may be told so there
+abbrev pub MayBeShut : ServicesValue → By → Type 0
+MayBeShut v by = (inst : Instance) (log : Log) → AgreesServices v inst log
+    → inst.asks by ≡ Some Shutdown → IsOpen by log
+    → AgreesServices v inst (log ++ Replied by Shut None ∷ [])
+
 -- what the actor is told, who waits so
 abbrev pub IsGiven : ServicesValue → ServicesValue → By → Waiting → Reply → Option ℕ → Type 0
 IsGiven old new by waiting.Nothing given number = ⊥
@@ -37,3 +43,5 @@ IsGiven old new by waiting.Using given number =
     (given ≡ reply.Using) × (number ≡ None) × (new ≡ old)
 IsGiven old new by waiting.Service given number = IsTaken old new by given number
 IsGiven old new by waiting.Jobs given number = IsToldOf old new by given number
+IsGiven old new by waiting.Shutdown given number =
+    (given ≡ reply.Shut) × (number ≡ None) × (new ≡ old) × MayBeShut old by

@@ -32,6 +32,7 @@ with_op ops op = if nat_lt (length ops) most_staged then ops ++ op ∷ [] else o
 abbrev pub waits_for : Command → Waiting
 waits_for (command.Tell actor) = waiting.Tell actor
 waits_for (command.NsUse name) = waiting.Using
+waits_for command.Shutdown = waiting.Shutdown
 waits_for c = if is_some (job_ask_of c) then waiting.Jobs else waiting.Service
 
 -- what an actor waits for once the command is issued, where these operations are staged
@@ -108,3 +109,4 @@ has_come services by (waiting.Tell to) = true
 has_come services by waiting.Using = true
 has_come services by waiting.Service = can_take services by
 has_come services by waiting.Jobs = can_reply services.jobs by
+has_come services by waiting.Shutdown = true

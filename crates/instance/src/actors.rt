@@ -29,7 +29,7 @@ mod family;
 mod walk;
 
 use crate::floors::Floors;
-use crate::jobs::{job_ask, order};
+use crate::jobs::{order, order_of};
 use crate::seats::{
     Seat, Waiting, ask, begin, first_answer, has_answer, has_issue, issue_from, next_line, raise,
 };
@@ -41,6 +41,7 @@ use kvs_txn::{Author, By, Txn};
 use lists::{Bytes, ListOf};
 use resource_set::Resources;
 use services::Services;
+use services::laws::shutdowns_leave_services;
 use std::alloc::{AllocError, Global};
 use std::marker::Model;
 use workload::{Line, Workload};
@@ -119,6 +120,13 @@ fn reply_to(services: &mut Services, by: By, waiting: Waiting) -> Result<Given, 
             reply: Reply::Using,
             number: None,
         },
+        Waiting::Shutdown => {
+            shutdowns_leave_services();
+            Given {
+                reply: Reply::Shut,
+                number: None,
+            }
+        }
         Waiting::Service => {
             let held = services.take(by);
             Given {
@@ -150,7 +158,8 @@ fn see(floors: &mut Floors, subject: &Bytes, number: Option<u64>) -> Result<(), 
 
 /// The seats of a workload's actors.
 fn seated(alloc: Global, work: &Workload, size: u32) -> Result<Vec<Seat>, AllocError>
-    requires { IsWithin size work.now }
+    requires within { IsWithin size work.now }
+    requires ranks { All (λ a. a.rank < size) work.now.actors }
     ensures { IfOk result (λ seats. AreFirstSeats work.now seats.items) }
 {
     let mut seats = Vec::new(alloc);
@@ -321,7 +330,7 @@ impl Instance {
             &mut self.services,
             by,
             seat.broker,
-            job_ask(self.alloc, line)?,
+            order_of(self.alloc, line)?,
         )?;
         seat.issued = command + 1;
         seat.last = seat.next;

@@ -1,22 +1,32 @@
-//! What actors ask of the job manager and of time.
-ghost use Rattle.std.specs.Prelude.{◌≡◌, ◌++◌, false, true, map, option_map, IfOk, IfSome, OnOk, Some};
+//! What actors ask of the job manager and of time, and that their instance shuts down.
+ghost use Rattle.std.specs.Prelude.{◌≡◌, ◌++◌, false, true, map, IfOk, OnOk, Some};
 ghost use Rattle.answers.specs.Jobs.{job_ask_of, key_by, named_by};
 ghost use Rattle.instance_rules.specs.Desks.{is_submission};
 ghost use Rattle.instance_rules.specs.Log as rules;
 ghost use Rattle.instance_rules.specs.Log.{Instance, Log};
 ghost use Rattle.job_commands.specs.Asks.{key_of, named_of, told};
-ghost use Rattle.job_service.specs.Agrees.{HasRoom, IsNewCommand, MayIssue};
+ghost use Rattle.job_service.specs.Agrees.{HasRoom, MayIssue};
 ghost use Rattle.job_service.specs.Times.{HasTime};
 ghost use Rattle.services.specs.Agrees.{AgreesServices};
-ghost use Rattle.instance.specs.Jobs.{CountsIn, issues_of};
+ghost use Rattle.instance.specs.Jobs.{CountsIn, IfAsked, IsNewOrder, asked_in, issues_of};
 ghost use Rattle.workload.specs.Laws.{IsBuilt};
 
 use job_commands::{JobAsk, Key, Named, NamedList};
 use kvs_txn::By;
 use lists::{Bytes, Copied, ListOf};
 use services::Services;
+use services::laws::shutdowns_leave_services;
 use std::alloc::{AllocError, Global};
 use workload::{Command, InfoKey, Needed};
+
+/// What a command orders: nothing of jobs, time or its instance, what it asks of the job manager or
+/// of time, or that its instance shuts down, of which no service is asked anything.
+#[derive(Drop)]
+pub enum Ordered {
+    Nothing,
+    Job(JobAsk),
+    Shutdown,
+}
 
 /// The dependencies that a submission asks for.
 fn needs_of(alloc: Global, depends: &[Needed]) -> Result<NamedList, AllocError>
@@ -85,12 +95,12 @@ fn showing(label: &Bytes, key: InfoKey) -> Result<JobAsk, AllocError>
     })
 }
 
-/// What a command asks of the job manager or of time, if it asks anything.
-pub fn job_ask(alloc: Global, command: &Command) -> Result<Option<JobAsk>, AllocError>
+/// What a command orders.
+pub fn order_of(alloc: Global, command: &Command) -> Result<Ordered, AllocError>
     requires { IsBuilt command.now }
-    ensures { IfOk result (λ asked. option_map told asked ≡ job_ask_of command.now) }
+    ensures { IfOk result (λ ordered. asked_in ordered ≡ job_ask_of command.now) }
 {
-    Ok(Some(match command {
+    Ok(Ordered::Job(match command {
         Command::Submit {
             label,
             urgency,
@@ -122,32 +132,32 @@ pub fn job_ask(alloc: Global, command: &Command) -> Result<Option<JobAsk>, Alloc
             label: label.copy()?,
         },
         Command::Advance { seconds } => JobAsk::Advance { seconds: *seconds },
-        Command::Shutdown => unreachable!(),
-        _ => return Ok(None),
+        Command::Shutdown => return Ok(Ordered::Shutdown),
+        _ => return Ok(Ordered::Nothing),
     }))
 }
 
-/// Issues at a broker what a command asks of the job manager or of time, if it asks anything.
+/// Issues at a broker what a command orders.
 pub fn order(
     services: &mut Services,
     by: By,
     broker: u32,
-    asked: Option<JobAsk>,
+    ordered: Ordered,
 ) -> Result<(), AllocError>
     requires ready { services.old.spent ≡ false }
-    requires may { IfSome asked (MayIssue services.old.jobs by broker) }
-    requires room { IfSome asked (λ ask. is_submission (Some (told ask)) ≡ true
+    requires may { IfAsked ordered (MayIssue services.old.jobs by broker) }
+    requires room { IfAsked ordered (λ ask. is_submission (Some (told ask)) ≡ true
         → HasRoom services.old.jobs) }
-    requires time { IfSome asked (HasTime services.old.jobs) }
+    requires time { IfAsked ordered (HasTime services.old.jobs) }
     ensures ready { OnOk result (services.new.spent ≡ false) }
-    ensures counts { OnOk result (CountsIn asked services.old services.new) }
+    ensures counts { OnOk result (CountsIn ordered services.old services.new) }
     ensures agrees { OnOk result ((inst : Instance) (log : Log)
-        → AgreesServices services.old inst log
-        → IfSome asked (IsNewCommand inst log by broker)
-        → AgreesServices services.new inst (log ++ issues_of by asked)) }
+        → AgreesServices services.old inst log → IsNewOrder inst log by broker ordered
+        → AgreesServices services.new inst (log ++ issues_of by ordered)) }
 {
-    match asked {
-        Some(ask) => services.issue(by, broker, ask),
-        None => Ok(()),
+    shutdowns_leave_services();
+    match ordered {
+        Ordered::Job(ask) => services.issue(by, broker, ask),
+        Ordered::Nothing | Ordered::Shutdown => Ok(()),
     }
 }

@@ -22,7 +22,7 @@ use workload::{Command, Line};
 
 /// What an actor waits for: for nothing, to be told what became of its operation, to have told
 /// another actor what it saw, to be told that it uses another namespace, for the service's answer,
-/// or for what becomes of a job or for time.
+/// for what becomes of a job or for time, or to be told that its instance shuts down.
 #[derive(Clone, Copy, Debug, PartialEq, Eq)]
 pub enum Waiting {
     Nothing,
@@ -32,6 +32,7 @@ pub enum Waiting {
     Using,
     Service,
     Jobs,
+    Shutdown,
 }
 
 /// An actor: its broker, the places of its next and its last line in the workload, how many of its
@@ -130,6 +131,7 @@ fn waits_for(command: &Command) -> Waiting
     match command {
         Command::Tell { actor } => Waiting::Tell { to: *actor },
         Command::NsUse { .. } => Waiting::Using,
+        Command::Shutdown => Waiting::Shutdown,
         Command::Submit { .. }
         | Command::Cancel { .. }
         | Command::Raise { .. }
@@ -139,8 +141,7 @@ fn waits_for(command: &Command) -> Waiting
         | Command::Jobs
         | Command::Why { .. }
         | Command::ResultOf { .. }
-        | Command::Advance { .. }
-        | Command::Shutdown => Waiting::Jobs,
+        | Command::Advance { .. } => Waiting::Jobs,
         _ => Waiting::Service,
     }
 }
@@ -233,7 +234,7 @@ pub fn begin(
         })),
         Command::ContentFlush => Ok(Some(KvsAsk::Flush)),
         Command::ContentDrop => Ok(Some(KvsAsk::DropClean)),
-        Command::Getroot | Command::Shutdown => unreachable!(),
+        Command::Getroot => unreachable!(),
         _ => Ok(None),
     }
 }
@@ -272,7 +273,11 @@ pub fn has_come(services: &Services, by: By, waiting: Waiting) -> bool
 {
     match waiting {
         Waiting::Nothing => false,
-        Waiting::Staged | Waiting::TxnFull | Waiting::Tell { .. } | Waiting::Using => true,
+        Waiting::Staged
+        | Waiting::TxnFull
+        | Waiting::Tell { .. }
+        | Waiting::Using
+        | Waiting::Shutdown => true,
         Waiting::Service => services.can_take(by),
         Waiting::Jobs => services.jobs().can_reply(by),
     }

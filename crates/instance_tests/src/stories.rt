@@ -1,5 +1,5 @@
 //! Instances whose actors act in a given order, with what the rules say of it.
-ghost use Rattle.std.specs.Prelude.{◌≡◌, ◌≤◌, ◌⊎◌, false, IfOk, IfSome, List, OnOk, Some};
+ghost use Rattle.std.specs.Prelude.{◌≡◌, ◌<◌, ◌≤◌, ◌⊎◌, false, All, IfOk, IfSome, IsTrue, List, OnOk, Some};
 ghost use Rattle.workload.specs.declared.work.Line.{Line as LineValue};
 ghost use Rattle.instance.specs.Agrees.{AreLinesOf};
 
@@ -12,7 +12,7 @@ use workload::laws::{
     spelled_commands_are_built, spelled_labels_are_their_own, spelled_tallies_are_kept,
     spelled_workloads_are_within,
 };
-use workload::{Grant, Line, Workload, read};
+use workload::{Actor, Grant, Line, Workload, read};
 
 const SETTING: Setting = Setting {
     size: 2,
@@ -23,11 +23,14 @@ const SETTING: Setting = Setting {
 const GRANT: &str =
     r#"{"version":1,"execution":{"R_lite":[{"rank":"0","children":{"core":"0-3"}}],"starttime":0,"expiration":0,"nodelist":["node0"]}}"#;
 
+/// Who acts, or none where the service does all that it can; and what happens.
+type Part = (Option<u32>, &'static str);
+
 const WORK: &str =
     "actor a 0\nactor b 1\na put k x\na commit\nb get k\na tell b\nb get k\nb wait 7\nb get k\n";
 
-/// The actor that acts, or none where the service does all that it can; and what happens.
-const STORY: [(Option<u32>, &str); 17] = [
+/// What happens with that.
+const STORY: [Part; 17] = [
     (Some(1), "1 issued 0, "),
     (Some(1), ""),
     (None, ""),
@@ -47,6 +50,27 @@ const STORY: [(Option<u32>, &str); 17] = [
     (Some(1), ""),
 ];
 
+/// An actor of a child instance shuts it down, and goes on: that the instance then goes is for its
+/// run to say.
+const SHUT_WORK: &str =
+    "actor a 0 of j\na put k x\na shutdown\na commit\na shutdown\na wait 7\na shutdown\n";
+
+/// What happens with that.
+const SHUT_STORY: [Part; 12] = [
+    (Some(0), "0 issued 0, "),
+    (Some(0), "0 staged, "),
+    (Some(0), "0 issued 1, "),
+    (None, ""),
+    (Some(0), "0 shut, "),
+    (Some(0), "0 issued 2, "),
+    (None, "landed 1, 0 heard 1, 1 heard 1, "),
+    (Some(0), "0 committed 1, "),
+    (Some(0), "0 issued 3, "),
+    (Some(0), "0 shut, "),
+    (Some(0), "0 issued 4, "),
+    (None, ""),
+];
+
 fn word_of(reply: &Reply) -> &'static str {
     match reply {
         Reply::Staged => "staged",
@@ -54,6 +78,7 @@ fn word_of(reply: &Reply) -> &'static str {
         Reply::Committed => "committed",
         Reply::Read(_) => "read",
         Reply::Told => "told",
+        Reply::Shut => "shut",
         Reply::Submitted(_) => "submitted",
         Reply::EndedWith { .. } => "ended",
         Reply::Advanced { .. } => "advanced",
@@ -89,6 +114,15 @@ fn tell_all(alloc: Global, text: &mut Vec<u8>, entries: &[Entry]) -> Result<(), 
     Ok(())
 }
 
+/// Whether each actor stands at a broker.
+fn all_stand(actors: &[Actor]) -> bool
+    ensures { IsTrue result → All (λ a. a.rank < 2) actors.now }
+{
+    actors
+        .iter()
+        .all(|actor| actor.rank < u64::from(SETTING.size))
+}
+
 fn begin(alloc: Global, text: &str) -> Result<(Instance, Workload), Fail>
     ensures ready { IfOk result (λ begun. begun.0.spent ≡ false) }
     ensures lines { IfOk result (λ begun. AreLinesOf begun.0 begun.1.lines) }
@@ -98,6 +132,9 @@ fn begin(alloc: Global, text: &str) -> Result<(Instance, Workload), Fail>
     spelled_commands_are_built();
     spelled_labels_are_their_own();
     spelled_tallies_are_kept();
+    if !all_stand(work.actors.as_slice()) {
+        return Err(Fail::new("an actor has no broker"));
+    }
     let grant = Grant::read(alloc, GRANT.as_bytes())?;
     let instance = Instance::new(alloc, SETTING, grant.resources(), &work, 0)?;
     Ok((instance, work))
@@ -202,19 +239,24 @@ fn goes_on_so(
     Ok(text.as_slice() == words.as_bytes())
 }
 
-/// How many parts of the story happen as they are told, from its beginning.
-fn told_parts(alloc: Global, instance: &mut Instance, lines: &[Line]) -> Result<usize, Fail>
+/// How many parts of a story happen as they are told, from its beginning.
+fn told_parts(
+    alloc: Global,
+    instance: &mut Instance,
+    lines: &[Line],
+    story: &[Part],
+) -> Result<usize, Fail>
     requires ready { instance.old.spent ≡ false }
     requires lines { AreLinesOf instance.old lines.now }
     ensures ready { OnOk result (instance.new.spent ≡ false) }
     ensures lines { OnOk result (AreLinesOf instance.new lines.now) }
 {
-    for (place, (who, words)) in STORY.iter().enumerate() {
+    for (place, (who, words)) in story.iter().enumerate() {
         if !goes_on_so(alloc, instance, lines, *who, words)? {
             return Ok(place);
         }
     }
-    Ok(STORY.len())
+    Ok(story.len())
 }
 
 /// What is told at the end.
@@ -228,31 +270,40 @@ fn ending(alloc: Global, instance: &Instance, lines: &[Line]) -> Result<Vec<u8>,
     Ok(text)
 }
 
-/// How many parts of the story happen as they are told, and what is told at the end.
+/// How many parts of a story happen as they are told, and what is told at the end.
 fn story_of(
     alloc: Global,
     instance: &mut Instance,
     lines: &[Line],
+    story: &[Part],
 ) -> Result<(usize, Vec<u8>), Fail>
     requires ready { instance.old.spent ≡ false }
     requires lines { AreLinesOf instance.old lines.now }
 {
-    let parts = told_parts(alloc, instance, lines)?;
+    let parts = told_parts(alloc, instance, lines, story)?;
     let end = ending(alloc, instance, lines)?;
     Ok((parts, end))
 }
 
 /// The same of an instance that begins.
-fn story(alloc: Global) -> Result<(usize, Vec<u8>), Fail> {
-    let (mut instance, work) = begin(alloc, WORK)?;
-    story_of(alloc, &mut instance, work.lines.as_slice())
+fn story(alloc: Global, text: &str, story: &[Part]) -> Result<(usize, Vec<u8>), Fail> {
+    let (mut instance, work) = begin(alloc, text)?;
+    story_of(alloc, &mut instance, work.lines.as_slice(), story)
 }
 
 #[test]
 fn actors_are_told_what_the_rules_say(rt: HostRuntime) -> Result<(), Fail> {
-    let (parts, end) = story(rt.alloc())?;
+    let (parts, end) = story(rt.alloc(), WORK, &STORY)?;
     let is_ended = end.as_slice() == b"1 unfinished, 1 not reached, ".as_slice();
     assert!(rt; parts == STORY.len() && is_ended);
+    Ok(())
+}
+
+#[test]
+fn a_shutdown_is_told_at_once(rt: HostRuntime) -> Result<(), Fail> {
+    let (parts, end) = story(rt.alloc(), SHUT_WORK, &SHUT_STORY)?;
+    let is_ended = end.as_slice() == b"0 unfinished, 0 not reached, ".as_slice();
+    assert!(rt; parts == SHUT_STORY.len() && is_ended);
     Ok(())
 }
 

@@ -97,11 +97,12 @@ respan v inst log span bearing a = record {
   labelled = a.labelled;
   refused = a.refused;
   untold = a.untold;
+  shutdowns = a.shutdowns;
 }
 
 module _ (v : JobServiceValue) (inst : Instance) (log : Log) (a : AgreesJobs v inst log) where
   pub facts : Facts v.commands v.refused v.second inst log
-  facts = record { commands = a.commands; second = a.second; refused = a.refused; untold = a.untold }
+  facts = record { commands = a.commands; second = a.second; refused = a.refused; untold = a.untold; shutdowns = a.shutdowns }
 
   pub joined : (spent : Bool) (manager : ManagerValue) (commands : CommandsValue) (refused : List Refused) (found : Option Post) (submitted : ℕ) (later : Log) → manager.book.grant ≡ v.manager.book.grant
       → Agrees manager.core inst.service (service_of later) → IsLegalLog inst.service (service_of later) → AreLabelled commands.labels manager.book.jobs → Owes manager.posted found (desk_of commands inst later manager.book.jobs) → Facts commands refused v.second inst later
@@ -123,6 +124,7 @@ module _ (v : JobServiceValue) (inst : Instance) (log : Log) (a : AgreesJobs v i
     labelled = labelled;
     refused = f.refused;
     untold = f.untold;
+    shutdowns = f.shutdowns;
   }
 
   -- ---- the key-value service
@@ -295,6 +297,7 @@ module _ (spent : Bool) (birth size fanout : ℕ) (grant : Resources) (manager :
     labelled = λ id c. absurd (among_from [] id (subst (λ b. Contains (ids_of b.jobs) id) book c));
     refused = λ r c. absurd (among_from [] r c);
     untold = λ by some e. record { unanswered = refl; undecided = refl };
+    shutdowns = λ by e. refl;
   }
 
   pub begun_agreed : IsGrant grant.nodes → IsAgreed begun

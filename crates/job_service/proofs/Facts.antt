@@ -16,7 +16,7 @@ use Rattle.kvs_txn.specs.declared.txn.By.{By}
 use Rattle.kvs_txn.specs.declared.txn.Group.{Group}
 use Rattle.instance_rules.specs.Desks.{HasSubmitted, Names}
 use Rattle.instance_rules.specs.Log as rules
-use Rattle.instance_rules.specs.Log.{Instance, IsOpen, IsPending, JobAsk as Asks, JobReply, Log, Moment, Served, Issued, Replied, Born, Gone, SinceIssued, Submit, Ticked, is_decided, is_issued, is_replied, issues_now, now_of, replies_now, service_of, ticked}
+use Rattle.instance_rules.specs.Log.{Instance, IsOpen, IsPending, JobAsk as Asks, JobReply, Log, Moment, Served, Issued, Replied, Born, Gone, Shutdown, SinceIssued, Submit, Ticked, is_decided, is_issued, is_replied, issues_now, now_of, replies_now, service_of, ticked}
 use Rattle.instance_rules.specs.Replies.{FindsNoJob, IsLegalReply, LacksJob}
 use Rattle.job_commands.proofs.Landings.{aside_other}
 use Rattle.job_commands.proofs.Logs.{begun_before, differs, same_self, service_push, undecided_kept}
@@ -44,6 +44,7 @@ pub record Facts (v : CommandsValue) (list : List Refused) (now : ℕ) (inst : I
   pub second : now_of inst log ≡ now
   pub refused : (r : Refused) → Contains list r → IsLegalReply inst log r.by (reply_to r.fault) None
   pub untold : (by : By) → IsSome (inst.asks by) → is_issued by log ≡ false → IsUntold by log
+  pub shutdowns : (by : By) → inst.asks by ≡ Some Shutdown → is_decided by log ≡ false
 
 -- ---- refusals stay
 
@@ -84,10 +85,10 @@ refused_asks inst log by r n h = subst IsSome (sym h.made) refl
 
 -- ---- what a moment that is no issue leaves untold
 
-unissued_before : (by : By) (log : Log) (m : Moment) → is_issued by (log ++ m ∷ []) ≡ false → is_issued by log ≡ false
+pub unissued_before : (by : By) (log : Log) (m : Moment) → is_issued by (log ++ m ∷ []) ≡ false → is_issued by log ≡ false
 unissued_before by log m e = (or_parts (is_issued by log) _ (sym (any_push (issues_now by) log m) ∙ e)).0
 
-untold_kept : (by : By) (log : Log) (m : Moment) → replies_now by m ≡ false → decides_now by m ≡ false → IsUntold by log → IsUntold by (log ++ m ∷ [])
+pub untold_kept : (by : By) (log : Log) (m : Moment) → replies_now by m ≡ false → decides_now by m ≡ false → IsUntold by log → IsUntold by (log ++ m ∷ [])
 untold_kept by log m quiet aside h = record {
   unanswered = any_push (replies_now by) log m ∙ or_from (is_replied by log) _ h.unanswered quiet;
   undecided = undecided_kept by log m aside h.undecided;
@@ -102,6 +103,7 @@ module _ (v : CommandsValue) (list : List Refused) (now : ℕ) (inst : Instance)
     second = latest_push ticked inst.birth log (Served m) ∙ h.second;
     refused = λ r c. let l = h.refused r c in legal_kept inst log (Served m) r.by r.fault refl (beside r.by (refused_asks inst log r.by _ None l)).decides l;
     untold = λ by some e. untold_kept by log (Served m) refl (beside by some).decides (h.untold by some (unissued_before by log (Served m) e));
+    shutdowns = λ by e. undecided_kept by log (Served m) (beside by (subst IsSome (sym e) refl)).decides (h.shutdowns by e);
   }
 
   pub service_one : (log : Log) (m : service.Moment) → service_of (log ++ Served m ∷ []) ≡ service_of log ++ m ∷ []
@@ -132,6 +134,7 @@ ticked_facts v list now second inst log h = record {
   second = latest_push ticked inst.birth log (Ticked second);
   refused = λ r c. legal_kept inst log (Ticked second) r.by r.fault refl refl (h.refused r c);
   untold = λ by some e. untold_kept by log (Ticked second) refl refl (h.untold by some (unissued_before by log (Ticked second) e));
+  shutdowns = λ other e. undecided_kept other log (Ticked second) refl (h.shutdowns other e);
 }
 
 -- ---- a child that is born or goes
@@ -143,6 +146,7 @@ module _ (v new : CommandsValue) (list : List Refused) (now : ℕ) (inst : Insta
     second = latest_push ticked inst.birth log (Born job) ∙ h.second;
     refused = λ r c. legal_kept inst log (Born job) r.by r.fault refl refl (h.refused r c);
     untold = λ by some e. untold_kept by log (Born job) refl refl (h.untold by some (unissued_before by log (Born job) e));
+    shutdowns = λ other e. undecided_kept other log (Born job) refl (h.shutdowns other e);
   }
 
   pub gone_facts : (job : ℕ) (shut : Bool) → AgreesCommands new inst (log ++ Gone job shut ∷ []) → Facts new list now inst (log ++ Gone job shut ∷ [])
@@ -151,6 +155,7 @@ module _ (v new : CommandsValue) (list : List Refused) (now : ℕ) (inst : Insta
     second = latest_push ticked inst.birth log (Gone job shut) ∙ h.second;
     refused = λ r c. legal_kept inst log (Gone job shut) r.by r.fault refl refl (h.refused r c);
     untold = λ by some e. untold_kept by log (Gone job shut) refl refl (h.untold by some (unissued_before by log (Gone job shut) e));
+    shutdowns = λ other e. undecided_kept other log (Gone job shut) refl (h.shutdowns other e);
   }
 
 pub born_service : (log : Log) (job : ℕ) → service_of (log ++ Born job ∷ []) ≡ service_of log
@@ -170,7 +175,7 @@ left_refusal by list r c =
     (contains_from list r both.0, λ e. true≢false (sym (same_self by) ∙ ap (same_command by) (sym e) ∙ not-true (is_refusal_of by r) both.1))
 
 -- what was issued is no command that wasn't
-unissued_other : (by other : By) (log : Log) → is_issued by log ≡ true → is_issued other log ≡ false → other ≢ by
+pub unissued_other : (by other : By) (log : Log) → is_issued by log ≡ true → is_issued other log ≡ false → other ≢ by
 unissued_other by other log was not_yet e = true≢false (sym was ∙ ap (λ b. is_issued b log) (sym e) ∙ not_yet)
 
 -- ---- a landing that carries out a command
@@ -183,8 +188,8 @@ module _ (v new : CommandsValue) (list : List Refused) (now : ℕ) (inst : Insta
   aside : (other : By) → IsSome (inst.asks other) → other ≢ by → IsAside other (lands_at number authors groups)
   aside other some ne = aside_other inst by group authors groups number w other some ne
 
-  pub landed_facts : is_issued by log ≡ true → AgreesCommands new inst landed → Facts new (filter (λ x. not (is_refusal_of by x)) list) now inst landed
-  landed_facts was agrees =
+  pub landed_facts : is_issued by log ≡ true → inst.asks by ≢ Some Shutdown → AgreesCommands new inst landed → Facts new (filter (λ x. not (is_refusal_of by x)) list) now inst landed
+  landed_facts was alive agrees =
       let m = lands_at number authors groups in
       record {
         commands = agrees;
@@ -196,6 +201,7 @@ module _ (v new : CommandsValue) (list : List Refused) (now : ℕ) (inst : Insta
         untold = λ other some e.
             let before = unissued_before other log m e in
             untold_kept other log m refl (aside other some (unissued_other by other log was before)).decides (h.untold other some before);
+        shutdowns = λ other e. undecided_kept other log m (aside other (subst IsSome (sym e) refl) (λ same. alive (sym (ap inst.asks same) ∙ e))).decides (h.shutdowns other e);
       }
 
 -- ---- an issue
@@ -280,6 +286,7 @@ module _ (v new : CommandsValue) (list : List Refused) (now : ℕ) (inst : Insta
         | inr now ↦ at r found is (among_from _ r now)
       ];
       untold = λ other some e. untold_kept other log (Issued by) refl refl (h.untold other some (unissued_before other log (Issued by) e));
+      shutdowns = λ other e. undecided_kept other log (Issued by) refl (h.shutdowns other e);
     }
       where
         at : (r : Refused) (o : Option Fault) → IsFaultOf v jobs asked o → Among r (refusals_of by o) → IsLegalReply inst issued r.by (reply_to r.fault) None
@@ -304,4 +311,5 @@ module _ (v new : CommandsValue) (list : List Refused) (now : ℕ) (inst : Insta
     untold = λ other some e.
         let before = unissued_before other log (Replied by given number) e in
         untold_kept other log (Replied by given number) (differs other by (unissued_other by other log was before)) refl (h.untold other some before);
+    shutdowns = λ other e. undecided_kept other log (Replied by given number) refl (h.shutdowns other e);
   }

@@ -1,11 +1,13 @@
 -- A step of the service at which a post lands.
-use Rattle.std.proofs.Common.{◌≡◌, ℕ, zero, suc, take, get_or, ◌+◌, ◌-◌, ◌*◌, ◌^◌, ◌<◌, ◌≤◌, inl, inr, List, [], ◌∷◌, ◌++◌, length, map, Bool, true, false, cond, ◌||◌, Option, Some, None, IsSome, count_by, refl, sym, ap, ◌∙◌, subst, arith, append_assoc}
+use Rattle.std.proofs.Common.{◌≡◌, ◌≢◌, ℕ, zero, suc, take, get_or, ◌+◌, ◌-◌, ◌*◌, ◌^◌, ◌<◌, ◌≤◌, inl, inr, List, [], ◌∷◌, ◌++◌, length, map, Bool, true, false, cond, ◌||◌, Option, Some, None, IsSome, count_by, refl, sym, ap, ◌∙◌, subst, arith, append_assoc}
 use Rattle.std.specs.Prelude.{find, flat_map, option_and_then, slice_get, slice_index}
 use Rattle.std.specs.List.{AllByRecursion as Each, list_any}
 use Rattle.std.specs.Option.{option_map_or}
 use Rattle.std.proofs.lemmas.List.{map-append}
 use Rattle.instance_rules.specs.Desks.{Begins}
-use Rattle.instance_rules.specs.Log.{Instance, Log, service_of}
+use Rattle.instance_rules.specs.Log as rules
+use Rattle.instance_rules.specs.Log.{Instance, JobAsk as Asks, Log, service_of}
+use Rattle.instance_rules.specs.Replies.{AsksForEvent}
 use Rattle.job_clock.proofs.Times.{carried_in_time}
 use Rattle.job_clock.specs.Targets.{AreInTime}
 use Rattle.job_commands.proofs.Landings.{now_begun}
@@ -183,6 +185,13 @@ landed_children v new list left None number (Some by) l = l.0.children
 
 -- ---- the whole step
 
+-- a command that shuts the instance down asks for no event, and submits nothing
+no_event : (asked : Option Asks) (a : Asks) → asked ≡ Some a → AsksForEvent a → asked ≢ Some rules.Shutdown
+no_event asked a is event same = (let e : Some a ≡ Some rules.Shutdown = sym is ∙ same in let there : a ≡ rules.Shutdown = cc in subst AsksForEvent there event)
+
+no_submission : (asked : Option Asks) (label : List ℕ) (urgency : ℕ) (needs : List rules.Named) (text : List ℕ) → asked ≡ Some (rules.Submit label urgency needs text) → asked ≢ Some rules.Shutdown
+no_submission asked label urgency needs text is same = (let e : Some (rules.Submit label urgency needs text) ≡ Some rules.Shutdown = sym is ∙ same in cc)
+
 log_split : (log : Log) (before behind : List KvsEvent) (e : KvsEvent) → log ++ map happening (before ++ e ∷ behind) ≡ ((log ++ map happening before) ++ happening e ∷ []) ++ map happening behind
 log_split log before behind e =
     ap (λ l. log ++ l) (map-append happening before (e ∷ behind))
@@ -232,7 +241,7 @@ module _ (v : JobServiceValue) (inst : Instance) (log : Log) (a : AgreesJobs v i
       let agrees = at.agrees inst before (group_of (Does due)) p.authors p.groups w.ask facts_before.commands w.asks w.event carries in
       record {
         facts = subst (λ r. Facts commands r v.second inst there) (sym landed.1)
-            (landed_facts v.commands commands v.refused v.second inst before by (group_of (Does due)) p.authors p.groups p.number carries facts_before pending.waits.issued agrees);
+            (landed_facts v.commands commands v.refused v.second inst before by (group_of (Does due)) p.authors p.groups p.number carries facts_before pending.waits.issued (no_event (inst.asks by) w.ask w.asks w.event) agrees);
         labelled = λ job c. elim (ids_after (Does due) jobs job c) [
           | inl old ↦ labelled_still v.commands commands inst before (lands_at p.number p.authors p.groups) jobs facts_before.commands agrees a.labelled job old
           | inr e ↦ absurd (let wrong : None ≡ Some job = e in cc)
@@ -251,7 +260,7 @@ module _ (v : JobServiceValue) (inst : Instance) (log : Log) (a : AgreesJobs v i
       let agrees = at.agrees inst before (group_of (Submits x)) p.authors p.groups o.label o.urgency o.needs x.text facts_before.commands a.kind.unique pending o.asks (subst (λ b. IsIdOf v.commands b x.command x.id) (sym a.kind.birth) named) carries o.begins in
       record {
         facts = subst (λ r. Facts commands r v.second inst there) (sym landed.1)
-            (landed_facts v.commands commands v.refused v.second inst before x.command (group_of (Submits x)) p.authors p.groups p.number carries facts_before pending.waits.issued agrees);
+            (landed_facts v.commands commands v.refused v.second inst before x.command (group_of (Submits x)) p.authors p.groups p.number carries facts_before pending.waits.issued (no_submission (inst.asks x.command) o.label o.urgency o.needs x.text o.asks) agrees);
         labelled = λ job c. elim (ids_after (Submits x) jobs job c) [
           | inl old ↦ labelled_still v.commands commands inst before (lands_at p.number p.authors p.groups) jobs facts_before.commands agrees a.labelled job old
           | inr e ↦ (

@@ -1,6 +1,7 @@
 mod Facts
 mod Owing
 mod Calls
+mod Shutdowns
 mod Running
 mod Bearing
 mod Counting

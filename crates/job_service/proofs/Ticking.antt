@@ -195,4 +195,5 @@ module _ (v : JobServiceValue) (inst : Instance) (log : Log) (a : AgreesJobs v i
         labelled = a.labelled;
         refused = f.refused;
         untold = f.untold;
+        shutdowns = f.shutdowns;
       }

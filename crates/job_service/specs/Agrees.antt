@@ -7,7 +7,7 @@ use Rattle.kvs_rules.specs.Log.{is_asked}
 use Rattle.kvs_rules.specs.declared.events.KvsAsk.{KvsAsk}
 use Rattle.kvs_model.specs.Store.{Name}
 use Rattle.kvs_txn.specs.declared.txn.By.{By}
-use Rattle.instance_rules.specs.Log.{Instance, IsInstance, Log, is_decided, is_issued, is_replied, now_of, service_of}
+use Rattle.instance_rules.specs.Log.{Instance, IsInstance, Log, Shutdown, is_decided, is_issued, is_replied, now_of, service_of}
 use Rattle.instance_rules.specs.Replies.{IsLegalReply}
 use Rattle.job_commands.specs.Agrees.{AgreesCommands, HasUniqueLabels}
 use Rattle.job_commands.specs.Asks.{told}
@@ -59,6 +59,7 @@ pub record AgreesJobs (v : JobServiceValue) (inst : Instance) (log : Log) : Type
   pub refused : (r : Refused) → Contains v.refused r
       → IsLegalReply inst log r.by (reply_to r.fault) None
   pub untold : (by : By) → IsSome (inst.asks by) → is_issued by log ≡ false → IsUntold by log
+  pub shutdowns : (by : By) → inst.asks by ≡ Some Shutdown → is_decided by log ≡ false
 
 -- another submission can be issued
 abbrev pub HasRoom : JobServiceValue → Type 0

@@ -1,10 +1,13 @@
 //! What follows from the words of the contracts.
-ghost use Rattle.std.specs.Prelude.{◌≡◌, ◌++◌, ◌∷◌, List, []};
-ghost use Rattle.instance_rules.specs.Log.{Instance, Log, Moment, now_of};
+ghost use Rattle.std.specs.Prelude.{◌≡◌, ◌++◌, ◌∷◌, List, [], None, Some, false};
+ghost use Rattle.instance_rules.specs.Log.{Instance, IsOpen, Issued, Log, Moment, Replied, Shut, Shutdown, is_issued, now_of};
 ghost use Rattle.job_commands.specs.Agrees.{AgreesCommands};
 ghost use Rattle.job_commands.specs.Desks.{asked_of, desk_of};
 ghost use Rattle.job_commands.specs.Rows.{CommandsValue};
+ghost use Rattle.job_service.specs.Agrees.{AgreesJobs};
 ghost use Rattle.job_service.specs.Due.{LeavesChildOf, LeavesOpen};
+ghost use Rattle.job_service.specs.Value.{JobServiceValue};
+ghost use Rattle.kvs_txn.specs.declared.txn.By.{By};
 ghost use Rattle.manager_rules.specs.Jobs.{StoredJob};
 ghost use Rattle.manager_rules.specs.Posts.{IsDuePost, Post};
 
@@ -24,3 +27,14 @@ pub fn what_waits_stays_due()
 {
     what_is_due_stays_due();
 }
+
+/// A command that shuts its instance down leaves the jobs as they are, when it is issued and when
+/// it is told so: it asks nothing of them, and the commands' table has no row for it.
+pub fn shutdowns_leave_jobs()
+    ensures issued { (v : JobServiceValue) (inst : Instance) (log : Log) (by : By)
+        → inst.asks by ≡ Some Shutdown → is_issued by log ≡ false → AgreesJobs v inst log
+        → AgreesJobs v inst (log ++ Issued by ∷ []) }
+    ensures replied { (v : JobServiceValue) (inst : Instance) (log : Log) (by : By)
+        → inst.asks by ≡ Some Shutdown → IsOpen by log → AgreesJobs v inst log
+        → AgreesJobs v inst (log ++ Replied by Shut None ∷ []) }
+{}

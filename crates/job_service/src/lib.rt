@@ -12,6 +12,6 @@ mod rest;
 mod service;
 mod time;
 
-pub use laws::what_waits_stays_due;
+pub use laws::{shutdowns_leave_jobs, what_waits_stays_due};
 pub use refusals::Refused;
 pub use service::JobService;

@@ -129,6 +129,7 @@ module _ (stays : CoreStays) (v : JobServiceValue) (inst : Instance) where
         let l = a.refused r c in
         legal_kept inst log (Served m) r.by r.fault refl (beside r.by (subst IsSome (sym l.made) refl)).decides l;
     untold = λ by some e. untold_kept by log (Served m) refl (beside by some).decides (a.untold by some (unissued_before by log (Served m) e));
+    shutdowns = λ by e. undecided_kept by log (Served m) (beside by (subst IsSome (sym e) refl)).decides (a.shutdowns by e);
   }
 
   -- the events of a step of contents

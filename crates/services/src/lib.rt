@@ -2,6 +2,8 @@
 //! jobs over it, and the contents. They stand beside each other over one log.
 #![tactic(auto)]
 
+pub mod laws;
 mod services;
 
+pub use laws::shutdowns_leave_services;
 pub use services::Services;

@@ -77,7 +77,7 @@ order-requires-clause-may c =
     let lines = c.args.lines.now in
     let s = starting (value_of c.self.inside) c.args.self.now lines c.args.actor seat c.self.view_is c.requires.lines c.requires.can c.index_mut-seat.ensures.value in
     start_orders (value_of c.self.inside) lines c.args.actor seat s c.index-lines-seat.result c.begin.new.seat c.in_ok-asked.ensures.seat c.in_ok-asked.asked c.in_ok-asked.ensures.asked
-    c.in_ok-job_ask.field-0 c.in_ok-job_ask.ensures c.ask.new.services c.in_ok-ask.ensures.keeps c.in_ok-ask.ensures.agrees
+    c.in_ok-order_of.field-0 c.in_ok-order_of.ensures c.ask.new.services c.in_ok-ask.ensures.keeps c.in_ok-ask.ensures.agrees
 
 pub order-requires-clause-room : goal.order-requires-clause-room
 order-requires-clause-room c =
@@ -85,7 +85,7 @@ order-requires-clause-room c =
     let lines = c.args.lines.now in
     let s = starting (value_of c.self.inside) c.args.self.now lines c.args.actor seat c.self.view_is c.requires.lines c.requires.can c.index_mut-seat.ensures.value in
     start_room (value_of c.self.inside) lines c.args.actor seat s c.index-lines-seat.result c.begin.new.seat c.in_ok-asked.ensures.seat c.in_ok-asked.asked c.in_ok-asked.ensures.asked
-    c.in_ok-job_ask.field-0 c.in_ok-job_ask.ensures c.ask.new.services c.in_ok-ask.ensures.keeps c.in_ok-ask.ensures.agrees
+    c.in_ok-order_of.field-0 c.in_ok-order_of.ensures c.ask.new.services c.in_ok-ask.ensures.keeps c.in_ok-ask.ensures.agrees
 
 pub order-requires-clause-time : goal.order-requires-clause-time
 order-requires-clause-time c =
@@ -93,7 +93,7 @@ order-requires-clause-time c =
     let lines = c.args.lines.now in
     let s = starting (value_of c.self.inside) c.args.self.now lines c.args.actor seat c.self.view_is c.requires.lines c.requires.can c.index_mut-seat.ensures.value in
     start_time (value_of c.self.inside) lines c.args.actor seat s c.index-lines-seat.result c.begin.new.seat c.in_ok-asked.ensures.seat c.in_ok-asked.asked c.in_ok-asked.ensures.asked
-    c.in_ok-job_ask.field-0 c.in_ok-job_ask.ensures c.ask.new.services c.in_ok-ask.ensures.keeps c.in_ok-ask.ensures.agrees
+    c.in_ok-order_of.field-0 c.in_ok-order_of.ensures c.ask.new.services c.in_ok-ask.ensures.keeps c.in_ok-ask.ensures.agrees
 
 pub returns-clause-makes : goal.returns-clause-makes
 returns-clause-makes c = λ set own agrees same.
@@ -106,11 +106,11 @@ returns-clause-makes c = λ set own agrees same.
     let line = c.index-lines-seat.result in
     let lines = sym same in
     let next = c.next_line-seat.result in
-    issue_follows v h a seat c.begin.new.seat line c.in_ok-asked.asked c.in_ok-job_ask.field-0 next c.ask.new.services c.order.new.services
+    issue_follows v h a seat c.begin.new.seat line c.in_ok-asked.asked c.in_ok-order_of.field-0 next c.ask.new.services c.order.new.services
     (record {
       is = is;
       eq = c.in_ok-asked.ensures.asked ∙ ap (λ ls. ask_of (record { author = author.User a; ops = seat.staged.ops }) (command_in ls seat line)) lines;
-      jeq = c.in_ok-job_ask.ensures ∙ ap (λ ls. job_ask_of (command_in ls seat line)) lines;
+      jeq = c.in_ok-order_of.ensures ∙ ap (λ ls. job_ask_of (command_in ls seat line)) lines;
       began = c.in_ok-asked.ensures.seat ∙ ap (λ ls. begun_in ls a seat line) lines;
       after = c.next_line-seat.ensures.within.0;
       within = subst (λ ls. next ≤ length ls) lines c.next_line-seat.ensures.within.1;
@@ -123,8 +123,8 @@ returns-clause-makes c = λ set own agrees same.
     })
     c.in_ok-made.made c.in_ok-made.ensures
 
-pub job_ask-requires : goal.job_ask-requires
-job_ask-requires c =
+pub order_of-requires : goal.order_of-requires
+order_of-requires c =
     let seat = c.index_mut-seat.result.now in
     let lines = c.args.lines.now in
     let s = starting (value_of c.self.inside) c.args.self.now lines c.args.actor seat c.self.view_is c.requires.lines c.requires.can c.index_mut-seat.ensures.value in
