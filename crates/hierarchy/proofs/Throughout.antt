@@ -33,7 +33,7 @@ module _ (set : Setup) (c : List Entry) (fits : HasTime set) (valid : AreValid s
         let there : is_born c i ≡ true = subst (λ d. is_born d i ≡ true) (sym split) (born_kept past more i born) in
         let given : setup_in set c i ≡ setup_in set past i =
         ap (λ d. setup_in set d i) split
-            ∙ ap (λ b. option_map_or (child_setup set) b (record set { work = work_for set.work None set.size })) (birth_kept past more i born) in
+        ∙ ap (λ b. option_map_or (child_setup set) b (record set { work = work_for set.work None set.size })) (birth_kept past more i born) in
         record {
           valid = subst (λ s. IsInstance (instance_of s)) given (valid i there);
           timely = timely set fits past past_legal i h;

@@ -14,6 +14,6 @@ pub mod workloads;
 
 pub use laws::{
     a_run_stays_sound, a_run_without_children_is_of_one_instance, a_whole_run_is_legal_in_all,
-    children_stay_nested, jobs_stay_sound_in_all, logs_only_grow_in_all,
-    time_stays_within_the_run, what_has_gone_stays_gone,
+    children_stay_nested, jobs_stay_sound_in_all, logs_only_grow_in_all, time_stays_within_the_run,
+    what_has_gone_stays_gone,
 };

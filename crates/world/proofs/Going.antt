@@ -1,19 +1,24 @@
 -- The world is closed exactly where its chronicle has the end.
-use Rattle.std.proofs.Common.{◌≡◌, List, [], ◌∷◌, ◌++◌, Bool, true, false, ◌||◌, ◌∙◌, refl, sym, ap}
+use Rattle.std.proofs.Common.{◌≡◌, ◌∙◌, [], ◌∷◌, ◌++◌, Bool, true, false, ◌||◌, refl, sym, ap}
 use Rattle.std.proofs.lemmas.List.Folds.{list_any-append}
-use Rattle.answers.specs.declared.chronicle.Entry.{Entry}
 use Rattle.answers.specs.declared.chronicle.Entry.TheVariants as entry
-use Rattle.answers.specs.Chronicle.{Setup}
-use Rattle.answers.specs.Whole.{is_end, has_ended}
-use Rattle.instance.proofs.Going.{unended}
-use Rattle.world.specs.Sound.{EndsSo}
+use Rattle.answers.specs.Whole.{has_ended, is_end}
+use Rattle.hierarchy.proofs.Steps.{unended}
+use Rattle.world.specs.Sound.{IsSound}
+use Rattle.world.specs.Value.{WorldValue}
 
 ends_at : (a : Bool) → (a || true) ≡ true
 ends_at true = refl
 ends_at false = refl
 
--- the world is closed exactly where its chronicle has the end
-pub ended_so : (set : Setup) (c : List Entry) (closed : Bool) → EndsSo set c closed → closed ≡ has_ended c
-ended_so set c false h = sym (unended c h)
-ended_so set c true h =
-    sym (ap has_ended h.split ∙ list_any-append is_end (h.earlier ++ h.closings) (entry.Closed ∷ []) ∙ ends_at (has_ended (h.earlier ++ h.closings)))
+module _ (v : WorldValue) (sound : IsSound v) where
+  pub ended_so : v.closed ≡ has_ended v.chronicle
+  ended_so = by v.closed refl
+    where
+      by : (b : Bool) → v.closed ≡ b → v.closed ≡ has_ended v.chronicle
+      by false runs = runs ∙ sym (unended v.chronicle (sound.runs runs).on.early)
+      by true ended =
+          let whole = sound.ended ended in
+          ended ∙ sym (ap has_ended whole.split
+          ∙ list_any-append is_end (whole.earlier ++ whole.closings) (entry.Closed ∷ [])
+          ∙ ends_at (has_ended (whole.earlier ++ whole.closings)))

@@ -1,26 +1,22 @@
 -- Steps by number.
-use Rattle.std.proofs.Common.{◌≡◌, ◌∙◌, ◌⊎◌, ℕ, zero, suc, ◌+◌, ◌-◌, ◌%◌, ◌^◌, ◌<◌, ◌≤◌, inl, inr, List, [], ◌∷◌, ◌++◌, Bool, true, false, refl, ap, sym, arith, length, map}
+use Rattle.std.proofs.Common.{◌≡◌, ◌∙◌, ◌⊎◌, ℕ, zero, suc, ◌+◌, ◌-◌, ◌%◌, ◌^◌, ◌<◌, ◌≤◌, inl, inr, List, [], ◌∷◌, Bool, true, false, refl, ap, sym, arith, length, map}
 use Rattle.std.specs.Prelude.{Some, Ok, Err, min, nat_le, slice_get, if◌then◌else◌}
 use Rattle.std.proofs.Math.Nat.{mod-eq_of_lt}
 use Rattle.std.proofs.lemmas.Nat.{mod_below}
 use Rattle.std.proofs.lemmas.Bool.Decides.{nat_tests}
-use Rattle.services.specs.Order.{possible}
 use Rattle.kvs_core.specs.Walk.{nth}
-use Rattle.kvs_core.proofs.Walking.{behind, within}
-use Rattle.kvs_rules.specs.declared.events.KvsStep.{KvsStep}
 use Rattle.answers.specs.declared.steps.Step.{Step}
 use Rattle.answers.specs.declared.steps.Step.TheVariants as step
-use Rattle.instance.specs.Order.{answers, issues, posts, ticks}
 use Rattle.world.specs.Order.{before_end, or_close, possible_steps}
 use Rattle.world.specs.Value.{WorldValue}
 
 module _ {X Y : Type 0} (f : X → Y) where
-  mapped : (xs : List X) (number : ℕ) (x : X) → nth xs number ≡ Ok x → nth (map f xs) number ≡ Ok (f x)
+  pub mapped : (xs : List X) (number : ℕ) (x : X) → nth xs number ≡ Ok x → nth (map f xs) number ≡ Ok (f x)
   mapped [] number x e = cc
   mapped (y ∷ xs) zero x e = (let same : y ≡ x = cc in ap (λ z. Ok (f z)) same)
   mapped (y ∷ xs) (suc number) x e = mapped xs number x e
 
-  unmapped : (xs : List X) (number left : ℕ) → nth xs number ≡ Err left → nth (map f xs) number ≡ Err left
+  pub unmapped : (xs : List X) (number left : ℕ) → nth xs number ≡ Err left → nth (map f xs) number ≡ Err left
   unmapped [] number left e = (let same : number ≡ left = cc in ap Err same)
   unmapped (y ∷ xs) zero left e = cc
   unmapped (y ∷ xs) (suc number) left e = unmapped xs number left e
@@ -42,57 +38,6 @@ module _ {X : Type 0} where
   got (y ∷ xs) zero x e = (let same : y ≡ x = cc in ap Some same)
   got (y ∷ xs) (suc number) x e = got xs number x e
 
--- the steps before the end, one part behind the other
-module _ (v : WorldValue) where
-  abbrev served : List Step
-  served = map (step.Kvs 0) (possible v.instance.services)
-
-  abbrev replies : List Step
-  replies = map step.Answer (answers v.instance)
-
-  abbrev begun : List Step
-  begun = map step.Issue (issues v.set.work.lines v.instance)
-
-  -- what stands behind the posts, behind the replies and behind the steps of the service
-  abbrev timed : List Step
-  timed = ticks v.instance ++ begun
-
-  abbrev due : List Step
-  due = posts v.instance ++ timed
-
-  abbrev after : List Step
-  after = replies ++ due
-
-  pub by-service : (number : ℕ) (s : KvsStep) → nth (possible v.instance.services) number ≡ Ok s → nth (before_end v) number ≡ Ok (step.Kvs 0 s)
-  by-service number s e = within served after number (step.Kvs 0 s) (mapped (step.Kvs 0) (possible v.instance.services) number s e)
-
-  pub past-service : (number left : ℕ) → nth (possible v.instance.services) number ≡ Err left → nth (before_end v) number ≡ nth after left
-  past-service number left e = behind served after number left (unmapped (step.Kvs 0) (possible v.instance.services) number left e)
-
-  pub by-answer : (number actor : ℕ) → nth (answers v.instance) number ≡ Ok actor → nth after number ≡ Ok (step.Answer actor)
-  by-answer number actor e = within replies due number (step.Answer actor) (mapped step.Answer (answers v.instance) number actor e)
-
-  pub past-answers : (number left : ℕ) → nth (answers v.instance) number ≡ Err left → nth after number ≡ nth due left
-  past-answers number left e = behind replies due number left (unmapped step.Answer (answers v.instance) number left e)
-
-  pub by-post : (number : ℕ) (s : Step) → nth (posts v.instance) number ≡ Ok s → nth due number ≡ Ok s
-  by-post number s e = within (posts v.instance) timed number s e
-
-  pub past-posts : (number left : ℕ) → nth (posts v.instance) number ≡ Err left → nth due number ≡ nth timed left
-  past-posts number left e = behind (posts v.instance) timed number left e
-
-  pub by-tick : (number : ℕ) (s : Step) → nth (ticks v.instance) number ≡ Ok s → nth timed number ≡ Ok s
-  by-tick number s e = within (ticks v.instance) begun number s e
-
-  pub past-ticks : (number left : ℕ) → nth (ticks v.instance) number ≡ Err left → nth timed number ≡ nth begun left
-  past-ticks number left e = behind (ticks v.instance) begun number left e
-
-  pub by-issue : (number actor : ℕ) → nth (issues v.set.work.lines v.instance) number ≡ Ok actor → nth begun number ≡ Ok (step.Issue actor)
-  by-issue number actor e = mapped step.Issue (issues v.set.work.lines v.instance) number actor e
-
-  pub by-none : (number left : ℕ) → nth (issues v.set.work.lines v.instance) number ≡ Err left → nth begun number ≡ Err left
-  by-none number left e = unmapped step.Issue (issues v.set.work.lines v.instance) number left e
-
 -- where something can be made, the end can't
 pub going-on : (v : WorldValue) → v.closed ≡ false → 0 < length (before_end v) → possible_steps v ≡ before_end v
 going-on v runs some = ap (λ b. if b then [] else or_close (before_end v)) runs ∙ on (before_end v) some
@@ -109,7 +54,7 @@ closing-now v runs none = ap (λ b. if b then [] else or_close (before_end v)) r
     on (s ∷ steps) none = absurd (omega arith)
 
 -- a number modulo a count that is exact as far as it goes
-pub reduced : (word count : ℕ) → word < 2 ^ 32 → 0 < count → word % min count (2 ^ 64 - 1) ≡ word % count
+reduced : (word count : ℕ) → word < 2 ^ 32 → 0 < count → word % min count (2 ^ 64 - 1) ≡ word % count
 reduced word count small some = elim (le_or_gt count (2 ^ 64 - 1)) [
   | inl le ↦ let same : min count (2 ^ 64 - 1) ≡ count = omega (arith, le) in ap (λ n. word % n) same
   | inr gt ↦

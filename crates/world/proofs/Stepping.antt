@@ -1,116 +1,75 @@
--- What a step leaves of a world.
-use Rattle.std.proofs.Common.{◌≡◌, ℕ, List, [], ◌∷◌, ◌++◌, length, true, false, refl, sym, ap, ◌∙◌, subst, append_assoc, true≢false}
-use Rattle.std.specs.List.{AllByRecursion as Each}
+-- What one instance makes leaves the world sound.
+use Rattle.std.proofs.Common.{◌≡◌, ◌∙◌, ℕ, List, [], ◌∷◌, ◌++◌, Bool, true, false, ◌||◌, Option, Some, None, map, length, refl, sym, ap, subst, true≢false}
+use Rattle.std.specs.Prelude.{◌==◌, is_some, slice_get, slice_set}
+use Rattle.std.specs.Option.{option_map_or}
 use Rattle.kvs_rules.specs.Sequence.{EachAfter}
-use Rattle.kvs_rules.proofs.Sequences.{each_joined, each_push}
+use Rattle.kvs_rules.proofs.Sequences.{each_joined}
+use Rattle.answers.specs.Chronicle.{Setup, top}
+use Rattle.answers.specs.Jobs.{instance_of}
 use Rattle.answers.specs.declared.chronicle.Entry.{Entry}
 use Rattle.answers.specs.declared.chronicle.Entry.TheVariants as entry
 use Rattle.answers.specs.declared.steps.Step.{Step}
-use Rattle.answers.specs.declared.steps.Step.TheVariants as step
-use Rattle.answers.specs.Legal.{IsLegal, IsLegalEntry, IsSettled, RestsAtIssue}
-use Rattle.answers.specs.Runs.{ComesInTime, IsInTime}
-use Rattle.answers.specs.Stretches.{AreStretches, IsStretch, IsTimeless}
-use Rattle.answers.specs.Whole.{IsClosingEntry}
-use Rattle.answers.proofs.Alone.{in_time}
-use Rattle.instance.specs.Makes.{Ends, Follows}
-use Rattle.instance.specs.Value.{InstanceValue}
+use Rattle.hierarchy.specs.Births.{birth_of, is_born, lives, numbers}
+use Rattle.hierarchy.specs.Growing.{GoesOn}
+use Rattle.hierarchy.specs.Grows.{GrowsByOwn, GrowsOwn, LivesSo, StaysAs}
+use Rattle.hierarchy.specs.Legal.{HasRunRest, IsLegalRun, IsLegalRunEntry, IsSettledRun, RunRestsAtIssue}
+use Rattle.hierarchy.specs.Own.{child_setup, own_of, setup_in, work_for}
+use Rattle.hierarchy.specs.Stretches.{AreRunStretches, IsRunStretch, entered_in}
+use Rattle.instance.specs.Steps.{IsIssue}
+use Rattle.instance_rules.specs.Log.{IsInstance}
 use Rattle.world.specs.Advances.{Advances}
-use Rattle.world.specs.Sound.{EndsSo, IsSound}
+use Rattle.world.specs.Homes.{AreHomes, ArePlaces, IsHome}
+use Rattle.world.specs.Sound.{AreValid, IsRunning, IsSound}
 use Rattle.world.specs.Value.{WorldValue}
+use Rattle.world.specs.declared.homes.Home.{Home}
+use Rattle.world.specs.declared.homes.Place.{Place}
 use Rattle.world.proofs.Stretching.{stretches_on}
 
--- the world with the instance behind the step, and more that has happened
-abbrev pub stepped : WorldValue → InstanceValue → List Entry → List Step → List ℕ → WorldValue
-stepped v i c steps ends = record { spent = false; set = v.set; chronicle = c; steps = steps; ends = ends; closed = v.closed; order = v.order; instance = i }
+-- ---- what was given stays valid
 
-module _ (v : WorldValue) (s : Step) (i : InstanceValue) (made : List Entry) (f : Follows v.set v.chronicle s i made)
-    (c : List Entry) (steps : List Step) (ends : List ℕ) (ec : c ≡ v.chronicle ++ made) (es : steps ≡ v.steps ++ s ∷ []) (ee : ends ≡ v.ends ++ length c ∷ []) where
-  pub step_sound : IsSound v → v.closed ≡ false → i.spent ≡ false → EachAfter (ComesInTime v.set) v.chronicle made → IsSound (stepped v i c steps ends)
-  step_sound h runs ready timely =
-      subst (λ x. IsSound (stepped v i x steps ends)) (sym ec)
-      (subst (λ x. IsSound (stepped v i (v.chronicle ++ made) x ends)) (sym es)
-      (subst (λ x. IsSound (stepped v i (v.chronicle ++ made) (v.steps ++ s ∷ []) x)) (sym (ee ∙ ap (λ x. v.ends ++ length x ∷ []) ec))
+pub valid_still : (set : Setup) (c more : List Entry) → ((k : ℕ) → birth_of (c ++ more) k ≡ birth_of c k) → AreValid set c → AreValid set (c ++ more)
+valid_still set c more births valid = λ i born.
+    let was : is_born c i ≡ true = sym (ap (λ b. (i == top) || is_some b) (births i)) ∙ born in
+    subst (λ s. IsInstance (instance_of s))
+    (sym (ap (λ b. option_map_or (child_setup set) b (record set { work = work_for set.work None set.size })) (births i)))
+    (valid i was)
+
+pub valid_so : (set : Setup) (c more : List Entry) → LivesSo c more → AreValid set c → AreValid set (c ++ more)
+valid_so set c more so valid = valid_still set c more so.births valid
+
+-- ---- the world behind a step
+
+-- what has happened, with the instances and the places behind it
+abbrev pub stepped : WorldValue → List Entry → List Step → List ℕ → List Home → List Place → WorldValue
+stepped v c steps ends homes places = record v { spent = false; chronicle = c; steps = steps; ends = ends; homes = homes; places = places }
+
+module _ (v : WorldValue) (s : Step) (made : List Entry) (stretch : IsRunStretch v.set v.chronicle s made)
+    (c : List Entry) (steps : List Step) (ends : List ℕ) (homes : List Home) (places : List Place)
+    (ec : c ≡ v.chronicle ++ made) (es : steps ≡ v.steps ++ s ∷ []) (ee : ends ≡ v.ends ++ length c ∷ []) where
+  -- it is sound where the run goes on so
+  pub step_sound : IsSound v → v.closed ≡ false → EachAfter (IsLegalRunEntry v.set) v.chronicle made → AreValid v.set (v.chronicle ++ made)
+      → IsRunning (stepped v (v.chronicle ++ made) steps ends homes places) → IsSound (stepped v c steps ends homes places)
+  step_sound h runs legal valid running =
+      subst (λ x. IsSound (stepped v x steps ends homes places)) (sym ec)
       (record {
-        ready = ready;
-        legal = f.agrees.legal;
-        in_time = each_joined (ComesInTime v.set) [] v.chronicle made h.in_time timely;
-        stretches = stretches_on v.set.work v.steps v.ends v.chronicle made s h.stretches f.made;
-        ended = subst (EndsSo v.set (v.chronicle ++ made)) (sym runs) f.agrees.early;
-        agrees = λ _. f.agrees;
-      })))
+        run = h.run;
+        legal = each_joined (IsLegalRunEntry v.set) [] v.chronicle made h.legal legal;
+        valid = valid;
+        stretches = subst (λ x. AreRunStretches v.set x ends (v.chronicle ++ made)) (sym es)
+            (subst (λ x. AreRunStretches v.set (v.steps ++ s ∷ []) x (v.chronicle ++ made)) (sym (ee ∙ ap (λ x. v.ends ++ length x ∷ []) ec))
+            (stretches_on v.set v.steps v.ends v.chronicle made s h.stretches stretch));
+        runs = λ _. running;
+        ended = λ closed. absurd (true≢false (sym closed ∙ runs));
+      })
 
-  -- a step that neither lets time go on nor is about a child makes nothing out of time
-  pub plain_sound : IsSound v → v.closed ≡ false → i.spent ≡ false → IsTimeless s → IsSound (stepped v i c steps ends)
-  plain_sound h runs ready free = step_sound h runs ready (in_time v.set v.chronicle made s free f.made)
-
-  pub step_advances : Advances v s (stepped v i c steps ends)
-  step_advances = record {
+  pub step_advances : ((IsIssue s → HasRunRest v.set v.chronicle) → EachAfter (RunRestsAtIssue v.set) v.chronicle made) → Advances v s (stepped v c steps ends homes places)
+  step_advances settled = record {
     ready = refl;
     set = refl;
     steps = es;
     made = made;
     told = ec;
-    stretch = f.made;
+    stretch = stretch;
     ends = ee;
-    settled = λ settled told. subst (IsSettled v.set) (sym ec) (each_joined (RestsAtIssue v.set) [] v.chronicle made settled (f.settled told));
-  }
-
--- closing replies issue nothing, so they leave a chronicle settled
-settled_closing : (set : _) (c es : List Entry) → Each IsClosingEntry es → EachAfter (RestsAtIssue set) c es
-settled_closing set c [] h = tt
-settled_closing set c (entry.Replied a k given number ∷ es) h = (tt, settled_closing set (c ++ entry.Replied a k given number ∷ []) es h.1)
-settled_closing set c (entry.Issued a k ∷ es) h = absurd h.0
-settled_closing set c (entry.Landed i space number authors groups ∷ es) h = absurd h.0
-settled_closing set c (entry.Denied i space authors group refusal ∷ es) h = absurd h.0
-settled_closing set c (entry.Heard i b space number ∷ es) h = absurd h.0
-settled_closing set c (entry.Got i b reference ∷ es) h = absurd h.0
-settled_closing set c (entry.Dropped i b reference ∷ es) h = absurd h.0
-settled_closing set c (entry.Told from to ∷ es) h = absurd h.0
-settled_closing set c (entry.Ticked second ∷ es) h = absurd h.0
-settled_closing set c (entry.Born child parent job label second grant ∷ es) h = absurd h.0
-settled_closing set c (entry.Gone child parent job shut ∷ es) h = absurd h.0
-settled_closing set c (entry.Closed ∷ es) h = absurd h.0
-
--- the world behind its end
-abbrev pub ended : WorldValue → List Entry → List Step → List ℕ → WorldValue
-ended v c steps ends = record v { spent = false; chronicle = c; steps = steps; ends = ends; closed = true }
-
-module _ (v : WorldValue) (left : List Entry) (e : Ends v.set v.chronicle left)
-    (c : List Entry) (steps : List Step) (ends : List ℕ) (ec : c ≡ (v.chronicle ++ left) ++ entry.Closed ∷ []) (es : steps ≡ v.steps ++ step.Close ∷ []) (ee : ends ≡ v.ends ++ length c ∷ []) where
-  abbrev whole : List Entry
-  whole = (v.chronicle ++ left) ++ entry.Closed ∷ []
-
-  one_behind : v.chronicle ++ (left ++ entry.Closed ∷ []) ≡ whole
-  one_behind = sym (append_assoc v.chronicle left (entry.Closed ∷ []))
-
-  stretch_made : IsStretch v.set.work v.chronicle step.Close (left ++ entry.Closed ∷ [])
-  stretch_made = record { closings = left; split = refl; closing = e.closing }
-
-  pub close_sound : IsSound v → IsSound (ended v c steps ends)
-  close_sound h =
-      subst (λ x. IsSound (ended v x steps ends)) (sym ec)
-      (subst (λ x. IsSound (ended v whole x ends)) (sym es)
-      (subst (λ x. IsSound (ended v whole (v.steps ++ step.Close ∷ []) x)) (sym (ee ∙ ap (λ x. v.ends ++ length x ∷ []) ec))
-      (record {
-        ready = h.ready;
-        legal = subst (IsLegal v.set) one_behind (each_joined (IsLegalEntry v.set) [] v.chronicle (left ++ entry.Closed ∷ []) h.legal e.legal);
-        in_time = subst (IsInTime v.set) one_behind (each_joined (ComesInTime v.set) [] v.chronicle (left ++ entry.Closed ∷ []) h.in_time
-            (in_time v.set v.chronicle (left ++ entry.Closed ∷ []) step.Close tt stretch_made));
-        stretches = subst (λ (x : List Entry). AreStretches v.set.work (v.steps ++ step.Close ∷ []) (v.ends ++ length x ∷ []) x) one_behind
-            (stretches_on v.set.work v.steps v.ends v.chronicle (left ++ entry.Closed ∷ []) step.Close h.stretches stretch_made);
-        ended = e.whole;
-        agrees = λ closed. absurd (true≢false closed);
-      })))
-
-  pub close_advances : Advances v step.Close (ended v c steps ends)
-  close_advances = record {
-    ready = refl;
-    set = refl;
-    steps = es;
-    made = left ++ entry.Closed ∷ [];
-    told = ec ∙ sym one_behind;
-    stretch = stretch_made;
-    ends = ee;
-    settled = λ settled _. subst (IsSettled v.set) (sym ec) (each_push (RestsAtIssue v.set) (v.chronicle ++ left) entry.Closed
-        (each_joined (RestsAtIssue v.set) [] v.chronicle left settled (settled_closing v.set v.chronicle left e.closing)) tt);
+    settled = λ was told. subst (IsSettledRun v.set) (sym ec) (each_joined (RunRestsAtIssue v.set) [] v.chronicle made was (settled told));
   }

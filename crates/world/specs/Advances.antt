@@ -2,9 +2,8 @@
 use Rattle.std.specs.Prelude.{◌≡◌, List, [], ◌∷◌, ◌++◌, false, length}
 use Rattle.answers.specs.declared.chronicle.Entry.{Entry}
 use Rattle.answers.specs.declared.steps.Step.{Step}
-use Rattle.answers.specs.Legal.{IsSettled}
-use Rattle.answers.specs.Stretches.{IsStretch}
-use Rattle.answers.specs.Whole.{HasComeToRest}
+use Rattle.hierarchy.specs.Legal.{HasRunRest, IsSettledRun}
+use Rattle.hierarchy.specs.Stretches.{IsRunStretch}
 use Rattle.instance.specs.Steps.{IsIssue}
 use Rattle.world.specs.Value.{WorldValue}
 
@@ -16,8 +15,7 @@ pub record Advances (old : WorldValue) (s : Step) (new : WorldValue) : Type 0 wh
   pub steps : new.steps ≡ old.steps ++ s ∷ []
   pub made : List Entry
   pub told : new.chronicle ≡ old.chronicle ++ made
-  pub stretch : IsStretch old.set.work old.chronicle s made
+  pub stretch : IsRunStretch old.set old.chronicle s made
   pub ends : new.ends ≡ old.ends ++ length new.chronicle ∷ []
-  pub settled : IsSettled old.set old.chronicle
-      → (IsIssue s → HasComeToRest old.set old.chronicle) →
-      IsSettled new.set new.chronicle
+  pub settled : IsSettledRun old.set old.chronicle
+      → (IsIssue s → HasRunRest old.set old.chronicle) → IsSettledRun new.set new.chronicle

@@ -1,18 +1,89 @@
 -- The steps that a world can make, in the order in which it makes them.
-use Rattle.std.specs.Prelude.{List, [], ◌∷◌, ◌++◌, map, if◌then◌else◌}
+use Rattle.std.specs.Prelude.{◌≡◌, ◌==◌, ◌&&◌, ℕ, List, [], ◌∷◌, ◌++◌, Bool, false, Option, Some, None, filter_map, flat_map, length, map, option_and_then, option_map, slice_get, if◌then◌else◌}
+use Rattle.std.specs.List.{cons_option, enumerate_from, filter, range_with_len}
+use Rattle.std.specs.Option.{option_map_or}
+use Rattle.kvs_rules.specs.declared.events.KvsStep.{KvsStep}
 use Rattle.services.specs.Order.{possible}
+use Rattle.services.specs.Steps.{can_step}
 use Rattle.answers.specs.declared.steps.Step.{Step}
 use Rattle.answers.specs.declared.steps.Step.TheVariants as step
-use Rattle.instance.specs.Order.{answers, issues, posts, ticks}
+use Rattle.instance.specs.Family.{bearing}
+use Rattle.instance.specs.Order.{answers}
+use Rattle.instance.specs.Steps.{can_post}
+use Rattle.world.specs.Steps.{can_issue, can_tick, may_go}
 use Rattle.world.specs.Value.{WorldValue}
+use Rattle.world.specs.declared.homes.Home.{Home}
+use Rattle.world.specs.declared.homes.Place.{Place}
+use Rattle.world.specs.declared.run.drawing.Kind.{Kind}
+use Rattle.world.specs.declared.run.drawing.Kind.TheVariants as kind
 
--- what can be made before the end: a step of the service, a reply by actor, a post, a tick, an
--- issue by line
+-- ---- by instance
+
+-- whether an actor at this place waits, whose instance is the one of this number
+abbrev pub waits_in : List Place → ℕ → ℕ → Bool
+waits_in places i actor = option_map_or
+    (λ p. p.waits && option_map_or (λ home. home == i) p.home false) (slice_get places actor) false
+
+-- the actors that wait, whose instance is the one of this number
+abbrev pub left_in : List Place → ℕ → List ℕ
+left_in places i = filter (waits_in places i) (range_with_len 0 (length places))
+
+-- a step, if it can be made
+abbrev pub only_if : Bool → Step → List Step
+only_if can s = if can then s ∷ [] else []
+
+-- the steps of a kind that a living instance can make
+abbrev pub steps_in : WorldValue → Kind → ℕ → Home → List Step
+steps_in v kind.Turn i h = map (step.Kvs i) (possible h.instance.services)
+steps_in v kind.Reply i h = map step.Answer (answers h.instance)
+steps_in v kind.Post i h = only_if (can_post h.instance) (step.Post i)
+steps_in v kind.Birth i h = cons_option (option_map (step.Birth i) (bearing h.instance)) []
+steps_in v kind.End i h = only_if (may_go v.homes h) (step.End i)
+
+-- the services of each instance list a step where they can make one
+abbrev pub ListTurns : List Home → Type 0
+ListTurns homes = (i : ℕ) (h : Home) → slice_get homes i ≡ Some h → possible h.instance.services ≡ []
+    → (s : KvsStep) → can_step h.instance.services s ≡ false
+
+-- those that are left where it has gone: its actors are told
+abbrev pub steps_left : WorldValue → Kind → ℕ → List Step
+steps_left v kind.Reply i = map step.Answer (left_in v.places i)
+steps_left v _ i = []
+
+abbrev pub steps_at : WorldValue → Kind → ℕ × Home → List Step
+steps_at v k at = if at.1.gone then steps_left v k at.0 else steps_in v k at.0 at.1
+
+-- the steps of a kind, instance by instance
+abbrev pub steps_of : WorldValue → Kind → List Step
+steps_of v k = flat_map (steps_at v k) (enumerate_from 0 v.homes)
+
+-- ---- by line
+
+-- whether the next line of an actor that can be issued a command stands here
+abbrev pub is_next : WorldValue → ℕ → ℕ → Bool
+is_next v at actor = can_issue v actor
+    && option_map_or (λ p. p.next == at) (slice_get v.places actor) false
+
+-- the actor of this line, if its command can be issued
+abbrev pub issue_at : WorldValue → ℕ → Option ℕ
+issue_at v at = option_and_then
+    (λ line. if is_next v at line.actor then Some line.actor else None)
+    (slice_get v.set.work.lines at)
+
+abbrev pub issues : WorldValue → List ℕ
+issues v = filter_map (issue_at v) (range_with_len 0 (length v.set.work.lines))
+
+-- ---- all
+
+-- what can be made before the end: a step of a service, a reply, a post, a birth, an end of a
+-- child, a tick, an issue by line
 abbrev pub before_end : WorldValue → List Step
-before_end v = map (step.Kvs 0) (possible v.instance.services)
-    ++ (map step.Answer (answers v.instance)
-    ++ (posts v.instance
-    ++ (ticks v.instance ++ map step.Issue (issues v.set.work.lines v.instance))))
+before_end v = steps_of v kind.Turn
+    ++ (steps_of v kind.Reply
+    ++ (steps_of v kind.Post
+    ++ (steps_of v kind.Birth
+    ++ (steps_of v kind.End
+    ++ (only_if (can_tick v) step.Tick ++ map step.Issue (issues v))))))
 
 -- the end comes where nothing else can
 abbrev pub or_close : List Step → List Step

@@ -213,12 +213,7 @@ fn drawn_run(alloc: Global, text: &str, commands: &[u32], seed: u64) -> Result<O
 }
 
 /// A run that makes the steps which the world says, in this order.
-fn said_run(
-    alloc: Global,
-    text: &str,
-    commands: &[u32],
-    how: Schedule,
-) -> Result<Outcome, Fail> {
+fn said_run(alloc: Global, text: &str, commands: &[u32], how: Schedule) -> Result<Outcome, Fail> {
     let mut world = begin(alloc, text)?;
     world.schedule(how);
     match follow(&mut world) {
@@ -259,7 +254,12 @@ fn every_order_of_jobs_ends_with_every_command_answered(rt: HostRuntime) -> Resu
 fn children_end_whole(alloc: Global) -> Result<bool, Fail> {
     let mut whole = said_run(alloc, CHILDREN, &CHILDREN_COMMANDS, Schedule::Settled)?.whole;
     for seed in 0..10 {
-        let drawn = said_run(alloc, CHILDREN, &CHILDREN_COMMANDS, Schedule::Shuffled(seed))?;
+        let drawn = said_run(
+            alloc,
+            CHILDREN,
+            &CHILDREN_COMMANDS,
+            Schedule::Shuffled(seed),
+        )?;
         whole = whole && drawn.whole;
     }
     Ok(whole)

@@ -1,8 +1,28 @@
-use Rattle.std.proofs.Common.{◌≡◌, ◌%◌, ◌<◌, sym, arith, false, length, rules}
+use Rattle.std.proofs.Common.{◌≡◌, ◌∙◌, ◌%◌, ◌<◌, [], ap, sym, subst, arith, false, length, rules}
 use Rattle.std.specs.Prelude.{min}
-use Rattle.world.specs.Order.{before_end}
+use Rattle.std.proofs.lemmas.List.{nil_from_length}
+use Rattle.answers.specs.declared.steps.Step.TheVariants as step
+use Rattle.world.specs.Homes.{AreReady}
+use Rattle.world.specs.Order.{ListTurns, before_end}
+use Rattle.world.specs.Steps.{CanMake}
+use Rattle.world.specs.View.{value_of}
+use Rattle.world.proofs.Choosing.{closes}
 use Rattle.world.proofs.Numbering.{chosen-by, never-behind}
+use Rattle.world.proofs.Housing.{all_ready}
 use Rattle.world.proofs.run.World.drawn.Goals as goal
+
+pub turns_are_listed-requires : goal.turns_are_listed-requires
+turns_are_listed-requires c =
+    let h = c.self.invariant (ap (λ v. v.spent) c.self.view_is ∙ c.requires) in
+    subst AreReady (sym c.deref.ensures.value) (all_ready (value_of c.self.inside) (h.runs c.if-self.false))
+
+pub returns-then-count-eq0-clause-some : goal.returns-then-count-eq0-clause-some
+returns-then-count-eq0-clause-some c =
+    let v = value_of c.self.inside in
+    let h = c.self.invariant (ap (λ v. v.spent) c.self.view_is ∙ c.requires) in
+    let same = ap (λ v. length (before_end v)) c.self.view_is in
+    let none : before_end v ≡ [] = nil_from_length (before_end v) (omega (arith, same, c.count-count.ensures, c.if-count-eq0.true)) in
+    subst (λ w. CanMake w step.Close) c.self.view_is (closes v c.if-self.false (h.runs c.if-self.false) (subst ListTurns c.deref.ensures.value c.turns_are_listed.ensures) none)
 
 pub returns-in-Ok-clause-value : goal.returns-in-Ok-clause-value
 returns-in-Ok-clause-value c =

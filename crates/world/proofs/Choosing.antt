@@ -1,0 +1,58 @@
+-- The step of a number can be made.
+use Rattle.std.proofs.Common.{◌≡◌, ◌∙◌, ℕ, List, [], ◌++◌, false, true, get_or, sym, ap, append_assoc, arith}
+use Rattle.std.specs.Prelude.{Contains, IfOk, Result, Ok, Err}
+use Rattle.std.proofs.lemmas.List.{nil_from_length}
+use Rattle.std.proofs.lemmas.Option.{slice_get-get_or}
+use Rattle.kvs_core.specs.Walk.{nth}
+use Rattle.answers.specs.declared.steps.Step.{Step}
+use Rattle.answers.specs.declared.steps.Step.TheVariants as step
+use Rattle.world.specs.Order.{ListTurns, before_end, steps_of}
+use Rattle.world.specs.Sound.{IsRunning}
+use Rattle.world.specs.Steps.{CanMake, can_make}
+use Rattle.world.specs.Value.{WorldValue}
+use Rattle.world.specs.Walks.{by_instances, by_the_run}
+use Rattle.world.specs.declared.run.drawing.Kind.TheVariants as kind
+use Rattle.world.proofs.Housing.{own_lines, seated}
+use Rattle.world.proofs.Numbering.{below, got, lengthy}
+use Rattle.world.proofs.Ordering.{over, possible}
+use Rattle.world.proofs.Standing.{same_item}
+
+-- the steps of instances, and those behind them, are all before the end
+pub both_parts : (v : WorldValue) → by_instances v ++ by_the_run v ≡ before_end v
+both_parts v =
+    let end = by_the_run v in
+    append_assoc (steps_of v kind.Turn) _ end
+    ∙ ap (λ xs. steps_of v kind.Turn ++ xs) (append_assoc (steps_of v kind.Reply) _ end
+    ∙ ap (λ xs. steps_of v kind.Reply ++ xs) (append_assoc (steps_of v kind.Post) _ end
+    ∙ ap (λ xs. steps_of v kind.Post ++ xs) (append_assoc (steps_of v kind.Birth) _ end
+    ∙ ap (λ xs. steps_of v kind.Birth ++ xs) (append_assoc (steps_of v kind.End) [] end))))
+
+listed_at : (xs : List Step) (number : ℕ) (s : Step) → nth xs number ≡ Ok s → Contains xs s
+listed_at xs number s e =
+    let low = below xs number s e in
+    (number, low, same_item (get_or xs number s) s (sym (slice_get-get_or xs number s low) ∙ got xs number s e))
+
+now_made : (v : WorldValue) → v.closed ≡ false → (s : Step) → can_make v s ≡ true → CanMake v s
+now_made v runs (step.Issue actor) can = (runs, can)
+now_made v runs (step.Kvs i s) can = (runs, can)
+now_made v runs (step.Answer actor) can = (runs, can)
+now_made v runs (step.Post i) can = (runs, can)
+now_made v runs step.Tick can = (runs, can)
+now_made v runs (step.Birth i job) can = (runs, can)
+now_made v runs (step.End i) can = (runs, can)
+now_made v runs step.Close can = cc
+
+module _ (v : WorldValue) (runs : v.closed ≡ false) (running : IsRunning v) where
+  pub made_at : (number : ℕ) (s : Step) → nth (before_end v) number ≡ Ok s → CanMake v s
+  made_at number s e = now_made v runs s (possible v (seated v running) s (listed_at (before_end v) number s e))
+
+  pub all_made : (number : ℕ) (r : Result Step ℕ) → r ≡ nth (before_end v) number → IfOk r (λ s. CanMake v s)
+  all_made number (Ok s) e = made_at number s (sym e)
+  all_made number (Err left) e = tt
+
+  -- the end comes where the list is empty
+  pub closes : ListTurns v.homes → before_end v ≡ [] → CanMake v step.Close
+  closes listed none = (runs, over v (own_lines v running) listed none)
+
+pub none_listed : (v : WorldValue) (left : ℕ) → nth (before_end v) 0 ≡ Err left → before_end v ≡ []
+none_listed v left e = nil_from_length (before_end v) (let all = lengthy (before_end v) 0 left e in omega (arith, all))

@@ -1,0 +1,145 @@
+-- Where the actor and the instance of a step stand.
+use Rattle.std.proofs.Common.{◌≡◌, ◌∙◌, ◌+◌, ◌<◌, ◌&&◌, ℕ, zero, suc, List, [], ◌∷◌, Bool, true, false, Option, Some, None, cond, get_or, is_some, length, not, refl, sym, ap, ap₂, arith}
+use Rattle.std.specs.Prelude.{find, nat_lt, option_and_then, slice_get}
+use Rattle.std.specs.List.{range_with_len}
+use Rattle.std.specs.Option.{option_map_or}
+use Rattle.std.proofs.lemmas.Bool.{and_parts, ltb-true}
+use Rattle.std.proofs.lemmas.Option.{get_or_from_slice_get, slice_get-get_or, slice_get_within}
+use Rattle.instance.specs.Steps.{can_answer as instance_can_answer}
+use Rattle.world.specs.Acting.{IsGoneAt, IsPlacedIn}
+use Rattle.hierarchy.specs.Births.{is_at, label_of, numbers}
+use Rattle.hierarchy.proofs.Numbering.{numbers_are}
+use Rattle.world.specs.Homes.{home_in, if_living, living_at}
+use Rattle.world.specs.Sound.{IsSound}
+use Rattle.world.specs.Steps.{at_home, can_answer, can_issue}
+use Rattle.world.specs.Value.{WorldValue}
+use Rattle.world.specs.declared.homes.Home.{Home}
+use Rattle.world.specs.declared.homes.Place.{Place}
+
+-- what an option says that is true
+pub record IsFoundIn {X : Type 0} (o : Option X) (says : X → Bool) : Type 0 where
+  pub it : X
+  pub is : o ≡ Some it
+  pub so : says it ≡ true
+
+pub option_found : {X : Type 0} (o : Option X) (says : X → Bool) → option_map_or says o false ≡ true → IsFoundIn o says
+option_found None says e = cc
+option_found (Some x) says e = record { it = x; is = refl; so = e }
+
+-- what is read at a place of a list is what stands there
+pub item_read : {X : Type 0} (xs : List X) (i : ℕ) (one x : X) → slice_get xs i ≡ Some one → x ≡ get_or xs i x → slice_get xs i ≡ Some x
+item_read xs i one x at read = at ∙ ap Some (sym (read ∙ get_or_from_slice_get xs i one x at))
+
+-- whichever is named for a place past the end
+pub same_at : {X : Type 0} (xs : List X) (i : ℕ) (d e : X) → i < length xs → get_or xs i d ≡ get_or xs i e
+same_at {X = X} xs i d e below = of (get_or xs i d) (get_or xs i e) (sym (slice_get-get_or xs i d below) ∙ slice_get-get_or xs i e below)
+  where
+    of : (x y : X) → Some x ≡ Some y → x ≡ y
+    of x y same = cc
+
+-- an instance that lives
+pub some_says : {X : Type 0} (o : Option X) → is_some o ≡ true → option_map_or (λ _. true) o false ≡ true
+some_says None e = e
+some_says (Some x) e = e
+
+-- ---- places
+
+pub record IsStanding (places : List Place) (actor number : ℕ) (p : Place) : Type 0 where
+  pub here : slice_get places actor ≡ Some p
+  pub home : p.home ≡ Some number
+
+pub placed_at : (places : List Place) (actor number : ℕ) → IsPlacedIn places actor number → (p : Place) → p ≡ get_or places actor p → IsStanding places actor number p
+placed_at places actor number e p read = by (slice_get places actor) refl e
+  where
+    by : (o : Option Place) → slice_get places actor ≡ o → option_and_then (λ (q : Place). q.home) o ≡ Some number → IsStanding places actor number p
+    by None at e = cc
+    by (Some q) at e =
+        let same : q ≡ p = sym (read ∙ get_or_from_slice_get places actor q p at) in
+        record { here = at ∙ ap Some same; home = ap (λ (x : Place). x.home) (sym same) ∙ e }
+
+pub placed_within : (places : List Place) (actor number : ℕ) → IsPlacedIn places actor number → actor < length places
+placed_within places actor number e = by (slice_get places actor) refl e
+  where
+    by : (o : Option Place) → slice_get places actor ≡ o → option_and_then (λ (q : Place). q.home) o ≡ Some number → actor < length places
+    by None at e = cc
+    by (Some q) at e = slice_get_within places actor q at
+
+pub same_read : (places : List Place) (actor : ℕ) (p q : Place) → slice_get places actor ≡ Some p → slice_get places actor ≡ Some q → p ≡ q
+same_read places actor p q one other = cc
+
+pub placed_in : (places : List Place) (actor number : ℕ) (p : Place) → slice_get places actor ≡ Some p → p.home ≡ Some number → IsPlacedIn places actor number
+placed_in places actor number p here home = ap (option_and_then (λ (q : Place). q.home)) here ∙ home
+
+pub issuer_at : (v : WorldValue) (actor : ℕ) → can_issue v actor ≡ true → (p : Place) → p ≡ get_or v.places actor p → slice_get v.places actor ≡ Some p
+issuer_at v actor can p read =
+    let f = option_found (slice_get v.places actor) (λ (p : Place). is_some p.home && (not p.waits && nat_lt p.next (length v.set.work.lines))) can in
+    item_read v.places actor f.it p f.is read
+
+-- ---- the instance of an actor
+
+found_below : (test : ℕ → Bool) (a n i : ℕ) → find test (range_with_len a n) ≡ Some i → i < a + n
+found_below test a zero i e = cc
+found_below test a (suc n) i e = by (test a) refl e (found_below test (a + 1) n i)
+  where
+    by : (b : Bool) → test a ≡ b → cond b (Some a) (find test (range_with_len (a + 1) n)) ≡ Some i → (find test (range_with_len (a + 1) n) ≡ Some i → i < a + 1 + n) → i < a + suc n
+    by true is f more = (let same : a ≡ i = cc in omega arith)
+    by false is f more = let less = more f in omega arith
+
+-- it has its place among those that were born
+pub home_below : (v : WorldValue) → IsSound v → v.closed ≡ false → (actor i : ℕ) (p : Place) → slice_get v.places actor ≡ Some p → p.home ≡ Some i → i < length v.homes
+home_below v sound runs actor i p standing home =
+    let on = sound.runs runs in
+    let found : home_in v.set v.chronicle actor ≡ Some i = sym (on.places.each actor p standing).home ∙ home in
+    let test = λ (n : ℕ). is_at v.set.work.actors (label_of v.chronicle n) actor in
+    let below = found_below test 0 (length (numbers v.chronicle)) i (ap (find test) (sym (numbers_are v.set v.chronicle sound.legal)) ∙ found) in
+    let all = on.homes.all in
+    omega arith
+
+pub home_read : (homes : List Home) (i : ℕ) (h : Home) → i < length homes → h ≡ get_or homes i h → slice_get homes i ≡ Some h
+home_read homes i h below read = slice_get-get_or homes i h below ∙ ap Some (sym read)
+
+pub is_living : (homes : List Home) (i : ℕ) (h : Home) → slice_get homes i ≡ Some h → h.gone ≡ false → is_some (living_at homes i) ≡ true
+is_living homes i h here living = ap (λ o. is_some (option_and_then if_living o)) here ∙ ap (λ b. is_some (cond b None (Some h))) living
+
+pub is_gone_at : (homes : List Home) (i : ℕ) (h : Home) → slice_get homes i ≡ Some h → h.gone ≡ true → IsGoneAt homes i
+is_gone_at homes i h here gone = ap (λ o. option_map_or (λ (x : Home). x.gone) o false) here ∙ gone
+
+-- ---- the actor that can be answered
+
+module _ (v : WorldValue) (actor i : ℕ) (p : Place) (h : Home) (standing : slice_get v.places actor ≡ Some p) (home : p.home ≡ Some i) (here : slice_get v.homes i ≡ Some h) where
+  answer_so : can_answer v actor ≡ (cond h.gone p.waits (instance_can_answer h.instance actor))
+  answer_so =
+      ap (λ o. option_map_or (λ (p : Place). at_home v.homes (λ h. cond h.gone p.waits (instance_can_answer h.instance actor)) p) o false) standing
+      ∙ ap (λ o. option_map_or (λ i. option_map_or (λ (h : Home). cond h.gone p.waits (instance_can_answer h.instance actor)) (slice_get v.homes i) false) o false) home
+      ∙ ap (λ o. option_map_or (λ (h : Home). cond h.gone p.waits (instance_can_answer h.instance actor)) o false) here
+
+  pub waits_left : h.gone ≡ true → can_answer v actor ≡ true → p.waits ≡ true
+  waits_left gone can = sym (answer_so ∙ ap (λ b. cond b p.waits (instance_can_answer h.instance actor)) gone) ∙ can
+
+  pub answers_in : h.gone ≡ false → can_answer v actor ≡ instance_can_answer h.instance actor
+  answers_in living = answer_so ∙ ap (λ b. cond b p.waits (instance_can_answer h.instance actor)) living
+
+  pub answers_left : h.gone ≡ true → p.waits ≡ true → can_answer v actor ≡ true
+  answers_left gone waits = answer_so ∙ ap₂ (λ b w. cond b w (instance_can_answer h.instance actor)) gone waits
+
+  -- and for whom a command can be issued
+  pub issue_so : can_issue v actor ≡ (not p.waits && nat_lt p.next (length v.set.work.lines))
+  issue_so =
+      ap (λ o. option_map_or (λ (p : Place). is_some p.home && (not p.waits && nat_lt p.next (length v.set.work.lines))) o false) standing
+      ∙ ap (λ o. is_some o && (not p.waits && nat_lt p.next (length v.set.work.lines))) home
+
+  pub issues_there : p.waits ≡ false → nat_lt p.next (length v.set.work.lines) ≡ true → can_issue v actor ≡ true
+  issues_there free more = issue_so ∙ ap₂ (λ w m. not w && m) free more
+
+  pub free_there : can_issue v actor ≡ true → p.waits ≡ false
+  free_there can = of (and_parts (not p.waits) (nat_lt p.next (length v.set.work.lines)) (sym issue_so ∙ can)).0
+    where
+      of : not p.waits ≡ true → p.waits ≡ false
+      of = by p.waits
+        where
+          by : (b : Bool) → not b ≡ true → b ≡ false
+          by true e = cc
+          by false e = refl
+
+  pub more_there : can_issue v actor ≡ true → p.next < length v.set.work.lines
+  more_there can = ltb-true p.next (length v.set.work.lines) (and_parts (not p.waits) (nat_lt p.next (length v.set.work.lines)) (sym issue_so ∙ can)).1

@@ -1,0 +1,9 @@
+use Rattle.std.proofs.Common.{◌≡◌, drop}
+use Rattle.std.specs.Prelude.{flat_map}
+use Rattle.kvs_core.specs.Walk.{nth}
+use Rattle.world.specs.Order.{steps_of}
+use Rattle.world.specs.Walks.{by_instances, kinds}
+use Rattle.world.proofs.run.World.nth_of_all.Given as goal
+
+abbrev pub invariant-loop-kind : goal.invariant-loop-kind
+invariant-loop-kind l = nth (flat_map (steps_of l.self) (drop l.kind-index kinds)) l.left ≡ nth (by_instances l.self) l.number

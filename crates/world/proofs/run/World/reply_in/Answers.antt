@@ -1,0 +1,54 @@
+use Rattle.std.proofs.Common.{◌≡◌, ◌∙◌, ◌<◌, true, ap, arith}
+use Rattle.std.specs.Prelude.{option_and_then, slice_get}
+use Rattle.std.proofs.lemmas.Option.{slice_get_within}
+use Rattle.instance.specs.Steps.{can_answer}
+use Rattle.world.specs.Steps.{of_home}
+use Rattle.world.specs.View.{value_of}
+use Rattle.world.specs.declared.homes.Home.{Home}
+use Rattle.world.proofs.Acting.{reply_advances, reply_sound}
+use Rattle.world.proofs.Advancing.{advances_at}
+use Rattle.world.proofs.Finding.{IsStanding, placed_at, placed_within}
+use Rattle.world.proofs.Running.{home_is}
+use Rattle.world.proofs.Serving.{IsFound, living_found}
+use Rattle.world.proofs.run.World.reply_in.Goals as goal
+
+pub answer-requires-clause-ready : goal.answer-requires-clause-ready
+answer-requires-clause-ready c =
+    let v = value_of c.self.inside in
+    let sound = c.self.invariant (ap (λ v. v.spent) c.self.view_is ∙ c.requires.ready) in
+    let runs = ap (λ v. v.closed) c.self.view_is ∙ c.requires.runs in
+    let says = λ (h : Home). can_answer h.instance c.args.actor in
+    let there = living_found v.homes c.args.number says (ap (λ w. of_home w c.args.number says) c.self.view_is ∙ c.requires.can) c.index_mut.result.now c.index_mut.ensures.value in
+    (home_is v sound runs c.args.number c.index_mut.result.now there.here).ready
+
+pub answer-requires-clause-can : goal.answer-requires-clause-can
+answer-requires-clause-can c =
+    let says = λ (h : Home). can_answer h.instance c.args.actor in
+    (living_found (value_of c.self.inside).homes c.args.number says (ap (λ w. of_home w c.args.number says) c.self.view_is ∙ c.requires.can) c.index_mut.result.now c.index_mut.ensures.value).true_of
+
+pub index_mut-requires-2 : goal.index_mut-requires-2
+index_mut-requires-2 c =
+    let within = placed_within (value_of c.self.inside).places c.args.actor c.args.number (ap (λ w. option_and_then (λ p. p.home) (slice_get w.places c.args.actor)) c.self.view_is ∙ c.requires.home) in
+    omega (arith, within, c.self.inside.places.ok.0)
+
+pub invariant_of-self-2 : goal.invariant_of-self-2
+invariant_of-self-2 c = λ _.
+    let v = value_of c.self.inside in
+    let sound = c.self.invariant (ap (λ v. v.spent) c.self.view_is ∙ c.requires.ready) in
+    let runs = ap (λ v. v.closed) c.self.view_is ∙ c.requires.runs in
+    let says = λ (h : Home). can_answer h.instance c.args.actor in
+    let there = living_found v.homes c.args.number says (ap (λ w. of_home w c.args.number says) c.self.view_is ∙ c.requires.can) c.index_mut.result.now c.index_mut.ensures.value in
+    let at = placed_at v.places c.args.actor c.args.number (ap (λ w. option_and_then (λ p. p.home) (slice_get w.places c.args.actor)) c.self.view_is ∙ c.requires.home) c.index_mut-2.result.now c.index_mut-2.ensures.value in
+    reply_sound v sound runs c.args.actor c.args.number c.index_mut-2.result.now c.index_mut.result.now at.here at.home there.here there.living c.answer.new.self c.in_ok-made.made c.in_ok-made.ensures.ready
+    c.in_ok-made.ensures.makes c.enter.new.chronicle c.keep.new.steps.items c.keep.new.ends.items c.in_ok-enter.ensures c.in_ok-keep.ensures.steps c.in_ok-keep.ensures.ends
+
+pub returns-clause-advances : goal.returns-clause-advances
+returns-clause-advances c =
+    let v = value_of c.self.inside in
+    let sound = c.self.invariant (ap (λ v. v.spent) c.self.view_is ∙ c.requires.ready) in
+    let runs = ap (λ v. v.closed) c.self.view_is ∙ c.requires.runs in
+    let says = λ (h : Home). can_answer h.instance c.args.actor in
+    let there = living_found v.homes c.args.number says (ap (λ w. of_home w c.args.number says) c.self.view_is ∙ c.requires.can) c.index_mut.result.now c.index_mut.ensures.value in
+    let at = placed_at v.places c.args.actor c.args.number (ap (λ w. option_and_then (λ p. p.home) (slice_get w.places c.args.actor)) c.self.view_is ∙ c.requires.home) c.index_mut-2.result.now c.index_mut-2.ensures.value in
+    advances_at c.self.view_is (reply_advances v sound runs c.args.actor c.args.number c.index_mut-2.result.now c.index_mut.result.now at.here at.home there.here there.living c.answer.new.self c.in_ok-made.made c.in_ok-made.ensures.ready
+    c.in_ok-made.ensures.makes c.enter.new.chronicle c.keep.new.steps.items c.keep.new.ends.items c.in_ok-enter.ensures c.in_ok-keep.ensures.steps c.in_ok-keep.ensures.ends)

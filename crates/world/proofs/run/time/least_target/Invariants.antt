@@ -1,0 +1,12 @@
+use Rattle.std.proofs.Common.{take}
+use Rattle.job_book.specs.Seconds.{IsSoonest}
+use Rattle.world.specs.Steps.{all_targets}
+use Rattle.world.specs.Tells.{TellsTargets}
+use Rattle.world.proofs.Walking.{LivingBelow}
+use Rattle.world.proofs.run.time.least_target.Given as goal
+
+abbrev pub invariant-loop-home : goal.invariant-loop-home
+invariant-loop-home l = record {
+  soonest : IsSoonest (all_targets (take l.home-index l.homes)) l.least;
+  told : LivingBelow TellsTargets l.homes l.home-index;
+}
