@@ -24,16 +24,16 @@ nothing : (own : Bool) (e : Entry) → groups_landed_by e ≡ None → landed_by
 nothing true e is = is
 nothing false e is = refl
 
-kept : (b p : Bool) (groups : List Group) (e : Entry) → groups_landed_by e ≡ cond p (Some groups) None → landed_by (only_if b e) ≡ cond (b && p) (Some groups) None
-kept true p groups e is = is
-kept false p groups e is = refl
+kept : (b p q : Bool) (groups : List Group) (e : Entry) → groups_landed_by e ≡ cond (p && q) (Some groups) None → landed_by (only_if b e) ≡ cond (b && p && q) (Some groups) None
+kept true p q groups e is = is
+kept false p q groups e is = refl
 
 module _ (actors : List Actor) where
   -- the top has its landings in its own chronicle
   same : (e : Entry) → landed_by (own_entry actors None top e) ≡ groups_landed_by e
   same (entry.Issued actor command) = nothing _ (entry.Issued actor command) refl
   same (entry.Landed instance space number authors groups) =
-      kept (instance == top) (is_primary space && not (length groups == 0)) groups (entry.Landed top space number authors groups) refl
+      kept (instance == top) (is_primary space) (not (length groups == 0)) groups (entry.Landed top space number authors groups) refl
   same (entry.Denied instance space authors group refusal) = nothing (instance == top) (entry.Denied top space authors group refusal) refl
   same (entry.Heard instance broker space number) = nothing (instance == top) (entry.Heard top broker space number) refl
   same (entry.Got instance broker reference) = nothing (instance == top) (entry.Got top broker reference) refl
@@ -51,15 +51,17 @@ module _ (actors : List Actor) where
 
   own_landings : (c : List Entry) → list_any (ends top) c ≡ false → filter_map groups_landed_by (filter_map (own_entry actors None top) (until (ends top) c)) ≡ filter_map groups_landed_by c
   own_landings [] stays = refl
-  own_landings (e ∷ c) stays = by (ends top e) refl
+  own_landings (e ∷ c) stays = by (ends top e) refl (own_landings c)
     where
-      by : (b : Bool) → ends top e ≡ b → filter_map groups_landed_by (filter_map (own_entry actors None top) (until (ends top) (e ∷ c))) ≡ filter_map groups_landed_by (e ∷ c)
-      by true is = absurd (true≢false (sym (ap (λ b. b || list_any (ends top) c) is) ∙ stays))
-      by false is =
+      by : (b : Bool) → ends top e ≡ b
+          → (list_any (ends top) c ≡ false → filter_map groups_landed_by (filter_map (own_entry actors None top) (until (ends top) c)) ≡ filter_map groups_landed_by c)
+          → filter_map groups_landed_by (filter_map (own_entry actors None top) (until (ends top) (e ∷ c))) ≡ filter_map groups_landed_by (e ∷ c)
+      by true is rest = absurd (true≢false (sym (ap (λ b. b || list_any (ends top) c) is) ∙ stays))
+      by false is rest =
           ap (λ b. filter_map groups_landed_by (filter_map (own_entry actors None top) (cond b [] (e ∷ until (ends top) c)))) is
           ∙ behind (own_entry actors None top e) (filter_map (own_entry actors None top) (until (ends top) c))
           ∙ ap (λ o. cons_option o (filter_map groups_landed_by (filter_map (own_entry actors None top) (until (ends top) c)))) (same e)
-          ∙ ap (cons_option (groups_landed_by e)) (own_landings c (sym (ap (λ b. b || list_any (ends top) c) is) ∙ stays))
+          ∙ ap (cons_option (groups_landed_by e)) (rest (sym (ap (λ b. b || list_any (ends top) c) is) ∙ stays))
 
 pub top_landings : (set : Setup) (c : List Entry) → is_gone c top ≡ false → filter_map groups_landed_by c ≡ landings (top_log set c) primary
 top_landings set c lives = sym (own_landings set.work.actors c lives) ∙ landings_in (setup_in set c top).work (own_of set c top)

@@ -1,7 +1,8 @@
 use Rattle.std.proofs.Common.{◌≡◌, rules, map, string_bytes}
-use Rattle.std.specs.Prelude.{None}
+use Rattle.std.specs.Prelude.{None, Some}
 use Rattle.flux.specs.Generated.{generation_of}
 use Rattle.flux.specs.Runs.{run_options}
+use Rattle.flux.proofs.Apart.{run_draws_nothing}
 use Rattle.flux.proofs.call.flux.Goals as goal
 
 -- the words of a tool aren't a run's, so that the tool's part is all of the output
@@ -12,8 +13,21 @@ returns-then-is_tool-clause-cut g c = λ five.
     let undrawn : generation_of (map string_bytes c.args.words.now) ≡ None = search rules in
     (h.0, record { answers = λ o is. cc; summary = λ drawn is. cc; line = λ words. h.1 }, h.2)
 
--- the words of a run aren't a tool's, so that the run's part is all of the output
+-- the words of a run draw nothing and aren't a tool's, so that the run's part is all of the output
+pub returns-in-Some-clause-true_run : goal.returns-in-Some-clause-true_run
+returns-in-Some-clause-true_run g c = λ zero.
+    let h = c.run_workload.ensures.done zero in
+    let runs : run_options (map string_bytes c.args.words.now) ≡ Some c.in-Some.options = search rules in
+    (h.0, record { answers = search rules; summary = λ drawn is. absurd (run_draws_nothing (map string_bytes c.args.words.now) c.in-Some.options drawn runs is); line = search rules }, h.2)
+
 pub returns-in-Some-clause-cut : goal.returns-in-Some-clause-cut
 returns-in-Some-clause-cut g c = λ five.
     let h = c.run_workload.ensures.cut five in
+    let runs : run_options (map string_bytes c.args.words.now) ≡ Some c.in-Some.options = search rules in
+    (h.0, record { answers = search rules; summary = λ drawn is. absurd (run_draws_nothing (map string_bytes c.args.words.now) c.in-Some.options drawn runs is); line = search rules }, h.2)
+
+-- nor are words that draw a workload
+pub returns-in-Some-generation_of-clause-cut : goal.returns-in-Some-generation_of-clause-cut
+returns-in-Some-generation_of-clause-cut g c = λ five.
+    let h = c.run_drawn.ensures.cut five in
     (h.0, search rules, h.2)
