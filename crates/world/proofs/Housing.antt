@@ -74,6 +74,7 @@ come_some set log services by a issued (waiting.Tell to) h e = h.0
 come_some set log services by a issued waiting.Using h e = h.0
 come_some set log services by a issued waiting.Service h e = h.0
 come_some set log services by a issued waiting.Jobs h e = h.0
+come_some set log services by a issued waiting.Shutdown h e = h.0
 
 -- a beginning of the lines has no more of an actor than all
 count_front : (a : ℕ) (lines : List Line) (n : ℕ) → count_by (is_of a) (take n lines) ≤ count_by (is_of a) lines

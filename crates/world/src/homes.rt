@@ -1,5 +1,5 @@
 //! The instances of a run, by their numbers, and where its actors stand.
-ghost use Rattle.std.specs.Prelude.{◌≡◌, ◌≢◌, ◌≤◌, ◌<◌, ℕ, IfOk, [], filter, length, map, option_map, slice_index_or};
+ghost use Rattle.std.specs.Prelude.{◌≡◌, ◌≢◌, ◌≤◌, ◌<◌, ℕ, IfOk, [], filter, length, map, option_map, slice_get, slice_index_or};
 ghost use Rattle.answers.specs.Chronicle.{Setup};
 ghost use Rattle.hierarchy.specs.Births.{is_at};
 ghost use Rattle.hierarchy.specs.Own.{placed, work_for};
@@ -51,6 +51,16 @@ pub fn turns_are_listed(homes: &[Home])
 {
     for home in homes {
         home.instance.next_turn();
+    }
+}
+
+/// The instance of a number, if one was born.
+pub fn home_at(homes: &[Home], number: u32) -> Option<&Home>
+    ensures { option_map (λ h. h.now) result ≡ slice_get homes.now number }
+{
+    match homes.get(number as usize) {
+        Some(home) => Some(home),
+        None => None,
     }
 }
 

@@ -19,7 +19,7 @@ ghost use Rattle.world.specs.Steps.{CanMake, may_go};
 
 use super::time::may_go;
 use super::{World, keep};
-use crate::homes::{Home, Origin, Place, is_at, work_for};
+use crate::homes::{Home, Origin, Place, home_at, is_at, work_for};
 use answers::{Chronicle, Entry, Step};
 use instance::{CoreFault, Instance, Setting};
 use lists::{Bytes, Copied};
@@ -72,7 +72,7 @@ fn within(alloc: Global, homes: &[Home], number: u32) -> Result<Vec<bool>, Alloc
 fn end_at(homes: &[Home], number: u32) -> Option<Entry>
     ensures { result ≡ end_at homes.now number }
 {
-    let home = homes.get(number as usize)?;
+    let home = home_at(homes, number)?;
     let origin = home.origin.as_ref()?;
     Some(Entry::Gone {
         child: number,

@@ -9,7 +9,7 @@ ghost use Rattle.world.specs.Steps.{CanMake, all_ends, all_targets, can_tick, ha
 ghost use Rattle.world.specs.Tells.{EachLiving, HavePassedTo, MayPassTo, TellAll, TellsEnds, TellsEndIn, TellsIdle, TellsRest, TellsTargets};
 
 use super::{World, keep};
-use crate::homes::{Home, Place};
+use crate::homes::{Home, Place, home_at};
 use answers::{Entry, Step};
 use std::alloc::AllocError;
 
@@ -78,7 +78,7 @@ pub(super) fn may_go(homes: &[Home], home: &Home) -> bool
     let Some(origin) = &home.origin else {
         return false;
     };
-    let Some(parent) = homes.get(origin.parent as usize) else {
+    let Some(parent) = home_at(homes, origin.parent) else {
         return false;
     };
     !home.gone && parent.instance.may_end(origin.job, home.shuts)
@@ -118,7 +118,7 @@ fn is_left(homes: &[Home], place: Place) -> bool
     let Some(number) = place.home else {
         return false;
     };
-    let Some(home) = homes.get(number as usize) else {
+    let Some(home) = home_at(homes, number) else {
         return false;
     };
     place.waits && home.gone
