@@ -1,3 +1,5 @@
+-- what the calls promise
 pub mod Cache
-pub mod Kept
 pub mod Order
+-- what the code keeps to that end
+pub mod Kept

@@ -2,6 +2,7 @@
 use Rattle.std.specs.Prelude.{◌≡◌, ◌||◌, ◌==◌, ◌<◌, ◌^◌, ℕ, List, [], ◌∷◌, ◌++◌, Bool, true, not, Option, Some, None, Result, Ok, Err, codes, decimal, length, if◌then◌else◌, IfSome}
 use Rattle.std.specs.List.{list_all}
 use Rattle.std.specs.Str.{bytes_eq, IsUtf8}
+use Rattle.lists.specs.Ascii.{newline}
 use Rattle.json.specs.Print.{quoted}
 use Rattle.serde_json.specs.Data.{Data, Members, depth}
 use Rattle.serde_json.specs.Data as json
@@ -92,7 +93,7 @@ context_text (Some context) = codes "\"context\":" ++ context ++ codes ","
 -- the line of an event: compact, with its keys in order, and a newline
 abbrev pub line_text : Event → List ℕ
 line_text event = codes "{" ++ context_text event.context ++ codes "\"name\":" ++ quoted event.name
-    ++ codes ",\"timestamp\":" ++ decimal event.timestamp ++ (codes "}" ++ 10 ∷ [])
+    ++ codes ",\"timestamp\":" ++ decimal event.timestamp ++ (codes "}" ++ newline ∷ [])
 
 -- the canonical text of an object, which nests less deep than what is read
 pub record IsObjectText (text : List ℕ) : Type 0 where

@@ -1,6 +1,7 @@
 -- The events that a text tells, line by line.
 use Rattle.std.specs.Prelude.{◌≡◌, ◌+◌, ◌==◌, ℕ, List, [], ◌∷◌, Result, Ok, Err, length, if◌then◌else◌, flat_map}
 use Rattle.std.specs.List.{slice_split}
+use Rattle.lists.specs.Ascii.{newline}
 use Rattle.fl_json.specs.declared.faults.JsonFault.{JsonFault}
 use Rattle.fl_json.specs.declared.faults.JsonFault.TheVariants as json
 use Rattle.event_log.specs.declared.event.Event.{Event}
@@ -26,7 +27,7 @@ events_from line (first ∷ next ∷ more) = do
 
 -- the events of a log, or its first fault
 unfoldable pub log_reading : List ℕ → Result (List Event) LogFault
-log_reading text = events_from 1 (slice_split (λ b. b == 10) text)
+log_reading text = events_from 1 (slice_split (λ b. b == newline) text)
 
 -- the event of the first line of what is left of a log: a line whose newline is missing counts
 -- where it tells an event

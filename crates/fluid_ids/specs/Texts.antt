@@ -3,6 +3,7 @@ use Rattle.std.specs.Prelude.{ℕ, ◌/◌, ◌%◌, ◌^◌, ◌==◌, nat_lt, 
 use Rattle.std.specs.List.{position_or_len, list_any, list_all}
 use Rattle.std.specs.Option.{option_map_or}
 use Rattle.std.specs.Int.Digits.{digits_of, number_from_digits}
+use Rattle.lists.specs.Ascii.{dot, letter_f}
 use Rattle.fluid_ids.specs.declared.faults.FluidFault.{FluidFault}
 use Rattle.fluid_ids.specs.declared.faults.FluidFault.TheVariants.{BadText, TooLarge}
 use Rattle.fluid_ids.specs.declared.forms.Form.{Form}
@@ -37,8 +38,8 @@ read_in base digits = if not (length digits == 0) && list_all (is_digit_in base)
 
 -- four groups of four bytes with dots between, and the bytes of the groups
 abbrev pub is_dotted : List ℕ → Bool
-is_dotted text = length text == 19 && slice_index text 4 == 46
-    && slice_index text 9 == 46 && slice_index text 14 == 46
+is_dotted text = length text == 19 && slice_index text 4 == dot
+    && slice_index text 9 == dot && slice_index text 14 == dot
 
 abbrev pub groups : List ℕ → List ℕ
 groups text = map (slice_index text)
@@ -47,8 +48,8 @@ groups text = map (slice_index text)
 -- what stands behind `f` or `ƒ`, where a text begins with one
 abbrev pub after_mark : List ℕ → Option (List ℕ)
 after_mark [] = None
-after_mark (b ∷ []) = if b == 102 then Some [] else None
-after_mark (b ∷ c ∷ text) = if b == 102 then Some (c ∷ text)
+after_mark (b ∷ []) = if b == letter_f then Some [] else None
+after_mark (b ∷ c ∷ text) = if b == letter_f then Some (c ∷ text)
     else if b == 198 && c == 146 then Some text else None
 
 -- what a text without a dot spells: F58 behind a mark, and else decimal
@@ -57,7 +58,7 @@ plain text = option_map_or (read_in base_58) (after_mark text) (read_in base_10 
 
 -- what a text spells: the number of an id, or why it is none
 unfoldable pub meaning : List ℕ → Result ℕ FluidFault
-meaning text = if list_any (λ b. b == 46) text
+meaning text = if list_any (λ b. b == dot) text
     then (if is_dotted text then read_in base_16 (groups text) else Err BadText) else plain text
 
 -- a number's digits without leading zeros, 0 being one digit
@@ -72,8 +73,8 @@ group_text g = slice_index base_16 (g / 16 / 16 / 16) ∷ slice_index base_16 (g
 
 -- the text of an id in each form
 unfoldable pub printed : Form → ℕ → List ℕ
-printed F58 id = 102 ∷ digits_in base_58 id
+printed F58 id = letter_f ∷ digits_in base_58 id
 printed Decimal id = digits_in base_10 id
 printed Dothex id =
-    group_text (id / 65536 / 65536 / 65536) ++ (46 ∷ (group_text (id / 65536 / 65536 % 65536)
-    ++ (46 ∷ (group_text (id / 65536 % 65536) ++ (46 ∷ group_text (id % 65536))))))
+    group_text (id / 65536 / 65536 / 65536) ++ (dot ∷ (group_text (id / 65536 / 65536 % 65536)
+    ++ (dot ∷ (group_text (id / 65536 % 65536) ++ (dot ∷ group_text (id % 65536))))))

@@ -4,6 +4,7 @@ use Rattle.std.specs.Prelude.{◌≡◌, ◌≢◌, ◌⊎◌, ℕ, List, [], �
 use Rattle.std.specs.Option.{option_map_or}
 use Rattle.std.specs.Str.{bytes_eq}
 use Rattle.std.specs.Io.KnownBytes.{Consumes, IsAtEnd}
+use Rattle.lists.specs.Ascii.{newline, space}
 use Rattle.outside.specs.Causes.{Rose, HasReadCount}
 use Rattle.outside.specs.declared.reading.ReadFault.{ReadFault}
 use Rattle.outside.specs.declared.reading.ReadFault.TheVariants as read
@@ -66,7 +67,7 @@ AreReaderWords words = AreToolWords words × (length words ≡ 1)
 
 -- a text and a newline
 abbrev pub line : List ℕ → List ℕ
-line text = text ++ 10 ∷ []
+line text = text ++ newline ∷ []
 
 -- the canonical idset, or the leftmost fault (Flux RFC 22)
 abbrev pub idset_answer : List ℕ → Result (List ℕ) ToolFault
@@ -81,7 +82,7 @@ hostlist_answer text = option_map_or (λ fault. Err (Host fault))
 -- the three texts of an id, with a space between
 abbrev pub fluid_line : ℕ → List ℕ
 fluid_line id =
-    line (fluid.printed F58 id ++ 32 ∷ fluid.printed Dothex id ++ 32 ∷ fluid.printed Decimal id)
+    line (fluid.printed F58 id ++ space ∷ fluid.printed Dothex id ++ space ∷ fluid.printed Decimal id)
 
 -- the three texts of the id that is told, or why there is none (Flux RFC 19)
 abbrev pub fluid_told : Result ℕ FluidFault → Result (List ℕ) ToolFault

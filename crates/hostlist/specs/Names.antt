@@ -4,10 +4,11 @@ use Rattle.std.specs.List.{list_all, suffix_len}
 use Rattle.std.specs.Char.{is_ascii_alphanumeric, is_ascii_digit}
 use Rattle.std.specs.Str.Parse.{digits_value}
 use Rattle.std.specs.Fmt.{decimal}
+use Rattle.lists.specs.Ascii.{dash, digit_zero, dot, underscore}
 
 -- a letter, a digit, `-`, `.` or `_`
 abbrev pub is_name_byte : ℕ → Bool
-is_name_byte b = is_ascii_alphanumeric b || b == 45 || b == 46 || b == 95
+is_name_byte b = is_ascii_alphanumeric b || b == dash || b == dot || b == underscore
 
 -- one or more of these bytes
 abbrev pub is_host_name : List ℕ → Bool
@@ -43,7 +44,7 @@ value_of digits = digits_value 10 digits
 
 -- a number in decimal digits, with zeros before them up to this width
 unfoldable pub padded : ℕ → ℕ → List ℕ
-padded width number = replicate (width - length (decimal number)) 48 ++ decimal number
+padded width number = replicate (width - length (decimal number)) digit_zero ++ decimal number
 
 -- both hosts have numbers and what stands before these is the same
 abbrev pub shares_prefix : List ℕ → List ℕ → Bool

@@ -2,6 +2,7 @@
 use Rattle.std.specs.Prelude.{ℕ, ◌≡◌, ◌+◌, ◌-◌, ◌==◌, List, [], ◌∷◌, ◌++◌, map, not, Option, Some, None, length, if◌then◌else◌}
 use Rattle.std.specs.Option.{option_map_or}
 use Rattle.std.specs.List.{range_with_len, slice_split}
+use Rattle.lists.specs.Ascii.{comma}
 use Rattle.hostlist.specs.Names.{padded, value_of}
 use Rattle.hostlist.specs.Reading.{digits_at, last_number, range_end}
 use Rattle.hostlist.specs.declared.parts.Range.{Range}
@@ -28,4 +29,4 @@ part_bracket part =
 -- the pieces of what is left of a text: none where nothing is left, and one at least where it is
 -- cut on
 abbrev pub left : Option (List ℕ) → List (List ℕ)
-left rest = option_map_or (λ text. slice_split (λ c. c == 44) text) rest []
+left rest = option_map_or (λ text. slice_split (λ c. c == comma) text) rest []

@@ -4,6 +4,7 @@ use Rattle.std.specs.Prelude.{ℕ, ◌≡◌, ◌+◌, ◌-◌, ◌==◌, nat_lt
 use Rattle.std.specs.Option.{option_map_or}
 use Rattle.std.specs.List.{slice_split, take_while, prefix_len, range_with_len}
 use Rattle.std.specs.Char.{is_ascii_digit}
+use Rattle.lists.specs.Ascii.{closing_bracket, comma, dash, opening_bracket}
 use Rattle.hostlist.specs.Names.{is_name_byte, value_of, padded}
 use Rattle.hostlist.specs.declared.faults.HostFault.{HostFault}
 use Rattle.hostlist.specs.declared.faults.HostFault.TheVariants.{BadText, Backwards, TooMany, NoMemory}
@@ -23,7 +24,7 @@ behind_digits text = drop (prefix_len is_ascii_digit text) text
 -- where the last number of a range begins: behind the dash, or at the first number where there is
 -- no dash
 abbrev pub last_number : List ℕ → List ℕ
-last_number range = unwrap_or (behind 45 (behind_digits range)) range
+last_number range = unwrap_or (behind dash (behind_digits range)) range
 
 -- what stands behind a range
 abbrev pub range_end : List ℕ → List ℕ
@@ -43,7 +44,7 @@ prefix_of (Some prefix) piece = prefix
 
 -- the range in a bracket that a piece has, if it is no plain name
 abbrev pub range_of : Option (List ℕ) → List ℕ → Option (List ℕ)
-range_of None piece = behind 91 (drop (prefix_len is_name_byte piece) piece)
+range_of None piece = behind opening_bracket (drop (prefix_len is_name_byte piece) piece)
 range_of (Some prefix) piece = Some piece
 
 -- the hosts of a piece
@@ -74,7 +75,7 @@ number_fault place text = if prefix_len is_ascii_digit text == 0 then Some (BadT
 -- behind a range stands nothing, or the end of the bracket alone
 abbrev pub end_fault : ℕ → List ℕ → Option HostFault
 end_fault place [] = None
-end_fault place (b ∷ bs) = if b == 93
+end_fault place (b ∷ bs) = if b == closing_bracket
     then (if length bs == 0 then None else Some (BadText (place + 1))) else Some (BadText place)
 
 -- the first fault of a range that begins at this place
@@ -116,7 +117,7 @@ fault_in end place bracket (piece ∷ more) = or_else (piece_fault place bracket
 -- what stands between the commas of a text; the empty text has no piece
 unfoldable pub pieces : List ℕ → List (List ℕ)
 pieces [] = []
-pieces (b ∷ bs) = slice_split (λ c. c == 44) (b ∷ bs)
+pieces (b ∷ bs) = slice_split (λ c. c == comma) (b ∷ bs)
 
 -- the hosts that a text without a fault spells, in its order
 unfoldable pub spelled : List ℕ → List (List ℕ)

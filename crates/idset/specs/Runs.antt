@@ -2,6 +2,7 @@
 use Rattle.std.specs.Prelude.{ℕ, ◌+◌, ◌==◌, List, [], ◌∷◌, ◌++◌, map, if◌then◌else◌}
 use Rattle.std.specs.List.{join_with_byte}
 use Rattle.std.specs.Fmt.{decimal}
+use Rattle.lists.specs.Ascii.{dash}
 use Rattle.idset.specs.declared.ranges.IdRange.{IdRange}
 
 -- the runs with one id more before them, which lengthens the first run where it is the id before
@@ -18,7 +19,7 @@ runs (id ∷ ids) = onto_runs id (runs ids)
 
 -- a run of one prints as its id, a longer one as its first and last id with a dash between
 abbrev pub range_text : IdRange → List ℕ
-range_text r = if r.first == r.last then decimal r.first else decimal r.first ++ 45 ∷ decimal r.last
+range_text r = if r.first == r.last then decimal r.first else decimal r.first ++ dash ∷ decimal r.last
 
 -- the runs joined by commas
 unfoldable pub printed : List ℕ → List ℕ

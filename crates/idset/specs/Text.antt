@@ -3,6 +3,7 @@ use Rattle.std.specs.Prelude.{◌≡◌, ℕ, ◌+◌, ◌==◌, nat_lt, nat_le,
 use Rattle.std.specs.List.{position_or_len, before_first, slice_split}
 use Rattle.std.specs.Char.{is_ascii_digit}
 use Rattle.std.specs.Str.Parse.{digits_value}
+use Rattle.lists.specs.Ascii.{closing_bracket, comma, dash, digit_zero, opening_bracket}
 use Rattle.idset.specs.Ranges.{ids_in}
 use Rattle.idset.specs.declared.ranges.IdRange.{IdRange}
 use Rattle.idset.specs.declared.faults.IdFault.{IdFault}
@@ -12,10 +13,10 @@ abbrev pub is_empty : List ℕ → Bool
 is_empty text = length text == 0
 
 abbrev pub is_comma : ℕ → Bool
-is_comma b = b == 44
+is_comma b = b == comma
 
 abbrev pub is_close : ℕ → Bool
-is_close b = b == 93
+is_close b = b == closing_bracket
 
 abbrev pub is_no_digit : ℕ → Bool
 is_no_digit b = not (is_ascii_digit b)
@@ -30,7 +31,7 @@ behind_digits text = drop (position_or_len is_no_digit text) text
 -- digits without the zeros at their start
 abbrev pub behind_zeros : List ℕ → List ℕ
 behind_zeros [] = []
-behind_zeros (d ∷ ds) = if d == 48 then behind_zeros ds else d ∷ ds
+behind_zeros (d ∷ ds) = if d == digit_zero then behind_zeros ds else d ∷ ds
 
 -- the number that digits write
 unfoldable pub number_value : List ℕ → ℕ
@@ -53,11 +54,11 @@ range_of item = range_behind (leading_digits item) (behind_digits item)
 -- commas
 abbrev pub body : List ℕ → List ℕ
 body [] = []
-body (b ∷ bs) = if b == 91 then before_first is_close bs else b ∷ bs
+body (b ∷ bs) = if b == opening_bracket then before_first is_close bs else b ∷ bs
 
 abbrev pub is_bracketed : List ℕ → Bool
 is_bracketed [] = false
-is_bracketed (b ∷ bs) = b == 91
+is_bracketed (b ∷ bs) = b == opening_bracket
 
 abbrev pub body_place : List ℕ → ℕ
 body_place text = if is_bracketed text then 1 else 0
@@ -95,7 +96,7 @@ pair_faults place first tail = (
 -- the faults behind an item's first digits
 abbrev pub behind_faults : ℕ → List ℕ → List ℕ → List (Bool × IdFault)
 behind_faults place first [] = (nat_le 65536 (number_value first), fault.TooLarge place) ∷ []
-behind_faults place first (b ∷ tail) = if b == 45 then pair_faults place first tail
+behind_faults place first (b ∷ tail) = if b == dash then pair_faults place first tail
     else (nat_le 65536 (number_value first), fault.TooLarge place)
     ∷ (true, fault.BadText (place + length first))
     ∷ []

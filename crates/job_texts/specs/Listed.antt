@@ -1,13 +1,14 @@
 -- The dependencies that a submission lists, each once.
 use Rattle.std.specs.Prelude.{◌≡◌, ◌<◌, ◌^◌, ◌++◌, ◌∷◌, [], ℕ, List, Option, Some, map, if◌then◌else◌}
 use Rattle.std.specs.List.{list_any, AllByRecursion as Each}
+use Rattle.lists.specs.Ascii.{colon}
 use Rattle.job_spec.specs.declared.spec.Depend.{Depend}
 use Rattle.job_spec.specs.declared.spec.Scheme.{Scheme}
 use Rattle.manager_rules.specs.Jobs.{description_of, same_need, scheme_name}
 
 -- a description begins with its scheme and a colon
 abbrev pub mark_of : Scheme → List ℕ
-mark_of scheme = scheme_name scheme ++ 58 ∷ []
+mark_of scheme = scheme_name scheme ++ colon ∷ []
 
 -- numbers of jobs
 abbrev pub AreSmall : List Depend → Type 0

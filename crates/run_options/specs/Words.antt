@@ -2,13 +2,14 @@
 use Rattle.std.specs.Prelude.{ℕ, ◌==◌, ◌&&◌, List, [], ◌∷◌, Bool, not, Option, Some, None, codes, option_map, option_and_then, if◌then◌else◌}
 use Rattle.std.specs.List.{before_first, after_first, list_any}
 use Rattle.std.specs.Str.{bytes_eq}
+use Rattle.lists.specs.Ascii.{equals_sign}
 use Rattle.run_options.specs.declared.Options.{Options}
 use Rattle.run_options.specs.declared.given.Given.{Given}
 use Rattle.run_options.specs.Given.{nothing, with_journal, with_value, options_from}
 
 -- `=` stands between a name and its value in one word
 abbrev pub is_equals : ℕ → Bool
-is_equals b = b == 61
+is_equals b = b == equals_sign
 
 -- the value of the option that the word names stands in the next word
 abbrev pub wants_value : List ℕ → Bool

@@ -2,6 +2,7 @@
 use Rattle.std.specs.Prelude.{ℕ, ◌==◌, List, [], ◌∷◌, length}
 use Rattle.std.specs.List.{slice_split}
 use Rattle.std.specs.Str.Lines.{strip_carriage_return}
+use Rattle.lists.specs.Ascii.{newline}
 
 -- a line: how many bytes stand before its newline, and its text
 pub record TextLine : Type 0 where
@@ -24,4 +25,4 @@ lines_in (piece ∷ next ∷ more) = ended_line piece ∷ lines_in (next ∷ mor
 
 -- the lines of a text; the last one may be empty
 abbrev pub lines_of : List ℕ → List TextLine
-lines_of text = lines_in (slice_split (λ b. b == 10) text)
+lines_of text = lines_in (slice_split (λ b. b == newline) text)

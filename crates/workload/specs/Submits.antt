@@ -4,6 +4,7 @@ use Rattle.std.specs.List.{before_first, after_first, list_all, list_any, slice_
 use Rattle.std.specs.Option.{option_map_or}
 use Rattle.std.specs.Result.{result_ok}
 use Rattle.std.specs.Str.{bytes_eq}
+use Rattle.lists.specs.Ascii.{colon, equals_sign, opening_brace}
 use Rattle.job_spec.specs.Limits.{scheme_of}
 use Rattle.job_spec.specs.Specs.{spec_reading}
 use Rattle.shells.specs.declared.ends.Ending.{Ending}
@@ -14,7 +15,7 @@ use Rattle.workload.specs.declared.work.Needed.{Needed}
 
 -- a jobspec's text begins at the first `{`
 abbrev pub is_brace : ℕ → Bool
-is_brace b = b == 123
+is_brace b = b == opening_brace
 
 -- the words before it
 abbrev pub head_of : List ℕ → List ℕ
@@ -33,10 +34,10 @@ options_of tail = behind_word (head_of tail)
 
 -- `=` stands between the name and the value of an option, `:` between a scheme and a label
 abbrev pub is_equals : ℕ → Bool
-is_equals b = b == 61
+is_equals b = b == equals_sign
 
 abbrev pub is_colon : ℕ → Bool
-is_colon b = b == 58
+is_colon b = b == colon
 
 -- the value of an option of this name, where the word is one
 abbrev pub value_of : List ℕ → List ℕ → Option (List ℕ)

@@ -1,6 +1,7 @@
 -- The text of a generated workload.
 use Rattle.std.specs.Prelude.{ℕ, ◌+◌, ◌%◌, List, [], ◌∷◌, ◌++◌, codes, decimal, flat_map}
 use Rattle.std.specs.List.{range_with_len}
+use Rattle.lists.specs.Ascii.{newline}
 use Rattle.workload_generator.specs.declared.drawn.Drawn.{Drawn}
 use Rattle.workload_generator.specs.declared.drawn.Kind.{Kind}
 use Rattle.workload_generator.specs.declared.drawn.Kind.TheVariants as kind
@@ -9,7 +10,7 @@ use Rattle.workload_generator.specs.Drawn.{asked, drawn, submissions}
 -- the line of an actor, at one of the brokers 0 to 6
 unfoldable pub actor_line : ℕ → List ℕ
 actor_line number =
-    codes "actor a" ++ decimal number ++ codes " " ++ decimal (number % 7) ++ 10 ∷ []
+    codes "actor a" ++ decimal number ++ codes " " ++ decimal (number % 7) ++ newline ∷ []
 
 -- a jobspec, version 1 (RFC 25): so many slots of one core, and a command that sleeps for so many
 -- seconds
@@ -35,7 +36,7 @@ command_text place kind.Advance choice = codes "advance " ++ decimal (choice % 3
 -- the line of a command at a place that asks for this: one of the eight actors, and the command
 unfoldable pub line_text : ℕ → Kind → Drawn → List ℕ
 line_text place wanted words = codes "a" ++ decimal (words.actor % 8) ++ codes " "
-    ++ command_text place wanted words.choice ++ 10 ∷ []
+    ++ command_text place wanted words.choice ++ newline ∷ []
 
 -- the line of the command at a place that a seed draws
 abbrev pub command_line : ℕ → ℕ → List ℕ
