@@ -1,6 +1,6 @@
 -- One turn of the writing: what is left, what is added, and what clashes.
 use Rattle.std.proofs.Common.{◌≡◌, ℕ, zero, suc, ◌+◌, ◌<◌, true, false, cond, T, List, [], ◌∷◌, ◌++◌, length, Option, Some, None, refl, sym, ap, ◌∙◌, subst, inl, inr, true≢false, arith, length-append, Less}
-use Rattle.std.specs.Prelude.{IsSome, IsTrue, Contains, is_some as is_there}
+use Rattle.std.specs.Prelude.{IsSome, IsTrue, Contains, Ok, is_some as is_there}
 use Rattle.std.specs.FinMap.Entries as finite
 use Rattle.std.specs.List.{AllByRecursion}
 use Rattle.std.specs.Option.{option_map_or}
@@ -17,9 +17,11 @@ use Rattle.tree_rules.specs.Objects.{Tree, Entries, dirref, listed}
 use Rattle.tree_rules.specs.Texts.{blobs}
 use Rattle.tree_rules.proofs.Blobs.{text_there}
 use Rattle.tree_rules.proofs.Objects.{less_of}
+use Rattle.tree_objects.specs.Reading.{Gives}
+use Rattle.tree_objects.specs.declared.object.Object.TheVariants.{Dir}
 use Rattle.tree_store.specs.Fresh.{Blobs, AddsSome, HasAll, ClashesIn}
 use Rattle.tree_store.specs.Landing.{table, IsClashIn}
-use Rattle.tree_store.specs.Shown.{Directories, opened_at, above, put_in, with_object, Shows, IsBefore, long_values, entries_text, strings_of}
+use Rattle.tree_store.specs.Shown.{Directories, opened_at, above, put_in, with_object, Shows, IsBefore, all_shortened, long_values, entries_text, strings_of}
 use Rattle.tree_store.specs.declared.faults.TreeFault.{TreeFault}
 use Rattle.tree_store.specs.declared.faults.TreeFault.TheVariants.{NoMemory, Refused, Clash}
 use Rattle.tree_store.proofs.Added.{adds_more, adds_of, adds_keep, held_each}
@@ -30,7 +32,7 @@ use Rattle.tree_store.proofs.Landed.{found_only}
 use Rattle.tree_store.proofs.Opening.{is_some}
 use Rattle.tree_store.proofs.Storable.{IsNamed}
 use Rattle.tree_store.proofs.Turns.{AreLeft, closed_step}
-use Rattle.tree_store.proofs.Writing.{last_text, at_last}
+use Rattle.tree_store.proofs.Writing.{last_text, last_decoded, at_last}
 
 -- ---- the last of the open directories
 
@@ -79,6 +81,10 @@ module _ (h : Hash) (store before after : Blobs) (ds front : Directories) (path 
     (is : ds ≡ front ++ (path, es) ∷ []) (earlier : (q : Path) → IsSome (opened_at front q) → IsBefore q path) (sorted : IsTrue (finite.is_sorted name_cmp (listed es))) where
   shows : Shows h (table (store ++ before)) (front ++ (path, es) ∷ []) st
   shows = still_shows h (table (store ++ before)) ds front path es found st left is
+
+  -- its text tells its entries
+  pub turn_decoded : Gives (entries_text h es) (Ok (Dir (all_shortened h es)))
+  turn_decoded = last_decoded h (table (store ++ before)) front path es st shows (before_less front path earlier) sorted
 
   -- all that the directory brings are blobs of the store
   pub all_within : (bytes : List ℕ) → Contains (strings_of h es) bytes → Contains (blobs h st) bytes

@@ -25,6 +25,7 @@ use Rattle.tree_objects.specs.declared.object.Object.{Object}
 use Rattle.tree_objects.specs.declared.object.Object.TheVariants.{Val, Valref, Dir, Dirref, Symlink}
 use Rattle.tree_objects.specs.declared.faults.ObjectFault.{ObjectFault}
 use Rattle.tree_objects.specs.declared.faults.ObjectFault.TheVariants.{NoMemory, NotJson, BadVersion, BadType, BadData}
+use Rattle.tree_objects.proofs.Pairs.{entries_of_listed}
 use Rattle.tree_objects.proofs.Again.{tells_written, told_once}
 use Rattle.tree_objects.proofs.Stored.{stored_again}
 use Rattle.tree_store.specs.Shown.{entries_at}
@@ -116,6 +117,13 @@ stored_reading h st p is all =
     stored_again (dir (entries_at h st p)) (directory_readable h st p is all) (rows_named rows kept) (omega (arith, flat))
 
 -- ---- what a reader gives of the text of a directory
+
+pub stored_gives : (h : Hash) (st : Store) (p : Path) (es : Entries) (text : List ℕ) → IsStore st → IsStorable st → text ≡ directory_text h st p → listed es ≡ objects_in p (objects h st) → Gives text (Ok (Dir es))
+stored_gives h st p es text is all same rows =
+    let here : es ≡ entries_at h st p = sym (entries_of_listed es) ∙ ap entries_of rows in
+    let told : Tells (tree_data (dir (entries_at h st p))) (dir es) =
+    subst (λ (x : Entries). Tells (tree_data (dir (entries_at h st p))) (dir x)) (sym here) (tells_written (dir (entries_at h st p)) (directory_readable h st p is all)) in
+    (tree_data (dir (entries_at h st p)), ap reading same ∙ stored_reading h st p is all, told)
 
 -- this directory, or want of memory
 abbrev pub IsOnly : Entries → Result Object ObjectFault → Type 0

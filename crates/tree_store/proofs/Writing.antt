@@ -1,6 +1,6 @@
 -- The last open directory is closed: its blobs are there, and it stands by its reference.
 use Rattle.std.proofs.Common.{◌≡◌, ◌≢◌, ℕ, true, false, cond, List, [], ◌∷◌, ◌++◌, Option, Some, None, refl, sym, ap, ◌∙◌, subst, append_assoc, append-nil, arith, Ordering, Less, Equal, Greater}
-use Rattle.std.specs.Prelude.{IsSome, IsTrue, Contains}
+use Rattle.std.specs.Prelude.{IsSome, IsTrue, Contains, Ok}
 use Rattle.std.specs.FinMap.Entries as finite
 use Rattle.std.specs.Ordering.{eq_by_cmp, ordering_then}
 use Rattle.std.specs.Cmp.{tied_itself}
@@ -14,6 +14,9 @@ use Rattle.tree_rules.specs.Held.{Table, Keeps}
 use Rattle.tree_rules.specs.Names.{name_cmp}
 use Rattle.tree_rules.specs.Objects.{Tree, val, valref, dir, dirref, symlink, Entries, no_entries, entry, listed}
 use Rattle.tree_rules.specs.Texts.{is_long, directory_text}
+use Rattle.tree_objects.specs.Reading.{Gives}
+use Rattle.tree_objects.specs.declared.object.Object.TheVariants.{Dir}
+use Rattle.tree_store.proofs.Readable.{stored_gives}
 use Rattle.tree_store.specs.Shown.{Directories, opened_at, Stands, Shows, HasBlob, HasBelow, with_object, all_shortened, long_values, entries_text}
 use Rattle.tree_store.proofs.Opening.{longer, is_some, not_both, name_self}
 use Rattle.tree_store.proofs.Closing.{closed_entries, closed_text}
@@ -159,6 +162,12 @@ module _ (h : Hash) (table : Table) (front : Directories) (path : Path) (es : En
   unfolding entries_text
   last_text =
       closed_text h st path (all_shortened h es) (closed_entries h table (front ++ (path, es) ∷ []) st path es shows at_last sorted (λ n. none_below n []))
+
+  -- which tells its entries
+  pub last_decoded : Gives (entries_text h es) (Ok (Dir (all_shortened h es)))
+  last_decoded =
+      stored_gives h st path (all_shortened h es) (entries_text h es) shows.store shows.storable last_text
+      (closed_entries h table (front ++ (path, es) ∷ []) st path es shows at_last sorted (λ n. none_below n []))
 
   directory_there : node_at st path ≡ Some Directory
   directory_there = shows.places path (is_some (opened_at (front ++ (path, es) ∷ []) path) es at_last)

@@ -1,4 +1,5 @@
 pub mod Codes
 pub mod Fresh
+pub mod Kept
 pub mod Landing
 pub mod Shown

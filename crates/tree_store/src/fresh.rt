@@ -1,6 +1,6 @@
 //! The blobs of a new store that aren't kept yet.
 ghost use Rattle.std.specs.Prelude.{◌≡◌, ◌<◌, ◌++◌, ◌∷◌, [], Some, None, IfOk, IfErr, OnOk, OnErr};
-ghost use Rattle.std.specs.Prelude.{length};
+ghost use Rattle.std.specs.Prelude.{length, List, ℕ, Ok};
 ghost use Rattle.std.specs.Prelude.{option_copied};
 ghost use Rattle.blob_store.specs.Blobs.{blob_at};
 ghost use Rattle.fl_digest.specs.Reference.{reference_of};
@@ -8,7 +8,9 @@ ghost use Rattle.kvs_model.specs.Store.{Store};
 ghost use Rattle.tree_rules.specs.Held.{IsRootOf};
 ghost use Rattle.tree_objects.specs.Directories.{names_of};
 ghost use Rattle.tree_objects.specs.Level.{tree_of};
-ghost use Rattle.tree_rules.specs.Objects.{valref};
+ghost use Rattle.tree_objects.specs.Reading.{Gives};
+ghost use Rattle.tree_objects.specs.declared.object.Object.TheVariants as object;
+ghost use Rattle.tree_rules.specs.Objects.{dir, valref, tree_text};
 ghost use Rattle.tree_rules.specs.Texts.{blobs};
 ghost use Rattle.tree_store.specs.Fresh.{AreNew, AddsSome, HasAll, ClashesIn, IsClashOf, IsPart};
 ghost use Rattle.tree_store.specs.Fresh.{HasLongAt};
@@ -18,17 +20,30 @@ ghost use Rattle.tree_store.specs.Shown.{shortened_at, long_values_at};
 ghost use Rattle.tree_store.specs.Shown.{entries_text, strings_of};
 
 use crate::faults::TreeFault;
-use crate::opened::Opened;
+use crate::kept::Kept;
+use crate::opened::{Opened, directory_in};
 use blob_store::{BlobStore, PutFault};
 use fl_digest::{BlobRef, Hash, RefList};
 use indexmap::IndexMap;
 use lists::{Bytes, Copied};
 use std::alloc::{AllocError, Global};
 use std::marker::Model;
+use std::mem::replace;
 use tree_objects::{Object, ObjectMap, print};
 
 /// The most bytes of a value that stands in the text of its directory.
 const MOST_INLINE: usize = 64;
+
+/// The stored text of a directory, which stays as it is.
+fn text_of(alloc: Global, directory: &mut ObjectMap) -> Result<Vec<u8>, AllocError>
+    ensures canonical { IfOk result (λ text. text.items ≡ tree_text (dir directory.old)) }
+    ensures kept { directory.new ≡ directory.old }
+{
+    let object = Object::Dir(replace(directory, ObjectMap::new(alloc)));
+    let text = print(alloc, &object);
+    *directory = directory_in(object);
+    text
+}
 
 /// Blobs under their references, which contracts see as a list of pairs, the first added first.
 #[derive(Drop)]
@@ -187,35 +202,61 @@ impl Fresh {
         Ok(())
     }
 
-    /// Adds the text of a directory and its long values, and gives its reference.
+    /// Adds the text of a directory and its long values, which stand by their references then, and
+    /// gives its reference.
     fn directory(
         &mut self,
         alloc: Global,
         store: &BlobStore,
         hash: Hash,
-        mut directory: ObjectMap,
+        directory: &mut ObjectMap,
     ) -> Result<BlobRef, TreeFault>
         requires { AreNew store.now self.old }
-        ensures reference { IfOk result (λ r. r ≡ reference_of hash (entries_text hash directory)) }
+        ensures reference { IfOk result (λ r.
+            r ≡ reference_of hash (entries_text hash directory.old)) }
+        ensures shortened { OnOk result (directory.new ≡ all_shortened hash directory.old) }
         ensures apart { OnOk result (AreNew store.now self.new) }
-        ensures held { OnOk result (HasAll hash (strings_of hash directory)
+        ensures held { OnOk result (HasAll hash (strings_of hash directory.old)
             (store.now ++ self.new)) }
-        ensures only { AddsSome hash (strings_of hash directory) self.old self.new }
+        ensures only { AddsSome hash (strings_of hash directory.old) self.old self.new }
         ensures clash { IfErr result (λ fault.
-            ClashesIn hash (strings_of hash directory) (store.now ++ self.new) fault) }
+            ClashesIn hash (strings_of hash directory.old) (store.now ++ self.new) fault) }
     {
-        self.shorten(alloc, store, hash, &mut directory)?;
-        let text = print(alloc, &Object::Dir(directory))?;
+        self.shorten(alloc, store, hash, directory)?;
+        let text = text_of(alloc, directory)?;
         self.add(store, hash, Bytes::from_vec(text))
     }
 
-    /// Adds the blobs of open directories, the deepest first, and gives the root's reference.
+    /// Keeps a directory decoded whose text is there. Where memory is wanting, it isn't kept.
+    fn keep(
+        &self,
+        alloc: Global,
+        store: &BlobStore,
+        reference: BlobRef,
+        directory: ObjectMap,
+        kept: &mut Kept,
+    )
+        requires { (text : List ℕ) → blob_at reference (store.now ++ self.now) ≡ Some text
+            → Gives text (Ok (object.Dir directory)) }
+    {
+        let Some(text) = self.kept(store, &reference) else {
+            return;
+        };
+        let Ok(text) = Bytes::of(alloc, text.as_slice()) else {
+            return;
+        };
+        let _kept = kept.put(reference, text, directory);
+    }
+
+    /// Adds the blobs of open directories, the deepest first, and gives the root's reference. The
+    /// directories stay decoded.
     pub fn write(
         &mut self,
         alloc: Global,
         store: &BlobStore,
         hash: Hash,
         mut opened: Opened,
+        kept: &mut Kept,
     ) -> Result<BlobRef, TreeFault>
         requires { (self.old ≡ []) × ((st : Store) × Shows hash (table store.now) opened st) }
         ensures apart { OnOk result (AreNew store.now self.new) }
@@ -227,9 +268,10 @@ impl Fresh {
             → IfErr result (λ fault. IsClashIn hash st (table store.now) fault) }
     {
         let mut root = None;
-        while let Some((path, directory)) = opened.pop() {
+        while let Some((path, mut directory)) = opened.pop() {
             directory.is_directory();
-            let reference = self.directory(alloc, store, hash, directory)?;
+            let reference = self.directory(alloc, store, hash, &mut directory)?;
+            self.keep(alloc, store, reference, directory, kept);
             opened.put(path.as_slice(), Object::Dirref(reference))?;
             root = Some(reference);
         }

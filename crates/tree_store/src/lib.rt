@@ -11,6 +11,7 @@ ghost use Rattle.tree_store.specs.Shown.{Shows, IsShown, Gives};
 
 pub mod faults;
 mod fresh;
+pub mod kept;
 mod opened;
 mod operations;
 mod walks;
@@ -19,6 +20,7 @@ use blob_store::BlobStore;
 pub use faults::TreeFault;
 use fl_digest::{BlobRef, Hash};
 use fresh::Fresh;
+pub use kept::Kept;
 use kvs_txn::{Refusal, Scope, Txn};
 use lists::Bytes;
 use opened::Opened;
@@ -29,6 +31,7 @@ use std::alloc::{AllocError, Global};
 fn run(
     alloc: Global,
     store: &BlobStore,
+    kept: &mut Kept,
     opened: &mut Opened,
     txn: &Txn,
     scope: Scope,
@@ -40,7 +43,7 @@ fn run(
 {
     let mut number = 1u32;
     for op in txn.ops.as_slice() {
-        if let Some(cause) = operate(alloc, store, opened, txn.author, scope, op)? {
+        if let Some(cause) = operate(alloc, store, kept, opened, txn.author, scope, op)? {
             return Ok(Some(Refusal { op: number, cause }));
         }
         let Some(next) = number.checked_add(1) else {
@@ -55,6 +58,7 @@ fn run(
 fn written(
     alloc: Global,
     store: &mut BlobStore,
+    kept: &mut Kept,
     opened: Opened,
     hash: Hash,
 ) -> Result<BlobRef, TreeFault>
@@ -63,7 +67,7 @@ fn written(
         → Leaves hash store.old store.new (Ok st) result }
 {
     let mut fresh = Fresh::new(alloc);
-    let root = fresh.write(alloc, store, hash, opened)?;
+    let root = fresh.write(alloc, store, hash, opened, kept)?;
     fresh.put_into(store)?;
     Ok(root)
 }
@@ -82,7 +86,7 @@ pub fn first(
     if let Some(grant) = grant {
         opened.grant(alloc, grant)?;
     }
-    written(alloc, store, opened, hash)
+    written(alloc, store, &mut Kept::new(alloc), opened, hash)
 }
 
 /// The root of the store after a transaction, whose blobs are added behind those that are there.
@@ -99,9 +103,28 @@ pub fn apply(
     ensures { (st : Store) → IsRootOf hash (table store.old) root.now st
         → Leaves hash store.old store.new (effect st txn.now scope) result }
 {
-    let mut opened = Opened::read(alloc, store, root)?;
-    if let Some(refusal) = run(alloc, store, &mut opened, txn, scope)? {
+    apply_kept(alloc, store, &mut Kept::new(alloc), root, txn, scope, hash)
+}
+
+/// As `apply`, with directories that stay decoded: one whose text is among theirs isn't read, and
+/// those that the transaction opened are kept with their new texts. After a refusal, those that it
+/// opened aren't kept.
+pub fn apply_kept(
+    alloc: Global,
+    store: &mut BlobStore,
+    kept: &mut Kept,
+    root: &BlobRef,
+    txn: &Txn,
+    scope: Scope,
+    hash: Hash,
+) -> Result<BlobRef, TreeFault>
+    requires { IsRootIn hash (table store.old) root.now }
+    ensures { (st : Store) → IsRootOf hash (table store.old) root.now st
+        → Leaves hash store.old store.new (effect st txn.now scope) result }
+{
+    let mut opened = Opened::read(alloc, store, kept, root)?;
+    if let Some(refusal) = run(alloc, store, kept, &mut opened, txn, scope)? {
         return Err(TreeFault::Refused(refusal));
     }
-    written(alloc, store, opened, hash)
+    written(alloc, store, kept, opened, hash)
 }

@@ -22,6 +22,7 @@ ghost use Rattle.tree_store.specs.Shown.{IsBefore, IsOfDirectory, Shows, IsShown
 ghost use Rattle.tree_store.specs.Shown.{link_target, with_object, without_object, closed_within};
 ghost use Rattle.tree_store.specs.Shown.{with_open};
 
+use crate::kept::Kept;
 use blob_store::BlobStore;
 use fl_digest::BlobRef;
 use kvs_txn::Path;
@@ -82,10 +83,11 @@ fn is_inside(path: &[Bytes], place: &[Bytes]) -> bool
     place.starts_with(path)
 }
 
-/// The directory whose text has this reference.
+/// The directory whose text has this reference, which is taken out of those that are kept or read.
 fn directory_of(
     alloc: Global,
     store: &BlobStore,
+    kept: &mut Kept,
     reference: &BlobRef,
 ) -> Result<ObjectMap, AllocError>
     requires { IsOfDirectory (table store.now) reference.now }
@@ -96,6 +98,9 @@ fn directory_of(
     let Some(text) = store.get(reference) else {
         unreachable!()
     };
+    if let Some(directory) = kept.take(reference, text) {
+        return Ok(directory);
+    }
     match read(alloc, text.as_slice()) {
         Ok(object) => Ok(directory_in(object)),
         Err(fault) => Err(want_of_memory(fault)),
@@ -103,7 +108,7 @@ fn directory_of(
 }
 
 /// The directory that an object is.
-fn directory_in(object: Object) -> ObjectMap
+pub fn directory_in(object: Object) -> ObjectMap
     requires { (es : Entries) × (tree_of object ≡ dir es) }
     ensures { tree_of object ≡ dir result }
 {
@@ -143,12 +148,17 @@ impl Opened {
     }
 
     /// The root of a store.
-    pub fn read(alloc: Global, store: &BlobStore, reference: &BlobRef) -> Result<Opened, AllocError>
+    pub fn read(
+        alloc: Global,
+        store: &BlobStore,
+        kept: &mut Kept,
+        reference: &BlobRef,
+    ) -> Result<Opened, AllocError>
         requires { (hash : Hash) × IsRootIn hash (table store.now) reference.now }
         ensures { (hash : Hash) (st : Store) → IsRootOf hash (table store.now) reference.now st
             → IfOk result (λ opened. opened ≡ (root, entries_at hash st root) ∷ []) }
     {
-        let directory = directory_of(alloc, store, reference)?;
+        let directory = directory_of(alloc, store, kept, reference)?;
         let mut directories = BTreeMap::new(alloc);
         directories.insert(Vec::new(alloc), directory)?;
         Ok(Opened { directories })
@@ -241,6 +251,7 @@ impl Opened {
         &mut self,
         alloc: Global,
         store: &BlobStore,
+        kept: &mut Kept,
         path: &[Bytes],
     ) -> Result<bool, AllocError>
         requires { IsShown (table store.now) self.old }
@@ -259,7 +270,7 @@ impl Opened {
         let Some(reference) = self.closed(path) else {
             return Ok(false);
         };
-        let directory = directory_of(alloc, store, reference)?;
+        let directory = directory_of(alloc, store, kept, reference)?;
         self.keep_open(alloc, path, directory)?;
         Ok(true)
     }

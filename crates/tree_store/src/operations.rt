@@ -16,6 +16,7 @@ ghost use Rattle.tree_store.specs.Shown.{Directories, Stands, Shows, IsShown, Op
 ghost use Rattle.tree_store.specs.Shown.{IsNodeOf, IsInDirectory, HasBlob, too_long, append_cause};
 ghost use Rattle.fl_digest.specs.Reference.{reference_of};
 
+use crate::kept::Kept;
 use crate::opened::{Opened, are_bytes};
 use crate::walks::resolve;
 use blob_store::BlobStore;
@@ -298,6 +299,7 @@ fn key_in(op: &Op) -> &Path
 pub fn operate(
     alloc: Global,
     store: &BlobStore,
+    kept: &mut Kept,
     opened: &mut Opened,
     who: Author,
     space: Scope,
@@ -314,7 +316,7 @@ pub fn operate(
     if key.is_empty() {
         return Ok(Some(Cause::RootOp));
     }
-    let Some(at) = resolve(alloc, store, opened, key)? else {
+    let Some(at) = resolve(alloc, store, kept, opened, key)? else {
         return Ok(Some(Cause::Loop));
     };
     let at = at.as_slice();

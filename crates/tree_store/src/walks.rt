@@ -8,6 +8,7 @@ ghost use Rattle.kvs_model.specs.Walk.{stop, past_inner_link, most_links};
 ghost use Rattle.tree_store.specs.Landing.{table};
 ghost use Rattle.tree_store.specs.Shown.{opened_at, followed, Shows, IsShown, OpensAbove};
 
+use crate::kept::Kept;
 use crate::opened::{Opened, copy_of};
 use blob_store::BlobStore;
 use lists::{Bytes, Copied};
@@ -18,6 +19,7 @@ use std::alloc::{AllocError, Global};
 fn passed(
     alloc: Global,
     store: &BlobStore,
+    kept: &mut Kept,
     opened: &mut Opened,
     path: &[Bytes],
 ) -> Result<usize, AllocError>
@@ -36,7 +38,7 @@ fn passed(
 {
     let mut count = 0;
     while count < path.len() {
-        if !opened.enter(alloc, store, &path[..count])? {
+        if !opened.enter(alloc, store, kept, &path[..count])? {
             return Ok(count);
         }
         count += 1;
@@ -59,6 +61,7 @@ fn joined(alloc: Global, front: &[Bytes], back: &[Bytes]) -> Result<Vec<Bytes>, 
 fn past_inner_link(
     alloc: Global,
     store: &BlobStore,
+    kept: &mut Kept,
     opened: &mut Opened,
     path: &[Bytes],
 ) -> Result<Option<Vec<Bytes>>, AllocError>
@@ -70,7 +73,7 @@ fn past_inner_link(
     ensures opens { (hash : Hash) (st : Store) → Shows hash (table store.now) opened.old st
         → IfOk result (λ next. next ≡ None → OpensAbove opened.new st path.now) }
 {
-    let count = passed(alloc, store, opened, path)?;
+    let count = passed(alloc, store, kept, opened, path)?;
     if count == path.len() {
         return Ok(None);
     }
@@ -85,6 +88,7 @@ fn past_inner_link(
 pub fn resolve(
     alloc: Global,
     store: &BlobStore,
+    kept: &mut Kept,
     opened: &mut Opened,
     path: &[Bytes],
 ) -> Result<Option<Vec<Bytes>>, AllocError>
@@ -100,13 +104,13 @@ pub fn resolve(
     let mut here = copy_of(alloc, path)?;
     let mut links = 0u32;
     while links < 10 {
-        match past_inner_link(alloc, store, opened, here.as_slice())? {
+        match past_inner_link(alloc, store, kept, opened, here.as_slice())? {
             None => return Ok(Some(here)),
             Some(next) => here = next,
         }
         links += 1;
     }
-    match past_inner_link(alloc, store, opened, here.as_slice())? {
+    match past_inner_link(alloc, store, kept, opened, here.as_slice())? {
         None => Ok(Some(here)),
         Some(_) => Ok(None),
     }

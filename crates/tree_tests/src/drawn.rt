@@ -10,7 +10,7 @@ use rand_core::utils::NextWord;
 use rand_pcg::Pcg32;
 use std::alloc::Global;
 use std::test::Fail;
-use tree_store::{TreeFault, apply};
+use tree_store::{Kept, TreeFault, apply, apply_kept};
 
 const SIZES: [usize; 6] = [0, 1, 30, 64, 65, 200];
 
@@ -50,6 +50,24 @@ pub(crate) fn land(
     ensures { IsRootIn hash (table blobs.new) root.new }
 {
     let next = apply(alloc, blobs, root, txn, scope, hash)?;
+    *root = next;
+    Ok(())
+}
+
+/// The same with directories that stay decoded.
+pub(crate) fn land_kept(
+    alloc: Global,
+    blobs: &mut BlobStore,
+    kept: &mut Kept,
+    root: &mut BlobRef,
+    txn: &Txn,
+    scope: Scope,
+    hash: Hash,
+) -> Result<(), TreeFault>
+    requires { IsRootIn hash (table blobs.old) root.old }
+    ensures { IsRootIn hash (table blobs.new) root.new }
+{
+    let next = apply_kept(alloc, blobs, kept, root, txn, scope, hash)?;
     *root = next;
     Ok(())
 }

@@ -1,5 +1,5 @@
 //! Transactions on blobs against those on a store in memory, and the reference of a first store.
-use crate::drawn::{key, land, value, word};
+use crate::drawn::{key, land, land_kept, value, word};
 use blob_store::BlobStore;
 use fl_digest::{BlobRef, Hash};
 use kvs_txn::{Author, Found, Kind, Listed, Op, Path, Query, Scope, Txn};
@@ -10,7 +10,7 @@ use rand_pcg::Pcg32;
 use std::alloc::Global;
 use std::test::Fail;
 use tree_objects::{Object, ObjectMap, read};
-use tree_store::{TreeFault, first};
+use tree_store::{Kept, TreeFault, first};
 
 /// The grant of seven hosts with four cores each.
 const GRANT: &str =
@@ -246,5 +246,82 @@ fn drawn_transactions_do_as_in_memory(rt: HostRuntime) -> Result<(), Fail> {
         assert!(rt; told.is_some(), "the store after {number}");
     }
     assert!(rt; 100 < landed && landed < 400, "{landed}");
+    Ok(())
+}
+
+/// Whether both answers of transactions on blobs are the same.
+fn are_alike(plain: &Result<(), TreeFault>, kept: &Result<(), TreeFault>) -> bool {
+    match (plain, kept) {
+        (Ok(()), Ok(())) => true,
+        (Err(TreeFault::Refused(one)), Err(TreeFault::Refused(other))) => one == other,
+        _ => false,
+    }
+}
+
+/// Whether two stores have the same blobs in the same order, from a place on.
+fn have_same(one: &BlobStore, other: &BlobStore, from: usize) -> bool {
+    if one.len() != other.len() {
+        return false;
+    }
+    for place in from..one.len() {
+        let same = match (one.nth(place), other.nth(place)) {
+            (Some(one), Some(other)) => {
+                one.reference == other.reference && *one.bytes == *other.bytes
+            }
+            _ => false,
+        };
+        if !same {
+            return false;
+        }
+    }
+    true
+}
+
+/// A put into one of 50 directories, more than stay decoded.
+fn wide(alloc: Global, draws: &mut Pcg32) -> Result<Op, Fail> {
+    let text = format!(in alloc; "w{}.{}", word(draws, 50), word(draws, 9))?;
+    Ok(Op::Put {
+        path: Path::read(alloc, text.as_str())?,
+        bytes: value(alloc, draws)?,
+    })
+}
+
+#[test]
+fn decoded_directories_change_no_answer(rt: HostRuntime) -> Result<(), Fail> {
+    let alloc = rt.alloc();
+    let mut draws = Pcg32::seed_from_u64(12);
+    let mut blobs = BlobStore::new(alloc);
+    let mut others = BlobStore::new(alloc);
+    let mut kept = Kept::new(alloc);
+    let Ok(mut root) = first(alloc, &mut blobs, None, Hash::Sha1) else {
+        return Err(Fail::from("no root"));
+    };
+    let Ok(mut other) = first(alloc, &mut others, None, Hash::Sha1) else {
+        return Err(Fail::from("no root"));
+    };
+    let mut landed = 0u32;
+    for number in 0..500u32 {
+        let mut txn = transaction(alloc, &mut draws)?;
+        txn.stage(wide(alloc, &mut draws)?).ok().ok_or("full")?;
+        let from = blobs.len();
+        let plain = land(alloc, &mut blobs, &mut root, &txn, Scope::Other, Hash::Sha1);
+        let same = land_kept(
+            alloc,
+            &mut others,
+            &mut kept,
+            &mut other,
+            &txn,
+            Scope::Other,
+            Hash::Sha1,
+        );
+        assert!(rt; are_alike(&plain, &same), "the answer of {number}");
+        assert!(rt; root == other, "the root after {number}");
+        assert!(rt;
+            have_same(&blobs, &others, from),
+            "the blobs after {number}"
+        );
+        landed = landed.saturating_add(u32::from(same.is_ok()));
+    }
+    assert!(rt; 100 < landed && landed < 500, "{landed}");
     Ok(())
 }

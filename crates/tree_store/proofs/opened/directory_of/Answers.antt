@@ -2,8 +2,13 @@ use Rattle.std.proofs.Common.{◌≡◌, Some, sym, ap, ◌∙◌, Ok, Err}
 use Rattle.tree_rules.specs.Objects.{Entries}
 use Rattle.tree_store.specs.Shown.{entries_at}
 use Rattle.blob_store.specs.Blobs.{blob_at}
+use Rattle.tree_objects.specs.declared.object.Object.TheVariants.{Dir}
 use Rattle.tree_store.proofs.Entered.{reads_only, only_tree, only_memory, same_entries}
 use Rattle.tree_store.proofs.opened.directory_of.Goals as goal
+
+pub returns-in-Some-take : goal.returns-in-Some-take
+returns-in-Some-take c = λ h st path is.
+    reads_only h c.args.store.now st path c.args.reference.now c.in-Some.text.now (Ok (Dir c.in-Some-take.directory)) is c.in-Some.ensures c.in-Some-take.ensures
 
 pub directory_in-requires : goal.directory_in-requires
 directory_in-requires c =

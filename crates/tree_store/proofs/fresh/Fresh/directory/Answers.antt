@@ -13,7 +13,7 @@ use Rattle.tree_store.proofs.fresh.Fresh.directory.Goals as goal
 
 pub returns-in_err-shorten-clause-only : goal.returns-in_err-shorten-clause-only
 returns-in_err-shorten-clause-only c =
-    let es : Entries = c.args.directory in
+    let es : Entries = c.args.directory.now in
     let h = c.args.hash in
     let store : Blobs = c.args.store.now in
     let behind : (bytes : List ℕ) → Contains (long_values es) bytes → Contains (strings_of h es) bytes = λ bytes d. behind_one (entries_text h es) bytes (long_values es) d in
@@ -21,7 +21,7 @@ returns-in_err-shorten-clause-only c =
 
 pub returns-in_err-shorten-clause-clash : goal.returns-in_err-shorten-clause-clash
 returns-in_err-shorten-clause-clash c =
-    let es : Entries = c.args.directory in
+    let es : Entries = c.args.directory.now in
     let h = c.args.hash in
     let store : Blobs = c.args.store.now in
     let behind : (bytes : List ℕ) → Contains (long_values es) bytes → Contains (strings_of h es) bytes = λ bytes d. behind_one (entries_text h es) bytes (long_values es) d in
@@ -30,7 +30,7 @@ returns-in_err-shorten-clause-clash c =
 
 pub returns-in_err-text-clause-only : goal.returns-in_err-text-clause-only
 returns-in_err-text-clause-only c =
-    let es : Entries = c.args.directory in
+    let es : Entries = c.args.directory.now in
     let h = c.args.hash in
     let store : Blobs = c.args.store.now in
     let behind : (bytes : List ℕ) → Contains (long_values es) bytes → Contains (strings_of h es) bytes = λ bytes d. behind_one (entries_text h es) bytes (long_values es) d in
@@ -38,7 +38,7 @@ returns-in_err-text-clause-only c =
 
 pub returns-in_err-text-clause-clash : goal.returns-in_err-text-clause-clash
 returns-in_err-text-clause-clash c =
-    let es : Entries = c.args.directory in
+    let es : Entries = c.args.directory.now in
     let h = c.args.hash in
     let store : Blobs = c.args.store.now in
     let behind : (bytes : List ℕ) → Contains (long_values es) bytes → Contains (strings_of h es) bytes = λ bytes d. behind_one (entries_text h es) bytes (long_values es) d in
@@ -48,7 +48,7 @@ returns-in_err-text-clause-clash c =
 
 pub returns-clause-reference : goal.returns-clause-reference
 returns-clause-reference c =
-    let es : Entries = c.args.directory in
+    let es : Entries = c.args.directory.now in
     let h = c.args.hash in
     let store : Blobs = c.args.store.now in
     let behind : (bytes : List ℕ) → Contains (long_values es) bytes → Contains (strings_of h es) bytes = λ bytes d. behind_one (entries_text h es) bytes (long_values es) d in
@@ -58,7 +58,7 @@ returns-clause-reference c =
 
 pub returns-clause-held : goal.returns-clause-held
 returns-clause-held c =
-    let es : Entries = c.args.directory in
+    let es : Entries = c.args.directory.now in
     let h = c.args.hash in
     let store : Blobs = c.args.store.now in
     let behind : (bytes : List ℕ) → Contains (long_values es) bytes → Contains (strings_of h es) bytes = λ bytes d. behind_one (entries_text h es) bytes (long_values es) d in
@@ -71,7 +71,7 @@ returns-clause-held c =
 
 pub returns-clause-only : goal.returns-clause-only
 returns-clause-only c =
-    let es : Entries = c.args.directory in
+    let es : Entries = c.args.directory.now in
     let h = c.args.hash in
     let store : Blobs = c.args.store.now in
     let behind : (bytes : List ℕ) → Contains (long_values es) bytes → Contains (strings_of h es) bytes = λ bytes d. behind_one (entries_text h es) bytes (long_values es) d in
@@ -82,7 +82,7 @@ returns-clause-only c =
 
 pub returns-clause-clash : goal.returns-clause-clash
 returns-clause-clash c =
-    let es : Entries = c.args.directory in
+    let es : Entries = c.args.directory.now in
     let h = c.args.hash in
     let store : Blobs = c.args.store.now in
     let behind : (bytes : List ℕ) → Contains (long_values es) bytes → Contains (strings_of h es) bytes = λ bytes d. behind_one (entries_text h es) bytes (long_values es) d in

@@ -6,13 +6,17 @@ use Rattle.tree_rules.specs.Texts.{blobs}
 use Rattle.tree_store.specs.Fresh.{Blobs}
 use Rattle.tree_store.specs.Landing.{table, IsClashIn}
 use Rattle.tree_store.specs.Shown.{entries_text, strings_of, Directories, above, with_object}
-use Rattle.std.specs.Prelude.{IfSome}
+use Rattle.std.specs.Prelude.{IfSome, ℕ, List, Ok}
+use Rattle.blob_store.specs.Blobs.{blob_at}
+use Rattle.tree_objects.specs.Reading.{Gives}
+use Rattle.tree_objects.specs.declared.object.Object.TheVariants.{Dir}
 use Rattle.std.specs.Str.{IsUtf8}
 use Rattle.fl_digest.specs.declared.BlobRef.{BlobRef}
 use Rattle.tree_store.proofs.Entered.{text_above}
+use Rattle.tree_store.proofs.Opening.{some_same}
 use Rattle.tree_store.proofs.Turns.{AreLeft}
 use Rattle.tree_store.proofs.Added.{clashes_of}
-use Rattle.tree_store.proofs.Closed.{last_named, fewer_left, all_within, turn_left, turn_adds, clash_in}
+use Rattle.tree_store.proofs.Closed.{last_named, fewer_left, all_within, turn_left, turn_adds, turn_decoded, clash_in}
 use Rattle.tree_store.proofs.fresh.Fresh.write.Goals as goal
 
 pub returns-in_err-reference-clause-clash : goal.returns-in_err-reference-clause-clash
@@ -59,3 +63,17 @@ loop-path-preserved c = record {
       let front : Directories = c.pop.new.self in
       turn_adds h store c.loop-path.self c.directory.new.self c.loop-path.opened front c.in-Some.path.items es c.loop-path.root st left c.in-Some.ensures.some c.in-Some.ensures.last c.is_directory.ensures.sorted (c.loop-path.invariant.only st shows) c.directory.ensures.only);
 }
+
+pub keep-requires : goal.keep-requires
+keep-requires c = λ text found.
+    let es : Entries = c.in-Some.directory in
+    let h = c.args.hash in
+    let store : Blobs = c.args.store.now in
+    let st = c.requires.1.0 in
+    let left = c.loop-path.invariant.left st c.requires.1.1 in
+    let front : Directories = c.pop.new.self in
+    let told = turn_decoded h store c.loop-path.self c.directory.new.self c.loop-path.opened front c.in-Some.path.items es c.loop-path.root st left c.in-Some.ensures.some c.in-Some.ensures.last c.is_directory.ensures.sorted in
+    let there : blob_at c.in_ok-reference.reference (store ++ c.directory.new.self) ≡ Some (entries_text h es) = subst (λ (r : BlobRef). blob_at r (store ++ c.directory.new.self) ≡ Some (entries_text h es)) (sym c.in_ok-reference.ensures.reference) c.in_ok-reference.ensures.held.0 in
+    let same : text ≡ entries_text h es = some_same text (entries_text h es) (sym found ∙ there) in
+    subst (λ (b : List ℕ). Gives b (Ok (Dir c.directory.new.directory))) (sym same)
+    (subst (λ (x : Entries). Gives (entries_text h es) (Ok (Dir x))) (sym c.in_ok-reference.ensures.shortened) told)

@@ -3,7 +3,7 @@ use Rattle.kvs_model.specs.Operation.{effect}
 use Rattle.tree_store.specs.Landing.{table, Leaves}
 use Rattle.tree_store.specs.Shown.{Directories, Shows, Gives}
 use Rattle.tree_store.proofs.Rooted.{rooted_shows}
-use Rattle.tree_store.proofs.apply.Goals as goal
+use Rattle.tree_store.proofs.apply_kept.Goals as goal
 
 pub run-requires : goal.run-requires
 run-requires c =
