@@ -12,6 +12,8 @@ use Rattle.kvs_rules.specs.declared.events.KvsAsk.{KvsAsk}
 use Rattle.kvs_rules.specs.declared.events.KvsAsk.TheVariants as ask
 use Rattle.kvs_rules.specs.declared.events.KvsAnswer.{KvsAnswer}
 use Rattle.kvs_rules.specs.declared.events.KvsAnswer.TheVariants as answer
+use Rattle.kvs_requests.specs.declared.rows.Entrant.{Entrant}
+use Rattle.kvs_requests.specs.declared.rows.Entrant.TheVariants as entrant
 use Rattle.kvs_requests.specs.declared.rows.Row.{Row}
 use Rattle.kvs_requests.specs.declared.rows.Work.{Work}
 use Rattle.kvs_requests.specs.declared.rows.Work.TheVariants as work
@@ -116,6 +118,16 @@ ArePlaced fanout size spaces rows = (k : ℕ) (d : Row)
 -- no command has two requests
 abbrev pub AreApart : List Row → Type 0
 AreApart rows = AllPairs (λ one other. one.by ≢ other.by) rows
+
+-- what a command asks that brings this to a namespace
+abbrev pub ask_of : Entrant → KvsAsk
+ask_of (entrant.Commit txn) = ask.Commit txn
+ask_of (entrant.Member name count txn) = ask.Fence name count txn
+
+-- what a landing carries out for such a command
+abbrev pub work_of : Entrant → Work
+work_of (entrant.Commit txn) = work.Commit
+work_of (entrant.Member name count txn) = work.Fence
 
 -- what a command is told whose landing carried this out
 abbrev pub carried_out : Work → KvsAnswer

@@ -35,15 +35,12 @@ is_arrived_stage _ = false
 abbrev pub is_arrived : Row → Bool
 is_arrived row = is_arrived_stage row.stage
 
--- whether a request at this stage is a commit that waits at rank 0 to be taken up
-abbrev pub is_commit_stage : Stage → Bool
-is_commit_stage (stage.Arrived (ask.Commit txn)) = true
-is_commit_stage _ = false
-
--- whether a request at this stage is a member of a fence that waits at rank 0 to be taken up
-abbrev pub is_fence_stage : Stage → Bool
-is_fence_stage (stage.Arrived (ask.Fence name count txn)) = true
-is_fence_stage _ = false
+-- whether a request at this stage is a commit or a member of a fence that waits at rank 0 to be
+-- taken up
+abbrev pub is_entering : Stage → Bool
+is_entering (stage.Arrived (ask.Commit txn)) = true
+is_entering (stage.Arrived (ask.Fence name count txn)) = true
+is_entering _ = false
 
 -- the first of two counts, if it is another than the second
 abbrev pub other_than : Option ℕ → ℕ → Option ℕ

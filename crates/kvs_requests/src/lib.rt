@@ -5,7 +5,7 @@
 mod rows;
 
 pub use rows::{
-    Joiner, Kind, Row, Stage, Work, awaited, carry, dismiss, entry, falling, first_held,
-    first_served, give, is_arrived, is_carried, is_held_in, is_joining, is_served, kept_count,
-    kind_of, place_of, put_stage, refuse, send_back, settle, take_joiner, take_txn,
+    Entrant, Kind, Row, Stage, Work, awaited, carry, dismiss, entry, falling, first_held,
+    first_served, give, is_arrived, is_carried, is_held_in, is_served, kept_count, kind_of,
+    place_of, put_stage, refuse, send_back, settle, take_entrant,
 };

@@ -10,9 +10,9 @@ ghost use Rattle.kvs_rules.specs.declared.events.KvsAsk.TheVariants as ask;
 ghost use Rattle.kvs_space.specs.Space.{SpaceValue, known_at, is_authored, name_at};
 ghost use Rattle.kvs_requests.specs.Agreement.{Entrants, StageAgrees, RowsAgree, IsUndecided, MayTell};
 ghost use Rattle.kvs_requests.specs.Refused.{IsAbove, IsFalling, IsReturning, GoesOn, IsCarried, IsRefusedRow, AreRefused, IsDismissedRow, AreDismissed, AreSettled, IsSentBack};
-ghost use Rattle.kvs_requests.specs.Rows.{IsKnownAsk, IsPut, with_stage, AtPlace, ArePlaced, entered, place_of, answered, awaited, found_for, settled, landed_stage, carried_out};
+ghost use Rattle.kvs_requests.specs.Rows.{IsKnownAsk, IsPut, with_stage, AtPlace, ArePlaced, ask_of, entered, place_of, answered, awaited, found_for, settled, carried_out, work_of};
 ghost use Rattle.kvs_rules.specs.Brokers.{parent};
-ghost use Rattle.kvs_requests.specs.Stages.{is_message, is_on, has_come, may_serve, is_held, is_arrived, is_arrived_stage, is_commit_stage, is_fence_stage, kind_of, has_ended, kept_count, other_than, joined_in};
+ghost use Rattle.kvs_requests.specs.Stages.{is_message, is_on, has_come, may_serve, is_held, is_arrived, is_arrived_stage, is_entering, kind_of, has_ended, kept_count, other_than, joined_in};
 
 use kvs_rules::{KvsAnswer, KvsAsk};
 use kvs_space::Space;
@@ -337,13 +337,16 @@ pub fn entry(ask: KvsAsk, place: Option<usize>, fanout: u32, broker: u32) -> Sta
     }
 }
 
-/// What stands where a stage is taken out, until it is put back changed.
-fn vacant() -> Stage
-    ensures { result ≡ Stage.Ended answer.NoNamespace }
+/// Takes a stage out that is to be put back changed; an end stands in its place until then.
+fn take_stage(stage: &mut Stage) -> Stage
+    ensures { result ≡ stage.old }
 {
-    Stage::Ended {
-        answer: KvsAnswer::NoNamespace,
-    }
+    replace(
+        stage,
+        Stage::Ended {
+            answer: KvsAnswer::NoNamespace,
+        },
+    )
 }
 
 /// Puts a request at another stage. It drops the old one by a call, which costs each proof above
@@ -354,16 +357,6 @@ fn set_stage(row: &mut Row, stage: Stage)
     drop(replace(&mut row.stage, stage));
 }
 
-/// Puts a request at another stage, and gives the stage where it was.
-pub fn restage(rows: &mut Vec<Row>, i: usize, stage: Stage) -> Stage
-    requires { i < length rows.old.items }
-    ensures rows { IsPut rows.old.items rows.new.items i stage }
-    ensures was { (d : Row) → result ≡ (slice_index_or rows.old.items i d).stage }
-{
-    let row = &mut rows[i];
-    replace(&mut row.stage, stage)
-}
-
 /// Puts a request at another stage.
 pub fn put_stage(rows: &mut Vec<Row>, i: usize, stage: Stage)
     requires { i < length rows.old.items }
@@ -372,58 +365,39 @@ pub fn put_stage(rows: &mut Vec<Row>, i: usize, stage: Stage)
     set_stage(&mut rows[i], stage);
 }
 
-/// Puts a request that has come to rank 0 at another stage, and gives the transaction that it
-/// commits.
-pub fn take_txn(rows: &mut Vec<Row>, i: usize, stage: Stage) -> Txn
+/// What enters a namespace at rank 0: a commit, or a member of the fence of a name that waits for so
+/// many.
+#[derive(Drop)]
+pub enum Entrant {
+    Commit { txn: Txn },
+    Member { name: Bytes, count: u32, txn: Txn },
+}
+
+/// Lets a request that has come to rank 0 wait to land in the namespace of a place in the table, and
+/// gives what enters there.
+pub fn take_entrant(rows: &mut Vec<Row>, i: usize, space: usize) -> Entrant
     requires within { i < length rows.old.items }
-    requires arrived { (d : Row)
-        → is_commit_stage (slice_index_or rows.old.items i d).stage ≡ true }
-    ensures rows { IsPut rows.old.items rows.new.items i stage }
+    requires enters { (d : Row) → is_entering (slice_index_or rows.old.items i d).stage ≡ true }
+    ensures rows { IsPut rows.old.items rows.new.items i (Stage.Joined space (work_of result)) }
     ensures was { (d : Row)
-        → (slice_index_or rows.old.items i d).stage ≡ Stage.Arrived (ask.Commit result) }
+        → (slice_index_or rows.old.items i d).stage ≡ Stage.Arrived (ask_of result) }
 {
-    match restage(rows, i, stage) {
+    let row = &mut rows[i];
+    match take_stage(&mut row.stage) {
         Stage::Arrived {
             ask: KvsAsk::Commit { txn },
-        } => txn,
-        _ => unreachable!(),
-    }
-}
-
-/// Whether a request that has come to rank 0 joins a fence.
-pub fn is_joining(row: &Row) -> bool
-    ensures { result ≡ is_fence_stage row.now.stage }
-{
-    matches!(
-        &row.stage,
-        Stage::Arrived {
-            ask: KvsAsk::Fence { .. }
+        } => {
+            let work = Work::Commit;
+            set_stage(row, Stage::Joined { space, work });
+            Entrant::Commit { txn }
         }
-    )
-}
-
-/// A member of a fence: the fence's name and count, and the member's transaction.
-#[derive(Drop)]
-pub struct Joiner {
-    pub name: Bytes,
-    pub count: u32,
-    pub txn: Txn,
-}
-
-/// Puts a request that has come to rank 0 at another stage, and gives the member of a fence that it
-/// brings.
-pub fn take_joiner(rows: &mut Vec<Row>, i: usize, stage: Stage) -> Joiner
-    requires within { i < length rows.old.items }
-    requires arrived { (d : Row) → is_fence_stage (slice_index_or rows.old.items i d).stage ≡ true }
-    ensures rows { IsPut rows.old.items rows.new.items i stage }
-    ensures was { (d : Row)
-        → (slice_index_or rows.old.items i d).stage
-        ≡ Stage.Arrived (ask.Fence result.name result.count result.txn) }
-{
-    match restage(rows, i, stage) {
         Stage::Arrived {
             ask: KvsAsk::Fence { name, count, txn },
-        } => Joiner { name, count, txn },
+        } => {
+            let work = Work::Fence;
+            set_stage(row, Stage::Joined { space, work });
+            Entrant::Member { name, count, txn }
+        }
         _ => unreachable!(),
     }
 }
@@ -469,7 +443,7 @@ pub fn carry(rows: &mut Vec<Row>, fanout: u32, from: u32, to: u32)
         Some(i) => {
             let row = &mut rows[i];
             let home = row.broker;
-            let stage = replace(&mut row.stage, vacant());
+            let stage = take_stage(&mut row.stage);
             set_stage(row, onward(stage, fanout, to, home));
         }
         None => unreachable!(),
@@ -551,7 +525,7 @@ pub fn give(
         (slice_index_or rows.old.items i d).stage) (slice_index_or rows.old.items i d))) }
 {
     let row = &mut rows[i];
-    let stage = replace(&mut row.stage, vacant());
+    let stage = take_stage(&mut row.stage);
     set_stage(row, answer(stage, known, ended, store)?);
     Ok(())
 }
@@ -573,27 +547,22 @@ fn is_author(groups: &GroupList, by: By) -> bool
         .any(|group| is_among(&group.authors, by))
 }
 
-/// What becomes of a request whose transaction landed.
-fn landed(stage: Stage, space: usize, number: u64) -> Stage
-    ensures { result ≡ landed_stage space number stage }
-{
-    match stage {
-        Stage::Joined { work, .. } => Stage::Landed {
-            space,
-            number,
-            work,
-        },
-        other => other,
-    }
-}
-
 /// Puts a request that a landing carried out at the stage that says so.
 fn settle_row(row: &mut Row, groups: &GroupList, space: usize, number: u64)
     ensures { row.new ≡ settled space number groups.now row.old }
 {
     if is_author(groups, row.by) {
-        let stage = replace(&mut row.stage, vacant());
-        set_stage(row, landed(stage, space, number));
+        if let Stage::Joined { work, .. } = &row.stage {
+            let work = *work;
+            set_stage(
+                row,
+                Stage::Landed {
+                    space,
+                    number,
+                    work,
+                },
+            );
+        }
     }
 }
 
@@ -679,7 +648,7 @@ pub fn send_back(rows: &mut Vec<Row>, i: usize, fanout: u32, space: usize)
 {
     let row = &mut rows[i];
     let home = row.broker;
-    let stage = replace(&mut row.stage, vacant());
+    let stage = take_stage(&mut row.stage);
     set_stage(row, sent_back(stage, fanout, home, space));
 }
 

@@ -7,22 +7,22 @@ ghost use Rattle.kvs_requests.specs.Rows.{IsKnownAsk};
 use fl_digest::Hash;
 use kvs_core::{Core, Request, Setting};
 use kvs_rules::{KvsAnswer, KvsAsk, KvsEvent, KvsStep};
-use kvs_txn::{Author, By, Found, Op, Path, Query, Txn};
+use kvs_txn::{Author, AuthorNames, By, Found, Op, Path, Query, Txn};
 use lists::{Bytes, ListOf};
 use std::alloc::Global;
 use std::test::Fail;
 
 /// What a tree of four brokers tells of the rows of `CHAIN`.
 const STORY: &str =
-    "landed 1, 0 heard 1, 1 heard 1, 2 heard 1, 3 heard 1, denied 1, 0 committed 1, 1 refused 0, 2 value 1, a stands, still";
+    "landed 1 by 0, 0 heard 1, 1 heard 1, 2 heard 1, 3 heard 1, denied 1, 0 committed 1, 1 refused 0, 2 value 1, a stands, still";
 
 /// What it tells of the rows of `PAIR`.
 const TOGETHER: &str =
-    "landed 1, 0 heard 1, 1 heard 1, 2 heard 1, 3 heard 1, 0 committed 1, 1 committed 1, a stands, b stands, still";
+    "landed 1 by 0 1, 0 heard 1, 1 heard 1, 2 heard 1, 3 heard 1, 0 committed 1, 1 committed 1, a stands, b stands, still";
 
 /// What it tells of the row of `ONE` behind a post.
 const BEHIND_A_POST: &str =
-    "landed 1, 0 heard 1, 1 heard 1, 2 heard 1, 3 heard 1, 0 committed 1, a stands, job.x stands, still";
+    "landed 1 by manager 0, 0 heard 1, 1 heard 1, 2 heard 1, 3 heard 1, 0 committed 1, a stands, job.x stands, still";
 
 #[derive(Clone, Copy)]
 enum Asked {
@@ -135,9 +135,29 @@ fn pose_all(alloc: Global, core: &mut Core, rows: &[Posed]) -> Result<(), Fail>
     Ok(())
 }
 
+/// The authors of a landing: actors by their numbers, and the job manager.
+fn names_of(alloc: Global, authors: &AuthorNames) -> Result<String, Fail> {
+    let mut names = String::new(alloc);
+    for author in authors.as_slice() {
+        let name = match author {
+            Some(by) => format!(in alloc; " {}", by.actor)?,
+            None => format!(in alloc; " manager")?,
+        };
+        names.push_str(name.as_str())?;
+    }
+    Ok(names)
+}
+
 fn tell(alloc: Global, text: &mut Vec<u8>, event: &KvsEvent) -> Result<(), Fail> {
     let words = match event {
-        KvsEvent::Landed { number, .. } => format!(in alloc; "landed {number}, ")?,
+        KvsEvent::Landed {
+            number,
+            authors,
+            ..
+        } => {
+            let names = names_of(alloc, authors)?;
+            format!(in alloc; "landed {number} by{names}, ")?
+        }
         KvsEvent::Denied { refusal, .. } => format!(in alloc; "denied {}, ", refusal.op)?,
         KvsEvent::Heard { broker, number, .. } => format!(in alloc; "{broker} heard {number}, ")?,
         _ => format!(in alloc; "other, ")?,
@@ -239,7 +259,7 @@ fn begin(alloc: Global, size: u32, fanout: u32) -> Result<Core, Fail>
 /// told.
 fn commit_heard_by(alloc: Global, size: u32) -> Result<Vec<u8>, Fail> {
     let mut text = Vec::new(alloc);
-    text.extend_from_slice(b"landed 1, ".as_slice())?;
+    text.extend_from_slice(b"landed 1 by 0, ".as_slice())?;
     for broker in 0..size {
         let words = format!(in alloc; "{broker} heard 1, ")?;
         text.extend_from_slice(words.as_bytes())?;
@@ -607,7 +627,7 @@ fn drawn_ask(alloc: Global, actor: u32, seed: &mut u64) -> Result<KvsAsk, Fail>
         0 | 1 => Ok(KvsAsk::Create),
         2 => Ok(KvsAsk::Remove),
         3 => asked_of(alloc, actor, Asked::Put("k")),
-        4 => asked_of(alloc, actor, Asked::Wait(0)),
+        4 => asked_of(alloc, actor, Asked::Wait(drawn(seed, 2))),
         5 => Ok(KvsAsk::Fence {
             name: Bytes::of(alloc, b"f")?,
             count: 3,
@@ -672,7 +692,8 @@ fn ask_drawn(alloc: Global, core: &mut Core, actor: u32, seed: &mut u64) -> Resu
     turn_some(core, seed)
 }
 
-/// Asks the same of three namespaces: two members more of a fence that may be open.
+/// Asks for what ends each wait in a namespace: two members more of a fence that may be open, and a
+/// commit.
 fn ask_last(alloc: Global, core: &mut Core, name: &str, actor: u32) -> Result<(), Fail>
     requires ready { core.old.spent ≡ false }
     requires size { core.old.size ≡ 7 }
@@ -690,7 +711,9 @@ fn ask_last(alloc: Global, core: &mut Core, name: &str, actor: u32) -> Result<()
         ask_in(alloc, core, actor + member, member, name, 0, ask)?;
         run(alloc, core, &mut text)?;
     }
-    Ok(())
+    let commit = put(alloc, actor + 2, "k")?;
+    ask_in(alloc, core, actor + 2, 6, name, 0, commit)?;
+    run(alloc, core, &mut text)
 }
 
 /// Forty actors ask what is drawn, between steps that are drawn.
@@ -735,8 +758,8 @@ fn count_left(core: &mut Core) -> Result<u32, Fail>
     Ok(left)
 }
 
-/// How many of the first commands of forty actors have no answer in the end, the steps being drawn
-/// from a seed. A fence that lacks members gets two more in each namespace.
+/// How many of the first commands of forty actors have no answer where no step is left, the steps
+/// being drawn from a seed. Each namespace gets what a wait may lack.
 fn count_unanswered(alloc: Global, core: &mut Core, order: u64) -> Result<u32, Fail>
     requires ready { core.old.spent ≡ false }
     requires size { core.old.size ≡ 7 }
@@ -745,8 +768,11 @@ fn count_unanswered(alloc: Global, core: &mut Core, order: u64) -> Result<u32, F
     ask_forty(alloc, core, &mut seed)?;
     run_long(alloc, core)?;
     ask_last(alloc, core, "n", 40)?;
-    ask_last(alloc, core, "m", 42)?;
-    ask_last(alloc, core, "primary", 44)?;
+    ask_last(alloc, core, "m", 43)?;
+    ask_last(alloc, core, "primary", 46)?;
+    if core.next().is_some() {
+        return Err("a step is left".into());
+    }
     count_left(core)
 }
 

@@ -2,7 +2,7 @@
 ghost use Rattle.std.specs.Prelude.{◌≡◌, ◌-◌, ◌<◌, length, true, false, Some, None, slice_index_or, IfOk, OnOk, OnErr};
 ghost use Rattle.kvs_rules.specs.Log.{Log};
 ghost use Rattle.kvs_rules.specs.Namespaces.{Setting as Service, most_live};
-ghost use Rattle.kvs_requests.specs.Stages.{is_fence_stage, kind_of, kept_count};
+ghost use Rattle.kvs_requests.specs.Stages.{kind_of, kept_count};
 ghost use Rattle.kvs_core.specs.Agrees.{Agrees};
 ghost use Rattle.kvs_requests.specs.Agreement.{MayTell};
 ghost use Rattle.kvs_space.specs.Space.{SpaceValue, live_in};
@@ -12,8 +12,8 @@ ghost use Rattle.kvs_core.specs.Makes.{HasArrived, IsFor, IsForNew, IsLiving, Is
 use super::{Core, CoreFault};
 use fence_merge::Member;
 use kvs_requests::{
-    Joiner, Kind, Row, Stage, Work, dismiss, falling, is_joining, kept_count, kind_of, put_stage,
-    send_back, take_joiner, take_txn,
+    Entrant, Kind, Row, Stage, Work, dismiss, falling, kept_count, kind_of, put_stage, send_back,
+    take_entrant,
 };
 use kvs_rules::{KvsAnswer, KvsStep};
 use kvs_space::{KvsEvents, Space, changing, count_live, find};
@@ -27,42 +27,14 @@ const MOST_LIVE: usize = 16;
 const MOST_SPACES: usize = u32::MAX as usize;
 
 impl Core {
-    /// Lets a commit that has come to rank 0 wait to land in the namespace of this place in the
-    /// table.
-    fn join(&mut self, i: usize, k: usize) -> Result<(), CoreFault>
+    /// Lets a commit or a member of a fence that has come to rank 0 wait to land in the namespace of
+    /// this place in the table.
+    fn admit(&mut self, i: usize, k: usize) -> Result<(), CoreFault>
         requires ready { self.old.spent ≡ false }
         requires within { i < length self.old.rows }
         requires arrived { HasArrived self.old i }
-        requires alone { (d : Row)
-            → is_fence_stage (slice_index_or self.old.rows i d).stage ≡ false }
         requires found { IsFor self.old i k }
         requires asked { IsOfKind self.old i Kind.Land }
-        requires living { IsLiving self.old k }
-        ensures moves { OnOk result (Moves (KvsStep.Serve 0) self.old self.new) }
-        ensures spent { OnErr result (self.new.spent ≡ true) }
-    {
-        self.spent = true;
-        let By { actor, command } = self.rows[i].by;
-        let work = Work::Commit;
-        let txn = take_txn(&mut self.rows, i, Stage::Joined { space: k, work });
-        let space = &mut self.spaces[k];
-        space.push(Member {
-            actor,
-            command,
-            txn,
-        })?;
-        self.spent = false;
-        Ok(())
-    }
-
-    /// Lets a member of a fence that has come to rank 0 join it in the namespace of this place in
-    /// the table.
-    fn join_fence(&mut self, i: usize, k: usize) -> Result<(), CoreFault>
-        requires ready { self.old.spent ≡ false }
-        requires within { i < length self.old.rows }
-        requires fence { (d : Row)
-            → is_fence_stage (slice_index_or self.old.rows i d).stage ≡ true }
-        requires found { IsFor self.old i k }
         requires living { IsLiving self.old k }
         requires same { (d : Row) (e : SpaceValue)
             → kept_count (slice_index_or self.old.spaces k e)
@@ -72,24 +44,32 @@ impl Core {
     {
         self.spent = true;
         let By { actor, command } = self.rows[i].by;
-        let work = Work::Fence;
-        let Joiner { name, count, txn } = take_joiner(
-            &mut self.rows,
-            i,
-            Stage::Joined { space: k, work },
-        );
+        let entrant = take_entrant(&mut self.rows, i, k);
         let space = &mut self.spaces[k];
-        space.join(
-            &name,
-            count,
-            Member {
-                actor,
-                command,
-                txn,
-            },
-        )?;
-        self.spent = false;
-        Ok(())
+        match entrant {
+            Entrant::Commit { txn } => {
+                space.push(Member {
+                    actor,
+                    command,
+                    txn,
+                })?;
+                self.spent = false;
+                Ok(())
+            }
+            Entrant::Member { name, count, txn } => {
+                space.join(
+                    &name,
+                    count,
+                    Member {
+                        actor,
+                        command,
+                        txn,
+                    },
+                )?;
+                self.spent = false;
+                Ok(())
+            }
+        }
     }
 
     /// Tells the command of a request that has come to rank 0 an answer without a number.
@@ -125,13 +105,9 @@ impl Core {
         if self.spaces[k].is_removed() {
             return self.turn_away(i, KvsAnswer::NoNamespace);
         }
-        if is_joining(&self.rows[i]) {
-            match kept_count(&self.rows[i], &self.spaces[k]) {
-                Some(kept) => self.turn_away(i, KvsAnswer::CountDiffers { kept }),
-                None => self.join_fence(i, k),
-            }
-        } else {
-            self.join(i, k)
+        match kept_count(&self.rows[i], &self.spaces[k]) {
+            Some(kept) => self.turn_away(i, KvsAnswer::CountDiffers { kept }),
+            None => self.admit(i, k),
         }
     }
 

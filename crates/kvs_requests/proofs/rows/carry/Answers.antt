@@ -7,13 +7,13 @@ pub unreachable-requires : goal.unreachable-requires
 unreachable-requires c = found-none (is_on c.args.from c.args.to) c.args.rows.now.items c.in-None.ensures c.requires.some
 
 pub returns-clause-carried : goal.returns-clause-carried
-returns-clause-carried c = rw c.set_stage.ensures (carry-is c.args.from c.args.to c.args.rows.now.items c.in-Some.i c.index_mut-row.result.now c.index_mut-row.ensures.value c.in-Some.ensures c.replace-stage.result c.onward.result c.replace-stage.ensures.value c.args.fanout c.onward.ensures.goes)
+returns-clause-carried c = rw c.set_stage.ensures (carry-is c.args.from c.args.to c.args.rows.now.items c.in-Some.i c.index_mut-row.result.now c.index_mut-row.ensures.value c.in-Some.ensures c.take_stage-stage.result c.onward.result c.take_stage-stage.ensures c.args.fanout c.onward.ensures.goes)
 
 pub returns-clause-placed : goal.returns-clause-placed
-returns-clause-placed c = rw c.set_stage.ensures (carry-placed c.args.from c.args.to c.args.rows.now.items c.in-Some.i c.index_mut-row.result.now c.index_mut-row.ensures.value c.in-Some.ensures c.replace-stage.result c.onward.result c.replace-stage.ensures.value c.args.fanout c.onward.ensures.place)
+returns-clause-placed c = rw c.set_stage.ensures (carry-placed c.args.from c.args.to c.args.rows.now.items c.in-Some.i c.index_mut-row.result.now c.index_mut-row.ensures.value c.in-Some.ensures c.take_stage-stage.result c.onward.result c.take_stage-stage.ensures c.args.fanout c.onward.ensures.place)
 
 pub returns-clause-agrees : goal.returns-clause-agrees
-returns-clause-agrees c = rw c.set_stage.ensures (carry-agrees c.args.from c.args.to c.args.rows.now.items c.in-Some.i c.index_mut-row.result.now c.index_mut-row.ensures.value c.in-Some.ensures c.replace-stage.result c.onward.result c.replace-stage.ensures.value c.onward.ensures.agrees c.onward.ensures.joined)
+returns-clause-agrees c = rw c.set_stage.ensures (carry-agrees c.args.from c.args.to c.args.rows.now.items c.in-Some.i c.index_mut-row.result.now c.index_mut-row.ensures.value c.in-Some.ensures c.take_stage-stage.result c.onward.result c.take_stage-stage.ensures c.onward.ensures.agrees c.onward.ensures.joined)
 
 pub returns-clause-left : goal.returns-clause-left
-returns-clause-left c = rw c.set_stage.ensures (carry-left c.args.from c.args.to c.args.rows.now.items c.in-Some.i c.index_mut-row.result.now c.index_mut-row.ensures.value c.in-Some.ensures c.replace-stage.result c.onward.result c.replace-stage.ensures.value c.args.fanout c.onward.ensures.left)
+returns-clause-left c = rw c.set_stage.ensures (carry-left c.args.from c.args.to c.args.rows.now.items c.in-Some.i c.index_mut-row.result.now c.index_mut-row.ensures.value c.in-Some.ensures c.take_stage-stage.result c.onward.result c.take_stage-stage.ensures c.args.fanout c.onward.ensures.left)

@@ -9,7 +9,7 @@ use Rattle.kvs_requests.proofs.rows.send_back.Goals as goal
 pub sent_back-requires-clause-arrived : goal.sent_back-requires-clause-arrived
 sent_back-requires-clause-arrived c =
     let row = c.index_mut-row.result.now in
-    ap is_arrived_stage c.replace-stage.ensures.value ∙ ap is_arrived c.index_mut-row.ensures.value ∙ c.requires.arrived row
+    ap is_arrived_stage c.take_stage-stage.ensures ∙ ap is_arrived c.index_mut-row.ensures.value ∙ c.requires.arrived row
 
 pub returns : goal.returns
 returns c =
@@ -20,7 +20,7 @@ returns c =
     rw c.set_stage.ensures record {
       asked = back.0;
       stage = c.sent_back.result;
-      was = λ d. ap (λ r. r.stage) (sym (same d)) ∙ sym c.replace-stage.ensures.value ∙ back.1;
+      was = λ d. ap (λ r. r.stage) (sym (same d)) ∙ sym c.take_stage-stage.ensures ∙ back.1;
       goes = λ d. subst (λ r. IsReturning c.args.fanout 0 r.broker c.args.space back.0 c.sent_back.result) (same d) back.2;
       others = λ d. ap (λ r. set rows c.args.i (with_stage c.sent_back.result r)) (same d);
     }
