@@ -11,75 +11,146 @@ use std::alloc::{AllocError, Global};
 use std::test::Fail;
 use workload::{Command, Line, Workload};
 
-/// Replies by their place in `reply_of`, each with its number and its line.
-const REPLIES: [(u32, Option<u64>, &str); 34] = [
-    (0, None, "staged\n"),
-    (1, None, "TxnFull\n"),
-    (2, Some(1), "committed 1\n"),
-    (3, Some(2), "fenced 2\n"),
-    (4, None, "CountDiffers 3\n"),
-    (5, None, "NoNamespace\n"),
-    (6, Some(9), "reached 9\n"),
-    (7, None, "told\n"),
-    (8, Some(0), "created\n"),
-    (9, None, "Exists\n"),
-    (10, None, "TooMany\n"),
-    (11, Some(3), "removed\n"),
-    (12, None, "IsPrimary\n"),
-    (13, None, "using\n"),
-    (14, None, "NoBlob\n"),
-    (15, None, "flushed\n"),
-    (16, None, "dropped\n"),
-    (17, None, "Unfinished 2/3\n"),
-    (18, None, "Unfinished 0/18446744073709551615\n"),
-    (19, None, "NotReached\n"),
-    (20, Some(0), "NotFound 0\n"),
-    (21, Some(5), "IsDir 5\n"),
-    (22, Some(6), "NotDir 6\n"),
-    (23, Some(7), "NotLink 7\n"),
-    (24, Some(8), "Loop 8\n"),
-    (25, Some(1), "value 1 hello\n"),
-    (26, Some(1), "value 1 a\\\\b\\nc\r \n"),
+/// The replies to commands on keys, namespaces and contents that are printed.
+#[derive(Clone, Copy)]
+enum Answer {
+    Staged,
+    TxnFull,
+    Committed,
+    Fenced,
+    CountDiffers,
+    NoNamespace,
+    Reached,
+    Told,
+    Created,
+    Exists,
+    TooMany,
+    Removed,
+    IsPrimary,
+    Using,
+    NoBlob,
+    Flushed,
+    Dropped,
+    UnfinishedFence,
+    UnfinishedWait,
+    NotReached,
+    NotFound,
+    IsDir,
+    NotDir,
+    NotLink,
+    Loop,
+    Value,
+    EscapedValue,
+    EmptyValue,
+    Blob,
+    Target,
+    Root,
+    Names,
+    NoNames,
+    Refused,
+}
+
+/// Replies, each with its number and its line.
+const REPLIES: [(Answer, Option<u64>, &str); 34] = [
+    (Answer::Staged, None, "staged\n"),
+    (Answer::TxnFull, None, "TxnFull\n"),
+    (Answer::Committed, Some(1), "committed 1\n"),
+    (Answer::Fenced, Some(2), "fenced 2\n"),
+    (Answer::CountDiffers, None, "CountDiffers 3\n"),
+    (Answer::NoNamespace, None, "NoNamespace\n"),
+    (Answer::Reached, Some(9), "reached 9\n"),
+    (Answer::Told, None, "told\n"),
+    (Answer::Created, Some(0), "created\n"),
+    (Answer::Exists, None, "Exists\n"),
+    (Answer::TooMany, None, "TooMany\n"),
+    (Answer::Removed, Some(3), "removed\n"),
+    (Answer::IsPrimary, None, "IsPrimary\n"),
+    (Answer::Using, None, "using\n"),
+    (Answer::NoBlob, None, "NoBlob\n"),
+    (Answer::Flushed, None, "flushed\n"),
+    (Answer::Dropped, None, "dropped\n"),
+    (Answer::UnfinishedFence, None, "Unfinished 2/3\n"),
     (
-        27,
+        Answer::UnfinishedWait,
+        None,
+        "Unfinished 0/18446744073709551615\n",
+    ),
+    (Answer::NotReached, None, "NotReached\n"),
+    (Answer::NotFound, Some(0), "NotFound 0\n"),
+    (Answer::IsDir, Some(5), "IsDir 5\n"),
+    (Answer::NotDir, Some(6), "NotDir 6\n"),
+    (Answer::NotLink, Some(7), "NotLink 7\n"),
+    (Answer::Loop, Some(8), "Loop 8\n"),
+    (Answer::Value, Some(1), "value 1 hello\n"),
+    (Answer::EscapedValue, Some(1), "value 1 a\\\\b\\nc\r \n"),
+    (
+        Answer::EmptyValue,
         Some(18446744073709551615),
         "value 18446744073709551615 \n",
     ),
-    (28, None, "blob x\\n\n"),
-    (29, Some(4), "target 4 a.b\n"),
-    (30, Some(4), "target 4 .\n"),
-    (31, Some(1), "names 1 d. k l@\n"),
-    (32, Some(1), "names 1\n"),
-    (33, None, "refused 2 RootOp\n"),
+    (Answer::Blob, None, "blob x\\n\n"),
+    (Answer::Target, Some(4), "target 4 a.b\n"),
+    (Answer::Root, Some(4), "target 4 .\n"),
+    (Answer::Names, Some(1), "names 1 d. k l@\n"),
+    (Answer::NoNames, Some(1), "names 1\n"),
+    (Answer::Refused, None, "refused 2 RootOp\n"),
 ];
 
-/// Replies about jobs, time and children by their place in `job_reply_of`, each with its number and
-/// its line.
-const JOB_REPLIES: [(u32, Option<u64>, &str); 24] = [
-    (0, Some(1), "submitted f1\n"),
-    (1, Some(2), "submitted fSZYcoq\n"),
-    (2, None, "BadSpec 7\n"),
-    (3, Some(3), "NoJob\n"),
-    (4, Some(4), "raised\n"),
-    (5, Some(5), "Ended\n"),
-    (6, Some(6), "NotWaiting RUN\n"),
-    (7, Some(10), "state 10 INACTIVE\n"),
-    (8, Some(10), "info 10 {}\\n\n"),
-    (9, Some(4), "NotFound 4\n"),
-    (10, Some(6), "jobs 6 f1:INACTIVE fJf:NEW\n"),
-    (11, Some(0), "jobs 0\n"),
-    (12, Some(22), "why 22 Busy f1 fJf\n"),
-    (13, Some(22), "why 22 Busy\n"),
-    (14, Some(14), "why 14 Behind fJf\n"),
-    (15, Some(4), "why 4 Held\n"),
-    (16, Some(4), "why 4 Ready\n"),
-    (17, Some(9), "ended 256\n"),
-    (18, Some(9), "ended -\n"),
-    (19, None, "advanced 18446744073709551615\n"),
-    (20, None, "Unfinished SCHED\n"),
-    (21, None, "shut\n"),
-    (22, None, "Gone\n"),
-    (23, None, "Unfinished unborn\n"),
+/// The replies about jobs, time and children that are printed.
+#[derive(Clone, Copy)]
+enum JobAnswer {
+    FirstId,
+    LateId,
+    BadSpec,
+    NoJob,
+    Raised,
+    Ended,
+    NotWaiting,
+    StateIs,
+    Info,
+    NoInfo,
+    Jobs,
+    NoJobs,
+    Busy,
+    BusyAlone,
+    Behind,
+    Held,
+    Ready,
+    EndedWithStatus,
+    EndedWithout,
+    Advanced,
+    UnfinishedJob,
+    Shut,
+    Gone,
+    UnfinishedUnborn,
+}
+
+/// Replies about jobs, time and children, each with its number and its line.
+const JOB_REPLIES: [(JobAnswer, Option<u64>, &str); 24] = [
+    (JobAnswer::FirstId, Some(1), "submitted f1\n"),
+    (JobAnswer::LateId, Some(2), "submitted fSZYcoq\n"),
+    (JobAnswer::BadSpec, None, "BadSpec 7\n"),
+    (JobAnswer::NoJob, Some(3), "NoJob\n"),
+    (JobAnswer::Raised, Some(4), "raised\n"),
+    (JobAnswer::Ended, Some(5), "Ended\n"),
+    (JobAnswer::NotWaiting, Some(6), "NotWaiting RUN\n"),
+    (JobAnswer::StateIs, Some(10), "state 10 INACTIVE\n"),
+    (JobAnswer::Info, Some(10), "info 10 {}\\n\n"),
+    (JobAnswer::NoInfo, Some(4), "NotFound 4\n"),
+    (JobAnswer::Jobs, Some(6), "jobs 6 f1:INACTIVE fJf:NEW\n"),
+    (JobAnswer::NoJobs, Some(0), "jobs 0\n"),
+    (JobAnswer::Busy, Some(22), "why 22 Busy f1 fJf\n"),
+    (JobAnswer::BusyAlone, Some(22), "why 22 Busy\n"),
+    (JobAnswer::Behind, Some(14), "why 14 Behind fJf\n"),
+    (JobAnswer::Held, Some(4), "why 4 Held\n"),
+    (JobAnswer::Ready, Some(4), "why 4 Ready\n"),
+    (JobAnswer::EndedWithStatus, Some(9), "ended 256\n"),
+    (JobAnswer::EndedWithout, Some(9), "ended -\n"),
+    (JobAnswer::Advanced, None, "advanced 18446744073709551615\n"),
+    (JobAnswer::UnfinishedJob, None, "Unfinished SCHED\n"),
+    (JobAnswer::Shut, None, "shut\n"),
+    (JobAnswer::Gone, None, "Gone\n"),
+    (JobAnswer::UnfinishedUnborn, None, "Unfinished unborn\n"),
 ];
 
 /// The texts of the causes.
@@ -94,59 +165,59 @@ const CAUSES: [(Cause, &str); 8] = [
     (Cause::ValueFull, "refused 1 ValueFull\n"),
 ];
 
-fn plain_reply(n: u32) -> Reply {
-    match n {
-        0 => Reply::Staged,
-        1 => Reply::TxnFull,
-        2 => Reply::Committed,
-        3 => Reply::Fenced,
-        4 => Reply::CountDiffers { kept: 3 },
-        5 => Reply::NoNamespace,
-        6 => Reply::Reached,
-        7 => Reply::Told,
-        8 => Reply::Created,
-        9 => Reply::Exists,
-        10 => Reply::TooMany,
-        11 => Reply::Removed,
-        12 => Reply::IsPrimary,
-        13 => Reply::Using,
-        14 => Reply::NoBlob,
-        15 => Reply::Flushed,
-        16 => Reply::Dropped,
-        17 => Reply::UnfinishedFence { have: 2, want: 3 },
-        18 => Reply::UnfinishedWait {
+fn plain_reply(one: Answer) -> Reply {
+    match one {
+        Answer::Staged => Reply::Staged,
+        Answer::TxnFull => Reply::TxnFull,
+        Answer::Committed => Reply::Committed,
+        Answer::Fenced => Reply::Fenced,
+        Answer::CountDiffers => Reply::CountDiffers { kept: 3 },
+        Answer::NoNamespace => Reply::NoNamespace,
+        Answer::Reached => Reply::Reached,
+        Answer::Told => Reply::Told,
+        Answer::Created => Reply::Created,
+        Answer::Exists => Reply::Exists,
+        Answer::TooMany => Reply::TooMany,
+        Answer::Removed => Reply::Removed,
+        Answer::IsPrimary => Reply::IsPrimary,
+        Answer::Using => Reply::Using,
+        Answer::NoBlob => Reply::NoBlob,
+        Answer::Flushed => Reply::Flushed,
+        Answer::Dropped => Reply::Dropped,
+        Answer::UnfinishedFence => Reply::UnfinishedFence { have: 2, want: 3 },
+        Answer::UnfinishedWait => Reply::UnfinishedWait {
             heard: 0,
             number: u64::MAX,
         },
-        19 => Reply::NotReached,
-        20 => Reply::Read(Found::Nothing),
-        21 => Reply::Read(Found::IsDir),
-        22 => Reply::Read(Found::NotDir),
-        23 => Reply::Read(Found::NotLink),
+        Answer::NotReached => Reply::NotReached,
+        Answer::NotFound => Reply::Read(Found::Nothing),
+        Answer::IsDir => Reply::Read(Found::IsDir),
+        Answer::NotDir => Reply::Read(Found::NotDir),
+        Answer::NotLink => Reply::Read(Found::NotLink),
         _ => Reply::Read(Found::Loop),
     }
 }
 
-fn plain_job_reply(n: u32) -> Reply {
-    match n {
-        0 => Reply::Submitted(0),
-        1 => Reply::Submitted(16777216000),
-        2 => Reply::BadSpec(7),
-        3 => Reply::NoJob,
-        4 => Reply::Raised,
-        5 => Reply::Ended,
-        6 => Reply::NotWaiting(State::Run),
-        7 => Reply::StateIs(State::Inactive),
-        9 => Reply::Info(None),
-        14 => Reply::Behind(1024),
-        15 => Reply::Held,
-        16 => Reply::Ready,
-        17 => Reply::EndedWith { status: Some(256) },
-        18 => Reply::EndedWith { status: None },
-        19 => Reply::Advanced { second: u64::MAX },
-        21 => Reply::Shut,
-        22 => Reply::Gone,
-        23 => Reply::UnfinishedUnborn,
+fn plain_job_reply(one: JobAnswer) -> Reply {
+    match one {
+        JobAnswer::FirstId => Reply::Submitted(0),
+        JobAnswer::LateId => Reply::Submitted(16777216000),
+        JobAnswer::BadSpec => Reply::BadSpec(7),
+        JobAnswer::NoJob => Reply::NoJob,
+        JobAnswer::Raised => Reply::Raised,
+        JobAnswer::Ended => Reply::Ended,
+        JobAnswer::NotWaiting => Reply::NotWaiting(State::Run),
+        JobAnswer::StateIs => Reply::StateIs(State::Inactive),
+        JobAnswer::NoInfo => Reply::Info(None),
+        JobAnswer::Behind => Reply::Behind(1024),
+        JobAnswer::Held => Reply::Held,
+        JobAnswer::Ready => Reply::Ready,
+        JobAnswer::EndedWithStatus => Reply::EndedWith { status: Some(256) },
+        JobAnswer::EndedWithout => Reply::EndedWith { status: None },
+        JobAnswer::Advanced => Reply::Advanced { second: u64::MAX },
+        JobAnswer::Shut => Reply::Shut,
+        JobAnswer::Gone => Reply::Gone,
+        JobAnswer::UnfinishedUnborn => Reply::UnfinishedUnborn,
         _ => Reply::UnfinishedJob(State::Sched),
     }
 }
@@ -166,14 +237,14 @@ fn two_ids(alloc: Global) -> Result<Reply, AllocError> {
     Ok(Reply::Busy(ids))
 }
 
-fn job_reply_of(alloc: Global, n: u32) -> Result<Reply, AllocError> {
-    match n {
-        8 => Ok(Reply::Info(Some(Bytes::of(alloc, b"{}\n")?))),
-        10 => two_jobs(alloc),
-        11 => Ok(Reply::Jobs(ListOf::new(alloc))),
-        12 => two_ids(alloc),
-        13 => Ok(Reply::Busy(ListOf::new(alloc))),
-        _ => Ok(plain_job_reply(n)),
+fn job_reply_of(alloc: Global, one: JobAnswer) -> Result<Reply, AllocError> {
+    match one {
+        JobAnswer::Info => Ok(Reply::Info(Some(Bytes::of(alloc, b"{}\n")?))),
+        JobAnswer::Jobs => two_jobs(alloc),
+        JobAnswer::NoJobs => Ok(Reply::Jobs(ListOf::new(alloc))),
+        JobAnswer::Busy => two_ids(alloc),
+        JobAnswer::BusyAlone => Ok(Reply::Busy(ListOf::new(alloc))),
+        _ => Ok(plain_job_reply(one)),
     }
 }
 
@@ -197,21 +268,21 @@ fn names(alloc: Global) -> Result<Reply, AllocError> {
     Ok(Reply::Read(Found::Names(list)))
 }
 
-fn reply_of(alloc: Global, n: u32) -> Result<Reply, AllocError> {
-    match n {
-        25 => value(alloc, b"hello"),
-        26 => value(alloc, b"a\\b\nc\r "),
-        27 => value(alloc, b""),
-        28 => Ok(Reply::Blob(Bytes::of(alloc, b"x\n")?)),
-        29 => target(alloc, "a.b"),
-        30 => target(alloc, "."),
-        31 => names(alloc),
-        32 => Ok(Reply::Read(Found::Names(ListOf::new(alloc)))),
-        33 => Ok(Reply::Refused(Refusal {
+fn reply_of(alloc: Global, one: Answer) -> Result<Reply, AllocError> {
+    match one {
+        Answer::Value => value(alloc, b"hello"),
+        Answer::EscapedValue => value(alloc, b"a\\b\nc\r "),
+        Answer::EmptyValue => value(alloc, b""),
+        Answer::Blob => Ok(Reply::Blob(Bytes::of(alloc, b"x\n")?)),
+        Answer::Target => target(alloc, "a.b"),
+        Answer::Root => target(alloc, "."),
+        Answer::Names => names(alloc),
+        Answer::NoNames => Ok(Reply::Read(Found::Names(ListOf::new(alloc)))),
+        Answer::Refused => Ok(Reply::Refused(Refusal {
             op: 2,
             cause: Cause::RootOp,
         })),
-        _ => Ok(plain_reply(n)),
+        _ => Ok(plain_reply(one)),
     }
 }
 
@@ -328,17 +399,17 @@ fn born(alloc: Global) -> Result<Entry, AllocError> {
     })
 }
 
-fn plain_entry(n: u32) -> Entry {
-    match n {
-        0 => Entry::Issued {
+fn plain_entry(one: Happening) -> Entry {
+    match one {
+        Happening::Issued => Entry::Issued {
             actor: 0,
             command: 0,
         },
-        1 => replied(1, 0, Reply::Told, None),
-        2 => replied(0, 1, Reply::Committed, Some(1)),
-        3 => Entry::Told { from: 0, to: 1 },
-        8 => Entry::Ticked { second: 10 },
-        10 => Entry::Gone {
+        Happening::Told => replied(1, 0, Reply::Told, None),
+        Happening::Committed => replied(0, 1, Reply::Committed, Some(1)),
+        Happening::Tells => Entry::Told { from: 0, to: 1 },
+        Happening::Ticked => Entry::Ticked { second: 10 },
+        Happening::Gone => Entry::Gone {
             child: 2,
             parent: 1,
             job: 0,
@@ -348,29 +419,45 @@ fn plain_entry(n: u32) -> Entry {
     }
 }
 
-fn entry_of(alloc: Global, n: u32) -> Result<Entry, AllocError> {
-    match n {
-        5 => landed(alloc),
-        6 => denied(alloc),
-        7 => heard(alloc),
-        9 => born(alloc),
-        _ => Ok(plain_entry(n)),
+fn entry_of(alloc: Global, one: Happening) -> Result<Entry, AllocError> {
+    match one {
+        Happening::Landed => landed(alloc),
+        Happening::Denied => denied(alloc),
+        Happening::Heard => heard(alloc),
+        Happening::Born => born(alloc),
+        _ => Ok(plain_entry(one)),
     }
 }
 
-/// Entries by their place in `entry_of`, each with its line in the journal.
-const ENTRIES: [(u32, &str); 11] = [
-    (0, "issued 0 0\n"),
-    (1, "replied 1 0 - told\n"),
-    (2, "replied 0 1 1 committed 1\n"),
-    (3, "told 0 1\n"),
-    (4, "closed\n"),
-    (5, "landed 0 primary 1 0.1 m 12.3\n"),
-    (6, "denied 0 n-1 2 RootOp 4294967295.0\n"),
-    (7, "heard 0 3 primary 1\n"),
-    (8, "ticked 10\n"),
-    (9, "born 2 1 fJf\n"),
-    (10, "gone 2\n"),
+/// The entries that are printed.
+#[derive(Clone, Copy)]
+enum Happening {
+    Issued,
+    Told,
+    Committed,
+    Tells,
+    Closed,
+    Landed,
+    Denied,
+    Heard,
+    Ticked,
+    Born,
+    Gone,
+}
+
+/// Entries, each with its line in the journal.
+const ENTRIES: [(Happening, &str); 11] = [
+    (Happening::Issued, "issued 0 0\n"),
+    (Happening::Told, "replied 1 0 - told\n"),
+    (Happening::Committed, "replied 0 1 1 committed 1\n"),
+    (Happening::Tells, "told 0 1\n"),
+    (Happening::Closed, "closed\n"),
+    (Happening::Landed, "landed 0 primary 1 0.1 m 12.3\n"),
+    (Happening::Denied, "denied 0 n-1 2 RootOp 4294967295.0\n"),
+    (Happening::Heard, "heard 0 3 primary 1\n"),
+    (Happening::Ticked, "ticked 10\n"),
+    (Happening::Born, "born 2 1 fJf\n"),
+    (Happening::Gone, "gone 2\n"),
 ];
 
 /// Replies out of the workload's order, one command's twice.
@@ -393,27 +480,32 @@ fn prints_in_order(alloc: Global) -> Result<bool, AllocError> {
 }
 
 /// Whether a reply has this number and this line.
-fn has_line(alloc: Global, n: u32, number: Option<u64>, line: &str) -> Result<bool, AllocError> {
-    let reply = reply_of(alloc, n)?;
+fn has_line(
+    alloc: Global,
+    one: Answer,
+    number: Option<u64>,
+    line: &str,
+) -> Result<bool, AllocError> {
+    let reply = reply_of(alloc, one)?;
     prints_reply(alloc, reply, number, line)
 }
 
 /// The same of a reply about jobs, time and children.
 fn has_job_line(
     alloc: Global,
-    n: u32,
+    one: JobAnswer,
     number: Option<u64>,
     line: &str,
 ) -> Result<bool, AllocError> {
-    let reply = job_reply_of(alloc, n)?;
+    let reply = job_reply_of(alloc, one)?;
     prints_reply(alloc, reply, number, line)
 }
 
 #[test]
 fn replies_and_entries_have_their_lines(rt: HostRuntime) -> Result<(), Fail> {
     let alloc = rt.alloc();
-    for (n, number, line) in &REPLIES {
-        assert!(rt; has_line(alloc, *n, *number, line)?, "{line}");
+    for (one, number, line) in &REPLIES {
+        assert!(rt; has_line(alloc, *one, *number, line)?, "{line}");
     }
     for (cause, line) in &CAUSES {
         let refused = Reply::Refused(Refusal {
@@ -422,8 +514,11 @@ fn replies_and_entries_have_their_lines(rt: HostRuntime) -> Result<(), Fail> {
         });
         assert!(rt; prints_reply(alloc, refused, None, line)?, "{line}");
     }
-    for (n, line) in &ENTRIES {
-        assert!(rt; prints_entry(alloc, entry_of(alloc, *n)?, line)?, "{line}");
+    for (one, line) in &ENTRIES {
+        assert!(rt;
+            prints_entry(alloc, entry_of(alloc, *one)?, line)?,
+            "{line}"
+        );
     }
     assert!(rt; prints_in_order(alloc)?);
     Ok(())
@@ -432,8 +527,8 @@ fn replies_and_entries_have_their_lines(rt: HostRuntime) -> Result<(), Fail> {
 #[test]
 fn replies_about_jobs_time_and_children_have_their_lines(rt: HostRuntime) -> Result<(), Fail> {
     let alloc = rt.alloc();
-    for (n, number, line) in &JOB_REPLIES {
-        assert!(rt; has_job_line(alloc, *n, *number, line)?, "{line}");
+    for (one, number, line) in &JOB_REPLIES {
+        assert!(rt; has_job_line(alloc, *one, *number, line)?, "{line}");
     }
     Ok(())
 }

@@ -35,11 +35,12 @@ use Rattle.instance_rules.specs.Desks.{AreDueFrom, IsDeskOf, IsDueFor, StandsAsk
 use Rattle.instance_rules.specs.Family.{MayClose}
 use Rattle.instance_rules.specs.Legal.{IsDueEvent, IsLegalMoment, OfDesk}
 use Rattle.instance_rules.specs.Log.{JobAsk, JobReply, Log, Moment, Born, Gone, Issued, Replied, Served, child_of, child_told, now_of, service_of}
+use Rattle.tap.specs.Factors.{priority_by}
 use Rattle.workload.specs.declared.work.Workload.{Workload}
 use Rattle.answers.specs.declared.chronicle.Entry.{Entry}
 use Rattle.answers.specs.declared.chronicle.Entry.TheVariants as entry
 use Rattle.answers.specs.Chronicle.{Setup, top}
-use Rattle.answers.specs.Jobs.{IsWithoutJobs, default_priority, happening_of, happenings_after, instance_of, job_ask_at, job_reply_of, log_in}
+use Rattle.answers.specs.Jobs.{IsWithoutJobs, happening_of, happenings_after, instance_of, job_ask_at, job_reply_of, log_in}
 use Rattle.answers.specs.Legal.{IsLegal, IsLegalEntry}
 use Rattle.answers.specs.Runs.{family_of}
 use Rattle.answers.specs.Services.{log_of, moment_of, setting_of}
@@ -258,7 +259,7 @@ module _ (set : Setup) (without : IsWithoutJobs set.work) where
   module _ (d : List Entry) (childless : (id : ℕ) → child_of (log_in set.work d) id ≡ None) where
     abbrev desk_there : Desk
     desk_there = record {
-      scene = record { now = now_of (instance_of set) (log_in set.work d); grant = set.resources; jobs = []; asked = []; answer = default_priority };
+      scene = record { now = now_of (instance_of set) (log_in set.work d); grant = set.resources; jobs = []; asked = []; answer = priority_by set.weights };
       birth = set.birth;
       submits = [];
     }

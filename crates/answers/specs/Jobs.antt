@@ -1,12 +1,12 @@
 -- An instance with its jobs, its children and its time: what its commands on jobs ask, which
 -- replies are theirs, and its log.
-use Rattle.std.specs.Prelude.{◌≡◌, ◌<◌, ◌^◌, ◌==◌, ℕ, List, [], ◌∷◌, ◌++◌, Option, Some, None, IfSome, false, is_some, map, max, min, option_and_then, option_map, if◌then◌else◌}
+use Rattle.std.specs.Prelude.{◌≡◌, ◌<◌, ◌^◌, ◌==◌, ℕ, List, [], ◌∷◌, ◌++◌, Option, Some, None, IfSome, false, is_some, map, option_and_then, option_map, if◌then◌else◌}
 use Rattle.std.specs.List.{AllByRecursion as Each, cons_option}
 use Rattle.std.specs.Option.{option_map_or}
 use Rattle.kvs_txn.specs.declared.txn.By.{By}
 use Rattle.job_rules.specs.Fits.{IsGrant}
 use Rattle.resource_set.specs.Writing.{r_text}
-use Rattle.tap.specs.declared.Ask.{Ask}
+use Rattle.tap.specs.Factors.{priority_by}
 use Rattle.instance_rules.specs.Log as rules
 use Rattle.instance_rules.specs.Log.{Instance, JobAsk, JobReply, Key, JobspecKey, RKey, LogKey, Log, Moment, Named, Served, Issued, Replied, Ticked, Born, Gone, IsInRange, now_of}
 use Rattle.instance_rules.specs.Family.{HasTarget, Living}
@@ -80,18 +80,13 @@ job_reply_of _ = None
 
 -- ---- the instance and its log
 
--- the priority that a job is given, as long as no run keeps a callback that says more: its urgency,
--- within the range of priorities
-abbrev pub default_priority : Ask → ℕ
-default_priority ask = min (max ask.urgency 1) 4294967294
-
--- the instance that is given this
+-- the instance that is given this: it gives its jobs their priorities by the run's weights
 abbrev pub instance_of : Setup → Instance
 instance_of set = record {
   service = setting_of set;
   birth = set.birth;
   grant = set.resources;
-  answer = default_priority;
+  answer = priority_by set.weights;
   asks = job_ask_at set.work;
   rank = λ by. broker_of set.work by.actor;
 }

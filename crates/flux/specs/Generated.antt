@@ -10,6 +10,7 @@ use Rattle.summaries.specs.Summary.{IsSummary}
 use Rattle.flux.specs.declared.call.Run.{Run}
 use Rattle.flux.specs.declared.generating.Generation.{Generation}
 use Rattle.flux.specs.Runs.{setup_of, IsRunOf, IsWorkOf}
+use Rattle.tap.specs.declared.weights.Weights.{Weights}
 
 -- the most commands of a workload that is drawn
 abbrev pub most_commands : ℕ
@@ -49,9 +50,10 @@ IsDrawn g work = IsWorkOf generated_options.size (generated g.seed g.count) work
 
 -- this is a run of the workload that is drawn, as `run --size 7` makes it, and what was written is
 -- its summary in the place of its answers
-pub record HasSummary (g : Generation) (run : Run) (text : List ℕ) : Type 0 where
+pub record HasSummary (weights : Weights) (g : Generation) (run : Run)
+    (text : List ℕ) : Type 0 where
   pub work : Workload
   pub drawn : IsDrawn g work
   pub answers : List ℕ
-  pub ran : IsRunOf generated_options work run answers
-  pub summary : IsSummary (setup_of generated_options work) run.chronicle text
+  pub ran : IsRunOf weights generated_options work run answers
+  pub summary : IsSummary (setup_of weights generated_options work) run.chronicle text

@@ -14,6 +14,7 @@ use Rattle.hierarchy.specs.Stretches.{AreRunStretches}
 use Rattle.world.specs.Grant.{first_resources, grant_text}
 use Rattle.flux.specs.declared.call.Run.{Run}
 use Rattle.flux.specs.Sides.{Side}
+use Rattle.tap.specs.declared.weights.Weights.{Weights}
 
 -- the options of a run of a workload, where the words ask for one
 abbrev pub run_options : List (List ℕ) → Option Options
@@ -24,14 +25,15 @@ run_options (word ∷ words) = if bytes_eq word (codes "run") then options_of wo
 abbrev pub AreRunWords : List (List ℕ) → Type 0
 AreRunWords words = run_options words ≢ None
 
--- what a run of the workload is given: its options and its grant
-abbrev pub setup_of : Options → Workload → Setup
-setup_of o work = record {
+-- what a run of the workload is given: its options, its grant and the weights of its jobs' factors
+abbrev pub setup_of : Weights → Options → Workload → Setup
+setup_of weights o work = record {
   size = o.size;
   fanout = o.fanout;
   hash = o.hash;
   grant = grant_text o.size work;
   resources = first_resources o.size work;
+  weights = weights;
   birth = 0;
   work = work;
 }
@@ -65,16 +67,19 @@ pub record IsSpelled (size : ℕ) (input : Side) (work : Workload) : Type 0 wher
 -- the text prints it, and the steps made tell the whole of it; after each first part of it the jobs
 -- of each living instance stand well in its grant, that of a child lies in what a job of its parent
 -- holds, and no event of a job is lost or changed
-pub record IsRunOf (o : Options) (work : Workload) (run : Run) (text : List ℕ) : Type 0 where
-  pub true_run : IsTrueRun (setup_of o work) (is_settled o) o.journal run.chronicle text
-  pub stretches : AreRunStretches (setup_of o work) run.steps.items run.ends.items run.chronicle
-  pub sound : JobsStaySoundInAll (setup_of o work) run.chronicle
-  pub nested : ChildrenStayNested (setup_of o work) run.chronicle
-  pub grows : LogsOnlyGrowInAll (setup_of o work) run.chronicle
+pub record IsRunOf (weights : Weights) (o : Options) (work : Workload)
+    (run : Run) (text : List ℕ) : Type 0 where
+  pub true_run : IsTrueRun (setup_of weights o work) (is_settled o) o.journal run.chronicle text
+  pub stretches : AreRunStretches (setup_of weights o work) run.steps.items run.ends.items
+      run.chronicle
+  pub sound : JobsStaySoundInAll (setup_of weights o work) run.chronicle
+  pub nested : ChildrenStayNested (setup_of weights o work) run.chronicle
+  pub grows : LogsOnlyGrowInAll (setup_of weights o work) run.chronicle
 
 -- the source was read to its end, its text is a workload's, and this is a run of that workload,
 -- which the text prints
-pub record HasRun (o : Options) (input : Side) (run : Run) (text : List ℕ) : Type 0 where
+pub record HasRun (weights : Weights) (o : Options) (input : Side)
+    (run : Run) (text : List ℕ) : Type 0 where
   pub work : Workload
   pub spelled_so : IsSpelled o.size input work
-  pub ran : IsRunOf o work run text
+  pub ran : IsRunOf weights o work run text

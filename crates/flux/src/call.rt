@@ -17,6 +17,7 @@ use lists::ListOf;
 use outside::{ReadFault, Sink, Source, write_all};
 use run_options::{Options, read_options};
 use std::alloc::Global;
+use tap::Weights;
 use workload::LineFault;
 
 /// Why a run wrote nothing or not all.
@@ -109,6 +110,7 @@ fn tell<K: Sink>(sink: &mut K, output: &[u8]) -> Fault
 /// Runs the workload that the source spells, and writes its answers.
 fn run_workload<S: Source, K: Sink>(
     alloc: Global,
+    weights: Weights,
     options: Options,
     source: &mut S,
     sink: &mut K,
@@ -117,10 +119,10 @@ fn run_workload<S: Source, K: Sink>(
     ensures status { result.status ≡ status_of result.fault }
     ensures known { result.status ≢ 2 }
     ensures done { result.status ≡ 0 → (text : List ℕ)
-        × HasRun options (side S.left S.faults source.old source.new) result text
+        × HasRun weights options (side S.left S.faults source.old source.new) result text
         × IsWritten (side K.held K.faults sink.old sink.new) text }
     ensures cut { result.status ≡ 5 → (text : List ℕ)
-        × HasRun options (side S.left S.faults source.old source.new) result text
+        × HasRun weights options (side S.left S.faults source.old source.new) result text
         × IsTaken (side K.held K.faults sink.old sink.new) text result.fault }
     ensures refused { result.status ≡ 1
         → HasReadCause options.size (side S.left S.faults source.old source.new) result.fault }
@@ -136,7 +138,7 @@ fn run_workload<S: Source, K: Sink>(
         Ok(work) => work,
         Err(fault) => return Run::without_steps(alloc, fault),
     };
-    let Ok(Played { text, ended }) = play(alloc, options, work) else {
+    let Ok(Played { text, ended }) = play(alloc, weights, options, work) else {
         return Run::without_steps(alloc, Fault::Memory);
     };
     let fault = tell(sink, &text);
@@ -150,12 +152,12 @@ fn run_workload<S: Source, K: Sink>(
 }
 
 /// Runs the workload that is drawn, and writes the summary of its run.
-fn run_drawn<K: Sink>(alloc: Global, generation: Generation, sink: &mut K) -> Run
+fn run_drawn<K: Sink>(alloc: Global, weights: Weights, generation: Generation, sink: &mut K) -> Run
     ensures status { result.status ≡ status_of result.fault }
     ensures known { result.status ≢ 2 }
-    ensures done { result.status ≡ 0 → (text : List ℕ) × HasSummary generation result text
+    ensures done { result.status ≡ 0 → (text : List ℕ) × HasSummary weights generation result text
         × IsWritten (side K.held K.faults sink.old sink.new) text }
-    ensures cut { result.status ≡ 5 → (text : List ℕ) × HasSummary generation result text
+    ensures cut { result.status ≡ 5 → (text : List ℕ) × HasSummary weights generation result text
         × IsTaken (side K.held K.faults sink.old sink.new) text result.fault }
     ensures refused { result.status ≡ 1 → IsDrawnFault generation result.fault }
     ensures read { result.status ≢ 3 }
@@ -166,7 +168,7 @@ fn run_drawn<K: Sink>(alloc: Global, generation: Generation, sink: &mut K) -> Ru
         Ok(work) => work,
         Err(fault) => return Run::without_steps(alloc, fault),
     };
-    let Ok(Played { text, ended: left }) = play_drawn(alloc, work) else {
+    let Ok(Played { text, ended: left }) = play_drawn(alloc, weights, work) else {
         return Run::without_steps(alloc, Fault::Memory);
     };
     let fault = tell(sink, &text);
@@ -232,7 +234,8 @@ fn run_tool<S: Source, K: Sink>(
 /// issued once nothing else can be made, or, with `--shuffle`, the next step is drawn. `gen` runs
 /// a workload that a seed draws as `run --size 7` does, and writes the summary of its run. A tool
 /// writes one line: `idset`, `hostlist` and `fluid` of the text in the words, `R` and `replay` of
-/// the text that the source has. The whole output is made before the first byte is written.
+/// the text that the source has. The whole output is made before the first byte is written. Jobs
+/// have their priorities by the weights.
 ///
 /// The status is 0 where all went well; 1 where the text was read whole, or is too long, and is
 /// refused; 2 exactly where the words are no command's, and then nothing was read; 3 where the
@@ -242,13 +245,14 @@ pub fn flux<S: Source, K: Sink>(
     words: &[String],
     source: &mut S,
     sink: &mut K,
+    weights: Weights,
 ) -> Run
     ensures status { result.status ≡ status_of result.fault }
     // the headline: what was written prints the one chronicle, which is legal and whole, and
     // settled where the words ask for no shuffle, or is the summary of such a chronicle, or a tool's
     // line
     ensures true_run { result.status ≡ 0 → (text : List ℕ)
-        × IsOutput
+        × IsOutput weights
         (map string_bytes words.now)
         (side S.left S.faults source.old source.new)
         result
@@ -256,7 +260,7 @@ pub fn flux<S: Source, K: Sink>(
         × IsWritten (side K.held K.faults sink.old sink.new) text }
     // a sink that failed took a part of such an output
     ensures cut { result.status ≡ 5 → (text : List ℕ)
-        × IsOutput
+        × IsOutput weights
         (map string_bytes words.now)
         (side S.left S.faults source.old source.new)
         result
@@ -285,10 +289,10 @@ pub fn flux<S: Source, K: Sink>(
         result.status }
 {
     if let Some(options) = options_of_run(words) {
-        return run_workload(alloc, options, source, sink);
+        return run_workload(alloc, weights, options, source, sink);
     }
     if let Some(generation) = generation_of(words) {
-        return run_drawn(alloc, generation, sink);
+        return run_drawn(alloc, weights, generation, sink);
     }
     if is_tool(words) {
         return run_tool(alloc, words, source, sink);

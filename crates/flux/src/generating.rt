@@ -20,6 +20,7 @@ use resource_set::print;
 use run_options::Options;
 use std::alloc::{AllocError, Global};
 use summaries::summary;
+use tap::Weights;
 use workload::laws::{
     spelled_commands_are_built, spelled_labels_are_their_own, spelled_tallies_are_kept,
     spelled_workloads_are_within,
@@ -100,28 +101,30 @@ fn first_grant(alloc: Global, size: u32, work: &Workload) -> Result<Bytes, Alloc
 }
 
 /// Runs a workload that was drawn to its end. Its text is the run's summary.
-pub fn play_drawn(alloc: Global, work: Workload) -> Result<Played, CoreFault>
+pub fn play_drawn(alloc: Global, weights: Weights, work: Workload) -> Result<Played, CoreFault>
     requires within { IsWithin 7 work }
     requires built { All (λ line. IsBuilt line.command) work.lines }
     requires labels { HasOwnLabels work.lines }
     requires few { KeepsTallies work.lines }
     ensures run { IfOk result (λ played. (answers : List ℕ)
-        × IsTrueRun (setup_of generated_options work) true false played.ended.chronicle answers) }
-    ensures stretches { IfOk result (λ played. AreRunStretches (setup_of generated_options work)
+        × IsTrueRun (setup_of weights generated_options work) true false
+        played.ended.chronicle answers) }
+    ensures stretches { IfOk result (λ played. AreRunStretches
+        (setup_of weights generated_options work)
         played.ended.steps.items played.ended.ends.items played.ended.chronicle) }
     ensures sound { IfOk result (λ played.
-        JobsStaySoundInAll (setup_of generated_options work) played.ended.chronicle) }
+        JobsStaySoundInAll (setup_of weights generated_options work) played.ended.chronicle) }
     ensures nested { IfOk result (λ played.
-        ChildrenStayNested (setup_of generated_options work) played.ended.chronicle) }
+        ChildrenStayNested (setup_of weights generated_options work) played.ended.chronicle) }
     ensures grows { IfOk result (λ played.
-        LogsOnlyGrowInAll (setup_of generated_options work) played.ended.chronicle) }
+        LogsOnlyGrowInAll (setup_of weights generated_options work) played.ended.chronicle) }
     ensures summary { IfOk result (λ played. IsSummary
-        (setup_of generated_options work) played.ended.chronicle played.text.items) }
+        (setup_of weights generated_options work) played.ended.chronicle played.text.items) }
 {
     births_are_numbered();
     a_whole_run_is_legal_in_all();
     let grant = first_grant(alloc, OPTIONS.size, &work)?;
-    let Played { text, ended } = play(alloc, OPTIONS, work)?;
+    let Played { text, ended } = play(alloc, weights, OPTIONS, work)?;
     let text = summary(alloc, &grant, OPTIONS.hash, &text, &ended.chronicle)?;
     Ok(Played { text, ended })
 }

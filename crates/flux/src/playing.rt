@@ -17,6 +17,7 @@ use kvs_core::CoreFault;
 use run_laws::time_stays_within;
 use run_options::Options;
 use std::alloc::{AllocError, Global};
+use tap::Weights;
 use workload::Workload;
 use world::{Ended, Schedule, Setting, World};
 
@@ -63,8 +64,8 @@ fn output(
     work: &Workload,
     chronicle: &Chronicle,
 ) -> Result<Vec<u8>, AllocError>
-    ensures { IfOk result (λ text. text.items
-        ≡ output_text options.journal (setup_of options work.now) chronicle.now) }
+    ensures { IfOk result (λ text. (weights : Weights) → text.items
+        ≡ output_text options.journal (setup_of weights options work.now) chronicle.now) }
 {
     let mut text = print_answers(alloc, work, chronicle)?;
     if options.journal {
@@ -75,14 +76,19 @@ fn output(
 }
 
 /// The world of a workload with its options, before anything has happened.
-fn begun(alloc: Global, options: Options, work: Workload) -> Result<World, CoreFault>
+fn begun(
+    alloc: Global,
+    weights: Weights,
+    options: Options,
+    work: Workload,
+) -> Result<World, CoreFault>
     requires options { AreWithin options }
     requires within { IsWithin options.size work }
     requires built { All (λ line. IsBuilt line.command) work.lines }
     requires labels { HasOwnLabels work.lines }
     requires few { KeepsTallies work.lines }
     ensures ready { IfOk result (λ world. world.spent ≡ false) }
-    ensures set { IfOk result (λ world. world.set ≡ setup_of options work) }
+    ensures set { IfOk result (λ world. world.set ≡ setup_of weights options work) }
     ensures order { IfOk result (λ world. world.order ≡ order_of (schedule_of options)) }
     ensures empty { IfOk result (λ world. world.chronicle ≡ []) }
 {
@@ -91,26 +97,31 @@ fn begun(alloc: Global, options: Options, work: Workload) -> Result<World, CoreF
         fanout: options.fanout,
         hash: options.hash,
     };
-    let mut world = World::new(alloc, setting, work)?;
+    let mut world = World::new(alloc, setting, weights, work)?;
     world.schedule(schedule_of(options));
     Ok(world)
 }
 
 /// Makes the run of a workload.
-fn run(alloc: Global, options: Options, work: Workload) -> Result<Played, CoreFault>
+fn run(
+    alloc: Global,
+    weights: Weights,
+    options: Options,
+    work: Workload,
+) -> Result<Played, CoreFault>
     requires options { AreWithin options }
     requires within { IsWithin options.size work }
     requires built { All (λ line. IsBuilt line.command) work.lines }
     requires labels { HasOwnLabels work.lines }
     requires few { KeepsTallies work.lines }
-    ensures run { IfOk result (λ played. IsTrueRun (setup_of options work)
+    ensures run { IfOk result (λ played. IsTrueRun (setup_of weights options work)
         (is_settled options) options.journal played.ended.chronicle played.text.items) }
-    ensures stretches { IfOk result (λ played. AreRunStretches (setup_of options work)
+    ensures stretches { IfOk result (λ played. AreRunStretches (setup_of weights options work)
         played.ended.steps.items played.ended.ends.items played.ended.chronicle) }
     ensures valid { IfOk result
-        (λ played. AreValid (setup_of options work) played.ended.chronicle) }
+        (λ played. AreValid (setup_of weights options work) played.ended.chronicle) }
 {
-    let mut world = begun(alloc, options, work)?;
+    let mut world = begun(alloc, weights, options, work)?;
     // a fault lets go of the world by a call: in place it is some six minutes of proof
     match make_steps(&mut world) {
         Ok(()) => (),
@@ -119,6 +130,7 @@ fn run(alloc: Global, options: Options, work: Workload) -> Result<Played, CoreFa
             return Err(fault);
         }
     }
+    // nothing is left to be made, and the steps that were made tell the whole chronicle
     world.quiet();
     world.steps();
     match output(alloc, options, world.work(), world.chronicle()) {
@@ -135,24 +147,29 @@ fn run(alloc: Global, options: Options, work: Workload) -> Result<Played, CoreFa
 
 /// Runs a workload to its end. In each of its instances jobs stay sound, and their logs only grow;
 /// children stay within what jobs of their parents hold.
-pub fn play(alloc: Global, options: Options, work: Workload) -> Result<Played, CoreFault>
+pub fn play(
+    alloc: Global,
+    weights: Weights,
+    options: Options,
+    work: Workload,
+) -> Result<Played, CoreFault>
     requires options { AreWithin options }
     requires within { IsWithin options.size work }
     requires built { All (λ line. IsBuilt line.command) work.lines }
     requires labels { HasOwnLabels work.lines }
     requires few { KeepsTallies work.lines }
-    ensures run { IfOk result (λ played. IsTrueRun (setup_of options work)
+    ensures run { IfOk result (λ played. IsTrueRun (setup_of weights options work)
         (is_settled options) options.journal played.ended.chronicle played.text.items) }
-    ensures stretches { IfOk result (λ played. AreRunStretches (setup_of options work)
+    ensures stretches { IfOk result (λ played. AreRunStretches (setup_of weights options work)
         played.ended.steps.items played.ended.ends.items played.ended.chronicle) }
     ensures sound { IfOk result
-        (λ played. JobsStaySoundInAll (setup_of options work) played.ended.chronicle) }
+        (λ played. JobsStaySoundInAll (setup_of weights options work) played.ended.chronicle) }
     ensures nested { IfOk result
-        (λ played. ChildrenStayNested (setup_of options work) played.ended.chronicle) }
+        (λ played. ChildrenStayNested (setup_of weights options work) played.ended.chronicle) }
     ensures grows { IfOk result
-        (λ played. LogsOnlyGrowInAll (setup_of options work) played.ended.chronicle) }
+        (λ played. LogsOnlyGrowInAll (setup_of weights options work) played.ended.chronicle) }
 {
     time_stays_within();
     a_run_stays_sound();
-    run(alloc, options, work)
+    run(alloc, weights, options, work)
 }

@@ -7,6 +7,7 @@ use std::alloc::AllocError;
 use std::env;
 use std::io::ErrorKind;
 use std::process::ExitCode;
+use tap::Weights;
 
 /// All words that the program was started with. Words that aren't UTF-8 are no command's, and there
 /// are none then.
@@ -30,7 +31,13 @@ pub fn program(rt: &HostRuntime) -> ExitCode {
     let mut source = StdSource::new(rt.stdin());
     let mut sink = StdSink::new(rt.stdout());
     let run = match all_words(rt) {
-        Ok(words) => flux(alloc, command_words(&words), &mut source, &mut sink),
+        Ok(words) => flux(
+            alloc,
+            command_words(&words),
+            &mut source,
+            &mut sink,
+            Weights::URGENCY,
+        ),
         Err(_) => run_without_memory(alloc),
     };
     if let Ok(Some(text)) = closing_notice(alloc, &run) {

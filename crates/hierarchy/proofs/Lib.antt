@@ -18,9 +18,7 @@ pub mod Resting
 pub mod Finish
 pub mod Parts
 pub mod Labels
-pub mod Sole
 pub mod Once
-pub mod Ahead
 pub mod Homes
 pub mod Settling
 pub mod Numbering

@@ -22,7 +22,7 @@ use Rattle.answers.specs.Services.{setting_of}
 use Rattle.answers.specs.declared.chronicle.Entry.{Entry}
 use Rattle.answers.proofs.JobLogs.{service_kept}
 use Rattle.answers.proofs.Services.{service_legal}
-use Rattle.hierarchy.proofs.Sole.{sole}
+use Rattle.instance_rules.proofs.Sole.{sole}
 
 itself : (by : By) → same_command by by ≡ true
 itself by = ap₂ (λ a b. a && b) (eq-eqb by.actor by.actor refl) (eq-eqb by.command by.command refl)

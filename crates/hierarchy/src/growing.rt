@@ -1,13 +1,11 @@
 //! How a run grows: what the world that makes it owes at each step.
-ghost use Rattle.std.specs.Prelude.{◌≡◌, ◌+◌, ◌≤◌, ◌∷◌, ◌++◌, [], ℕ, Bool, false, List, None, Some, IsTrue, map};
+ghost use Rattle.std.specs.Prelude.{◌≡◌, ◌∷◌, ◌++◌, [], ℕ, Bool, false, List, None, Some, IsTrue, map};
 ghost use Rattle.std.specs.List.{AllByRecursion as Each};
 ghost use Rattle.kvs_rules.specs.Sequence.{EachAfter};
 ghost use Rattle.resource_set.specs.declared.node.Resources.{Resources};
 ghost use Rattle.workload.specs.Actors.{are_together};
 ghost use Rattle.workload.specs.Laws.{HasOwnLabels};
-ghost use Rattle.workload.specs.Tallies.{seconds_in};
 ghost use Rattle.instance_rules.specs.Family.{MayTick};
-ghost use Rattle.run_laws.specs.Times.{seconds_issued};
 ghost use Rattle.answers.specs.Chronicle.{IsOpenCommand, Setup, top};
 ghost use Rattle.answers.specs.Legal.{IsLegalEntry, IsLegalIssue, RestsAtIssue};
 ghost use Rattle.answers.specs.Stretches.{IsIssueStretch};
@@ -126,12 +124,4 @@ pub fn those_left_are_told()
         → IsTrue (has_lost_home set.work.actors c actor)
         → IsOpenCommand (record { actor = actor; command = command }) c
         → GoesOnBy set c (entry.Replied actor command reply.Gone None) }
-{}
-
-/// Whatever the run has issued, a living instance has time for its own lines ahead: those that it
-/// has issued and the rest of the run's make up all.
-pub fn time_is_left_for_lines_ahead()
-    ensures { (set : Setup) (c : List Entry) (i : ℕ) → GoesOn set c → IsTrue (lives c i)
-        → seconds_issued set.work c + seconds_in (setup_in set c i).work.lines
-        ≤ seconds_issued (setup_in set c i).work (own_of set c i) + seconds_in set.work.lines }
 {}

@@ -31,6 +31,8 @@ use Rattle.workload.specs.Laws.{HasOwnLabels, IsBuilt, IsWithin}
 use Rattle.workload.specs.Limits.{most_severity, most_urgency}
 use Rattle.workload.specs.Tallies.{declares}
 use Rattle.instance.specs.Agrees.{is_of}
+use Rattle.tap.specs.Factors.{priority_by}
+use Rattle.tap.specs.declared.weights.Weights.{Weights}
 
 -- ---- commands stand in lines
 
@@ -214,15 +216,15 @@ unique_labels set own a b label urgency other needs named text more asks_a asks_
 
 -- ---- the whole
 
-pub is_given : (set : Setup) (size fanout : ℕ) (hash : Hash) (grant : Resources) (birth : ℕ) → set.size ≡ size → set.fanout ≡ fanout → set.hash ≡ hash → set.grant ≡ r_text grant → set.resources ≡ grant → set.birth ≡ birth
-    → IsGrant grant.nodes → IsWithin set.size set.work → All (λ a. a.rank < set.size) set.work.actors → All (λ l. IsBuilt l.command) set.work.lines → HasOwnLabels set.work.lines → IsGiven (instance_of set) size fanout hash grant birth
-is_given set size fanout hash grant birth brokers children hashed text resources born granted within ranks built own = record {
+pub is_given : (set : Setup) (size fanout : ℕ) (hash : Hash) (grant : Resources) (birth : ℕ) (weights : Weights) → set.size ≡ size → set.fanout ≡ fanout → set.hash ≡ hash → set.grant ≡ r_text grant → set.resources ≡ grant → set.weights ≡ weights → set.birth ≡ birth
+    → IsGrant grant.nodes → IsWithin set.size set.work → All (λ a. a.rank < set.size) set.work.actors → All (λ l. IsBuilt l.command) set.work.lines → HasOwnLabels set.work.lines → IsGiven (instance_of set) size fanout hash grant birth weights
+is_given set size fanout hash grant birth weights brokers children hashed text resources weighed born granted within ranks built own = record {
   hash = hashed;
   served = record {
     valid = is_instance set (is_setup set within built (text ∙ ap r_text (sym resources)) (subst (λ (r : Resources). IsGrant r.nodes) (sym resources) granted));
     unique = unique_labels set own;
     ranks = in_ranks set within built ranks;
-    answer = refl;
+    answer = ap priority_by weighed;
     birth = born;
     grant = resources;
     size = brokers;

@@ -44,6 +44,7 @@ use services::Services;
 use services::laws::shutdowns_leave_services;
 use std::alloc::{AllocError, Global};
 use std::marker::Model;
+use tap::Weights;
 use workload::{Line, Workload};
 
 /// Actors, whose commands the services of one instance carry out. Which lines of a workload are
@@ -192,13 +193,15 @@ impl Instance {
     }
 
     /// An instance of some brokers with the actors of a workload that is born at this second,
-    /// before anything has happened. Its first store has the text of the grant.
+    /// before anything has happened. Its first store has the text of the grant, and its jobs have
+    /// their priorities by these weights.
     pub fn new(
         alloc: Global,
         setting: Setting,
         grant: &Resources,
         work: &Workload,
         birth: u64,
+        weights: Weights,
     ) -> Result<Instance, CoreFault>
         requires grant { IsR grant.now }
         requires size { (1 ≤ setting.size) × (setting.size ≤ 32) }
@@ -212,10 +215,10 @@ impl Instance {
         ensures ready { IfOk result (λ v. v.spent ≡ false) }
         ensures agrees { IfOk result (λ v. (set : Setup) → set.size ≡ setting.size
             → set.fanout ≡ setting.fanout → set.hash ≡ setting.hash → set.grant ≡ r_text grant.now
-            → set.resources ≡ grant.now → set.birth ≡ birth → set.work ≡ work.now
-            → AgreesOwn v set []) }
+            → set.resources ≡ grant.now → set.weights ≡ weights → set.birth ≡ birth
+            → set.work ≡ work.now → AgreesOwn v set []) }
     {
-        let services = Services::new(alloc, setting, grant, birth)?;
+        let services = Services::new(alloc, setting, grant, birth, weights)?;
         let seats = seated(alloc, work, setting.size)?;
         Ok(Instance {
             alloc,
@@ -455,6 +458,7 @@ impl Instance {
             → ((actor : ℕ) → can_answer self.now actor ≡ false)
             → can_post self.now ≡ false → bearing self.now ≡ None → is_due self.now ≡ false }
     {
+        // where none of the three can go on, what each has left is known
         self.services.still();
     }
 }

@@ -8,6 +8,7 @@ use fl_digest::Hash;
 use instance::{Instance, Setting};
 use std::alloc::Global;
 use std::test::Fail;
+use tap::Weights;
 use workload::laws::{
     spelled_commands_are_built, spelled_labels_are_their_own, spelled_tallies_are_kept,
     spelled_workloads_are_within,
@@ -136,7 +137,14 @@ fn begin(alloc: Global, text: &str) -> Result<(Instance, Workload), Fail>
         return Err(Fail::new("an actor has no broker"));
     }
     let grant = Grant::read(alloc, GRANT.as_bytes())?;
-    let instance = Instance::new(alloc, SETTING, grant.resources(), &work, 0)?;
+    let instance = Instance::new(
+        alloc,
+        SETTING,
+        grant.resources(),
+        &work,
+        0,
+        Weights::URGENCY,
+    )?;
     Ok((instance, work))
 }
 

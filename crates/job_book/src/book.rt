@@ -71,6 +71,7 @@ impl Book {
         ensures { IfOk result (λ b. b ≡ record { grant = grant.now; jobs = [] }) }
     {
         let graph = Graph::new(alloc, grant)?;
+        // live jobs hold units of the grant, no two of them one in common
         graph.keeps();
         Ok(Book {
             grant: grant.copy()?,

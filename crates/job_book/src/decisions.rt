@@ -80,6 +80,7 @@ fn first_fit(
         → Finds s row.now found) }
     ensures told { IfOk result AreTold }
 {
+    // live jobs hold units of the grant, no two of them one in common
     desk.graph.keeps();
     match desk.graph.fit(&row.spec, desk.second)? {
         Fit::Units(r) => {
@@ -108,6 +109,7 @@ fn of_ranked(
     if desk.graph.never(&row.spec) {
         return Ok(Some(Action::NeverFits));
     }
+    // live jobs hold units of the grant, no two of them one in common
     desk.graph.keeps();
     if !goes_now(desk, row) {
         return Ok(None);

@@ -6,7 +6,6 @@ pub mod Tallies
 pub mod Finding
 pub mod Steps
 pub mod Landings
-pub mod Sole
 pub mod Submitting
 pub mod Desks
 pub mod Numbers

@@ -1,16 +1,12 @@
 -- What a post and a step of the service make of a job manager.
-use Rattle.std.specs.Prelude.{◌≡◌, ◌⊎◌, ℕ, Bool, true, false, List, [], ◌∷◌, Some, None}
+use Rattle.std.specs.Prelude.{◌≡◌, ◌⊎◌, List, [], ◌∷◌, Some, None}
 use Rattle.kvs_core.specs.Agrees.{Agrees}
 use Rattle.kvs_core.specs.Posted.{IsNewPost, posts_landed}
 use Rattle.kvs_rules.specs.Log.{Log}
 use Rattle.kvs_rules.specs.Namespaces.{Setting}
 use Rattle.kvs_rules.specs.declared.events.KvsEvent.{KvsEvent}
-use Rattle.tap.specs.declared.Ask.{Ask}
-use Rattle.job_book.specs.Contract.{IsDueIn, NoneDueIn}
 use Rattle.job_book.specs.Value.{BookValue}
-use Rattle.manager_rules.specs.declared.asked.Asked.{Asked}
-use Rattle.manager_rules.specs.declared.due.Due.{Due}
-use Rattle.manager_rules.specs.Posts.{Does, Post, group_of, jobs_after}
+use Rattle.manager_rules.specs.Posts.{Post, group_of, jobs_after}
 use Rattle.job_manager.specs.Posts.{command_of}
 use Rattle.job_manager.specs.Value.{ManagerValue}
 
@@ -25,12 +21,6 @@ pub record Places (post : Post) (old new : ManagerValue) : Type 0 where
   pub size : new.core.size ≡ old.core.size
   pub agrees : (set : Setting) (log : Log) → Agrees old.core set log
       → IsNewPost old.core set log (command_of post) → Agrees new.core set log
-
--- what was found to post: an event that is due, or nothing where none is
-abbrev pub Finds : Bool → ManagerValue → ManagerValue → ℕ → List Asked → (Ask → ℕ → Type 0) → Type 0
-Finds true old new now asked says =
-    (due : Due) × IsDueIn old.book now asked says due × Places (Does due) old new
-Finds false old new now asked says = NoneDueIn old.book now asked says × (new ≡ old)
 
 -- no post has landed
 pub record Stays (old new : ManagerValue) (events : List KvsEvent) : Type 0 where

@@ -1,6 +1,5 @@
 //! A job manager over the key-value service of its instance.
 ghost use Rattle.std.specs.Prelude.{◌≡◌, ◌<◌, ◌≤◌, ◌++◌, ℕ, All, None, Some, [], ◌∷◌, false, true, is_some, length, IfOk, OnErr, OnOk};
-ghost use Rattle.std.specs.Fn.{FnReturnsAt};
 ghost use Rattle.std.specs.List.{list_any};
 ghost use Rattle.kvs_core.specs.Agrees.{Agrees};
 ghost use Rattle.kvs_core.specs.Makes.{Makes};
@@ -11,15 +10,11 @@ ghost use Rattle.kvs_rules.specs.Answers.{IsLegalAnswer};
 ghost use Rattle.kvs_rules.specs.Log.{Asked as AskedAt, Happened, Log, is_asked};
 ghost use Rattle.kvs_rules.specs.Namespaces.{Setting as Service};
 ghost use Rattle.kvs_rules.specs.declared.events.KvsEvent.TheVariants as event;
-ghost use Rattle.job_book.specs.Contract.{SaysAs};
 ghost use Rattle.resource_set.specs.Valid.{IsR};
 ghost use Rattle.resource_set.specs.Writing.{r_text};
 ghost use Rattle.store_laws.specs.Posts.{is_manager};
-ghost use Rattle.tap.specs.declared.Ask.{Ask as Question};
-ghost use Rattle.tap.specs.Priorities.{AnswersOnce, IsPriority};
-ghost use Rattle.manager_rules.specs.Posts.{Submits};
-ghost use Rattle.manager_rules.specs.Scene.{IsAsked};
-ghost use Rattle.job_manager.specs.Follows.{Finds, Follows, Keeps, Places, after_post};
+ghost use Rattle.manager_rules.specs.Posts.{Does, Submits};
+ghost use Rattle.job_manager.specs.Follows.{Follows, Keeps, Places, after_post};
 ghost use Rattle.job_manager.specs.Managed.{IsManaged, WasDuePost};
 ghost use Rattle.job_manager.specs.Posts.{is_posted_for, post_of, told};
 
@@ -33,11 +28,10 @@ use kvs_rules::{KvsAsk, KvsEvent, KvsStep};
 use kvs_space::KvsEvents;
 use kvs_txn::{Author, By, Group};
 use lists::Bytes;
-use manager_rules::{OpenList, due_posts_take_effect, due_submissions_tell_themselves};
+use manager_rules::{Due, due_posts_take_effect, due_submissions_tell_themselves};
 use resource_set::Resources;
 use std::alloc::{AllocError, Global};
 use std::marker::Model;
-use tap::{Ask, Tap};
 
 /// The service of an instance, and the book of the jobs that stand in its newest store.
 #[derive(Drop)]
@@ -94,6 +88,7 @@ fn follow(book: &mut Book, post: Post) -> Result<(), AllocError>
 {
     due_submissions_tell_themselves();
     accepted_texts_tell_jobspecs();
+    // ids rise, and live jobs hold units of the grant
     book.keeps();
     match post {
         Post::Submits(
@@ -125,6 +120,7 @@ impl Manager {
         let text = Bytes::from_vec(resource_set::print(alloc, grant)?);
         let core = Core::new(alloc, setting, &text)?;
         let book = Book::new(alloc, grant)?;
+        // ids rise, and live jobs hold units of the grant
         book.keeps();
         Ok(Manager {
             alloc,
@@ -156,6 +152,7 @@ impl Manager {
             → is_asked by log ≡ false → Agrees self.new.core set (log ++ AskedAt by floor ∷ [])) }
     {
         self.spent = true;
+        // the core's newest store is the one that its log leaves
         self.core.standing();
         self.core.request(
             broker,
@@ -183,6 +180,7 @@ impl Manager {
             → Agrees self.new.core set (log ++ Happened
             (event.Answered by result.number result.answer) ∷ []) }
     {
+        // the core's newest store is the one that its log leaves
         self.core.standing();
         let held = self.core.take(by);
         self.core.standing();
@@ -201,6 +199,7 @@ impl Manager {
     {
         self.spent = true;
         due_posts_take_effect();
+        // the core's newest store is the one that its log leaves
         self.core.standing();
         let txn = txn_of(self.alloc, &post)?;
         self.core.post(command_of(&post), txn)?;
@@ -223,37 +222,17 @@ impl Manager {
         self.place(Post::Submits(x))
     }
 
-    /// Posts an event that is due at this second, and tells whether there was one. After an error
-    /// the manager is spent.
-    pub fn post<F: Fn(&Ask) -> u32>(
-        &mut self,
-        now: u64,
-        asked: &OpenList,
-        tap: &Tap<F>,
-    ) -> Result<bool, CoreFault>
+    /// Posts an event, which is due. After an error the manager is spent.
+    pub fn post_due(&mut self, due: Due) -> Result<(), CoreFault>
         requires ready { self.old.spent ≡ false }
         requires free { self.old.posted ≡ None }
         requires few { length self.old.book.jobs < 2000 }
-        requires callable { F.IsAlwaysCallable tap.now }
-        requires once { AnswersOnce (λ ask n. FnReturnsAt F.Fn tap.now ask n) }
-        requires asked { All IsAsked asked.now }
-        requires answers { (answer : Question → ℕ) × SaysAs (FnReturnsAt F.Fn tap.now) answer
-            × ((ask : Question) → IsPriority (answer ask)) }
+        requires due { WasDuePost self.old.book (Does due) }
         ensures ready { OnOk result (self.new.spent ≡ false) }
-        ensures finds { IfOk result (λ found. Finds found self.old self.new now asked.now
-            (FnReturnsAt F.Fn tap.now)) }
+        ensures places { OnOk result (Places (Does due) self.old self.new) }
         ensures spent { OnErr result (self.new.spent ≡ true) }
     {
-        self.spent = true;
-        let due = self.book.due(now, asked, tap)?;
-        self.spent = false;
-        match due {
-            Some(due) => {
-                self.place(Post::Does(due))?;
-                Ok(true)
-            }
-            None => Ok(false),
-        }
+        self.place(Post::Does(due))
     }
 
     /// Makes a step of the service, and tells what happened. The book follows a post that lands.
@@ -267,15 +246,18 @@ impl Manager {
         ensures spent { OnErr result (self.new.spent ≡ true) }
     {
         self.spent = true;
+        // the book tells the jobs of the newest store, which the log of the core leaves
         self.book.keeps();
         self.core.standing();
         let events = self.core.turn(step)?;
+        // the core's newest store is the one that its log leaves
         self.core.standing();
         if has_post(&events) {
             match self.posted.take() {
                 Some(post) => follow(&mut self.book, post)?,
                 None => unreachable!(),
             }
+            // ids rise, and live jobs hold units of the grant
             self.book.keeps();
         }
         self.spent = false;

@@ -80,6 +80,7 @@ fn is_carried_out(commands: &Commands, manager: &Manager, row: &Row, number: u64
 {
     match &row.ask {
         JobAsk::Submit { label, .. } => {
+            // the book tells the jobs of the newest store
             manager.keeps();
             commands.job_of(label.as_slice()).is_some()
                 && number <= manager.core().heard_primary(row.rank)

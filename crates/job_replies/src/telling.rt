@@ -92,6 +92,7 @@ fn tell_open(
     ensures { IfOk result (λ told. IsToldOpen commands.now.labels manager.now row.now.issued
         row.now.ask told.reply told.number) }
 {
+    // the book tells the jobs of the newest store
     manager.keeps();
     let last = Some(manager.core().heard_primary(0));
     let reply = match &row.ask {
@@ -149,6 +150,7 @@ pub fn tell(
         → MayTell inst log row.now.by told.reply told.number) }
 {
     what_is_told_is_legal();
+    // the book tells the jobs of the newest store, which the log of the core leaves
     manager.keeps();
     manager.core().standing();
     match row.stage {

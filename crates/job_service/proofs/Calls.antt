@@ -3,7 +3,7 @@ use Rattle.std.proofs.Common.{◌≡◌, ℕ, ◌+◌, ◌-◌, ◌*◌, ◌^◌
 use Rattle.std.specs.Prelude.{IfNone, IfSome, find, option_map, slice_index}
 use Rattle.std.specs.List.{AllByRecursion as Each}
 use Rattle.std.specs.Option.{option_copied}
-use Rattle.answers.specs.Jobs.{default_priority, job_reply_of}
+use Rattle.answers.specs.Jobs.{job_reply_of}
 use Rattle.answers.specs.declared.chronicle.Reply.{Reply}
 use Rattle.fl_digest.specs.declared.Hash.TheVariants.{Sha1}
 use Rattle.instance_rules.specs.Legal.{IsLegalMoment}
@@ -24,7 +24,7 @@ use Rattle.job_landings.proofs.Landing.{desk_along, service_all, users_beside, u
 use Rattle.job_landings.proofs.Naming.{asked_beside, event_beside}
 use Rattle.job_landings.proofs.Serving.{desk_same}
 use Rattle.job_landings.specs.Landings.{happening}
-use Rattle.job_manager.specs.Follows.{Finds as FindsPost, Keeps, Stays}
+use Rattle.job_manager.specs.Follows.{Keeps, Stays}
 use Rattle.job_manager.specs.Value.{ManagerValue}
 use Rattle.job_replies.specs.Told.{MayTell, Stands}
 use Rattle.job_rules.proofs.Among.{Among, all_at, all_from, among_from, contains_from}
@@ -66,11 +66,14 @@ use Rattle.job_service.specs.declared.refusals.Refused.{Refused}
 use Rattle.job_service.proofs.Facts.{Facts, besides_facts, served_facts, service_one}
 use Rattle.job_service.proofs.Judging.{judged_begun}
 use Rattle.job_service.proofs.Owing.{found-alone, found-named}
+use Rattle.tap.specs.Factors.{priority_by}
+use Rattle.tap.specs.declared.weights.Weights.{Weights}
 
 -- the service with other parts
 abbrev pub with_parts : JobServiceValue → Bool → ManagerValue → CommandsValue → List Refused → Option Post → ℕ → JobServiceValue
 with_parts v spent manager commands refused found submitted = record {
   spent = spent;
+  weights = v.weights;
   birth = v.birth;
   second = v.second;
   manager = manager;
@@ -216,11 +219,11 @@ module _ (v : JobServiceValue) (inst : Instance) (log : Log) (a : AgreesJobs v i
 
 -- ---- the beginning
 
-module _ (spent : Bool) (birth size fanout : ℕ) (grant : Resources) (manager : ManagerValue) (commands : CommandsValue)
+module _ (spent : Bool) (weights : Weights) (birth size fanout : ℕ) (grant : Resources) (manager : ManagerValue) (commands : CommandsValue)
     (book : manager.book ≡ record { grant = grant; jobs = [] }) (posted : manager.posted ≡ None) (set : (inst : Instance) → AgreesCommands commands inst [])
     (core : (s : Rattle.kvs_rules.specs.Namespaces.Setting) → s.size ≡ size → s.fanout ≡ fanout → s.grant ≡ r_text grant → Agrees manager.core s []) where
   abbrev begun : JobServiceValue
-  begun = record { spent = spent; birth = birth; second = birth; manager = manager; commands = commands; refused = []; found = None; bearing = None; submitted = 0; span = 0 }
+  begun = record { spent = spent; weights = weights; birth = birth; second = birth; manager = manager; commands = commands; refused = []; found = None; bearing = None; submitted = 0; span = 0 }
 
   -- an instance without commands
   abbrev plain : Instance
@@ -228,7 +231,7 @@ module _ (spent : Bool) (birth size fanout : ℕ) (grant : Resources) (manager :
     service = record { size = size; fanout = fanout; hash = Sha1; grant = r_text grant; asks = λ by. None };
     birth = birth;
     grant = grant;
-    answer = default_priority;
+    answer = priority_by weights;
     asks = λ by. None;
     rank = λ by. 0;
   }
@@ -274,12 +277,12 @@ module _ (spent : Bool) (birth size fanout : ℕ) (grant : Resources) (manager :
   pub begun_judged : AreJudged commands manager.book.jobs []
   begun_judged = judged_begun commands manager.book.jobs [] (no_row plain)
 
-  pub begun_sought : IsFoundBeside manager.posted commands manager.book birth birth None
+  pub begun_sought : IsFoundBeside weights manager.posted commands manager.book birth birth None
   begun_sought =
-      subst (λ p. IsFoundBeside p commands manager.book birth birth None) (sym posted)
+      subst (λ p. IsFoundBeside weights p commands manager.book birth birth None) (sym posted)
       (λ row c urgency named text spec needs asks is. no_row plain row c, λ due d. no_jobs d.j d.known)
 
-  pub begun_agrees : (inst : Instance) → IsServedBy inst size fanout grant birth → AgreesJobs begun inst []
+  pub begun_agrees : (inst : Instance) → IsServedBy inst size fanout grant birth weights → AgreesJobs begun inst []
   begun_agrees inst of = record {
     kind = record {
       valid = of.valid;
@@ -344,10 +347,10 @@ pub is_soon : (v : JobServiceValue) → IsFit v → 1000 * (v.second - v.birth) 
 is_soon v i = let soon = i.soon in omega (arith, soon)
 
 pub alone_in : (v : JobServiceValue) → IsFit v → IsAlone v.manager.posted v.found
-alone_in v i = found-alone v.commands v.manager.book v.second v.birth v.manager.posted v.found i.sought
+alone_in v i = found-alone v.weights v.commands v.manager.book v.second v.birth v.manager.posted v.found i.sought
 
 pub fit : (v : JobServiceValue) → IsFit v → (spent : Bool) (manager : ManagerValue) (commands : CommandsValue) (refused : List Refused) (later : Option Post) (submitted span : ℕ) (bearing : Option ℕ) → manager.spent ≡ false → manager.core.size ≡ v.manager.core.size
-    → length commands.issued ≡ length v.commands.issued → IsFoundBeside manager.posted commands manager.book v.second v.birth later → IsNamed commands v.birth manager.posted
+    → length commands.issued ≡ length v.commands.issued → IsFoundBeside v.weights manager.posted commands manager.book v.second v.birth later → IsNamed commands v.birth manager.posted
     → length manager.book.jobs + count_by is_submit commands.rows ≤ submitted → submitted ≤ 1000 → GoesOn v manager commands refused submitted span bearing → IsAgreed (spanned (with_parts v spent manager commands refused later submitted) span bearing) → IsFit (spanned (with_parts v spent manager commands refused later submitted) span bearing)
 fit v i spent manager commands refused later submitted span bearing ready size same sought posted counted bounded goes agreed = record {
   ready = ready;
@@ -360,7 +363,7 @@ fit v i spent manager commands refused later submitted span bearing ready size s
   near = goes.near;
   sought = sought;
   posted = posted;
-  named = found-named commands manager.book v.second v.birth manager.posted later sought;
+  named = found-named v.weights commands manager.book v.second v.birth manager.posted later sought;
   counted = counted;
   bounded = bounded;
   drawn = goes.drawn;
@@ -375,7 +378,7 @@ pub fit_still : (v : JobServiceValue) → IsFit v → (spent : Bool) (manager : 
     → IsAgreed (with_parts v spent manager v.commands v.refused v.found v.submitted) → IsFit (with_parts v spent manager v.commands v.refused v.found v.submitted)
 fit_still v i spent manager ready size book posted agreed =
     fit v i spent manager v.commands v.refused v.found v.submitted v.span v.bearing ready size refl
-    (subst (λ p. IsFoundBeside p v.commands manager.book v.second v.birth v.found) (sym posted) (subst (λ b. IsFoundBeside v.manager.posted v.commands b v.second v.birth v.found) (sym book) i.sought)) (subst (IsNamed v.commands v.birth) (sym posted) i.posted)
+    (subst (λ p. IsFoundBeside v.weights p v.commands manager.book v.second v.birth v.found) (sym posted) (subst (λ b. IsFoundBeside v.weights v.manager.posted v.commands b v.second v.birth v.found) (sym book) i.sought)) (subst (IsNamed v.commands v.birth) (sym posted) i.posted)
     (subst (λ b. length b.jobs + count_by is_submit v.commands.rows ≤ v.submitted) (sym book) i.counted) i.bounded
     (record { timed = i.timed; near = i.near; bears = subst (λ b. IsBearing v.commands b v.bearing) (sym book) i.bearing; drawn = i.drawn; marked = i.marked; judged = subst (λ b. AreJudged v.commands b.jobs v.refused) (sym book) i.judged }) agreed
 
@@ -384,14 +387,9 @@ row_known v by result r e is = found by v.rows r.now (sym e ∙ ap option_copied
 
 -- ---- what is due
 
-pub of_finds : (v : CommandsValue) (book : BookValue) (now : ℕ) (list : List Asked) (says : Ask → ℕ → Type 0) → SaysAs says default_priority → list ≡ asked_of v → (o : Option Due) → Finds book now list says o → IsEventDue v book now o
-of_finds v book now list says known is None h = λ due d. h default_priority known due (subst (λ l. IsDue (scene_of book now l default_priority) due) (sym is) d)
-of_finds v book now list says known is (Some due) h = subst (λ l. IsDue (scene_of book now l default_priority) due) is (h default_priority known)
-
--- where an event is due, some event is found
-pub none_finds : (says : Ask → ℕ → Type 0) (given : Bool) (old new : ManagerValue) (now : ℕ) (list : List Asked) (v : CommandsValue) → given ≡ false → FindsPost given old new now list says → SaysAs says default_priority → list ≡ asked_of v → (due : Due) → IsDue (scene_now v old.book now) due → ⊥
-none_finds says true old new now list v e h known is due d = cc
-none_finds says false old new now list v e h known is due d = h.0 default_priority known due (subst (λ l. IsDue (scene_of old.book now l default_priority) due) (sym is) d)
+pub of_finds : (w : Weights) (v : CommandsValue) (book : BookValue) (now : ℕ) (list : List Asked) (says : Ask → ℕ → Type 0) → SaysAs says (priority_by w) → list ≡ asked_of v → (o : Option Due) → Finds book now list says o → IsEventDue w v book now o
+of_finds w v book now list says known is None h = λ due d. h (priority_by w) known due (subst (λ l. IsDue (scene_of book now l (priority_by w)) due) (sym is) d)
+of_finds w v book now list says known is (Some due) h = subst (λ l. IsDue (scene_of book now l (priority_by w)) due) is (h (priority_by w) known)
 
 -- a list of one that may be lacking
 pub at_some : {A : Type 0} (P : A → Type 0) (o : Option A) (x : A) → o ≡ Some x → IfSome o P → P x

@@ -5,6 +5,7 @@ use Rattle.std.specs.Prelude.{option_map, slice_index}
 use Rattle.job_clock.specs.Targets.{AreInTime}
 use Rattle.job_commands.specs.Rows.{AreMarkedBy, CommandsValue, is_submit}
 use Rattle.job_commands.specs.declared.child.Child.{Child}
+use Rattle.job_manager.specs.Follows.{Places}
 use Rattle.job_manager.specs.Posts.{post_of}
 use Rattle.job_manager.specs.Value.{ManagerValue}
 use Rattle.job_manager.specs.declared.post.Post.{Post}
@@ -12,7 +13,7 @@ use Rattle.manager_rules.specs.Posts as rules
 use Rattle.job_service.specs.Agrees.{IsAgreed}
 use Rattle.job_service.specs.Children.{IsBearing}
 use Rattle.job_service.specs.Times.{MayPassTo}
-use Rattle.job_service.specs.Due.{IsFoundBeside, PostsFound}
+use Rattle.job_service.specs.Due.{IsFoundBeside}
 use Rattle.job_service.specs.Judged.{AreJudged}
 use Rattle.job_service.specs.Posted.{IsNamed, id_posted}
 use Rattle.job_service.specs.View.{IsHeld, value_of}
@@ -21,7 +22,6 @@ use Rattle.job_service.specs.declared.service.JobService.TheInside.{Inside}
 use Rattle.job_service.proofs.Calls.{fit, fit_still, spanned, with_parts}
 use Rattle.job_service.proofs.Born.{named_as, timed_as}
 use Rattle.job_service.proofs.Ticking.{ticked_value}
-use Rattle.job_service.proofs.Outgoing.{book_posted, id_known, named_posted, size_posted, sought_posted}
 use Rattle.job_service.proofs.Owing.{found-named}
 
 -- where the posts, the book and the commands stay
@@ -35,7 +35,7 @@ held_still s h spent manager ready size book posted agreed = record {
 -- where the manager stays, and what is due is looked for anew
 pub held_next : (s : Inside) → IsHeld s → (spent : Bool) (commands : CommandsValue) (refused : Vec Refused) (later : Option Post) (submitted span : ℕ) (bearing : Option ℕ) → length commands.issued ≡ length s.commands.issued → IsNamed commands s.birth s.manager.posted
     → length s.manager.book.jobs + count_by is_submit commands.rows ≤ submitted → submitted ≤ 1000 → AreInTime commands s.birth s.second (1000000000 + span) → span ≤ 1000000000 → IsBearing commands s.manager.book bearing → ((rank : ℕ) → rank < length commands.issued → slice_index commands.issued rank ≤ submitted) → AreMarkedBy commands s.second → AreJudged commands s.manager.book.jobs refused.items
-    → IsFoundBeside s.manager.posted commands s.manager.book s.second s.birth (option_map post_of later)
+    → IsFoundBeside s.weights s.manager.posted commands s.manager.book s.second s.birth (option_map post_of later)
     → IsAgreed (spanned (with_parts (value_of s) spent s.manager commands refused.items (option_map post_of later) submitted) span bearing) → IsHeld (record s { spent = spent; commands = commands; refused = refused; found = later; bearing = bearing; submitted = submitted; span = span })
 held_next s h spent commands refused later submitted span bearing size named counted bounded timed near bears drawn marked judged found agreed =
     let next = option_map post_of later in
@@ -45,22 +45,22 @@ held_next s h spent commands refused later submitted span bearing size named cou
     }
 
 -- where what was found is posted
-pub held_posted : (s : Inside) → IsHeld s → (spent : Bool) (manager : ManagerValue) (id : Option ℕ) (left : Option Post) (post : rules.Post) → left ≡ None → manager.spent ≡ false → (value_of s).found ≡ Some post → PostsFound s.commands s.second s.manager manager id post
+pub held_posted : (s : Inside) → IsHeld s → (spent : Bool) (manager : ManagerValue) (id : Option ℕ) (left : Option Post) (post : rules.Post) → left ≡ None → manager.spent ≡ false → (value_of s).found ≡ Some post → Places post s.manager manager → id ≡ id_posted (Some post)
     → IsAgreed (with_parts (value_of s) spent manager s.commands s.refused.items None s.submitted) → IsHeld (record s { spent = spent; manager = manager; found = left; submitting = id })
-held_posted s h spent manager id left post none ready is p agreed =
+held_posted s h spent manager id left post none ready is p names agreed =
     let v = value_of s in
     subst (λ o. IsHeld (record s { spent = spent; manager = manager; found = o; submitting = id })) (sym none)
     (record {
-      fit = fit v h.fit spent manager s.commands s.refused.items None s.submitted s.span s.bearing ready (size_posted v manager id post p) refl (sought_posted v manager id post p) (named_posted v manager id post (subst (IsNamed s.commands s.birth) is h.fit.named) p)
-          (subst (λ b. length b.jobs + count_by is_submit s.commands.rows ≤ s.submitted) (sym (book_posted v manager id post p)) h.fit.counted) h.fit.bounded
-          (record { timed = h.fit.timed; near = h.fit.near; bears = subst (λ b. IsBearing s.commands b s.bearing) (sym (book_posted v manager id post p)) h.fit.bearing; drawn = h.fit.drawn; marked = h.fit.marked; judged = subst (λ b. AreJudged s.commands b.jobs s.refused.items) (sym (book_posted v manager id post p)) h.fit.judged }) agreed;
-      submits = id_known v manager id post p;
+      fit = fit v h.fit spent manager s.commands s.refused.items None s.submitted s.span s.bearing ready p.size refl (subst (λ o. IsFoundBeside s.weights o s.commands manager.book s.second s.birth None) (sym p.posted) refl) (subst (IsNamed s.commands s.birth) (is ∙ sym p.posted) h.fit.named)
+          (subst (λ b. length b.jobs + count_by is_submit s.commands.rows ≤ s.submitted) (sym p.book) h.fit.counted) h.fit.bounded
+          (record { timed = h.fit.timed; near = h.fit.near; bears = subst (λ b. IsBearing s.commands b s.bearing) (sym p.book) h.fit.bearing; drawn = h.fit.drawn; marked = h.fit.marked; judged = subst (λ b. AreJudged s.commands b.jobs s.refused.items) (sym p.book) h.fit.judged }) agreed;
+      submits = names ∙ sym (ap id_posted p.posted);
     })
 
 -- where a post has landed
 pub held_landed : (s : Inside) → IsHeld s → (spent : Bool) (manager : ManagerValue) (commands : CommandsValue) (refused : Vec Refused) (later : Option Post) (bearing : Option ℕ) → manager.spent ≡ false → manager.core.size ≡ s.manager.core.size → manager.posted ≡ None → length commands.issued ≡ length s.commands.issued
     → length manager.book.jobs + count_by is_submit commands.rows ≤ s.submitted → AreInTime commands s.birth s.second (1000000000 + s.span) → IsBearing commands manager.book bearing → ((rank : ℕ) → rank < length commands.issued → slice_index commands.issued rank ≤ s.submitted) → AreMarkedBy commands s.second → AreJudged commands manager.book.jobs refused.items
-    → IsFoundBeside manager.posted commands manager.book s.second s.birth (option_map post_of later)
+    → IsFoundBeside s.weights manager.posted commands manager.book s.second s.birth (option_map post_of later)
     → IsAgreed (spanned (with_parts (value_of s) spent manager commands refused.items (option_map post_of later) s.submitted) s.span bearing) → IsHeld (record s { spent = spent; manager = manager; commands = commands; refused = refused; found = later; bearing = bearing; submitting = None })
 held_landed s h spent manager commands refused later bearing ready size posted same counted timed bears drawn marked judged found agreed =
     let next = option_map post_of later in
@@ -71,7 +71,7 @@ held_landed s h spent manager commands refused later bearing ready size posted s
 
 -- where time has gone on
 pub held_ticked : (s : Inside) → IsHeld s → (spent : Bool) (second : ℕ) (later : Option Post) → s.manager.posted ≡ None → MayPassTo (value_of s) second
-    → IsFoundBeside s.manager.posted s.commands s.manager.book second s.birth (option_map post_of later) → IsAgreed (ticked_value (value_of s) spent second (option_map post_of later)) → IsHeld (record s { spent = spent; second = second; found = later })
+    → IsFoundBeside s.weights s.manager.posted s.commands s.manager.book second s.birth (option_map post_of later) → IsAgreed (ticked_value (value_of s) spent second (option_map post_of later)) → IsHeld (record s { spent = spent; second = second; found = later })
 held_ticked s h spent second later posted may found agreed =
     let i = h.fit in
     let f = option_map post_of later in
@@ -88,7 +88,7 @@ held_ticked s h spent second later posted may found agreed =
         near = i.near;
         sought = found;
         posted = i.posted;
-        named = found-named s.commands s.manager.book second s.birth s.manager.posted f found;
+        named = found-named s.weights s.commands s.manager.book second s.birth s.manager.posted f found;
         counted = i.counted;
         bounded = i.bounded;
         drawn = i.drawn;
@@ -102,7 +102,7 @@ held_ticked s h spent second later posted may found agreed =
 
 -- where a child is born or goes
 pub held_child : (s : Inside) → IsHeld s → (spent : Bool) (commands : CommandsValue) (children : List Child) (later : Option Post) (bearing : Option ℕ) → commands ≡ record s.commands { children = children } → IsBearing commands s.manager.book bearing
-    → IsFoundBeside s.manager.posted commands s.manager.book s.second s.birth (option_map post_of later)
+    → IsFoundBeside s.weights s.manager.posted commands s.manager.book s.second s.birth (option_map post_of later)
     → IsAgreed (spanned (with_parts (value_of s) spent s.manager commands s.refused.items (option_map post_of later) s.submitted) s.span bearing) → IsHeld (record s { spent = spent; commands = commands; found = later; bearing = bearing })
 held_child s h spent commands children later bearing is bears found agreed =
     let i = h.fit in

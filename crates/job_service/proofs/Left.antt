@@ -153,12 +153,12 @@ module _ (v : JobServiceValue) (i : IsFit v) (inst : Instance) (log : Log) (a : 
   jobs = v.manager.book.jobs
 
   abbrev scene : Scene
-  scene = scene_now v.commands v.manager.book v.second
+  scene = scene_now v.weights v.commands v.manager.book v.second
 
-  nothing : IsFound v.commands v.manager.book v.second v.birth None
+  nothing : IsFound v.weights v.commands v.manager.book v.second v.birth None
   nothing =
-      subst (λ f. IsFoundBeside None v.commands v.manager.book v.second v.birth f) (free_parts v still.due).1
-      (subst (λ p. IsFoundBeside p v.commands v.manager.book v.second v.birth v.found) unposted i.sought)
+      subst (λ f. IsFoundBeside v.weights None v.commands v.manager.book v.second v.birth f) (free_parts v still.due).1
+      (subst (λ p. IsFoundBeside v.weights p v.commands v.manager.book v.second v.birth v.found) unposted i.sought)
 
   none_due : (j : StoredJob) → Contains jobs j → (deed : Deed) → MayDo scene j deed → ⊥
   none_due j known deed may = nothing.1 (due_of v.second j deed) (record { j = j; known = known; deed = deed; may = may; is = refl })

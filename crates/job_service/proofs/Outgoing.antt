@@ -2,14 +2,13 @@
 use Rattle.std.proofs.Common.{◌≡◌, ℕ, ◌^◌, ◌<◌, [], Bool, true, false, Option, Some, None, IsSome, true≢false, refl, sym, ap, ◌∙◌, subst}
 use Rattle.std.proofs.lemmas.Bool.{false_from_ne_true, or_from, or_parts}
 use Rattle.std.specs.List.{list_any}
-use Rattle.std.specs.Prelude.{is_some}
 use Rattle.instance_rules.proofs.Sounds.{desk_kept}
 use Rattle.instance_rules.specs.Log.{Instance, IsPending, Log, service_of}
 use Rattle.job_commands.proofs.Desks.{desk_is}
 use Rattle.job_commands.specs.Desks.{desk_of}
 use Rattle.job_landings.proofs.Open.{event_open, submit_open}
 use Rattle.job_manager.specs.Follows.{Places}
-use Rattle.job_manager.specs.Managed.{IsManaged, IsOutstanding}
+use Rattle.job_manager.specs.Managed.{IsManaged, IsOutstanding, WasDuePost}
 use Rattle.job_manager.specs.Posts.{command_of}
 use Rattle.job_manager.specs.Value.{ManagerValue}
 use Rattle.kvs_core.specs.Posted.{IsNewPost, newest_of, posted}
@@ -24,11 +23,11 @@ use Rattle.kvs_space.specs.Space.{is_authored}
 use Rattle.kvs_txn.specs.declared.txn.By.{By}
 use Rattle.manager_rules.specs.Posts.{Desk, Does, IsDuePost, Post, Submits}
 use Rattle.job_service.specs.Agrees.{AgreesJobs}
-use Rattle.job_service.specs.Due.{IsFoundBeside, MayBePosted, Owes, PostsFound}
-use Rattle.job_service.specs.Posted.{IsAlone, IsNamed, id_posted}
+use Rattle.job_service.specs.Due.{Owes}
+use Rattle.job_service.specs.Posted.{IsAlone}
 use Rattle.job_service.specs.Value.{JobServiceValue}
 use Rattle.job_service.proofs.Calls.{facts, joined, with_parts}
-use Rattle.job_service.proofs.Owing.{due-here, due-there, found-due}
+use Rattle.job_service.proofs.Owing.{found-due}
 
 -- ---- a command that asks nothing of the service is never answered by it
 
@@ -94,46 +93,16 @@ module _ (v : JobServiceValue) (inst : Instance) (log : Log) (a : AgreesJobs v i
       (subst (λ o. Owes o None (desk_of v.commands inst log manager.book.jobs)) (sym p.posted) (subst (λ b. IsDuePost (desk_of v.commands inst log b.jobs) post) (sym p.book) d))
       (facts v inst log a)
 
-  pub posted_agrees : (spent : Bool) (manager : ManagerValue) (id : Option ℕ) (post : Post) → v.found ≡ Some post → PostsFound v.commands v.second v.manager manager id post → AgreesJobs (with_parts v spent manager v.commands v.refused None v.submitted) inst log
-  posted_agrees spent manager id (Submits x) e h = placed spent manager (Submits x) (found-due v.manager.posted v.found desk a.owes none (Submits x) e) h.0
-  posted_agrees spent manager id (Does due) e h =
-      placed spent manager (Does h.0.0) (due-there v.commands v.manager.book v.second v.birth inst log a.commands a.kind.valid a.second a.kind.answer a.kind.birth a.kind.grant h.0.0 h.0.1) h.0.2
+  pub posted_agrees : (spent : Bool) (manager : ManagerValue) (post : Post) → v.found ≡ Some post → Places post v.manager manager → AgreesJobs (with_parts v spent manager v.commands v.refused None v.submitted) inst log
+  posted_agrees spent manager post e p = placed spent manager post (found-due v.manager.posted v.found desk a.owes none post e) p
 
   -- what may be posted
 
-  pub may_post : v.second < 2 ^ 64 → (post : Post) → v.found ≡ Some post → MayBePosted v.commands v.manager.book v.second post
-  may_post small (Submits x) e = record {
+  pub may_post : v.second < 2 ^ 64 → (post : Post) → v.found ≡ Some post → WasDuePost v.manager.book post
+  may_post small post e = record {
     desk = desk;
     valid = desk_kept inst a.kind.valid log (subst (λ n. n < 2 ^ 64) (sym a.second) small) (newest_of v.manager.core) desk (desk_is v.commands inst log a.commands (newest_of v.manager.core) v.manager.book.jobs m.jobs);
     jobs = refl;
     grant = sym a.kind.grant;
-    due = found-due v.manager.posted v.found desk a.owes none (Submits x) e;
+    due = found-due v.manager.posted v.found desk a.owes none post e;
   }
-  may_post small (Does due) e =
-      due-here v.commands v.manager.book v.second v.birth inst log a.commands a.kind.valid a.second a.kind.answer a.kind.birth a.kind.grant due (found-due v.manager.posted v.found desk a.owes none (Does due) e)
-
--- ---- what the code knows of it
-
-pub some_posted : (v : JobServiceValue) (manager : ManagerValue) (id : Option ℕ) (post : Post) → PostsFound v.commands v.second v.manager manager id post → is_some manager.posted ≡ true
-some_posted v manager id (Submits x) h = ap is_some h.0.posted
-some_posted v manager id (Does due) h = ap is_some h.0.2.posted
-
-pub named_posted : (v : JobServiceValue) (manager : ManagerValue) (id : Option ℕ) (post : Post) → IsNamed v.commands v.birth (Some post) → PostsFound v.commands v.second v.manager manager id post → IsNamed v.commands v.birth manager.posted
-named_posted v manager id (Submits x) named h = subst (IsNamed v.commands v.birth) (sym h.0.posted) named
-named_posted v manager id (Does due) named h = subst (IsNamed v.commands v.birth) (sym h.0.2.posted) tt
-
-pub id_known : (v : JobServiceValue) (manager : ManagerValue) (id : Option ℕ) (post : Post) → PostsFound v.commands v.second v.manager manager id post → id ≡ id_posted manager.posted
-id_known v manager id (Submits x) h = h.1 ∙ sym (ap id_posted h.0.posted)
-id_known v manager id (Does due) h = h.1 ∙ sym (ap id_posted h.0.2.posted)
-
-pub sought_posted : (v : JobServiceValue) (manager : ManagerValue) (id : Option ℕ) (post : Post) → PostsFound v.commands v.second v.manager manager id post → IsFoundBeside manager.posted v.commands manager.book v.second v.birth None
-sought_posted v manager id (Submits x) h = subst (λ p. IsFoundBeside p v.commands manager.book v.second v.birth None) (sym h.0.posted) refl
-sought_posted v manager id (Does due) h = subst (λ p. IsFoundBeside p v.commands manager.book v.second v.birth None) (sym h.0.2.posted) refl
-
-pub book_posted : (v : JobServiceValue) (manager : ManagerValue) (id : Option ℕ) (post : Post) → PostsFound v.commands v.second v.manager manager id post → manager.book ≡ v.manager.book
-book_posted v manager id (Submits x) h = h.0.book
-book_posted v manager id (Does due) h = h.0.2.book
-
-pub size_posted : (v : JobServiceValue) (manager : ManagerValue) (id : Option ℕ) (post : Post) → PostsFound v.commands v.second v.manager manager id post → manager.core.size ≡ v.manager.core.size
-size_posted v manager id (Submits x) h = h.0.size
-size_posted v manager id (Does due) h = h.0.2.size

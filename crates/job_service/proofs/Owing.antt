@@ -2,7 +2,6 @@
 use Rattle.std.proofs.Common.{◌≡◌, ℕ, ◌-◌, ◌*◌, ◌^◌, ◌<◌, ◌≤◌, ◌∙◌, ◌&&◌, List, true, length, None, Some, refl, sym, ap, subst, arith}
 use Rattle.std.specs.Prelude.{Contains, Option, false, is_some}
 use Rattle.std.specs.List.{AllByRecursion as Each}
-use Rattle.answers.specs.Jobs.{default_priority}
 use Rattle.instance_rules.specs.Desks.{is_submission}
 use Rattle.instance_rules.specs.Log.{Instance, Log, IsInstance, now_of}
 use Rattle.job_book.specs.Value.{BookValue}
@@ -20,6 +19,8 @@ use Rattle.manager_rules.specs.Scene.{Scene}
 use Rattle.manager_rules.specs.declared.due.Due.{Due}
 use Rattle.job_service.specs.Due.{CanLook, IsFound, IsFoundBeside, Owes, scene_now}
 use Rattle.job_service.specs.Posted.{IsAlone, IsNamed}
+use Rattle.tap.specs.Factors.{priority_by}
+use Rattle.tap.specs.declared.weights.Weights.{Weights}
 
 -- what the law of submissions says of one that is made, and of those that aren't
 abbrev pub MadeAreDue : Type 0
@@ -29,21 +30,21 @@ MadeAreDue = (c : CommandsValue) (i : Instance) (l : Log) (jobs : List StoredJob
 abbrev pub UnmadeAreNot : Type 0
 UnmadeAreNot = (c : CommandsValue) (i : Instance) (l : Log) (jobs : List StoredJob) (s : Submission) → ((row : Row) → Contains c.rows row → MakesNone c.labels jobs row) → IsSubmission (desk_of c i l jobs).scene i.birth (submits_of c i l) s → ⊥
 
-module _ (v : CommandsValue) (book : BookValue) (now birth : ℕ) (inst : Instance) (log : Log)
-    (a : AgreesCommands v inst log) (valid : IsInstance inst) (second : now_of inst log ≡ now) (answer : inst.answer ≡ default_priority) (born : inst.birth ≡ birth) (grant : book.grant ≡ inst.grant) where
+module _ (w : Weights) (v : CommandsValue) (book : BookValue) (now birth : ℕ) (inst : Instance) (log : Log)
+    (a : AgreesCommands v inst log) (valid : IsInstance inst) (second : now_of inst log ≡ now) (answer : inst.answer ≡ priority_by w) (born : inst.birth ≡ birth) (grant : book.grant ≡ inst.grant) where
   abbrev pub desk : Desk
   desk = desk_of v inst log book.jobs
 
-  pub scene-is : scene_now v book now ≡ desk.scene
+  pub scene-is : scene_now w v book now ≡ desk.scene
   scene-is =
       let now_is = sym second in
       let answer_is = sym answer in
       λ i. (let s : Scene = record { now = now_is i; grant = grant i; jobs = book.jobs; asked = asked_of v; answer = answer_is i } in s)
 
-  pub due-there : (due : Due) → IsDue (scene_now v book now) due → IsDuePost desk (Does due)
+  pub due-there : (due : Due) → IsDue (scene_now w v book now) due → IsDuePost desk (Does due)
   due-there due h = subst (λ s. IsDue s due) scene-is h
 
-  pub due-here : (due : Due) → IsDuePost desk (Does due) → IsDue (scene_now v book now) due
+  pub due-here : (due : Due) → IsDuePost desk (Does due) → IsDue (scene_now w v book now) due
   due-here due h = subst (λ s. IsDue s due) (sym scene-is) h
 
   pub can-look : birth ≤ now → 1000 * (now - birth) < 2 ^ 40 → length v.issued ≤ 32 → AreMarkedBy v now → CanLook v now birth
@@ -56,7 +57,7 @@ module _ (v : CommandsValue) (book : BookValue) (now birth : ℕ) (inst : Instan
   soon-now h = subst (λ n. 1000 * (n - inst.birth) < 2 ^ 40) (sym second) (subst (λ b. 1000 * (now - b) < 2 ^ 40) (sym born) h)
 
   module _ (labelled : AreLabelled v.labels book.jobs) (smalls : Each (λ j. j.id < 2 ^ 64) book.jobs) (soon : 1000 * (now - birth) < 2 ^ 40) (short : length v.issued ≤ 32) (made-due : MadeAreDue) (unmade-not : UnmadeAreNot) where
-    found-owes : (found : Option Post) → IsFound v book now birth found → Owes None found desk
+    found-owes : (found : Option Post) → IsFound w v book now birth found → Owes None found desk
     found-owes (Some (Submits x)) h = made-due v inst log book.jobs x a valid (omega (arith, short)) labelled smalls (soon-now soon) (made-now x h)
     found-owes (Some (Does due)) h = due-there due h
     found-owes None h = none
@@ -65,7 +66,7 @@ module _ (v : CommandsValue) (book : BookValue) (now birth : ℕ) (inst : Instan
         none (Submits x) d = unmade-not v inst log book.jobs x h.0 d
         none (Does due) d = h.1 due (due-here due d)
 
-    pub beside-owes : (posted found : Option Post) → ((post : Post) → posted ≡ Some post → IsDuePost desk post) → IsFoundBeside posted v book now birth found → Owes posted found desk
+    pub beside-owes : (posted found : Option Post) → ((post : Post) → posted ≡ Some post → IsDuePost desk post) → IsFoundBeside w posted v book now birth found → Owes posted found desk
     beside-owes (Some post) found due h = due post refl
     beside-owes None found due h = found-owes found h
 
@@ -74,8 +75,8 @@ module _ (v : CommandsValue) (book : BookValue) (now birth : ℕ) (inst : Instan
 waits-as : (row : Row) → is_waiting row.stage ≡ true → is_submission (Some (told row.ask)) ≡ true → is_submit row ≡ true
 waits-as row w s = ap (λ b. b && is_submission (Some (told row.ask))) w ∙ s
 
-named-found : (v : CommandsValue) (book : BookValue) (now birth : ℕ) (found : Option Post) → IsFound v book now birth found → IsNamed v birth found
-named-found v book now birth (Some (Submits x)) h =
+named-found : (w : Weights) (v : CommandsValue) (book : BookValue) (now birth : ℕ) (found : Option Post) → IsFound w v book now birth found → IsNamed v birth found
+named-found w v book now birth (Some (Submits x)) h =
     let m = h.made in
     record {
       row = h.row;
@@ -84,21 +85,21 @@ named-found v book now birth (Some (Submits x)) h =
       waits = waits-as h.row (ap is_waiting m.submits.waits) (ap (λ a. is_submission (Some (told a))) m.submits.asks);
       made = m.built.id;
     }
-named-found v book now birth (Some (Does due)) h = tt
-named-found v book now birth None h = tt
+named-found w v book now birth (Some (Does due)) h = tt
+named-found w v book now birth None h = tt
 
-pub found-named : (v : CommandsValue) (book : BookValue) (now birth : ℕ) (posted found : Option Post) → IsFoundBeside posted v book now birth found → IsNamed v birth found
-found-named v book now birth (Some post) found none = subst (IsNamed v birth) (sym none) tt
-found-named v book now birth None found h = named-found v book now birth found h
+pub found-named : (w : Weights) (v : CommandsValue) (book : BookValue) (now birth : ℕ) (posted found : Option Post) → IsFoundBeside w posted v book now birth found → IsNamed v birth found
+found-named w v book now birth (Some post) found none = subst (IsNamed v birth) (sym none) tt
+found-named w v book now birth None found h = named-found w v book now birth found h
 
-pub found-alone : (v : CommandsValue) (book : BookValue) (now birth : ℕ) (posted found : Option Post) → IsFoundBeside posted v book now birth found → IsAlone posted found
-found-alone v book now birth (Some post) found none = none
-found-alone v book now birth None found h = tt
+pub found-alone : (w : Weights) (v : CommandsValue) (book : BookValue) (now birth : ℕ) (posted found : Option Post) → IsFoundBeside w posted v book now birth found → IsAlone posted found
+found-alone w v book now birth (Some post) found none = none
+found-alone w v book now birth None found h = tt
 
 -- what is found where nothing waits to land
-pub beside-none : (v : CommandsValue) (book : BookValue) (now birth : ℕ) (posted found : Option Post) → is_some posted ≡ false → IsFound v book now birth found → IsFoundBeside posted v book now birth found
-beside-none v book now birth None found e h = h
-beside-none v book now birth (Some post) found e h = cc
+pub beside-none : (w : Weights) (v : CommandsValue) (book : BookValue) (now birth : ℕ) (posted found : Option Post) → is_some posted ≡ false → IsFound w v book now birth found → IsFoundBeside w posted v book now birth found
+beside-none w v book now birth None found e h = h
+beside-none w v book now birth (Some post) found e h = cc
 
 -- ---- what is owed
 

@@ -1,6 +1,5 @@
 -- When a job service stands where the log of an instance leaves it.
 use Rattle.std.specs.Prelude.{◌≡◌, ℕ, ◌<◌, false, IsSome, Some, None, Contains}
-use Rattle.answers.specs.Jobs.{default_priority}
 use Rattle.kvs_core.specs.Agrees.{Agrees}
 use Rattle.kvs_rules.specs.Answers.{IsLegalLog}
 use Rattle.kvs_rules.specs.Log.{is_asked}
@@ -15,28 +14,31 @@ use Rattle.job_commands.specs.Desks.{desk_of}
 use Rattle.job_commands.specs.declared.ask.JobAsk.{JobAsk}
 use Rattle.job_submissions.specs.Made.{AreLabelled}
 use Rattle.resource_set.specs.declared.node.Resources.{Resources}
+use Rattle.tap.specs.Factors.{priority_by}
+use Rattle.tap.specs.declared.weights.Weights.{Weights}
 use Rattle.job_service.specs.declared.refusals.Refused.{Refused}
 use Rattle.job_service.specs.Due.{Owes}
 use Rattle.job_service.specs.Refusals.{reply_to}
 use Rattle.job_service.specs.Value.{JobServiceValue}
 
 -- the service is one of this instance: no two of its submissions have one label, each of its job
--- commands is of one of its brokers, and everyone's job is given the default priority
+-- commands is of one of its brokers, and jobs are given their priorities by the service's weights
 pub record IsOf (inst : Instance) (v : JobServiceValue) : Type 0 where
   pub valid : IsInstance inst
   pub unique : HasUniqueLabels inst
   pub ranks : (by : By) → IsSome (inst.asks by) → inst.rank by < inst.service.size
-  pub answer : inst.answer ≡ default_priority
+  pub answer : inst.answer ≡ priority_by v.weights
   pub birth : inst.birth ≡ v.birth
   pub grant : v.manager.book.grant ≡ inst.grant
 
--- an instance with so many brokers in such a tree, with this grant, that is born at this second
+-- an instance with so many brokers in such a tree, with this grant, that is born at this second and
+-- gives its jobs their priorities by these weights
 pub record IsServedBy (inst : Instance) (brokers children : ℕ)
-    (resources : Resources) (now : ℕ) : Type 0 where
+    (resources : Resources) (now : ℕ) (weights : Weights) : Type 0 where
   pub valid : IsInstance inst
   pub unique : HasUniqueLabels inst
   pub ranks : (by : By) → IsSome (inst.asks by) → inst.rank by < inst.service.size
-  pub answer : inst.answer ≡ default_priority
+  pub answer : inst.answer ≡ priority_by weights
   pub birth : inst.birth ≡ now
   pub grant : inst.grant ≡ resources
   pub size : inst.service.size ≡ brokers

@@ -1,6 +1,5 @@
 -- What is due of the job manager.
 use Rattle.std.specs.Prelude.{◌≡◌, ◌⊎◌, ℕ, ◌≤◌, ◌<◌, ◌-◌, ◌*◌, ◌^◌, false, All, Contains, List, Option, Some, None, length}
-use Rattle.answers.specs.Jobs.{default_priority}
 use Rattle.instance_rules.specs.Log.{Born, Moment, child_told, replies_now}
 use Rattle.job_book.specs.Value.{BookValue, scene_of}
 use Rattle.job_commands.specs.Agrees.{AreDrawn}
@@ -8,10 +7,7 @@ use Rattle.job_commands.specs.Desks.{asked_of}
 use Rattle.job_commands.specs.Rows.{AreMarkedBy, CommandsValue}
 use Rattle.job_commands.specs.Moments.{decides_now}
 use Rattle.job_commands.specs.declared.row.Row.{Row}
-use Rattle.job_manager.specs.Follows.{Places}
-use Rattle.job_manager.specs.Managed.{WasDuePost}
 use Rattle.job_manager.specs.Posts.{command_of}
-use Rattle.job_manager.specs.Value.{ManagerValue}
 use Rattle.job_submissions.specs.Made.{IsMade, MakesNone}
 use Rattle.kvs_txn.specs.declared.txn.By.{By}
 use Rattle.manager_rules.specs.Due.{IsDue, IsEnding}
@@ -20,15 +16,17 @@ use Rattle.manager_rules.specs.Posts.{Desk, Does, IsDuePost, Post, Submits}
 use Rattle.manager_rules.specs.Scene.{IsAsked, Scene, has_shut_child}
 use Rattle.manager_rules.specs.declared.asked.Asked.{Asked}
 use Rattle.manager_rules.specs.declared.due.Due.{Due}
+use Rattle.tap.specs.Factors.{priority_by}
+use Rattle.tap.specs.declared.weights.Weights.{Weights}
 
--- what the manager looks at of the jobs, everyone's being given the default priority
-abbrev pub scene_now : CommandsValue → BookValue → ℕ → Scene
-scene_now v book now = scene_of book now (asked_of v) default_priority
+-- what the manager looks at of the jobs, which are given their priorities by these weights
+abbrev pub scene_now : Weights → CommandsValue → BookValue → ℕ → Scene
+scene_now w v book now = scene_of book now (asked_of v) (priority_by w)
 
 -- an event that is due for a job, or nothing where none is
-abbrev pub IsEventDue : CommandsValue → BookValue → ℕ → Option Due → Type 0
-IsEventDue v book now (Some due) = IsDue (scene_now v book now) due
-IsEventDue v book now None = (due : Due) → IsDue (scene_now v book now) due → ⊥
+abbrev pub IsEventDue : Weights → CommandsValue → BookValue → ℕ → Option Due → Type 0
+IsEventDue w v book now (Some due) = IsDue (scene_now w v book now) due
+IsEventDue w v book now None = (due : Due) → IsDue (scene_now w v book now) due → ⊥
 
 -- what can be looked at: the second isn't far behind the birth, and the numbers of the commands are
 -- within their ranges
@@ -46,29 +44,17 @@ MakeNone v book = (row : Row) → Contains v.rows row → MakesNone v.labels boo
 
 -- what is due of the open commands and the book: a submission that is made now or an event, or
 -- nothing where there is none
-abbrev pub IsFound : CommandsValue → BookValue → ℕ → ℕ → Option Post → Type 0
-IsFound v book now birth (Some (Submits x)) = IsMade v book.jobs now birth x
-IsFound v book now birth (Some (Does due)) = IsDue (scene_now v book now) due
-IsFound v book now birth None = MakeNone v book
-    × ((due : Due) → IsDue (scene_now v book now) due → ⊥)
+abbrev pub IsFound : Weights → CommandsValue → BookValue → ℕ → ℕ → Option Post → Type 0
+IsFound w v book now birth (Some (Submits x)) = IsMade v book.jobs now birth x
+IsFound w v book now birth (Some (Does due)) = IsDue (scene_now w v book now) due
+IsFound w v book now birth None = MakeNone v book
+    × ((due : Due) → IsDue (scene_now w v book now) due → ⊥)
 
 -- so where nothing is posted; else nothing is looked for
-abbrev pub IsFoundBeside : Option Post → CommandsValue → BookValue → ℕ → ℕ → Option Post → Type 0
-IsFoundBeside (Some post) v book now birth found = found ≡ None
-IsFoundBeside None v book now birth found = IsFound v book now birth found
-
--- the submission was due at some desk, or the event is due now
-abbrev pub MayBePosted : CommandsValue → BookValue → ℕ → Post → Type 0
-MayBePosted v book now (Submits x) = WasDuePost book (Submits x)
-MayBePosted v book now (Does due) = IsDue (scene_now v book now) due
-
--- what was found is posted, or an event that is due as well where it was an event; with the id of a
--- job that is submitted
-abbrev pub PostsFound : CommandsValue → ℕ → ManagerValue → ManagerValue → Option ℕ → Post → Type 0
-PostsFound v now old new id (Submits x) = Places (Submits x) old new × (id ≡ Some x.id)
-PostsFound v now old new id (Does due) =
-    ((other : Due) × IsDue (scene_now v old.book now) other
-    × Places (Does other) old new) × (id ≡ None)
+abbrev pub IsFoundBeside : Weights → Option Post → CommandsValue → BookValue → ℕ → ℕ
+    → Option Post → Type 0
+IsFoundBeside w (Some post) v book now birth found = found ≡ None
+IsFoundBeside w None v book now birth found = IsFound w v book now birth found
 
 -- the manager has nothing to post
 abbrev pub OwesNothing : Desk → Type 0

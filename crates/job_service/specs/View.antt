@@ -14,6 +14,7 @@ use Rattle.job_service.specs.Value.{JobServiceValue}
 abbrev pub value_of : Inside → JobServiceValue
 value_of s = record {
   spent = s.spent;
+  weights = s.weights;
   birth = s.birth;
   second = s.second;
   manager = s.manager;
@@ -35,7 +36,8 @@ pub record IsFit (v : JobServiceValue) : Type 0 where
   pub early : v.birth + 2000000000 < 2 ^ 64
   pub timed : AreInTime v.commands v.birth v.second (1000000000 + v.span)
   pub near : v.span ≤ 1000000000
-  pub sought : IsFoundBeside v.manager.posted v.commands v.manager.book v.second v.birth v.found
+  pub sought : IsFoundBeside v.weights v.manager.posted v.commands v.manager.book v.second v.birth
+      v.found
   pub posted : IsNamed v.commands v.birth v.manager.posted
   pub named : IsNamed v.commands v.birth v.found
   pub counted : length v.manager.book.jobs + count_by is_submit v.commands.rows ≤ v.submitted

@@ -1,12 +1,8 @@
 //! What is due of the job manager.
 ghost use Rattle.std.specs.Prelude.{◌≡◌, All, IfOk, false, option_map};
-ghost use Rattle.std.specs.Fn.{FnReturnsAt};
-ghost use Rattle.answers.specs.Jobs.{default_priority};
-ghost use Rattle.job_book.specs.Contract.{SaysAs};
 ghost use Rattle.job_commands.specs.Desks.{asked_of};
 ghost use Rattle.job_manager.specs.Posts.{post_of};
 ghost use Rattle.manager_rules.specs.Scene.{IsAsked};
-ghost use Rattle.tap.specs.Priorities.{AnswersOnce};
 ghost use Rattle.job_service.specs.Due.{CanLook, IsEventDue, IsFound, IsFoundBeside};
 
 use job_book::Book;
@@ -15,34 +11,22 @@ use job_manager::{Manager, Post};
 use job_submissions::submission;
 use manager_rules::Due;
 use std::alloc::{AllocError, Global};
-use tap::{Ask, Tap};
+use tap::{Ask, Tap, Weights};
 
-/// The greatest priority of a job that isn't expedited.
-const MOST_PRIORITY: u32 = u32::MAX - 1;
-
-/// The priority that a job is given: its urgency, within the range of priorities.
-pub fn default_priority(ask: &Ask) -> u32
-    ensures { result ≡ default_priority ask.now }
-{
-    ask.urgency.max(1).min(MOST_PRIORITY)
-}
-
-/// An event that is due at this second, if one is, where the tap gives everyone's job the default
-/// priority.
-pub fn event_due<F: Fn(&Ask) -> u32>(
+/// An event that is due at this second, if one is, where jobs have their priorities by these
+/// weights.
+pub fn event_due(
     commands: &Commands,
     book: &Book,
     now: u64,
-    tap: &Tap<F>,
+    weights: Weights,
 ) -> Result<Option<Due>, AllocError>
-    requires callable { F.IsAlwaysCallable tap.now }
-    requires once { AnswersOnce (λ ask n. FnReturnsAt F.Fn tap.now ask n) }
-    requires asked { All IsAsked (asked_of commands.now) }
-    requires says { SaysAs (FnReturnsAt F.Fn tap.now) default_priority }
-    ensures { IfOk result (IsEventDue commands.now book.now now) }
+    requires { All IsAsked (asked_of commands.now) }
+    ensures { IfOk result (IsEventDue weights commands.now book.now now) }
 {
     let asked = commands.asked()?;
-    book.due(now, &asked, tap)
+    let tap = Tap::new(|ask: &Ask| weights.priority(ask));
+    book.due(now, &asked, &tap)
 }
 
 /// A post of an event, if there is one.
@@ -63,17 +47,17 @@ pub fn find(
     book: &Book,
     now: u64,
     birth: u64,
+    weights: Weights,
 ) -> Result<Option<Post>, AllocError>
     requires { CanLook commands.now now birth }
-    ensures { IfOk result (λ found. IsFound commands.now book.now now birth
+    ensures { IfOk result (λ found. IsFound weights commands.now book.now now birth
         (option_map post_of found)) }
 {
     let found = submission(alloc, commands, book, now, birth)?;
     if let Some(x) = found {
         return Ok(Some(Post::Submits(x)));
     }
-    let tap = Tap::new(|ask: &Ask| default_priority(ask));
-    let event = event_due(commands, book, now, &tap)?;
+    let event = event_due(commands, book, now, weights)?;
     Ok(as_post(event))
 }
 
@@ -84,13 +68,14 @@ pub fn look(
     manager: &Manager,
     now: u64,
     birth: u64,
+    weights: Weights,
 ) -> Result<Option<Post>, AllocError>
     requires { CanLook commands.now now birth }
-    ensures { IfOk result (λ found. IsFoundBeside manager.now.posted commands.now manager.now.book
-        now birth (option_map post_of found)) }
+    ensures { IfOk result (λ found. IsFoundBeside weights manager.now.posted commands.now
+        manager.now.book now birth (option_map post_of found)) }
 {
     if manager.is_waiting() {
         return Ok(None);
     }
-    find(alloc, commands, manager.book(), now, birth)
+    find(alloc, commands, manager.book(), now, birth, weights)
 }

@@ -53,6 +53,7 @@ use lists::Bytes;
 use resource_set::Resources;
 use std::alloc::{AllocError, Global};
 use std::marker::Model;
+use tap::Weights;
 
 /// The jobs of one instance: its job manager over the key-value service, its open job commands, and
 /// the time.
@@ -60,6 +61,8 @@ use std::marker::Model;
 pub struct JobService {
     alloc: Global,
     spent: bool,
+    /// By what the jobs have their priorities.
+    weights: Weights,
     /// The second at which the instance was born.
     birth: u64,
     /// The present second.
@@ -99,6 +102,7 @@ impl JobService {
         setting: Setting,
         grant: &Resources,
         birth: u64,
+        weights: Weights,
     ) -> Result<JobService, CoreFault>
         requires size { (1 ≤ setting.size) × (setting.size ≤ 32) }
         requires fanout { (1 ≤ setting.fanout) × (setting.fanout ≤ 32) }
@@ -109,14 +113,17 @@ impl JobService {
         ensures start { IfOk result (λ v. (v.submitted ≡ 0) × (v.span ≡ 0)) }
         ensures grant { IfOk result (λ v. IsGrant grant.now.nodes) }
         ensures agrees { IfOk result (λ v. (inst : Instance)
-            → IsServedBy inst setting.size setting.fanout grant.now birth → AgreesJobs v inst []) }
+            → IsServedBy inst setting.size setting.fanout grant.now birth weights
+            → AgreesJobs v inst []) }
     {
         let manager = Manager::new(alloc, setting, grant)?;
         let commands = Commands::new(alloc, setting.size)?;
+        // ids rise, and live jobs hold units of the grant
         manager.book().keeps();
         Ok(JobService {
             alloc,
             spent: false,
+            weights,
             birth,
             second: birth,
             manager,
@@ -136,6 +143,7 @@ impl JobService {
         ensures value { result.now ≡ self.now.manager.core }
         ensures ready { result.now.spent ≡ false }
     {
+        // the book tells the jobs of the newest store
         self.manager.keeps();
         self.manager.core()
     }
@@ -196,6 +204,7 @@ impl JobService {
         ensures spent { OnErr result (self.new.spent ≡ true) }
     {
         self.spent = true;
+        // the book tells the jobs of the newest store, which the log of the core leaves
         self.manager.keeps();
         self.manager.core().standing();
         users_land_where_nothing_is_posted();
@@ -206,6 +215,7 @@ impl JobService {
             self.spent = false;
             return Ok(events);
         };
+        // ids rise, and live jobs hold units of the grant
         self.manager.book().keeps();
         let by = command_posted(&events);
         land(
@@ -221,6 +231,7 @@ impl JobService {
             &self.manager,
             self.second,
             self.birth,
+            self.weights,
         )?;
         self.bearing = bearing(&self.commands, self.manager.book())?;
         self.spent = false;
@@ -234,8 +245,8 @@ impl JobService {
         self.found.is_some()
     }
 
-    /// Posts what was found to be due, which then waits in the key-value service to land. Where
-    /// that is an event, one that is due is looked for again. After an error the service is spent.
+    /// Posts what was found to be due, which then waits in the key-value service to land. After an
+    /// error the service is spent.
     pub fn post(&mut self) -> Result<(), CoreFault>
         requires ready { self.old.spent ≡ false }
         requires can { is_some self.old.found ≡ true }
@@ -248,11 +259,12 @@ impl JobService {
             → AgreesJobs self.new inst log) }
     {
         self.spent = true;
+        // the book tells the jobs of the newest store
         self.manager.keeps();
         let Some(found) = self.found.take() else {
             unreachable!()
         };
-        self.submitting = post(&mut self.manager, &self.commands, self.second, found)?;
+        self.submitting = post(&mut self.manager, found)?;
         self.spent = false;
         Ok(())
     }
@@ -268,6 +280,7 @@ impl JobService {
         ensures none { IfNone result ((inst : Instance) (log : Log) → AgreesJobs self.now inst log
             → OfDesk inst log (λ desk. NoBirth desk.scene)) }
     {
+        // the book tells the jobs of the newest store, which the log of the core leaves
         self.manager.keeps();
         self.manager.core().standing();
         self.bearing
@@ -287,6 +300,7 @@ impl JobService {
             → AgreesJobs self.new inst (log ++ Born job ∷ [])) }
     {
         self.spent = true;
+        // the book tells the jobs of the newest store, which the log of the core leaves
         self.manager.keeps();
         self.manager.core().standing();
         self.manager.book().keeps();
@@ -299,6 +313,7 @@ impl JobService {
             &self.manager,
             self.second,
             self.birth,
+            self.weights,
         )?;
         self.bearing = bearing(&self.commands, self.manager.book())?;
         self.spent = false;
@@ -315,6 +330,7 @@ impl JobService {
             → IsTrue (is_end_due self.now job shut)
             ↔ OfDesk inst log (λ desk. IsEndDue desk.scene (IsTrue shut) job) }
     {
+        // the book tells the jobs of the newest store, which the log of the core leaves
         self.manager.keeps();
         self.manager.core().standing();
         !self.manager.is_posted_for(job)
@@ -335,6 +351,7 @@ impl JobService {
             → AgreesJobs self.new inst (log ++ Gone job shut ∷ [])) }
     {
         self.spent = true;
+        // the book tells the jobs of the newest store, which the log of the core leaves
         self.manager.keeps();
         self.manager.core().standing();
         self.manager.book().keeps();
@@ -347,6 +364,7 @@ impl JobService {
             &self.manager,
             self.second,
             self.birth,
+            self.weights,
         )?;
         self.bearing = bearing(&self.commands, self.manager.book())?;
         self.spent = false;
@@ -366,6 +384,7 @@ impl JobService {
             → Contains self.now.manager.book.jobs j → j.id ≡ job → is_live j.job ≡ false) }
         ensures bears { IfOk result (λ grant. self.now.bearing ≡ Some job → IsSome grant) }
     {
+        // the book tells the jobs of the newest store, which the log of the core leaves
         self.manager.keeps();
         self.manager.core().standing();
         self.manager.book().keeps();
@@ -410,6 +429,7 @@ impl JobService {
             → AgreesJobs self.new inst (log ++ Issued by ∷ [])) }
     {
         self.spent = true;
+        // the book tells the jobs of the newest store, which the log of the core leaves
         self.manager.keeps();
         self.manager.core().standing();
         self.manager.book().keeps();
@@ -427,6 +447,7 @@ impl JobService {
             &self.manager,
             self.second,
             self.birth,
+            self.weights,
         )?;
         self.spent = false;
         Ok(())
@@ -464,6 +485,7 @@ impl JobService {
         ensures idle { (inst : Instance) (log : Log) → AgreesJobs self.now inst log
             → result ≡ false → OfDesk inst log IsIdle }
     {
+        // the book tells the jobs of the newest store, which the log of the core leaves
         self.manager.keeps();
         self.manager.core().standing();
         self.manager.is_waiting() || self.found.is_some() || self.bearing.is_some()
@@ -498,6 +520,7 @@ impl JobService {
             → OfLiving l (λ desk. Contains (seconds_ahead desk.scene) second)
             ↔ Contains (seconds_left self.now.second self.now.manager.book) second }
     {
+        // the book tells the jobs of the newest store, which the log of the core leaves
         self.manager.keeps();
         self.manager.core().standing();
         self.manager.book().next_second(self.second)
@@ -518,6 +541,7 @@ impl JobService {
             → AgreesJobs self.new inst (log ++ Ticked second ∷ [])) }
     {
         self.spent = true;
+        // the book tells the jobs of the newest store, which the log of the core leaves
         self.manager.keeps();
         self.manager.core().standing();
         self.manager.book().keeps();
@@ -529,6 +553,7 @@ impl JobService {
             &self.manager,
             second,
             self.birth,
+            self.weights,
         )?;
         self.spent = false;
         Ok(())
@@ -567,6 +592,7 @@ impl JobService {
             → IsLiving inst log l → (by : Command) (where_ : StateValue)
             → awaited self.now by ≡ Some where_ → IsLeftResult l by where_ }
     {
+        // the book tells the jobs of the newest store, which the log of the core leaves
         self.manager.keeps();
         self.manager.core().standing();
     }
@@ -642,6 +668,7 @@ impl JobService {
             }
         };
         self.spent = true;
+        // the book tells the jobs of the newest store
         self.manager.keeps();
         self.manager.book().keeps();
         what_waits_stays_due();
@@ -654,6 +681,7 @@ impl JobService {
             &self.manager,
             self.second,
             self.birth,
+            self.weights,
         )?;
         self.spent = false;
         Ok(told)

@@ -1,6 +1,5 @@
 -- What the tests issue is new.
 use Rattle.std.proofs.Common.{◌≡◌, ℕ, ◌<◌, ◌^◌, ◌⊎◌, inl, inr, List, [], ◌∷◌, ◌++◌, Bool, true, false, cond, Some, None, refl, sym, ap, ◌∙◌, subst, arith, true≢false}
-use Rattle.answers.specs.Jobs.{default_priority}
 use Rattle.fl_digest.specs.declared.Hash.TheVariants.{Sha1}
 use Rattle.instance_rules.specs.Desks.{is_submission}
 use Rattle.instance_rules.specs.Log.{Instance, IsInRange, Issued, JobAsk as Asks, Log, Named, Submit}
@@ -11,8 +10,9 @@ use Rattle.kvs_rules.specs.Log.{same_command}
 use Rattle.kvs_txn.specs.declared.txn.By.{By}
 use Rattle.resource_set.specs.Writing.{r_text}
 use Rattle.job_service.specs.Agrees.{AgreesJobs, IsNewCommand, IsServedBy, MayIssue}
-use Rattle.manager_tests.specs.Begun.{IsBegun}
+use Rattle.manager_tests.specs.Begun.{IsBegun, by_urgency}
 use Rattle.job_service.specs.Value.{JobServiceValue}
+use Rattle.tap.specs.Factors.{priority_by}
 
 abbrev first : By
 first = record { actor = 0; command = 0 }
@@ -24,7 +24,7 @@ module _ (v : JobServiceValue) (asked : JobAsk) (b : IsBegun v) (range : IsInRan
     service = record { size = 1; fanout = 2; hash = Sha1; grant = r_text b.grant; asks = λ by. None };
     birth = 5;
     grant = b.grant;
-    answer = default_priority;
+    answer = priority_by by_urgency;
     asks = λ by. cond (same_command first by) (Some (told asked)) None;
     rank = λ by. 0;
   }
@@ -74,7 +74,7 @@ module _ (v : JobServiceValue) (submit other : JobAsk) (b : IsBegun v) (range : 
     service = record { size = 1; fanout = 2; hash = Sha1; grant = r_text b.grant; asks = λ by. None };
     birth = 5;
     grant = b.grant;
-    answer = default_priority;
+    answer = priority_by by_urgency;
     asks = λ by. cond (same_command first by) (Some (told submit)) (cond (same_command second by) (Some (told other)) None);
     rank = λ by. 0;
   }
@@ -99,7 +99,7 @@ module _ (v : JobServiceValue) (submit other : JobAsk) (b : IsBegun v) (range : 
     | inr o ↦ absurd (true≢false (sym (ap (λ x. is_submission (Some x)) o.1) ∙ apart))
   ]
 
-  served : IsServedBy pair 1 2 b.grant 5
+  served : IsServedBy pair 1 2 b.grant 5 by_urgency
   served = record {
     valid = record {
       answers = λ ask. (omega arith, omega arith);

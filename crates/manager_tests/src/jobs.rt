@@ -20,6 +20,7 @@ use kvs_txn::By;
 use lists::Bytes;
 use std::alloc::Global;
 use std::test::Fail;
+use tap::Weights;
 
 /// The R of a host with two cores.
 const GRANT: &str =
@@ -111,7 +112,7 @@ fn begun(alloc: Global) -> Result<JobService, Fail>
         fanout: 2,
         hash: Hash::Sha1,
     };
-    let service = JobService::new(alloc, setting, &grant, 5)?;
+    let service = JobService::new(alloc, setting, &grant, 5, Weights::URGENCY)?;
     Ok(service)
 }
 

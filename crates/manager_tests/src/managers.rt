@@ -181,7 +181,13 @@ fn advance(alloc: Global, manager: &mut Manager, now: u64) -> Result<bool, Fail>
         return Err("no end".into());
     }
     let tap = Tap::new(|ask: &Ask| ask.urgency.min(100) + 4);
-    Ok(manager.post(now, &OpenList::new(alloc), &tap)?)
+    match manager.book().due(now, &OpenList::new(alloc), &tap)? {
+        Some(due) => {
+            manager.post_due(due)?;
+            Ok(true)
+        }
+        None => Ok(false),
+    }
 }
 
 /// Lets all happen that can and that is due.

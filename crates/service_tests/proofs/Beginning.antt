@@ -1,6 +1,5 @@
 -- An instance without job commands, at its birth.
 use Rattle.std.proofs.Common.{ℕ, Option, None, refl, true≢false, sym, arith}
-use Rattle.answers.specs.Jobs.{default_priority}
 use Rattle.fl_digest.specs.declared.Hash.{Hash}
 use Rattle.instance_rules.specs.Log.{Instance}
 use Rattle.job_rules.specs.Fits.{IsGrant}
@@ -10,20 +9,26 @@ use Rattle.resource_set.specs.Writing.{r_text}
 use Rattle.resource_set.specs.declared.node.Resources.{Resources}
 use Rattle.services.specs.Agrees.{IsGiven}
 use Rattle.service_tests.specs.Open.{asking}
+use Rattle.tap.specs.Factors.{priority_by}
+use Rattle.tap.specs.declared.weights.Weights.{Weights}
 
-module _ (size fanout : ℕ) (hash : Hash) (grant : Resources) (birth : ℕ) where
+-- jobs have their urgency for their priority
+abbrev pub by_urgency : Weights
+by_urgency = record { urgency = 1; cores = 0 }
+
+module _ (size fanout : ℕ) (hash : Hash) (grant : Resources) (birth : ℕ) (weights : Weights) where
   abbrev pub plain : Instance
   plain = record {
     service = record { size = size; fanout = fanout; hash = hash; grant = r_text grant; asks = λ by. None };
     birth = birth;
     grant = grant;
-    answer = default_priority;
+    answer = priority_by weights;
     asks = λ by. None;
     rank = λ by. 0;
   }
 
   -- whatever is asked of its service
-  pub asked_given : IsGrant grant.nodes → (asks : By → Option Request) → IsGiven (asking plain asks) size fanout hash grant birth
+  pub asked_given : IsGrant grant.nodes → (asks : By → Option Request) → IsGiven (asking plain asks) size fanout hash grant birth weights
   asked_given sets asks = record {
     served = record {
       valid = record {

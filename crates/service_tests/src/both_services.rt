@@ -12,6 +12,7 @@ use lists::{Bytes, ListOf};
 use services::Services;
 use std::alloc::Global;
 use std::test::Fail;
+use tap::Weights;
 
 /// A grant of one host of two cores.
 const GRANT: &str =
@@ -68,7 +69,7 @@ fn begun(alloc: Global) -> Result<Services, Fail>
         fanout: 2,
         hash: Hash::Sha1,
     };
-    let services = Services::new(alloc, setting, &grant, 0)?;
+    let services = Services::new(alloc, setting, &grant, 0, Weights::URGENCY)?;
     Ok(services)
 }
 

@@ -1,25 +1,26 @@
 -- An instance without job commands, at its birth.
 use Rattle.std.proofs.Common.{ℕ, None, refl, true≢false, sym, arith}
-use Rattle.answers.specs.Jobs.{default_priority}
 use Rattle.fl_digest.specs.declared.Hash.{Hash}
 use Rattle.instance_rules.specs.Log.{Instance}
 use Rattle.job_rules.specs.Fits.{IsGrant}
 use Rattle.resource_set.specs.Writing.{r_text}
 use Rattle.resource_set.specs.declared.node.Resources.{Resources}
 use Rattle.services.specs.Agrees.{IsGiven}
+use Rattle.tap.specs.Factors.{priority_by}
+use Rattle.tap.specs.declared.weights.Weights.{Weights}
 
-module _ (size fanout : ℕ) (hash : Hash) (grant : Resources) (birth : ℕ) where
+module _ (size fanout : ℕ) (hash : Hash) (grant : Resources) (birth : ℕ) (weights : Weights) where
   abbrev pub plain : Instance
   plain = record {
     service = record { size = size; fanout = fanout; hash = hash; grant = r_text grant; asks = λ by. None };
     birth = birth;
     grant = grant;
-    answer = default_priority;
+    answer = priority_by weights;
     asks = λ by. None;
     rank = λ by. 0;
   }
 
-  pub plain_given : IsGrant grant.nodes → IsGiven plain size fanout hash grant birth
+  pub plain_given : IsGrant grant.nodes → IsGiven plain size fanout hash grant birth weights
   plain_given sets = record {
     served = record {
       valid = record {

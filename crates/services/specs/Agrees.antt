@@ -8,6 +8,7 @@ use Rattle.content_service.specs.Agrees.{AgreesService}
 use Rattle.job_service.specs.Agrees.{AgreesJobs, IsServedBy}
 use Rattle.resource_set.specs.declared.node.Resources.{Resources}
 use Rattle.services.specs.Value.{ServicesValue}
+use Rattle.tap.specs.declared.weights.Weights.{Weights}
 
 -- the jobs with the key-value service, and the contents, stand where one log of the instance leaves
 -- them, which has so many brokers in such a tree
@@ -32,8 +33,8 @@ pub record HaveContentsLog (v : ServicesValue) : Type 0 where
   pub agrees : AgreesService v.contents set log
 
 -- an instance with so many brokers in such a tree, with this hash and this grant, that is born at
--- this second
+-- this second and gives its jobs their priorities by these weights
 pub record IsGiven (inst : Instance) (brokers children : ℕ)
-    (digest : Hash) (grant : Resources) (now : ℕ) : Type 0 where
-  pub served : IsServedBy inst brokers children grant now
+    (digest : Hash) (grant : Resources) (now : ℕ) (weights : Weights) : Type 0 where
+  pub served : IsServedBy inst brokers children grant now weights
   pub hash : inst.service.hash ≡ digest

@@ -45,6 +45,7 @@ use lists::Bytes;
 use resource_set::Resources;
 use std::alloc::{AllocError, Global};
 use std::marker::Model;
+use tap::Weights;
 
 /// The services of an instance: its jobs with the core below them, and the contents. Each call goes
 /// on from whatever log both agree with.
@@ -87,6 +88,7 @@ impl Services {
         setting: Setting,
         grant: &Resources,
         birth: u64,
+        weights: Weights,
     ) -> Result<Services, CoreFault>
         requires size { (1 ≤ setting.size) × (setting.size ≤ 32) }
         requires fanout { (1 ≤ setting.fanout) × (setting.fanout ≤ 32) }
@@ -97,10 +99,10 @@ impl Services {
         ensures start { IfOk result (λ v. (v.jobs.submitted ≡ 0) × (v.jobs.span ≡ 0)) }
         ensures grant { IfOk result (λ v. IsGrant grant.now.nodes) }
         ensures agrees { IfOk result (λ v. (inst : Instance)
-            → IsGiven inst setting.size setting.fanout setting.hash grant.now birth
+            → IsGiven inst setting.size setting.fanout setting.hash grant.now birth weights
             → AgreesServices v inst []) }
     {
-        let jobs = JobService::new(alloc, setting, grant, birth)?;
+        let jobs = JobService::new(alloc, setting, grant, birth, weights)?;
         let contents = ContentService::new(alloc, setting.size, setting.fanout, setting.hash)?;
         Ok(Services {
             spent: false,
@@ -464,6 +466,7 @@ impl Services {
             → AgreesServices self.now inst log → IsLiving inst log l → (by : Command)
             (where_ : State) → awaited self.now.jobs by ≡ Some where_ → IsLeftResult l by where_ }
     {
+        // where none of the three can go on, what each has left is known
         self.core().still();
         self.contents.still();
         self.jobs.still();

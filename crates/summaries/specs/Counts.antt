@@ -7,10 +7,11 @@ use Rattle.std.specs.List.Sorted.{IsStrictlySortedBy}
 use Rattle.std.specs.Map.{keys_of, lookup}
 use Rattle.std.specs.Ordering.{nat_cmp}
 use Rattle.std.specs.Str.{bytes_eq}
+use Rattle.lists.specs.Ascii.{newline, space}
 
 -- a word of a line ends before a space
 abbrev pub is_space : ℕ → Bool
-is_space b = b == 32
+is_space b = b == space
 
 -- what stands before the first space of a line, or the whole line
 abbrev pub first_word : List ℕ → List ℕ
@@ -18,7 +19,7 @@ first_word line = before_first is_space line
 
 -- the first words of the lines of a text, some of which may be empty
 abbrev pub first_words : List ℕ → List (List ℕ)
-first_words text = map first_word (slice_split (λ b. b == 10) text)
+first_words text = map first_word (slice_split (λ b. b == newline) text)
 
 -- how often a word that isn't empty occurs
 abbrev pub times : List ℕ → List (List ℕ) → ℕ
@@ -36,7 +37,7 @@ pub record IsTally (words : List (List ℕ)) (rows : List (List ℕ × ℕ)) : T
 
 -- a word with how often it occurs, as it is printed
 abbrev pub row_text : List ℕ × ℕ → List ℕ
-row_text row = row.0 ++ codes " " ++ decimal row.1 ++ 10 ∷ []
+row_text row = row.0 ++ codes " " ++ decimal row.1 ++ newline ∷ []
 
 -- the word is counted once more, and every other as often
 abbrev pub CountsOneMore : BTreeMap (List ℕ) ℕ → BTreeMap (List ℕ) ℕ → List ℕ → Type 0

@@ -1,5 +1,6 @@
 -- What the summary of a run says.
 use Rattle.std.specs.Prelude.{◌≡◌, ℕ, List, [], ◌∷◌, ◌++◌, false, Some, codes, decimal, flat_map, length}
+use Rattle.lists.specs.Ascii.{newline}
 use Rattle.fl_digest.specs.declared.BlobRef.{BlobRef}
 use Rattle.fl_digest.specs.Reference.{reference_text}
 use Rattle.kvs_model.specs.Store.{Store}
@@ -18,7 +19,7 @@ use Rattle.summaries.specs.Counts.{first_words, row_text, IsTally}
 -- how often `primary` landed, and its last root
 abbrev pub last_lines : ℕ → BlobRef → List ℕ
 last_lines landings root = codes "landings " ++ decimal landings ++ codes "\nroot "
-    ++ reference_text root ++ 10 ∷ []
+    ++ reference_text root ++ newline ∷ []
 
 -- what the key-value service of the top has seen in a run
 abbrev pub top_log : Setup → List Entry → Log

@@ -1,5 +1,5 @@
-//! Kept callbacks: the one that gives a waiting job its priority, and the one that judges a
-//! submission.
+//! Priorities of waiting jobs, by weighted factors or by a kept callback, and a kept callback that
+//! judges a submission.
 #![tactic(auto)]
 
 ghost use Rattle.std.specs.Prelude.{◌≡◌, ℕ};
@@ -7,9 +7,11 @@ ghost use Rattle.std.specs.Fn.{FnReturnsAt};
 ghost use Rattle.tap.specs.Priorities.{AnswersOnce, IsPriority};
 
 mod check;
+mod weights;
 
 pub use check::Check;
 use std::marker::Model;
+pub use weights::Weights;
 
 /// What the callback is told of a job: its id, its urgency of 0 to 31, its user and the cores that
 /// it asks for.

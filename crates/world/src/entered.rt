@@ -1,71 +1,21 @@
 //! What an instance makes, as the run has it.
-ghost use Rattle.std.specs.Prelude.{◌≡◌, ◌++◌, map, IfOk, OnOk};
+ghost use Rattle.std.specs.Prelude.{◌≡◌, ◌++◌, map, OnOk};
 ghost use Rattle.hierarchy.specs.Stretches.{entered_in};
 
 use answers::{Chronicle, Entry};
 use std::alloc::AllocError;
 
-/// An entry of an own chronicle with the number of its instance.
-fn entered_in(entry: Entry, number: u32) -> Entry
-    ensures { result ≡ entered_in number entry }
+/// Gives an entry of an own chronicle the number of its instance, where it names one.
+fn renumber(entry: &mut Entry, number: u32)
+    ensures { entry.new ≡ entered_in number entry.old }
 {
     match entry {
-        Entry::Landed {
-            instance: _,
-            namespace,
-            number: landed,
-            authors,
-            groups,
-        } => Entry::Landed {
-            instance: number,
-            namespace,
-            number: landed,
-            authors,
-            groups,
-        },
-        Entry::Denied {
-            instance: _,
-            namespace,
-            authors,
-            group,
-            refusal,
-        } => Entry::Denied {
-            instance: number,
-            namespace,
-            authors,
-            group,
-            refusal,
-        },
-        Entry::Heard {
-            instance: _,
-            broker,
-            namespace,
-            number: heard,
-        } => Entry::Heard {
-            instance: number,
-            broker,
-            namespace,
-            number: heard,
-        },
-        Entry::Got {
-            instance: _,
-            broker,
-            reference,
-        } => Entry::Got {
-            instance: number,
-            broker,
-            reference,
-        },
-        Entry::Dropped {
-            instance: _,
-            broker,
-            reference,
-        } => Entry::Dropped {
-            instance: number,
-            broker,
-            reference,
-        },
-        other => other,
+        Entry::Landed { instance, .. } => *instance = number,
+        Entry::Denied { instance, .. } => *instance = number,
+        Entry::Heard { instance, .. } => *instance = number,
+        Entry::Got { instance, .. } => *instance = number,
+        Entry::Dropped { instance, .. } => *instance = number,
+        _ => (),
     }
 }
 
@@ -73,8 +23,9 @@ fn entered_in(entry: Entry, number: u32) -> Entry
 pub fn enter(chronicle: &mut Chronicle, made: Chronicle, number: u32) -> Result<(), AllocError>
     ensures { OnOk result (chronicle.new ≡ chronicle.old ++ map (entered_in number) made) }
 {
-    for entry in made.into_vec() {
-        chronicle.push(entered_in(entry, number))?;
+    for mut entry in made.into_vec() {
+        renumber(&mut entry, number);
+        chronicle.push(entry)?;
     }
     Ok(())
 }

@@ -7,6 +7,7 @@ use fl_digest::Hash;
 use kvs_rules::KvsStep;
 use std::alloc::Global;
 use std::test::Fail;
+use tap::Weights;
 use workload::laws::{
     spelled_commands_are_built, spelled_labels_are_their_own, spelled_tallies_are_kept,
     spelled_workloads_are_within,
@@ -122,7 +123,7 @@ fn begin(alloc: Global, text: &str) -> Result<World, Fail>
     spelled_commands_are_built();
     spelled_labels_are_their_own();
     spelled_tallies_are_kept();
-    Ok(World::new(alloc, SETTING, work)?)
+    Ok(World::new(alloc, SETTING, Weights::URGENCY, work)?)
 }
 
 /// Makes drawn steps for as long as one can be made.

@@ -25,6 +25,7 @@ use instance::{CoreFault, Instance, Setting};
 use lists::{Bytes, Copied};
 use resource_set::Resources;
 use std::alloc::{AllocError, Global};
+use tap::Weights;
 use workload::{ActorList, Workload};
 
 /// The most brokers of an instance.
@@ -161,6 +162,7 @@ fn bear_for(alloc: Global, outer: &mut Instance, job: u64) -> Result<(Bytes, Res
 fn child_home(
     alloc: Global,
     setting: Setting,
+    weights: Weights,
     work: &Workload,
     origin: Origin,
     grant: &Resources,
@@ -175,9 +177,9 @@ fn child_home(
     requires some { 1 ≤ length grant.now.nodes }
     requires early { second + 2000000000 < 2 ^ 64 }
     ensures { IfOk result (λ home. (set : Setup) (b : Birth) → set.fanout ≡ setting.fanout
-        → set.hash ≡ setting.hash → set.work ≡ work.now → b.parent ≡ origin.parent
-        → b.job ≡ origin.job → b.label ≡ origin.label → b.second ≡ second → b.grant ≡ grant.now
-        → IsChildHome set b home) }
+        → set.hash ≡ setting.hash → set.weights ≡ weights → set.work ≡ work.now
+        → b.parent ≡ origin.parent → b.job ≡ origin.job → b.label ≡ origin.label
+        → b.second ≡ second → b.grant ≡ grant.now → IsChildHome set b home) }
 {
     let size = grant.nodes.as_slice().len().min(MOST_BROKERS) as u32;
     let own = work_for(alloc, work, Some(&origin.label), size)?;
@@ -186,7 +188,7 @@ fn child_home(
         fanout: setting.fanout,
         hash: setting.hash,
     };
-    let instance = Instance::new(alloc, setting, grant, &own, second)?;
+    let instance = Instance::new(alloc, setting, grant, &own, second, weights)?;
     Ok(Home {
         origin: Some(origin),
         work: own,
@@ -227,7 +229,15 @@ impl World {
             job,
             label: label.copy()?,
         };
-        let home = child_home(self.alloc, self.setting, &self.work, origin, &grant, second)?;
+        let home = child_home(
+            self.alloc,
+            self.setting,
+            self.weights,
+            &self.work,
+            origin,
+            &grant,
+            second,
+        )?;
         settle(&mut self.places, &self.work.actors, &label, child);
         self.homes.push(home)?;
         self.chronicle.push(Entry::Born {

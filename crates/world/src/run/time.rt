@@ -106,6 +106,7 @@ pub(super) fn rest(homes: &[Home])
     ensures goes { EachLiving (TellsEndIn homes.now) homes.now }
 {
     for home in homes {
+        // where no step can be made, what is left is known
         home.instance.still();
         may_go(homes, home);
     }

@@ -18,18 +18,18 @@ of_played set settled journal P law (Err fault) run valid = tt
 
 pub returns-clause-sound : goal.returns-clause-sound
 returns-clause-sound c =
-    let set = setup_of c.args.options c.args.work in
+    let set = setup_of c.args.weights c.args.options c.args.work in
     of_played set (is_settled c.args.options) c.args.options.journal (JobsStaySoundInAll set)
     (λ d valid legal. c.a_run_stays_sound.ensures.sound set d (c.time_stays_within.ensures.fits set refl c.requires.few) valid legal) c.run.result c.run.ensures.run c.run.ensures.valid
 
 pub returns-clause-nested : goal.returns-clause-nested
 returns-clause-nested c =
-    let set = setup_of c.args.options c.args.work in
+    let set = setup_of c.args.weights c.args.options c.args.work in
     of_played set (is_settled c.args.options) c.args.options.journal (ChildrenStayNested set)
     (λ d valid legal. c.a_run_stays_sound.ensures.nested set d (c.time_stays_within.ensures.fits set refl c.requires.few) valid legal) c.run.result c.run.ensures.run c.run.ensures.valid
 
 pub returns-clause-grows : goal.returns-clause-grows
 returns-clause-grows c =
-    let set = setup_of c.args.options c.args.work in
+    let set = setup_of c.args.weights c.args.options c.args.work in
     of_played set (is_settled c.args.options) c.args.options.journal (LogsOnlyGrowInAll set)
     (λ d valid legal. c.a_run_stays_sound.ensures.grows set d (c.time_stays_within.ensures.fits set refl c.requires.few) valid legal) c.run.result c.run.ensures.run c.run.ensures.valid

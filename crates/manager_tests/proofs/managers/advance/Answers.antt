@@ -1,5 +1,15 @@
-use Rattle.std.proofs.Common.{◌+◌, min, arith, rules}
+use Rattle.std.proofs.Common.{ℕ, ◌+◌, [], min, arith, refl, rules}
+use Rattle.job_book.specs.Value.{scene_of}
+use Rattle.tap.specs.declared.Ask.{Ask}
 use Rattle.manager_tests.proofs.managers.advance.Goals as goal
 
-pub post-requires-clause-answers : goal.post-requires-clause-answers
-post-requires-clause-answers c = ((λ ask. min ask.urgency 100 + 4), (λ ask n said. search rules), (λ ask. (omega arith, omega arith)))
+pub post_due-requires-clause-due : goal.post_due-requires-clause-due
+post_due-requires-clause-due c =
+    let answer : Ask → ℕ = λ ask. min ask.urgency 100 + 4 in
+    record {
+      desk = record { scene = scene_of c.args.manager.now.book c.args.now [] answer; birth = 0; submits = [] };
+      valid = record { scene = record { now = c.ranges.now.fits; asked = search rules; answers = λ ask. (omega arith, omega arith) }; submits = tt };
+      jobs = refl;
+      grant = refl;
+      due = search rules;
+    }

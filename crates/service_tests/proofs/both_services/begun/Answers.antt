@@ -1,7 +1,7 @@
 use Rattle.std.proofs.Common.{[], refl}
 use Rattle.fl_digest.specs.declared.Hash.TheVariants as hash
 use Rattle.service_tests.specs.Open.{asking}
-use Rattle.service_tests.proofs.Beginning.{asked_given, plain}
+use Rattle.service_tests.proofs.Beginning.{asked_given, by_urgency, plain}
 use Rattle.service_tests.proofs.both_services.begun.Goals as goal
 
 pub returns : goal.returns
@@ -10,8 +10,8 @@ returns c =
     record {
       ready = c.in_ok-services.ensures.ready;
       size = c.in_ok-services.ensures.size;
-      inst = plain 4 2 hash.Sha1 grant 0;
+      inst = plain 4 2 hash.Sha1 grant 0 by_urgency;
       log = [];
       fresh = λ b past. refl;
-      agrees = λ asks same. c.in_ok-services.ensures.agrees (asking (plain 4 2 hash.Sha1 grant 0) asks) (asked_given 4 2 hash.Sha1 grant 0 c.in_ok-services.ensures.grant asks);
+      agrees = λ asks same. c.in_ok-services.ensures.agrees (asking (plain 4 2 hash.Sha1 grant 0 by_urgency) asks) (asked_given 4 2 hash.Sha1 grant 0 by_urgency c.in_ok-services.ensures.grant asks);
     }

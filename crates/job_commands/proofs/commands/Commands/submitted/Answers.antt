@@ -1,7 +1,7 @@
 use Rattle.std.proofs.Common.{◌≡◌, ℕ, List, Some, cond, ap, subst, ◌∙◌, bytes_eq}
 use Rattle.job_commands.specs.Rows.{AreCarried, job_at}
 use Rattle.job_commands.proofs.Landings.{submitted_agrees}
-use Rattle.job_commands.proofs.Sole.{sole}
+use Rattle.instance_rules.proofs.Sole.{sole}
 use Rattle.job_commands.proofs.Submitting.{at_some, label_is}
 use Rattle.job_commands.proofs.commands.Commands.submitted.Goals as goal
 

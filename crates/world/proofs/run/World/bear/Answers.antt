@@ -89,7 +89,7 @@ invariant_of-self-2 c = λ _.
     let now = c.second-second.ensures.value ∙ (c.second-second.ensures.agrees (setup_in v.set v.chronicle top) (own_of v.set v.chronicle top) first.agrees).0 in
     let legal = c.in_ok-label.ensures.legal v.set v.chronicle child c.args.parent b.second (home_lives v.set v.chronicle v.homes (h.runs runs).homes h.legal c.args.parent p says.0 says.1)
     (home_agrees v h runs c.args.parent p says.0 says.1) (number ∙ next_number v h runs) now in
-    let is : IsChildHome v.set b c.in_ok-home.home = c.in_ok-home.ensures v.set b refl refl refl refl refl (sym c.in_ok-copy.ensures) refl refl in
+    let is : IsChildHome v.set b c.in_ok-home.home = c.in_ok-home.ensures v.set b refl refl refl refl refl refl (sym c.in_ok-copy.ensures) refl refl in
     let settled = subst (λ x. AreSettled v.set.work.actors b.label child x c.settle.new.places) c.deref_mut.ensures.value c.settle.ensures in
     let long : length c.settle.new.places ≡ c.self.inside.places.len = (let same = settled.all in omega arith) in
     subst (λ x. IsSound (stepped v c.push-2.new.self c.keep.new.steps.items c.keep.new.ends.items x (with_items c.self.inside.places c.settle.new.places).items)) (sym c.in_ok-push.ensures.items)
@@ -114,7 +114,7 @@ returns-clause-advances c =
     let now = c.second-second.ensures.value ∙ (c.second-second.ensures.agrees (setup_in v.set v.chronicle top) (own_of v.set v.chronicle top) first.agrees).0 in
     let legal = c.in_ok-label.ensures.legal v.set v.chronicle child c.args.parent b.second (home_lives v.set v.chronicle v.homes (h.runs runs).homes h.legal c.args.parent p says.0 says.1)
     (home_agrees v h runs c.args.parent p says.0 says.1) (number ∙ next_number v h runs) now in
-    let is : IsChildHome v.set b c.in_ok-home.home = c.in_ok-home.ensures v.set b refl refl refl refl refl (sym c.in_ok-copy.ensures) refl refl in
+    let is : IsChildHome v.set b c.in_ok-home.home = c.in_ok-home.ensures v.set b refl refl refl refl refl refl (sym c.in_ok-copy.ensures) refl refl in
     let settled = subst (λ x. AreSettled v.set.work.actors b.label child x c.settle.new.places) c.deref_mut.ensures.value c.settle.ensures in
     let long : length c.settle.new.places ≡ c.self.inside.places.len = (let same = settled.all in omega arith) in
     advances_at c.self.view_is
