@@ -1,4 +1,5 @@
-//! Runs the examples in data/, and says of each whether its answers are those that stand beside it.
+//! Runs the examples in data/, and says of each whether its answers are those that stand beside it,
+//! and whether each of its commands is answered in twenty drawn orders.
 //!
 //! Each word of the program is an example's name, and behind it the options of its run.
 #![tactic(auto)]
@@ -8,9 +9,32 @@ use outside::{MemSink, MemSource};
 use std::alloc::{AllocError, Global};
 use std::process::ExitCode;
 use std::{env, fs, io};
+use tap::Weights;
 
-/// The words of a run with these options, which stand between spaces.
-fn run_words(alloc: Global, options: &str) -> Result<Vec<String>, AllocError> {
+/// An example: the options of its run, its workload and the answers beside it.
+#[derive(Drop)]
+struct Example<'a> {
+    options: &'a str,
+    workload: Vec<u8>,
+    answers: Vec<u8>,
+}
+
+/// Reads the example of a word of the program.
+fn read_example<'a>(rt: &HostRuntime, word: &'a str) -> io::Result<Example<'a>> {
+    let alloc = rt.alloc();
+    let (name, options) = word.split_once(' ').unwrap_or((word, ""));
+    let workload = format!(in alloc; "{name}.workload")?;
+    let answers = format!(in alloc; "{name}.answers")?;
+    Ok(Example {
+        options,
+        workload: fs::read(rt, workload.as_str())?,
+        answers: fs::read(rt, answers.as_str())?,
+    })
+}
+
+/// The words of a run with these options, which stand between spaces, in a drawn order where there
+/// is a seed.
+fn run_words(alloc: Global, options: &str, seed: Option<u64>) -> Result<Vec<String>, AllocError> {
     let mut words = Vec::new(alloc);
     words.push(String::from_str(alloc, "run")?)?;
     for option in options.split(' ') {
@@ -18,41 +42,66 @@ fn run_words(alloc: Global, options: &str) -> Result<Vec<String>, AllocError> {
             words.push(String::from_str(alloc, option)?)?;
         }
     }
+    if let Some(seed) = seed {
+        words.push(format!(in alloc; "--shuffle={seed}")?)?;
+    }
     Ok(words)
 }
 
-/// What a run of a workload's text writes.
-fn answers_of(alloc: Global, options: &str, text: Vec<u8>) -> Result<MemSink, AllocError> {
-    let words = run_words(alloc, options)?;
+/// What a run of an example writes, or nothing where its status isn't 0.
+fn answers_of(
+    alloc: Global,
+    example: &Example<'_>,
+    seed: Option<u64>,
+) -> Result<Option<MemSink>, AllocError> {
+    let words = run_words(alloc, example.options, seed)?;
+    let text = Vec::from_slice(alloc, example.workload.as_slice())?;
     let mut source = MemSource::new(text, 4096, Vec::new(alloc));
     let mut sink = MemSink::new(alloc, 65_536, 4096, Vec::new(alloc))?;
-    flux(alloc, &words, &mut source, &mut sink);
-    Ok(sink)
+    let run = flux(alloc, &words, &mut source, &mut sink, Weights::URGENCY);
+    Ok(if run.status == 0 { Some(sink) } else { None })
 }
 
 /// Whether an example's answers are those that stand beside it.
-fn is_as_told(rt: &HostRuntime, example: &str) -> io::Result<bool> {
-    let alloc = rt.alloc();
-    let (name, options) = match example.split_once(' ') {
-        Some((name, options)) => (name, options),
-        None => (example, ""),
-    };
-    let workload = format!(in alloc; "{name}.workload")?;
-    let answers = format!(in alloc; "{name}.answers")?;
-    let text = fs::read(rt, workload.as_str())?;
-    let told = fs::read(rt, answers.as_str())?;
-    let sink = answers_of(alloc, options, text)?;
-    Ok(sink.taken() == told.as_slice())
+fn is_as_told(alloc: Global, example: &Example<'_>) -> Result<bool, AllocError> {
+    let sink = answers_of(alloc, example, None)?;
+    Ok(sink.is_some_and(|sink| sink.taken() == example.answers.as_slice()))
+}
+
+/// How many answers a text has: a line each, up to the journal.
+fn count_answers(text: &[u8]) -> usize {
+    text.split(|byte| *byte == b'\n')
+        .take_while(|line| *line != b"--".as_slice())
+        .count()
+}
+
+/// Whether each command of an example is answered in each order that a seed from 1 to 20 draws.
+fn is_answered(alloc: Global, example: &Example<'_>) -> Result<bool, AllocError> {
+    let told = count_answers(&example.answers);
+    let mut all = true;
+    for seed in 1..21 {
+        let sink = answers_of(alloc, example, Some(seed))?;
+        let answered = sink.is_some_and(|sink| count_answers(sink.taken()) == told);
+        all = all && answered;
+    }
+    Ok(all)
 }
 
 fn main(rt: HostRuntime) -> io::Result<ExitCode> {
     let mut all = true;
-    for example in env::args(&rt)?.skip(1) {
-        let same = is_as_told(&rt, example.as_str())?;
-        all = all && same;
+    for word in env::args(&rt)?.skip(1) {
+        let example = read_example(&rt, word.as_str())?;
+        let same = is_as_told(rt.alloc(), &example)?;
+        let answered = is_answered(rt.alloc(), &example)?;
+        all = all && same && answered;
         println!(rt;
-            "{example}: {}",
-            if same { "as told" } else { "other answers" }
+            "{word}: {}, {}",
+            if same { "as told" } else { "other answers" },
+            if answered {
+                "answered in 20 drawn orders"
+            } else {
+                "left in a drawn order"
+            }
         )?;
     }
     Ok(ExitCode::from(if all { 0 } else { 1 }))

@@ -6,4 +6,8 @@ mod children;
 #[cfg(test)]
 mod drawn;
 #[cfg(test)]
+mod orders;
+#[cfg(test)]
+mod priorities;
+#[cfg(test)]
 mod runs;

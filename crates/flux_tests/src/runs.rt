@@ -7,6 +7,7 @@ use std::alloc::Global;
 use std::ops::Range;
 use std::process::Abort;
 use std::test::Fail;
+use tap::Weights;
 
 /// An input with its words, and the status, the output and the notice that it is to come to.
 pub(crate) struct Case {
@@ -555,7 +556,7 @@ const TOOLS: [Case; 13] = [
 ];
 
 /// A run with these words, over a source and a sink in memory that fail at these calls.
-fn run(
+pub(crate) fn run(
     alloc: Global,
     words: &[&str],
     input: &str,
@@ -572,7 +573,7 @@ fn run(
     let bytes = Vec::from_slice(alloc, input.as_bytes())?;
     let fails = Vec::from_slice(alloc, source_fails)?;
     let mut source = MemSource::new(bytes, most, fails);
-    Ok(flux(alloc, &strings, &mut source, sink))
+    Ok(flux(alloc, &strings, &mut source, sink, Weights::URGENCY))
 }
 
 /// Runs each case, and compares what came of it.
@@ -605,62 +606,6 @@ fn jobs_and_time(rt: HostRuntime) -> Result<(), Fail> {
 #[test]
 fn tools_and_refusals(rt: HostRuntime) -> Result<(), Fail> {
     compare(&rt, rt.alloc(), &TOOLS)
-}
-
-/// Runs a workload twice with each of twenty seeds, and compares its answers and both journals.
-fn shuffled(rt: &impl Abort, alloc: Global, input: &str, output: &str) -> Result<(), Fail> {
-    for seed in 1..21 {
-        let option = format!(in alloc; "--shuffle={seed}")?;
-        let words = ["run", "--size=7", "--journal", option.as_str()];
-        let mut sink = MemSink::new(alloc, 8192, 8192, Vec::new(alloc))?;
-        let mut again = MemSink::new(alloc, 8192, 8192, Vec::new(alloc))?;
-        let first = run(alloc, &words, input, 4096, &[], &mut sink)?;
-        let _second = run(alloc, &words, input, 4096, &[], &mut again)?;
-        assert_eq!(rt; first.status, 0);
-        assert!(rt; sink.taken().starts_with(output.as_bytes()));
-        assert!(rt; sink.taken() == again.taken());
-    }
-    Ok(())
-}
-
-#[test]
-fn a_seed_gives_one_order(rt: HostRuntime) -> Result<(), Fail> {
-    shuffled(
-        &rt,
-        rt.alloc(),
-        "actor a 1\nactor b 6\na put k hello\na commit\na tell b\nb wait 1\nb get k\nb put l y\nb fence f 2\na put m z\na fence f 2\n",
-        "staged\ncommitted 1\ntold\nreached 1\nvalue 1 hello\nstaged\nfenced 2\nstaged\nfenced 2\n--\n",
-    )
-}
-
-#[test]
-fn a_tell_is_of_every_namespace_in_every_order(rt: HostRuntime) -> Result<(), Fail> {
-    shuffled(
-        &rt,
-        rt.alloc(),
-        "actor a 1\nactor b 6\na ns-create n\na ns-use n\na put k x\na commit\na ns-use primary\na tell b\na fence f 2\nb fence f 2\nb ns-use n\nb get k\n",
-        "created\nusing\nstaged\ncommitted 1\nusing\ntold\nfenced 1\nfenced 1\nusing\nvalue 1 x\n--\n",
-    )
-}
-
-#[test]
-fn a_flushed_content_is_found_in_every_order(rt: HostRuntime) -> Result<(), Fail> {
-    shuffled(
-        &rt,
-        rt.alloc(),
-        "actor a 5\nactor b 6\na content-store tea at four\na content-flush\na put k x\na commit\nb wait 1\nb content-load sha1-a7117ff95e0a1400af34355bd52dad801b2286ce\na content-drop\na content-load sha1-a7117ff95e0a1400af34355bd52dad801b2286ce\n",
-        "stored sha1-a7117ff95e0a1400af34355bd52dad801b2286ce\nflushed\nstaged\ncommitted 1\nreached 1\nblob tea at four\ndropped\nblob tea at four\n--\n",
-    )
-}
-
-#[test]
-fn a_job_ends_before_time_goes_past_it_in_every_order(rt: HostRuntime) -> Result<(), Fail> {
-    shuffled(
-        &rt,
-        rt.alloc(),
-        "actor a 1\nactor b 6\na submit j {\"resources\":[{\"type\":\"slot\",\"count\":1,\"with\":[{\"type\":\"core\",\"count\":1}],\"label\":\"task\"}],\"tasks\":[{\"command\":[\"sleep\",\"2\"],\"slot\":\"task\",\"count\":{\"per_slot\":1}}],\"version\":1}\na advance 3\na result j\na info j R\nb content-store tea at four\n",
-        "submitted fJf\nadvanced 3\nended 0\ninfo 10 {\"execution\":{\"R_lite\":[{\"children\":{\"core\":\"0\"},\"rank\":\"0\"}],\"expiration\":0,\"nodelist\":[\"node0\"],\"starttime\":0},\"version\":1}\nstored sha1-a7117ff95e0a1400af34355bd52dad801b2286ce\n--\n",
-    )
 }
 
 #[test]
