@@ -19,7 +19,7 @@ use Rattle.manager_rules.specs.Jobs.{StoredJob, ids_of}
 use Rattle.manager_rules.specs.Scene.{has_child}
 use Rattle.manager_rules.specs.Times.{IsLeast, command_seconds, expiry_seconds, seconds_of}
 use Rattle.job_book.specs.Contract.{BirthIn, IsFirstBirth, NoBirth}
-use Rattle.job_book.specs.Seconds.{IsSoonest, begins_child, is_bearing, sooner_of}
+use Rattle.job_book.specs.Seconds.{IsSoonest, begins_child, is_bearing, is_parent, sooner_of}
 use Rattle.job_book.specs.Value.{BookValue}
 use Rattle.job_book.proofs.Places.{rise_among}
 
@@ -154,10 +154,10 @@ none_of false e = refl
 
 bears : (book : BookValue) (asked : List Asked) (j : StoredJob) → Among j book.jobs → is_bearing asked j ≡ true → BirthIn book asked j.id
 bears book asked j i e =
-    let a = and_parts (is_state j.job.state state.Run) (j.job.started && (option_map_or (λ start. begins_child (ending_of j.spec start)) j.start false && not (has_child asked j.id))) e in
-    let b = and_parts j.job.started (option_map_or (λ start. begins_child (ending_of j.spec start)) j.start false && not (has_child asked j.id)) a.1 in
-    let c = and_parts (option_map_or (λ start. begins_child (ending_of j.spec start)) j.start false) (not (has_child asked j.id)) b.1 in
-    let start = begun j c.0 in
+    let parts = and_parts (is_parent j) (not (has_child asked j.id)) e in
+    let a = and_parts (is_state j.job.state state.Run) (j.job.started && option_map_or (λ start. begins_child (ending_of j.spec start)) j.start false) parts.0 in
+    let b = and_parts j.job.started (option_map_or (λ start. begins_child (ending_of j.spec start)) j.start false) a.1 in
+    let start = begun j b.1 in
     record {
       j = j;
       known = contains_from book.jobs j i;
@@ -167,7 +167,7 @@ bears book asked j i e =
       start = start.0;
       started_at = start.1;
       child = start.2;
-      first = none_of (has_child asked j.id) c.1;
+      first = none_of (has_child asked j.id) parts.1;
     }
 
 bearing : (book : BookValue) (asked : List Asked) (id : ℕ) → (b : BirthIn book asked id) → is_bearing asked b.j ≡ true

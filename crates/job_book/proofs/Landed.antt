@@ -21,7 +21,7 @@ use Rattle.resource_set.specs.declared.node.Resources.{Resources}
 use Rattle.tap.specs.declared.Ask.{Ask}
 use Rattle.manager_rules.specs.declared.asked.Asked.{Asked}
 use Rattle.manager_rules.specs.declared.due.Due.{Due}
-use Rattle.manager_rules.specs.Dependencies.{job_at}
+use Rattle.manager_rules.specs.Dependencies.{is_inactive, job_at}
 use Rattle.manager_rules.specs.Deeds.{Deed, Validates, Adds, Removes, Loses, Depends, Prioritizes, NeverFits, Takes, Starts, Finishes, Expires, Stops, Releases, Frees, Cleans, Carries, change_by, due_of, r_given}
 use Rattle.manager_rules.specs.Due.{MayDo}
 use Rattle.manager_rules.specs.Jobs.{StoredJob, ids_of, is_live}
@@ -31,7 +31,8 @@ use Rattle.manager_rules.specs.Sound.{HoldsInTime, holds_of}
 use Rattle.manager_rules.proofs.Allowed.{due_is_allowed}
 use Rattle.manager_rules.proofs.Landing.{with_event_ids}
 use Rattle.manager_rules.proofs.Soundness.{stays_in_time, stays_sound}
-use Rattle.job_book.specs.Active.{AreActive, is_active, left_with}
+use Rattle.job_book.specs.Active.{AreActive, AreEntriesOf, IsEntryOf, follow_with, is_active}
+use Rattle.job_book.specs.declared.active.Active.{Active}
 use Rattle.job_book.specs.Contract.{WasDue, after_event}
 use Rattle.job_book.specs.Kept.{IsBook, IsRanked, allotted}
 use Rattle.job_book.specs.Landing.{CanHold, CanLand, IsNext, IsTold, given_by, given_in, held_by, held_with, holding_with, job_with}
@@ -40,7 +41,7 @@ use Rattle.job_book.specs.Waiting.{rank_of, waits_with}
 use Rattle.job_book.specs.declared.landing.Held.{Held}
 use Rattle.job_book.specs.declared.landing.Held.TheVariants.{AsBefore, Nothing, Given}
 use Rattle.job_book.specs.declared.landing.Next.{Next}
-use Rattle.job_book.proofs.Actives.{active_after, due_active}
+use Rattle.job_book.proofs.Actives.{active_after, due_active, entries_after}
 use Rattle.job_book.proofs.Queues.{job_among}
 use Rattle.job_book.proofs.Stepping.{after_ranked, done_is, each_after, holds_kept, holds_less, holds_more, not_held, set_is}
 
@@ -251,9 +252,16 @@ module _ {book : BookValue} {g : Allotment} {due : Due} {at : ℕ} {j : StoredJo
     pub read_jobs : set book.jobs at (job_with next (get_or book.jobs at j)) ≡ with_event due book.jobs
     read_jobs = jobs_are book g r.is due r.was at j next r.within r.named (subst (λ k. IsNext k due next) r.read n)
 
-    pub read_active : (old new : List ℕ) → AreActive book.jobs old → new ≡ left_with due.job next.job old → AreActive (with_event due book.jobs) new
-    read_active old new are left =
+    pub read_active : (old new : List Active) (entry : Active) → AreActive book.jobs old → entry.id ≡ j.id → new ≡ follow_with entry (is_inactive next.job) old → AreActive (with_event due book.jobs) new
+    read_active old new entry are its follows =
         let mine = the_job book g r.is due r.was j there named_so in
-        active_after due book.jobs old new j are (λ k i e. sym mine ∙ the_job book g r.is due r.was k i e)
+        active_after due book.jobs old new entry j (its ∙ named_so) are (λ k i e. sym mine ∙ the_job book g r.is due r.was k i e)
         (subst (λ k. is_active k ≡ true) mine (due_active (scene_of book r.was.now r.was.asked r.was.answer) r.was.is.j r.was.is.deed r.was.is.may))
-        (left ∙ ap (λ k. left_with due.job k.job old) (done_is j due next n))
+        (follows ∙ ap (λ k. follow_with entry (is_inactive k.job) old) (done_is j due next n))
+
+    pub read_entries : (old new : List Active) (entry : Active) → AreEntriesOf book.jobs old → entry.id ≡ j.id → IsEntryOf (job_with next j) entry → new ≡ follow_with entry (is_inactive next.job) old → AreEntriesOf (with_event due book.jobs) new
+    read_entries old new entry entries its is follows =
+        let mine = the_job book g r.is due r.was j there named_so in
+        entries_after due book.jobs old new entry (is_inactive next.job) (its ∙ named_so) entries
+        (λ x i e. subst (λ k. IsEntryOf (event_done due k) entry) (sym mine ∙ the_job book g r.is due r.was x i e) (subst (λ k. IsEntryOf k entry) (done_is j due next n) is))
+        follows

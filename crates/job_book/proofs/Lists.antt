@@ -35,6 +35,16 @@ module _ {A : Type 0} where
   pub each_next : (P : A → Type 0) (xs : List A) (i : ℕ) (x : A) → Each P (take i xs) → i < length xs → x ≡ get_or xs i x → P x → Each P (take (i + 1) xs)
   each_next P xs i x h w e p = let n : suc i ≡ i + 1 = omega arith in subst (λ k. Each P (take k xs)) n (each_up P xs i x h w e p)
 
+module _ {A : Type 0} (P : A → Type 0) where
+  each_beyond : (xs : List A) (i : ℕ) → Each P (take i xs) → i < length xs → ((d : A) → P (get_or xs i d)) → Each P (take (suc i) xs)
+  each_beyond [] i h w f = tt
+  each_beyond (y ∷ ys) zero h w f = (f y, tt)
+  each_beyond (y ∷ ys) (suc i) h w f = (h.0, each_beyond ys i h.1 (omega (arith, w)) f)
+
+  -- the one at the place too, whatever stands for one that isn't there
+  pub each_past : (xs : List A) (i : ℕ) → Each P (take i xs) → i < length xs → ((d : A) → P (get_or xs i d)) → Each P (take (i + 1) xs)
+  each_past xs i h w f = let n : suc i ≡ i + 1 = omega arith in subst (λ k. Each P (take k xs)) n (each_beyond xs i h w f)
+
 pub none_of : {A : Type 0} (o : Option A) → ((x : A) → o ≡ Some x → ⊥) → o ≡ None
 none_of None f = refl
 none_of (Some x) f = absurd (f x refl)

@@ -5,23 +5,26 @@ use Rattle.std.specs.List.Sorted.{IsStrictlyIncreasing}
 use Rattle.std.proofs.lemmas.Bool.{cases_lt, eq-eqb, ne_eqb, lt-ltb, le-ltb}
 use Rattle.std.proofs.lemmas.List.{get_or-map, length-map}
 use Rattle.std.proofs.lemmas.List.Kept.{AllPairs-from_increasing}
-use Rattle.std.specs.Prelude.{Contains}
+use Rattle.std.specs.Prelude.{Contains, map}
 use Rattle.graph_match.proofs.Holds.{RiseFrom, rise_of}
 use Rattle.job_rules.proofs.Among.{Among, among_from, among_map, among_mapped, contains_from}
 use Rattle.manager_rules.specs.Dependencies.{job_at}
 use Rattle.manager_rules.specs.Jobs.{StoredJob, ids_of}
 use Rattle.manager_rules.specs.Posts.{with_job}
 
--- where a partition point is by ids
-pub ids_rise : (jobs : List StoredJob) → IsStrictlyIncreasing (ids_of jobs) → (i j : ℕ) (d : StoredJob) → i ≤ j → j < length jobs → (get_or jobs i d).id ≤ (get_or jobs j d).id
-ids_rise jobs r i j d h w = elim (cases_lt i j) [
+-- where a partition point is by what rises
+pub rise_by : {A : Type 0} (f : A → ℕ) (xs : List A) → IsStrictlyIncreasing (map f xs) → (i j : ℕ) (d : A) → i ≤ j → j < length xs → f (get_or xs i d) ≤ f (get_or xs j d)
+rise_by f xs r i j d h w = elim (cases_lt i j) [
   | inl below ↦
-      let pair : get_or (ids_of jobs) i 0 < get_or (ids_of jobs) j 0 = AllPairs-from_increasing (ids_of jobs) r i j 0 below (subst (λ n. j < n) (sym (length-map jobs (λ j. j.id))) w) in
-      let a : get_or (ids_of jobs) i 0 ≡ (get_or jobs i d).id = get_or-map (λ j. j.id) jobs i d 0 (omega arith) in
-      let b : get_or (ids_of jobs) j 0 ≡ (get_or jobs j d).id = get_or-map (λ j. j.id) jobs j d 0 w in
+      let pair : get_or (map f xs) i 0 < get_or (map f xs) j 0 = AllPairs-from_increasing (map f xs) r i j 0 below (subst (λ n. j < n) (sym (length-map xs f)) w) in
+      let a : get_or (map f xs) i 0 ≡ f (get_or xs i d) = get_or-map f xs i d 0 (omega arith) in
+      let b : get_or (map f xs) j 0 ≡ f (get_or xs j d) = get_or-map f xs j d 0 w in
       omega (arith, pair, a, b)
-  | inr above ↦ let same : i ≡ j = omega (arith, above, h) in subst (λ k. (get_or jobs i d).id ≤ (get_or jobs k d).id) same (omega arith)
+  | inr above ↦ let same : i ≡ j = omega (arith, above, h) in subst (λ k. f (get_or xs i d) ≤ f (get_or xs k d)) same (omega arith)
 ]
+
+pub ids_rise : (jobs : List StoredJob) → IsStrictlyIncreasing (ids_of jobs) → (i j : ℕ) (d : StoredJob) → i ≤ j → j < length jobs → (get_or jobs i d).id ≤ (get_or jobs j d).id
+ids_rise = rise_by (λ j. j.id)
 
 module _ {A : Type 0} where
   pub each_before : (P : A → Type 0) (at : ℕ) (jobs : List A) → at ≤ length jobs → ((k : ℕ) (d : A) → k < at → P (get_or jobs k d)) → Each P (take at jobs)

@@ -87,6 +87,3 @@ running_sleeps j command units runs started ends lasts wake below within = λ s 
     not_over : (now : ℕ) → now < wake → (o : Option Resources) → IfSome o (λ r. 0 < r.expiration → units ≤ r.expiration) → IsSomeAnd o (IsOver now) → ⊥
     not_over now early None h over = absurd over
     not_over now early (Some r) h over = omega (arith, early, within, h over.0, over.1)
-
-pub awake : (j : StoredJob) → Sleeps j 0
-awake j = λ s early. let no : ⊥ = omega (arith, early) in absurd no

@@ -16,11 +16,14 @@ abbrev pub begins_child : Ending → Bool
 begins_child (ending.At second status) = false
 begins_child ending.Child = true
 
+-- a job that runs a child's command
+abbrev pub is_parent : StoredJob → Bool
+is_parent j = is_state j.job.state state.Run && (j.job.started
+    && option_map_or (λ start. begins_child (ending_of j.spec start)) j.start false)
+
 -- a job that is to have a child
 abbrev pub is_bearing : List Asked → StoredJob → Bool
-is_bearing asked j = is_state j.job.state state.Run && (j.job.started
-    && (option_map_or (λ start. begins_child (ending_of j.spec start)) j.start false
-    && not (has_child asked j.id)))
+is_bearing asked j = is_parent j && not (has_child asked j.id)
 
 -- the least of some numbers, if there are any
 abbrev pub IsSoonest : List ℕ → Option ℕ → Type 0

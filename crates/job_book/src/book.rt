@@ -14,14 +14,15 @@ ghost use Rattle.job_book.specs.Contract.{BeginsAsOne, Finds, Gains, IsFirstBirt
 ghost use Rattle.job_book.specs.Contract.{KnowsNeeds, NoBirth, WasDue, after_event, r_at, seconds_left};
 
 use crate::action::due;
-use crate::active::{enter, leave, place_of_active};
+use crate::active::{Active, enter, entry_of, first_bearing, follow, place_of_active};
 use crate::decisions::{Desk, choice};
+use crate::dependencies::is_over;
 use crate::landing::{change_at, hold, next_of};
 use crate::reasons::reason;
 use crate::row::{Row, find, place_in, place_of};
-use crate::seconds::{first_bearing, next_of_rows};
+use crate::seconds::next_of_rows;
 use crate::waiting::rank;
-use crate::waking::wake_of;
+use crate::waking::sleeps;
 use event_log::Event;
 use graph_match::Graph;
 use job_queue::Queue;
@@ -45,8 +46,8 @@ pub struct Book {
     rows: Vec<Row>,
     /// Each job with the priority with which it waits for resources, which is 0 where it doesn't.
     queue: Queue,
-    /// The ids of the jobs that aren't over, rising.
-    active: Vec<u64>,
+    /// The jobs that aren't over, by rising ids.
+    active: Vec<Active>,
 }
 
 impl Model for Book {
@@ -54,14 +55,15 @@ impl Model for Book {
 
     ghost Value = { BookValue };
 
-    ghost use Rattle.job_book.specs.Active.{AreActive};
+    ghost use Rattle.job_book.specs.Active.{AreActive, AreEntriesOf};
     ghost use Rattle.job_book.specs.Kept.{IsBook};
     ghost use Rattle.job_book.specs.Waiting.{IsQueueOf};
 
     ghost view = { λ b. record { grant = b.grant; jobs = b.rows.items } };
 
     ghost invariant = { λ b. IsBook (record { grant = b.grant; jobs = b.rows.items }) b.graph
-        × IsQueueOf b.rows.items b.queue.0 × AreActive b.rows.items b.active.items };
+        × IsQueueOf b.rows.items b.queue.0 × AreActive b.rows.items b.active.items
+        × AreEntriesOf b.rows.items b.active.items };
 }
 
 impl Book {
@@ -93,6 +95,7 @@ impl Book {
         ensures kept { OnErr result (self.new ≡ self.old) }
     {
         let row = new_row(*self.rows.allocator(), id, spec, event)?;
+        let entry = entry_of(&row);
         let at = place_of(&self.rows, id);
         self.rows.reserve(1)?;
         self.active.reserve(1)?;
@@ -100,7 +103,7 @@ impl Book {
         if self.rows.insert(at, row).is_err() {
             unreachable!();
         }
-        enter(&mut self.active, id);
+        enter(&mut self.active, entry);
         Ok(())
     }
 
@@ -127,6 +130,9 @@ impl Book {
         };
         let mut near = 0;
         for index in 0..self.active.len() {
+            if sleeps(self.active[index], now, desk.asked) {
+                continue;
+            }
             let at = place_of_active(desk.rows, &self.active, index, near);
             let row = &desk.rows[at];
             if let Some(action) = choice(alloc, &desk, row, tap)? {
@@ -148,8 +154,10 @@ impl Book {
         let next = next_of(*self.rows.allocator(), &self.rows[at], due)?;
         hold(&mut self.graph, due.job, &next.held)?;
         self.queue.set_priority(due.job, rank(&next.job));
-        leave(&mut self.active, due.job, &next.job);
+        let over = is_over(&next.job);
         change_at(&mut self.rows, at, next);
+        let entry = entry_of(&self.rows[at]);
+        follow(&mut self.active, entry, over);
         Ok(())
     }
 
@@ -177,7 +185,7 @@ impl Book {
         ensures some { IfSome result (IsFirstBirth self.now asked.now) }
         ensures none { IfNone result (NoBirth self.now asked.now) }
     {
-        first_bearing(&self.rows, &self.active, asked.as_slice())
+        first_bearing(&self.active, asked.as_slice())
     }
 
     /// The next second, behind this one, at which a running job's command ends or its resources do.
@@ -228,7 +236,6 @@ fn new_row(alloc: Global, id: u64, spec: JobSpec, event: &Event) -> Result<Row, 
         Ok(job) => Ok(Row {
             id,
             needs,
-            wake: wake_of(&job, &spec, None, &None),
             spec,
             job,
             start: None,

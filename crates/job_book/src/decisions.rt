@@ -17,7 +17,6 @@ use crate::dependencies::of_depend;
 use crate::priorities::priority;
 use crate::row::Row;
 use crate::states::{of_cleanup, of_run};
-use crate::waking::sleeps;
 use graph_match::{Fit, Graph};
 use job_states::State;
 use lists::Bytes;
@@ -167,7 +166,7 @@ fn own<F: Fn(&Ask) -> u32>(
     }
 }
 
-/// What is due for a job: a command first. Most jobs that run are passed by at a glance.
+/// What is due for a job: a command first.
 pub fn choice<'a, F: Fn(&Ask) -> u32>(
     alloc: Global,
     desk: &Desk<'a>,
@@ -183,9 +182,6 @@ pub fn choice<'a, F: Fn(&Ask) -> u32>(
         → SaysAs (FnReturnsAt F.Fn tap.now) s.answer → Chooses s row.now found) }
     ensures told { IfOk result AreTold }
 {
-    if sleeps(row, desk.second, desk.asked) {
-        return Ok(None);
-    }
     if let Some(asked) = carried(row, desk.asked) {
         return Ok(Some(Action::Carry(asked)));
     }

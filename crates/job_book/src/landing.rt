@@ -9,7 +9,6 @@ ghost use Rattle.job_book.specs.Landing.{CanHold, CanLand, IsNext, IsTold};
 ghost use Rattle.job_book.specs.Landing.{held_by, holding_with, job_with};
 
 use crate::row::Row;
-use crate::waking::wake_of;
 use event_log::Event;
 use graph_match::Graph;
 use job_states::{Job, ReplayFault, step};
@@ -133,7 +132,6 @@ fn change(row: &mut Row, next: Next)
         Held::Nothing => row.r = None,
         Held::Given(r) => row.r = Some(r),
     }
-    row.wake = wake_of(&row.job, &row.spec, row.start, &row.r);
 }
 
 /// The same of the job at a place.

@@ -22,13 +22,10 @@ pub struct Row {
     pub job: Job,
     pub start: Option<u64>,
     pub r: Option<Resources>,
-    /// Before this second nothing is due for it, unless a command or a child is its.
-    pub wake: u64,
 }
 
 impl Model for Row {
     ghost use Rattle.manager_rules.specs.Jobs.{StoredJob};
-    ghost use Rattle.job_book.specs.Waking.{Sleeps};
 
     ghost Value = { StoredJob };
 
@@ -40,15 +37,6 @@ impl Model for Row {
       start = row.start;
       r = row.r;
     } };
-
-    ghost invariant = { λ row. Sleeps (record {
-      id = row.id;
-      spec = row.spec;
-      needs = row.needs;
-      job = row.job;
-      start = row.start;
-      r = row.r;
-    }) row.wake };
 }
 
 /// Whether a job's id is lower.

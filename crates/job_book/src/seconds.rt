@@ -1,5 +1,5 @@
 //! When something happens by itself, and whose child is to be born.
-ghost use Rattle.std.specs.Prelude.{◌≡◌, ◌++◌, List, ℕ, [], false, filter, find, flat_map, nat_lt, option_map};
+ghost use Rattle.std.specs.Prelude.{◌≡◌, ◌++◌, List, ℕ, [], false, filter, flat_map, nat_lt};
 ghost use Rattle.std.specs.Option.{option_map_or, option_to_list};
 ghost use Rattle.shells.specs.Endings.{ending_of};
 ghost use Rattle.manager_rules.specs.Scene.{has_child as has_child_in, is_child_of};
@@ -7,9 +7,9 @@ ghost use Rattle.manager_rules.specs.Times.{command_seconds, expiry_seconds, sec
 ghost use Rattle.manager_rules.specs.Jobs.{ids_of};
 ghost use Rattle.std.specs.List.Sorted.{IsStrictlyIncreasing};
 ghost use Rattle.job_book.specs.Active.{AreActive};
-ghost use Rattle.job_book.specs.Seconds.{IsSoonest, begins_child as begins_child_at, is_bearing, sooner_of};
+ghost use Rattle.job_book.specs.Seconds.{IsSoonest, begins_child as begins_child_at, is_parent as is_parent_at, sooner_of};
 
-use crate::active::place_of_active;
+use crate::active::{Active, place_of_active};
 use crate::row::Row;
 use job_spec::JobSpec;
 use job_states::State;
@@ -27,7 +27,7 @@ fn is_child(asked: &Asked, id: u64) -> bool
 }
 
 /// Whether a job has had a child.
-fn has_child(asked: &[Asked], id: u64) -> bool
+pub fn has_child(asked: &[Asked], id: u64) -> bool
     ensures { result ≡ has_child_in asked.now id }
 {
     asked.iter().any(|asked| is_child(asked, id))
@@ -55,29 +55,11 @@ fn begins_child(row: &Row) -> bool
     }
 }
 
-/// Whether a child of this job is to be born: its command is a child's, and it has had none.
-fn bears(row: &Row, asked: &[Asked]) -> bool
-    ensures { result ≡ is_bearing asked.now row.now }
+/// Whether a job runs a child's command.
+pub fn is_parent(row: &Row) -> bool
+    ensures { result ≡ is_parent_at row.now }
 {
-    row.job.state == State::Run && row.job.started && begins_child(row) && !has_child(asked, row.id)
-}
-
-/// The first job whose child is to be born.
-pub fn first_bearing(rows: &[Row], active: &[u64], asked: &[Asked]) -> Option<u64>
-    requires rising { IsStrictlyIncreasing (ids_of rows.now) }
-    requires active { AreActive rows.now active.now }
-    ensures { result ≡ option_map (λ j. j.id) (find (is_bearing asked.now) rows.now) }
-{
-    let mut near = 0;
-    for index in 0..active.len() {
-        let at = place_of_active(rows, active, index, near);
-        let row = &rows[at];
-        if bears(row, asked) {
-            return Some(row.id);
-        }
-        near = at + 1;
-    }
-    None
+    row.job.state == State::Run && row.job.started && begins_child(row)
 }
 
 /// The second at which a started command ends by itself.
@@ -133,7 +115,7 @@ fn sooner_with(now: u64, next: Option<u64>, row: &Row) -> Option<u64>
 }
 
 /// The next second at which a job's command ends or its resources do.
-pub fn next_of_rows(rows: &[Row], active: &[u64], now: u64) -> Option<u64>
+pub fn next_of_rows(rows: &[Row], active: &[Active], now: u64) -> Option<u64>
     requires rising { IsStrictlyIncreasing (ids_of rows.now) }
     requires active { AreActive rows.now active.now }
     ensures { IsSoonest

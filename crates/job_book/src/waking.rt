@@ -1,5 +1,5 @@
 //! From when on something may be due for a job.
-ghost use Rattle.std.specs.Prelude.{◌≡◌, ◌<◌, ◌≤◌, ℕ, IfSome, IsTrue, Some, option_map};
+ghost use Rattle.std.specs.Prelude.{◌≡◌, ◌<◌, ◌≤◌, ℕ, IfSome, IsTrue, Some, false, option_map};
 ghost use Rattle.std.specs.List.{list_any};
 ghost use Rattle.manager_rules.specs.Deeds.{Deed};
 ghost use Rattle.manager_rules.specs.Due.{MayDo};
@@ -9,7 +9,7 @@ ghost use Rattle.shells.specs.Endings.{ending_of};
 ghost use Rattle.shells.specs.declared.ends.Ending.TheVariants as ending;
 ghost use Rattle.job_book.specs.Waking.{Sleeps, is_about as is_about_job};
 
-use crate::row::Row;
+use crate::active::Active;
 use job_spec::JobSpec;
 use job_states::{Job, State};
 use manager_rules::Asked;
@@ -73,10 +73,10 @@ fn is_asked(asked: &[Asked], id: u64) -> bool
     asked.iter().any(|one| is_about(one, id))
 }
 
-/// Whether nothing is due for a job, as a look at its second and at what is asked tells.
-pub fn sleeps(row: &Row, now: u64, asked: &[Asked]) -> bool
-    ensures { IsTrue result → (s : Scene) → s.now ≡ now → s.asked ≡ asked.now
-        → (deed : Deed) → MayDo s row.now deed → ⊥ }
+/// Whether it isn't yet time for a job of which nothing is asked.
+pub fn sleeps(entry: Active, now: u64, asked: &[Asked]) -> bool
+    ensures early { IsTrue result → now < entry.wake }
+    ensures quiet { IsTrue result → list_any (is_about_job entry.id) asked.now ≡ false }
 {
-    now < row.wake && !is_asked(asked, row.id)
+    now < entry.wake && !is_asked(asked, entry.id)
 }

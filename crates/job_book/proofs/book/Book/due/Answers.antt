@@ -1,6 +1,6 @@
-use Rattle.std.proofs.Common.{◌≡◌, ◌<◌, ◌≤◌, get_or, length, refl, sym, ap, ◌∙◌, subst, arith}
+use Rattle.std.proofs.Common.{◌≡◌, ◌<◌, ◌≤◌, false, get_or, length, refl, sym, ap, ◌∙◌, subst, arith}
 use Rattle.std.specs.Prelude.{Contains}
-use Rattle.std.specs.List.{AllByRecursion as Each}
+use Rattle.std.specs.List.{AllByRecursion as Each, list_any}
 use Rattle.std.specs.List.Sorted.{IsStrictlyIncreasing}
 use Rattle.std.proofs.lemmas.List.{take_all}
 use Rattle.hostlist.specs.Names.{AreHostNames}
@@ -14,8 +14,9 @@ use Rattle.job_book.specs.Choices.{Chooses}
 use Rattle.job_book.specs.Waiting.{IsFirstOf}
 use Rattle.job_book.specs.Kept.{allotted}
 use Rattle.job_book.specs.Value.{scene_of}
-use Rattle.job_book.proofs.Actives.{active_length, none_active_due}
-use Rattle.job_book.proofs.Lists.{each_next}
+use Rattle.job_book.specs.Waking.{is_about}
+use Rattle.job_book.proofs.Actives.{active_length, none_active_due, sleeps_at}
+use Rattle.job_book.proofs.Lists.{each_next, each_past}
 use Rattle.job_book.proofs.Queues.{first_of}
 use Rattle.job_book.proofs.book.Book.due.Goals as goal
 
@@ -67,3 +68,17 @@ returns g c = λ answer says due is.
     let past : length c.self.inside.active.items ≤ c.loop-index.index = omega (arith, c.loop-index-test.false, c.len-index-end.ensures) in
     let all : length (active_of s.jobs) ≤ c.loop-index.index = subst (λ n. n ≤ c.loop-index.index) (active_length c.self.inside.rows.items c.self.inside.active.items c.self.invariant.2 ∙ ap (λ v. length (active_of v.jobs)) c.self.view_is) past in
     none_active_due s (subst (Each (λ j. (deed : Deed) → MayDo s j deed → ⊥)) (take_all c.loop-index.index (active_of s.jobs) all) (c.loop-index.invariant answer says)) due is
+
+pub loop-index-preserved-then-sleeps : goal.loop-index-preserved-then-sleeps
+loop-index-preserved-then-sleeps g c = λ answer says.
+    let s = scene_of c.args.self.now c.args.now c.args.asked.now answer in
+    let rows = c.self.inside.rows.items in
+    let list = c.self.inside.active.items in
+    let at = c.loop-index.index in
+    let entry = c.index.result.now in
+    let within : at < length list = omega (arith, c.loop-index-test.true, c.len-index-end.ensures) in
+    let short : at < length (active_of c.args.self.now.jobs) = subst (λ n. at < n) (active_length rows list c.self.invariant.2 ∙ ap (λ v. length (active_of v.jobs)) c.self.view_is) within in
+    each_past (λ j. (deed : Deed) → MayDo s j deed → ⊥) (active_of c.args.self.now.jobs) at (c.loop-index.invariant answer says) short
+    (λ d. subst (λ js. (deed : Deed) → MayDo s (get_or (active_of js) at d) deed → ⊥) (ap (λ v. v.jobs) c.self.view_is)
+    (sleeps_at s rows list at entry d c.self.invariant.2 c.self.invariant.3 within c.index.ensures (c.if-sleeps.ensures.early refl)
+    (subst (λ asked. list_any (is_about entry.id) asked ≡ false) c.as_slice.ensures (c.if-sleeps.ensures.quiet refl))))

@@ -1,15 +1,15 @@
 use Rattle.std.proofs.Common.{◌≡◌, List, ◌<◌, ◌≤◌, ◌++◌, ◌∷◌, cond, take, drop, refl, sym, ap, ◌∙◌, subst}
-use Rattle.std.specs.Prelude.{Contains, option_map}
+use Rattle.std.specs.Prelude.{◌⊎◌, All, Contains, option_map}
 use Rattle.std.specs.List.{insert}
 use Rattle.std.specs.List.{AllByRecursion as Each}
 use Rattle.std.specs.List.Sorted.{IsStrictlyIncreasing}
 use Rattle.manager_rules.specs.Jobs.{ids_of}
-use Rattle.job_book.specs.Active.{AreActive, active_of}
+use Rattle.job_book.specs.Active.{AreActive, AreEntriesOf, IsEntryOf, active_of, ids_in}
 use Rattle.job_book.specs.Contract.{new_job, with_new}
 use Rattle.job_book.specs.Kept.{IsBook}
 use Rattle.job_book.specs.Waiting.{IsQueueOf, waits_with}
 use Rattle.manager_rules.specs.Jobs.{StoredJob}
-use Rattle.job_book.proofs.Actives.{active_rise, active_with}
+use Rattle.job_book.proofs.Actives.{active_rise, active_with, entries_with}
 use Rattle.job_book.proofs.Lists.{is_ok_then}
 use Rattle.job_book.proofs.Places.{not_among}
 use Rattle.job_book.proofs.Queues.{none_there, queue_with}
@@ -26,7 +26,7 @@ made c =
     ∙ ap (λ (rows : List StoredJob). insert rows at row) c.in_ok-reserve.ensures.items
 
 pub enter-requires-clause-rising : goal.enter-requires-clause-rising
-enter-requires-clause-rising c = subst IsStrictlyIncreasing (sym c.in_ok-reserve-2.ensures.items) (active_rise c.self.inside.rows.items c.self.inside.active.items c.self.invariant.0.kept.rising c.self.invariant.2)
+enter-requires-clause-rising c = subst (λ list. IsStrictlyIncreasing (ids_in list)) (sym c.in_ok-reserve-2.ensures.items) (active_rise c.self.inside.rows.items c.self.inside.active.items c.self.invariant.0.kept.rising c.self.invariant.2)
 
 pub put-requires : goal.put-requires
 put-requires c =
@@ -42,14 +42,19 @@ invariant_of-self-2 c =
     let are = added j c.place_of-at.result rows c.insert.new.self.items
     (subst (λ ks. Each (λ k. k.id < c.args.id) (take c.place_of-at.result ks)) c.deref.ensures.value c.place_of-at.ensures.before)
     (subst (λ ks. Each (λ k. c.args.id ≤ k.id) (drop c.place_of-at.result ks)) c.deref.ensures.value c.place_of-at.ensures.after)
-    none (made (goal.at.invariant_of-self-2 c).Else-is_err ∙ ap (λ k. take c.place_of-at.result rows ++ k ∷ drop c.place_of-at.result rows) row) in (
+    none (made (goal.at.invariant_of-self-2 c).Else-is_err ∙ ap (λ k. take c.place_of-at.result rows ++ k ∷ drop c.place_of-at.result rows) row) in
+    let its : c.args.id ≡ c.entry_of-entry.result.id = sym (c.entry_of-entry.ensures.named ∙ ap (λ k. k.id) row) in (
       subst (λ js. IsBook (record { grant = c.self.inside.grant; jobs = js }) c.self.inside.graph) (sym are)
           (book_with (record { grant = c.self.inside.grant; jobs = rows }) c.self.inside.graph c.self.invariant.0 c.args.id c.args.spec c.requires.known.0 c.requires.begins.0 c.requires.begins.1 c.args.event.now c.ranges.id.fits c.requires.spec none),
       subst (λ js. IsQueueOf js c.put.new.self.0) (sym are)
           (queue_with j rows c.self.inside.queue.0 c.put.new.self.0 c.self.invariant.1 (not_among c.args.id rows none) refl c.in_ok-put.ensures.added),
       subst (λ js. AreActive js c.enter.new.active.items) (sym are)
           (active_with j rows c.self.inside.active.items c.enter.new.active.items c.self.invariant.0.kept.rising c.self.invariant.2 refl
-          (λ e. c.enter.ensures (active_of rows) j (c.in_ok-reserve-2.ensures.items ∙ e) refl)),
+          (λ e. c.enter.ensures.ids (active_of rows) j (ap ids_in c.in_ok-reserve-2.ensures.items ∙ e) its)),
+      subst (λ js. AreEntriesOf js c.enter.new.active.items) (sym are)
+          (entries_with j rows c.self.inside.active.items c.enter.new.active.items c.entry_of-entry.result c.self.invariant.2 c.self.invariant.3 none (sym its)
+          (subst (λ k. IsEntryOf k c.entry_of-entry.result) row c.entry_of-entry.ensures.entry)
+          (subst (λ list. All (λ a. (a ≡ c.entry_of-entry.result) ⊎ Contains list a) c.enter.new.active.items) c.in_ok-reserve-2.ensures.items c.enter.ensures.from)),
     )
 
 pub returns-clause-added : goal.returns-clause-added
