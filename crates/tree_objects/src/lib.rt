@@ -4,6 +4,7 @@
 
 pub mod faults;
 pub mod object;
+mod pieces;
 pub mod printing;
 pub mod reading;
 mod scanning;

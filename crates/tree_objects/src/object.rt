@@ -1,5 +1,7 @@
 //! Objects and directories of objects.
-ghost use Rattle.std.specs.Prelude.{◌≡◌, ◌++◌, ◌∷◌, [], length, not, option_map, IsTrue, IfOk, OnOk, OnErr};
+ghost use Rattle.std.specs.Prelude.{◌≡◌, ◌<◌, ◌≤◌, ◌++◌, ◌∷◌, [], length, not, option_map};
+ghost use Rattle.std.specs.Prelude.{vec_len, vec_capacity, IsTrue, IfOk, OnOk, OnErr};
+ghost use Rattle.std.specs.List.{insert};
 ghost use Rattle.std.specs.Ordering.{eq_by_cmp};
 ghost use Rattle.std.specs.FinMap.Entries as finite;
 ghost use Rattle.std.specs.Str.{IsUtf8};
@@ -7,7 +9,9 @@ ghost use Rattle.tree_rules.specs.Objects.{no_entries, listed};
 ghost use Rattle.tree_objects.specs.Directories.{names_of, with_last, IsDirectory};
 ghost use Rattle.tree_rules.specs.Names.{name_cmp};
 ghost use Rattle.tree_objects.specs.Level.{tree_of, paired};
+ghost use Rattle.tree_rules.specs.Objects.{dir, tree_text};
 
+use crate::pieces::directory_text;
 use fl_digest::{BlobRef, RefList};
 use kvs_txn::Path;
 use lists::{Bytes, Copied};
@@ -26,12 +30,14 @@ pub enum Object {
     Symlink(Path),
 }
 
-/// Objects by their names, which contracts see as entries in the byte order of the names.
+/// Objects by their names, which contracts see as entries in the byte order of the names. The text
+/// of an entry is kept once it is printed, and is empty before.
 #[cycle(object)]
 #[derive(Drop)]
 pub struct ObjectMap {
     names: Vec<Bytes>,
     objects: Vec<Object>,
+    texts: Vec<Bytes>,
 }
 
 impl Model for ObjectMap {
@@ -45,11 +51,14 @@ impl Model for ObjectMap {
 
     ghost use Rattle.tree_objects.specs.Directories.{entries_size, IsDirectory};
     ghost use Rattle.tree_objects.specs.Level.{paired};
+    ghost use Rattle.tree_objects.specs.Pieces.{AreTexts};
 
     ghost view = { λ m. paired m.names.items m.objects.items };
 
     ghost invariant = { λ m. (length m.names.items ≡ length m.objects.items)
-        × IsDirectory (paired m.names.items m.objects.items) };
+        × IsDirectory (paired m.names.items m.objects.items)
+        × (length m.texts.items ≡ length m.names.items)
+        × AreTexts m.names.items m.objects.items m.texts.items };
 
     ghost size = { entries_size };
 
@@ -57,6 +66,17 @@ impl Model for ObjectMap {
     ghost use Rattle.tree_objects.specs.Falls.{falls};
 
     ghost size_decreases = { λ m h. Prim.omega (arith, falls m.names.items m.objects.items h.0) };
+}
+
+/// Puts a text at a place of texts that have room for it.
+fn insert_text(texts: &mut Vec<Bytes>, place: usize, text: Bytes)
+    requires within { place ≤ vec_len texts.old }
+    requires room { vec_len texts.old < vec_capacity texts.old }
+    ensures { texts.new.items ≡ insert texts.old.items place text }
+{
+    if texts.insert(place, text).is_err() {
+        unreachable!()
+    }
 }
 
 impl ObjectMap {
@@ -67,6 +87,7 @@ impl ObjectMap {
         ObjectMap {
             names: Vec::new(alloc),
             objects: Vec::new(alloc),
+            texts: Vec::new(alloc),
         }
     }
 
@@ -88,18 +109,22 @@ impl ObjectMap {
             ≡ finite.put name_cmp name.now (tree_of object) (listed self.old)) }
         ensures kept { OnErr result (self.new ≡ self.old) }
     {
+        let text = Bytes::new(*self.names.allocator());
         match self.names.binary_search(name) {
             Ok(place) => {
+                self.texts[place] = text;
                 self.objects[place] = object;
                 Ok(())
             }
             Err(place) => {
                 let name = name.copy()?;
                 self.objects.reserve(1)?;
+                self.texts.reserve(1)?;
                 self.names.insert(place, name)?;
                 if self.objects.insert(place, object).is_err() {
                     unreachable!()
                 }
+                insert_text(&mut self.texts, place, text);
                 Ok(())
             }
         }
@@ -116,6 +141,7 @@ impl ObjectMap {
         match self.names.binary_search(name) {
             Ok(place) => {
                 let _name = self.names.remove(place);
+                let _text = self.texts.remove(place);
                 Some(self.objects.remove(place))
             }
             Err(_) => None,
@@ -130,9 +156,12 @@ impl ObjectMap {
         ensures added { OnOk result (self.new ≡ with_last self.old name (tree_of object)) }
         ensures kept { OnErr result (self.new ≡ self.old) }
     {
+        let text = Bytes::new(*self.names.allocator());
         self.objects.reserve(1)?;
+        self.texts.reserve(1)?;
         self.names.push(name)?;
         self.objects.push_reserved(object);
+        self.texts.push_reserved(text);
         Ok(())
     }
 
@@ -149,6 +178,20 @@ impl ObjectMap {
         ensures length { length result.now ≡ length (names_of self.now) }
     {
         self.objects.as_slice()
+    }
+
+    /// The stored text of the directory. The texts of its entries are kept, so that those of the
+    /// entries that stay are copied the next time.
+    pub fn print(&mut self, alloc: Global) -> Result<Vec<u8>, AllocError>
+        ensures canonical { IfOk result (λ text. text.items ≡ tree_text (dir self.old)) }
+        ensures kept { self.new ≡ self.old }
+    {
+        directory_text(
+            alloc,
+            self.names.as_slice(),
+            self.objects.as_slice(),
+            self.texts.as_mut_slice(),
+        )
     }
 
     /// The names rise, and are texts.
@@ -178,10 +221,10 @@ fn copy_object(object: &Object) -> Result<Object, AllocError>
 fn copy_map(map: &ObjectMap) -> Result<ObjectMap, AllocError>
     ensures { IfOk result (λ twin. twin ≡ map.now) }
 {
-    map.is_directory();
     let alloc = *map.names.allocator();
-    let names = copy_names(alloc, map.names())?;
-    let objects = map.objects();
+    let names = copy_names(alloc, map.names.as_slice())?;
+    let texts = copy_names(alloc, map.texts.as_slice())?;
+    let objects = map.objects.as_slice();
     let mut twins = Vec::new(alloc);
     for index in 0..objects.len() {
         twins.push(copy_object(&objects[index])?)?;
@@ -189,10 +232,11 @@ fn copy_map(map: &ObjectMap) -> Result<ObjectMap, AllocError>
     Ok(ObjectMap {
         names,
         objects: twins,
+        texts,
     })
 }
 
-/// Equal names.
+/// Equal names or texts.
 fn copy_names(alloc: Global, names: &[Bytes]) -> Result<Vec<Bytes>, AllocError>
     ensures { IfOk result (λ twins. twins.items ≡ names.now) }
 {

@@ -39,7 +39,7 @@ fn end(out: &mut Writer, kind: &str) -> Result<(), AllocError>
 }
 
 /// Adds bytes that are a text as a string.
-fn add_text(out: &mut Writer, text: &[u8]) -> Result<(), AllocError>
+pub(crate) fn add_text(out: &mut Writer, text: &[u8]) -> Result<(), AllocError>
     requires { IsUtf8 text.now }
     ensures { OnOk result (Adds out.old out.new (string text.now ∷ [])) }
 {

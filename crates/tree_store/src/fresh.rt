@@ -10,7 +10,7 @@ ghost use Rattle.tree_objects.specs.Directories.{names_of};
 ghost use Rattle.tree_objects.specs.Level.{tree_of};
 ghost use Rattle.tree_objects.specs.Reading.{Gives};
 ghost use Rattle.tree_objects.specs.declared.object.Object.TheVariants as object;
-ghost use Rattle.tree_rules.specs.Objects.{dir, valref, tree_text};
+ghost use Rattle.tree_rules.specs.Objects.{valref};
 ghost use Rattle.tree_rules.specs.Texts.{blobs};
 ghost use Rattle.tree_store.specs.Fresh.{AreNew, AddsSome, HasAll, ClashesIn, IsClashOf, IsPart};
 ghost use Rattle.tree_store.specs.Fresh.{HasLongAt};
@@ -21,29 +21,17 @@ ghost use Rattle.tree_store.specs.Shown.{entries_text, strings_of};
 
 use crate::faults::TreeFault;
 use crate::kept::Kept;
-use crate::opened::{Opened, directory_in};
+use crate::opened::Opened;
 use blob_store::{BlobStore, PutFault};
 use fl_digest::{BlobRef, Hash, RefList};
 use indexmap::IndexMap;
 use lists::{Bytes, Copied};
 use std::alloc::{AllocError, Global};
 use std::marker::Model;
-use std::mem::replace;
-use tree_objects::{Object, ObjectMap, print};
+use tree_objects::{Object, ObjectMap};
 
 /// The most bytes of a value that stands in the text of its directory.
 const MOST_INLINE: usize = 64;
-
-/// The stored text of a directory, which stays as it is.
-fn text_of(alloc: Global, directory: &mut ObjectMap) -> Result<Vec<u8>, AllocError>
-    ensures canonical { IfOk result (λ text. text.items ≡ tree_text (dir directory.old)) }
-    ensures kept { directory.new ≡ directory.old }
-{
-    let object = Object::Dir(replace(directory, ObjectMap::new(alloc)));
-    let text = print(alloc, &object);
-    *directory = directory_in(object);
-    text
-}
 
 /// Blobs under their references, which contracts see as a list of pairs, the first added first.
 #[derive(Drop)]
@@ -223,7 +211,7 @@ impl Fresh {
             ClashesIn hash (strings_of hash directory.old) (store.now ++ self.new) fault) }
     {
         self.shorten(alloc, store, hash, directory)?;
-        let text = text_of(alloc, directory)?;
+        let text = directory.print(alloc)?;
         self.add(store, hash, Bytes::from_vec(text))
     }
 

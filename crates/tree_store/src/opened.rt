@@ -108,7 +108,7 @@ fn directory_of(
 }
 
 /// The directory that an object is.
-pub fn directory_in(object: Object) -> ObjectMap
+fn directory_in(object: Object) -> ObjectMap
     requires { (es : Entries) × (tree_of object ≡ dir es) }
     ensures { tree_of object ≡ dir result }
 {

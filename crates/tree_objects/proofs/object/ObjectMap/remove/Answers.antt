@@ -8,18 +8,22 @@ use Rattle.tree_objects.specs.Level.{paired}
 use Rattle.tree_objects.specs.declared.object.Object.{Object}
 use Rattle.tree_objects.proofs.Search.{get_found, get_missed}
 use Rattle.tree_objects.proofs.Removing.{others, removed_found, kept_missed, others_directory, same_left}
+use Rattle.tree_objects.proofs.Texts.{same_texts, texts_remove}
 use Rattle.tree_objects.proofs.object.ObjectMap.remove.Goals as goal
 
 pub invariant_of-self : goal.invariant_of-self
 invariant_of-self c =
     let names = c.self.inside.names.items in
     let objects = c.self.inside.objects.items in
+    let texts = c.self.inside.texts.items in
     let place = c.in-Ok.place in
     let within : place < length names = omega (arith, c.in-Ok.ensures.bound, ap length c.deref.ensures.value) in
     let left : listed (paired (remove names place) (remove objects place)) ≡ others c.args.name.now (listed (paired names objects)) = removed_found names objects c.self.invariant.0 c.self.invariant.1.sorted c.deref.result.now c.deref.ensures.value place c.args.name.now c.in-Ok.ensures.bound c.in-Ok.ensures.ok in
     let is : listed (paired c.remove-name.new.self.items c.remove.new.self.items) ≡ others c.args.name.now (listed (paired names objects)) = ap₂ (λ (ns : List Name) (os : List Object). listed (paired ns os)) c.remove-name.ensures.items c.remove.ensures.items ∙ left in (
       ap length c.remove-name.ensures.items ∙ same_left names objects place c.self.invariant.0 within ∙ sym (ap length c.remove.ensures.items),
       others_directory (paired names objects) (paired c.remove-name.new.self.items c.remove.new.self.items) c.args.name.now is c.self.invariant.1,
+      ap length c.remove-text.ensures.items ∙ same_left texts names place c.self.invariant.2 (omega arith) ∙ sym (ap length c.remove-name.ensures.items),
+      same_texts c.remove-name.ensures.items c.remove.ensures.items c.remove-text.ensures.items (texts_remove names objects texts place within c.self.invariant.3),
     )
 
 pub returns-in-Ok-clause-taken : goal.returns-in-Ok-clause-taken
