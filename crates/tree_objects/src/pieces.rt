@@ -27,7 +27,7 @@ fn room_for(texts: &[Bytes]) -> usize {
     room
 }
 
-/// The text of an entry.
+/// The text of an entry, in no more memory than it needs, since it stays.
 fn text_of(alloc: Global, name: &Bytes, object: &Object) -> Result<Bytes, AllocError>
     requires { IsUtf8 name.now }
     ensures { IfOk result (λ text. text ≡ entry_text name.now (tree_of object.now)) }
@@ -37,7 +37,7 @@ fn text_of(alloc: Global, name: &Bytes, object: &Object) -> Result<Bytes, AllocE
     let mut text = key.into_inner();
     text.push(b':')?;
     text.extend_from_slice(print(alloc, object)?.as_slice())?;
-    Ok(Bytes::from_vec(text))
+    Bytes::of(alloc, text.as_slice())
 }
 
 /// Prints the text of an entry that isn't there.

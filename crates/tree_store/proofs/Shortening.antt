@@ -20,6 +20,7 @@ use Rattle.std.proofs.lemmas.Bool.Decides.{nat_tests}
 use Rattle.tree_objects.specs.declared.object.Object.{Object}
 use Rattle.tree_objects.specs.declared.object.Object.TheVariants.{Val, Valref, Dir, Dirref, Symlink}
 use Rattle.tree_objects.proofs.Search.{self_name}
+use Rattle.tree_store.specs.Long.{is_long_value}
 use Rattle.tree_store.specs.Shown.{shortened, shortened_at, all_shortened, long_values, long_values_at}
 
 -- ---- the first so many
@@ -116,6 +117,20 @@ short_same h bytes short = ap (λ b. cond b (valref (reference_of h bytes ∷ []
 
 pub long_same : (h : Hash) (bytes : List ℕ) → is_long bytes ≡ true → shortened h (val bytes) ≡ valref (reference_of h bytes ∷ [])
 long_same h bytes long = ap (λ b. cond b (valref (reference_of h bytes ∷ [])) (val bytes)) long
+
+pub object_same : (h : Hash) (tree : Tree) → is_long_value tree ≡ false → shortened h tree ≡ tree
+object_same h (val bytes) short = short_same h bytes short
+object_same h (valref references) short = refl
+object_same h (dir inner) short = refl
+object_same h (dirref reference) short = refl
+object_same h (symlink target) short = refl
+
+pub object_none : (tree : Tree) → is_long_value tree ≡ false → long_values (entry [] tree no_entries) ≡ []
+object_none (val bytes) short = ap (λ b. cond b (bytes ∷ []) [] ++ []) short
+object_none (valref references) short = refl
+object_none (dir inner) short = refl
+object_none (dirref reference) short = refl
+object_none (symlink target) short = refl
 
 below_name : (n : Name) (es : Entries) (i : ℕ) (name : Name) → IsTrue (finite.below_all name_cmp n (listed es)) → i < length (names_of es) → name ≡ get_or (names_of es) i name → name_cmp n name ≡ Less
 below_name n no_entries i name below w is = absurd (omega arith)

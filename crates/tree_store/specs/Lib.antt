@@ -3,3 +3,4 @@ pub mod Fresh
 pub mod Kept
 pub mod Landing
 pub mod Shown
+pub mod Long

@@ -18,6 +18,7 @@ ghost use Rattle.tree_store.specs.Landing.{table, IsClashIn};
 ghost use Rattle.tree_store.specs.Shown.{Shows, all_shortened, long_values};
 ghost use Rattle.tree_store.specs.Shown.{shortened_at, long_values_at};
 ghost use Rattle.tree_store.specs.Shown.{entries_text, strings_of};
+ghost use Rattle.tree_store.specs.Long.{is_long_value};
 
 use crate::faults::TreeFault;
 use crate::kept::Kept;
@@ -32,6 +33,19 @@ use tree_objects::{Object, ObjectMap};
 
 /// The most bytes of a value that stands in the text of its directory.
 const MOST_INLINE: usize = 64;
+
+/// Whether an object is a value that is too long for the text of its directory.
+fn is_long(object: &Object) -> bool
+    ensures { result ≡ is_long_value (tree_of object.now) }
+{
+    match object {
+        Object::Val(bytes) => MOST_INLINE < bytes.as_slice().len(),
+        Object::Valref(_) => false,
+        Object::Dir(_) => false,
+        Object::Dirref(_) => false,
+        Object::Symlink(_) => false,
+    }
+}
 
 /// Blobs under their references, which contracts see as a list of pairs, the first added first.
 #[derive(Drop)]
@@ -185,6 +199,9 @@ impl Fresh {
             ClashesIn hash (long_values directory.old) (store.now ++ self.new) fault) }
     {
         for index in 0..directory.names().len() {
+            if !is_long(&directory.objects()[index]) {
+                continue;
+            }
             self.shorten_at(alloc, store, hash, directory, index)?;
         }
         Ok(())

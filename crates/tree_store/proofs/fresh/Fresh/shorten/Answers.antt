@@ -1,13 +1,16 @@
-use Rattle.std.proofs.Common.{rules, ◌≡◌, ◌++◌, Some, length, ℕ, List, refl, sym, ap, ◌∙◌, subst, arith, add-one}
+use Rattle.std.proofs.Common.{rules, ◌≡◌, ◌<◌, ◌++◌, [], false, Some, length, ℕ, List, refl, sym, ap, ◌∙◌, subst, arith, add-one}
 use Rattle.blob_store.specs.Blobs.{blob_at}
 use Rattle.fl_digest.specs.Reference.{reference_of}
+use Rattle.std.proofs.lemmas.Grind.{common_steps}
 use Rattle.tree_objects.specs.Directories.{names_of}
+use Rattle.tree_objects.specs.Level.{tree_of}
 use Rattle.tree_rules.specs.Objects.{Entries}
 use Rattle.tree_store.specs.Fresh.{HasAll, ClashesIn, HasLongAt, Blobs}
+use Rattle.tree_store.specs.Long.{is_long_value}
 use Rattle.tree_store.specs.Shown.{long_values, shortened_at, long_values_at}
 use Rattle.std.specs.Prelude.{Contains}
 use borrow.Author.Count.{below_more}
-use Rattle.tree_store.proofs.Shortening.{first_shortened, first_more, first_all, names_first, values_first, of_all, all_held}
+use Rattle.tree_store.proofs.Shortening.{first_shortened, first_more, first_all, names_first, values_first, of_all, all_held, tree_at, place_is, stays_at, values_at, object_same, object_none}
 use Rattle.tree_store.proofs.Added.{adds_none, adds_more, adds_of, clashes_of, held_still}
 use Rattle.tree_store.proofs.fresh.Fresh.shorten.Goals as goal
 
@@ -24,6 +27,38 @@ shorten_at-requires c = record {
   apart = c.loop-index.invariant.apart;
   within = omega (arith, c.loop-index-test.true, ap length c.names-index-end.ensures, ap length (ap names_of c.loop-index.invariant.shortened ∙ names_first c.args.hash c.loop-index.index c.args.directory.now));
 }
+
+pub offset_bounds-objects-index : goal.offset_bounds-objects-index
+offset_bounds-objects-index c =
+    let same = ap length (ap names_of c.loop-index.invariant.shortened ∙ names_first c.args.hash c.loop-index.index c.args.directory.now) in
+    let within : c.loop-index.index < length c.objects.result.now = omega (arith, c.loop-index-test.true, ap length c.names-index-end.ensures, same, c.objects.ensures.length) in
+    first_of (omega (arith, within), search (rules, within))
+
+pub bounds-objects-index : goal.bounds-objects-index
+bounds-objects-index c =
+    let same = ap length (ap names_of c.loop-index.invariant.shortened ∙ names_first c.args.hash c.loop-index.index c.args.directory.now) in
+    omega (arith, c.loop-index-test.true, ap length c.names-index-end.ensures, same, c.objects.ensures.length)
+
+pub loop-index-preserved-then-not-is_long : goal.loop-index-preserved-then-not-is_long
+loop-index-preserved-then-not-is_long c =
+    let es : Entries = c.args.directory.now in
+    let now : Entries = c.loop-index.directory in
+    let i = c.loop-index.index in
+    let h = c.args.hash in
+    let inv = c.loop-index.invariant in
+    let o = c.index-objects-index.result in
+    let same : long_values_at i now ≡ long_values_at i es = ap (long_values_at i) inv.shortened ∙ values_first h i es in
+    let count = ap length (ap names_of inv.shortened ∙ names_first h i es) in
+    let within : i < length (names_of now) = omega (arith, c.loop-index-test.true, ap length c.names-index-end.ensures, count) in
+    let here : tree_at i now ≡ Some (tree_of o) = subst (λ (xs : Entries). tree_at i xs ≡ Some (tree_of o)) c.objects.ensures.objects (place_is (names_of now) c.objects.result.now i o c.objects.ensures.length within c.index-objects-index.is) in
+    let short : is_long_value (tree_of o) ≡ false = grind (arith, common_steps, c.is_long.ensures, c.if-not-is_long.true) in
+    let none : long_values_at i es ≡ [] = sym same ∙ values_at i now (tree_of o) here ∙ object_none (tree_of o) short in
+    record {
+      shortened = sym (stays_at h i now (tree_of o) here (object_same h (tree_of o) short)) ∙ ap (shortened_at h i) inv.shortened ∙ first_more h i es ∙ ap (λ n. first_shortened h n es) (sym (add-one i));
+      apart = inv.apart;
+      held = below_more (λ k. HasLongAt h es k (c.args.store.now ++ c.loop-index.self)) i inv.held (subst (λ (xs : List (List ℕ)). HasAll h xs (c.args.store.now ++ c.loop-index.self)) (sym none) tt);
+      only = inv.only;
+    }
 
 pub loop-index-preserved : goal.loop-index-preserved
 loop-index-preserved c =
