@@ -136,6 +136,7 @@ pub fn is_served(rows: &Vec<Row>, broker: u32, flushed: bool) -> bool
     rows.iter().any(|row| may_serve(row, broker, flushed))
 }
 
+/// The place of the row of this command that holds its answer.
 pub fn first_held(rows: &Vec<Row>, by: By) -> Option<usize>
     ensures { result ≡ position (is_held by) rows.now.items }
 {

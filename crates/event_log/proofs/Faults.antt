@@ -2,19 +2,20 @@
 use Rattle.std.proofs.Common.{◌≡◌, ◌<◌, ℕ, List, true, false, refl, sym, ap, subst}
 use Rattle.std.specs.Prelude.{Result, Ok, Err, IsErrAnd, is_some}
 use Rattle.std.specs.Str.{IsUtf8}
+use Rattle.outcomes.specs.Outcomes.{Fails, Gives}
 use Rattle.serde_json.specs.Data.{Data, depth}
 use Rattle.serde_json.specs.Read.{max_depth}
 use Rattle.serde_json.specs.Data as json
 use Rattle.serde_json.specs.Find.{as_object}
 use Rattle.serde_json.specs.Written.{compact_text}
-use Rattle.fl_json.specs.Reading.{Gives, Fails}
+use Rattle.fl_json.specs.Reading.{lasting as lasting_json}
 use Rattle.fl_json.specs.declared.faults.JsonFault.{JsonFault}
 use Rattle.fl_json.specs.declared.faults.JsonFault.TheVariants.{NoMemory, BadNumber, NotJson, Missing, WrongKind}
 use Rattle.fl_json.specs.Valid.{IsValid}
 use Rattle.event_log.specs.Events.{◌>>=◌, object_text, IsObjectText}
 
 -- a fault that is found
-pub fails_from : {T : Type 0} (e : JsonFault) (found : Result T JsonFault) → found ≡ Err e → Fails e found
+pub fails_from : {T : Type 0} (e : JsonFault) (found : Result T JsonFault) → found ≡ Err e → Fails lasting_json e found
 fails_from NoMemory found h = tt
 fails_from (BadNumber place) found h = h
 fails_from NotJson found h = h
@@ -22,12 +23,12 @@ fails_from Missing found h = h
 fails_from WrongKind found h = h
 
 -- what hands on a fault
-pub err_gives : {X Y : Type 0} (seen : X → Y) (r : Result X JsonFault) (e : JsonFault) (found : Result Y JsonFault) → IsErrAnd r (λ x. x ≡ e) → Fails e found → Gives seen r found
+pub err_gives : {X Y : Type 0} (seen : X → Y) (r : Result X JsonFault) (e : JsonFault) (found : Result Y JsonFault) → IsErrAnd r (λ x. x ≡ e) → Fails lasting_json e found → Gives lasting_json seen r found
 err_gives seen (Ok x) e found is h = absurd is
-err_gives seen (Err x) e found is h = subst (λ y. Fails y found) (sym is) h
+err_gives seen (Err x) e found is h = subst (λ y. Fails lasting_json y found) (sym is) h
 
 -- a fault of one step is the fault of all
-pub fails_then : {A B : Type 0} (e : JsonFault) (found : Result A JsonFault) (next : A → Result B JsonFault) → Fails e found → Fails e (found >>= next)
+pub fails_then : {A B : Type 0} (e : JsonFault) (found : Result A JsonFault) (next : A → Result B JsonFault) → Fails lasting_json e found → Fails lasting_json e (found >>= next)
 fails_then NoMemory found next h = tt
 fails_then (BadNumber place) found next h = ap (λ r. r >>= next) h
 fails_then NotJson found next h = ap (λ r. r >>= next) h

@@ -1,10 +1,11 @@
 -- The lines of a log, one after another, and the keys of an event.
-use Rattle.std.proofs.Common.{◌≡◌, ℕ, zero, suc, ◌+◌, ◌-◌, ◌<◌, ◌≤◌, Bool, true, false, ◌&&◌, ◌==◌, cond, List, [], ◌∷◌, ◌++◌, length, take, drop, map, Option, Some, None, String, Global, string_bytes, refl, sym, ap, ap₂, ◌∙◌, subst, arith, append_assoc, append-nil, add-one, eq-eqb, ne_eqb, inl, inr, ◌⊎◌}
+use Rattle.std.proofs.Common.{◌≡◌, ℕ, zero, suc, ◌+◌, ◌-◌, ◌<◌, ◌≤◌, Bool, true, false, ◌&&◌, ◌==◌, cond, List, [], ◌∷◌, ◌++◌, length, take, drop, map, Some, String, Global, string_bytes, refl, sym, ap, ap₂, ◌∙◌, subst, arith, append_assoc, add-one, eq-eqb, ne_eqb, inl, inr, ◌⊎◌}
 use Rattle.std.specs.Prelude.{Result, Ok, Err, IsErrAnd, not}
 use Rattle.std.specs.List.{list_all, prefix_len, slice_split, onto_first}
 use Rattle.std.proofs.lemmas.Bool.{cases_lt}
 use Rattle.std.proofs.lemmas.List.{take_all}
 use Rattle.std.proofs.lemmas.List.Sums.{prefix_len-le-length}
+use Rattle.outcomes.specs.Outcomes.{Fails, Gives}
 use Rattle.serde_json.specs.Data.{Data, Members}
 use Rattle.serde_json.specs.Data as json
 use Rattle.serde_json.specs.Find.{as_object}
@@ -14,7 +15,7 @@ use Rattle.event_log.specs.declared.event.Event.{Event}
 use Rattle.event_log.specs.declared.event.LogFault.{LogFault}
 use Rattle.event_log.specs.declared.event.LogFault.TheVariants.{NoMemory, NoNewline, BadLine}
 use Rattle.event_log.specs.Events.{◌>>=◌, told, is_event_key, keys_of, has_event_keys}
-use Rattle.event_log.specs.Logs.{at_line, events_from, first_told, log_reading, Fails, Gives}
+use Rattle.event_log.specs.Logs.{at_line, events_from, first_told, log_reading, lasting}
 
 -- ---- keys
 
@@ -170,15 +171,15 @@ rest_is front line rest first behind some e b = elim (lines_are rest first e) [
 ]
 
 -- the fault of a first line is that of the log
-pub log_fails : (fault : LogFault) (found : Result Event LogFault) (later : Event → Result (List Event) LogFault) (log : Result (List Event) LogFault) → log ≡ found >>= later → Fails fault found → Fails fault log
+pub log_fails : (fault : LogFault) (found : Result Event LogFault) (later : Event → Result (List Event) LogFault) (log : Result (List Event) LogFault) → log ≡ found >>= later → Fails lasting fault found → Fails lasting fault log
 log_fails NoMemory found later log is h = tt
 log_fails NoNewline found later log is h = is ∙ ap (λ r. r >>= later) h
 log_fails (BadLine line fault) found later log is h = is ∙ ap (λ r. r >>= later) h
 
 -- what hands on a fault
-pub fault_gives : {X Y : Type 0} (seen : X → Y) (r : Result X LogFault) (fault : LogFault) (found : Result Y LogFault) → IsErrAnd r (λ e. e ≡ fault) → Fails fault found → Gives seen r found
+pub fault_gives : {X Y : Type 0} (seen : X → Y) (r : Result X LogFault) (fault : LogFault) (found : Result Y LogFault) → IsErrAnd r (λ e. e ≡ fault) → Fails lasting fault found → Gives lasting seen r found
 fault_gives seen (Ok x) fault found is h = absurd is
-fault_gives seen (Err e) fault found is h = subst (λ e. Fails e found) (sym is) h
+fault_gives seen (Err e) fault found is h = subst (λ e. Fails lasting e found) (sym is) h
 
 -- all of what stands behind the first byte
 pub all_behind : (behind : List ℕ) → take (length behind - 1) (drop 1 behind) ≡ drop 1 behind

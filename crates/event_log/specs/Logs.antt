@@ -1,5 +1,5 @@
 -- The events that a text tells, line by line.
-use Rattle.std.specs.Prelude.{◌≡◌, ◌+◌, ◌==◌, ℕ, List, [], ◌∷◌, Result, Ok, Err, length, if◌then◌else◌, flat_map}
+use Rattle.std.specs.Prelude.{◌+◌, ◌==◌, ℕ, List, [], ◌∷◌, Option, Some, None, Result, Ok, Err, length, if◌then◌else◌, flat_map}
 use Rattle.std.specs.List.{slice_split}
 use Rattle.lists.specs.Ascii.{newline}
 use Rattle.fl_json.specs.declared.faults.JsonFault.{JsonFault}
@@ -39,15 +39,10 @@ first_told line first behind =
 abbrev pub log_text : List Event → List ℕ
 log_text events = flat_map line_text events
 
--- a call that may want memory and that otherwise finds this
-abbrev pub Fails : {T : Type 0} → LogFault → Result T LogFault → Type 0
-Fails NoMemory found = Unit {0}
-Fails NoNewline found = found ≡ Err NoNewline
-Fails (BadLine line fault) found = found ≡ Err (BadLine line fault)
-
-abbrev pub Gives : {X Y : Type 0} → (X → Y) → Result X LogFault → Result Y LogFault → Type 0
-Gives seen (Ok x) found = found ≡ Ok (seen x)
-Gives seen (Err e) found = Fails e found
+-- the faults that tell of what is read: all but want of memory
+abbrev pub lasting : LogFault → Option LogFault
+lasting NoMemory = None
+lasting fault = Some fault
 
 -- the fault of a log of which a line has this fault
 abbrev pub line_fault : ℕ → JsonFault → LogFault

@@ -2,13 +2,14 @@
 ghost use Rattle.std.specs.Prelude.{◌≡◌, ◌≤◌, ◌<◌, IfOk, OnOk, IfSome, All, Ok, length, not, string_bytes, ◌==◌, IsUtf8};
 ghost use Rattle.std.specs.List.{list_all, prefix_len};
 ghost use Rattle.std.specs.BTreeMap.{keys};
+ghost use Rattle.outcomes.specs.Outcomes.{Finds, Gives};
 ghost use Rattle.serde_json.specs.Data.{depth};
 ghost use Rattle.serde_json.specs.Read.{max_depth};
 ghost use Rattle.serde_json.specs.View.{view};
-ghost use Rattle.fl_json.specs.Reading.{Gives as GivesJson, Finds};
+ghost use Rattle.fl_json.specs.Reading.{lasting as lasting_json};
 ghost use Rattle.fl_json.specs.Valid.{IsValid};
 ghost use Rattle.event_log.specs.Events.{IsEvent, IsObjectText, event_of, told, name_of, context_of, has_event_keys, is_event_key};
-ghost use Rattle.event_log.specs.Logs.{Gives, first_told, log_reading, line_fault};
+ghost use Rattle.event_log.specs.Logs.{first_told, log_reading, line_fault, lasting};
 
 use crate::event::{Event, LogFault};
 use fl_json::{JsonFault, Value, field, number, word};
@@ -33,7 +34,7 @@ fn name_in(value: &Value) -> Result<&str, JsonFault>
 fn context_in(alloc: Global, value: &Value) -> Result<Option<Bytes>, JsonFault>
     requires valid { IsValid (view value.now) }
     requires nests { depth (view value.now) ≤ max_depth }
-    ensures found { GivesJson (λ c. c) result (context_of (view value.now)) }
+    ensures found { Gives lasting_json (λ c. c) result (context_of (view value.now)) }
     ensures object { IfOk result (λ c. IfSome c IsObjectText) }
 {
     match field(value, "context") {
@@ -73,7 +74,7 @@ fn has_known_keys(value: &Value) -> bool
 fn event_in(alloc: Global, value: &Value) -> Result<Event, JsonFault>
     requires valid { IsValid (view value.now) }
     requires nests { depth (view value.now) ≤ max_depth }
-    ensures found { GivesJson (λ e. e) result (event_of (view value.now)) }
+    ensures found { Gives lasting_json (λ e. e) result (event_of (view value.now)) }
     ensures valid { IfOk result IsEvent }
 {
     let timestamp = number(value, "timestamp")?;
@@ -92,7 +93,7 @@ fn event_in(alloc: Global, value: &Value) -> Result<Event, JsonFault>
 
 /// The event that a line tells, without its newline.
 fn event_at(alloc: Global, line: &[u8]) -> Result<Event, JsonFault>
-    ensures found { GivesJson (λ e. e) result (told line.now) }
+    ensures found { Gives lasting_json (λ e. e) result (told line.now) }
     ensures valid { IfOk result IsEvent }
 {
     let value = fl_json::read(alloc, line)?;
@@ -125,7 +126,7 @@ fn fault_at(line: u64, fault: JsonFault) -> LogFault
 /// The event of the first line of what is left of a log, which stands before its newline and what
 /// is behind that.
 fn first_event(alloc: Global, line: u64, first: &[u8], behind: &[u8]) -> Result<Event, LogFault>
-    ensures event { Gives (λ e. e) result (first_told line first.now behind.now) }
+    ensures event { Gives lasting (λ e. e) result (first_told line first.now behind.now) }
     ensures valid { IfOk result IsEvent }
     ensures newline { OnOk result (0 < length behind.now) }
 {
@@ -142,7 +143,7 @@ fn first_event(alloc: Global, line: u64, first: &[u8], behind: &[u8]) -> Result<
 /// The events of a log (Flux RFC 18). `BadLine` at the first line that tells none, and else
 /// `NoNewline` where the last line has none.
 pub fn read(alloc: Global, text: &[u8]) -> Result<Vec<Event>, LogFault>
-    ensures log { Gives (λ v. v.items) result (log_reading text.now) }
+    ensures log { Gives lasting (λ v. v.items) result (log_reading text.now) }
     ensures valid { IfOk result (λ v. All IsEvent v.items) }
 {
     let mut events = Vec::new(alloc);

@@ -5,19 +5,20 @@ use Rattle.std.specs.Option.{ok_or}
 use Rattle.std.specs.Str.{IsUtf8, is_utf8}
 use Rattle.std.proofs.lemmas.Bool.{cases_Bool}
 use Rattle.std.proofs.lemmas.Str.{IsUtf8-from_is_utf8, is_utf8-from_IsUtf8}
+use Rattle.outcomes.specs.Outcomes.{Fails, Gives}
 use Rattle.serde_json.specs.Data.{Data}
 use Rattle.serde_json.specs.Read.{read}
 use Rattle.fl_json.specs.Numbers.{first_bad_number, rewritten}
-use Rattle.fl_json.specs.Reading.{json_value, unless_bad, reading, Fails, Gives}
+use Rattle.fl_json.specs.Reading.{json_value, unless_bad, reading, lasting}
 use Rattle.fl_json.specs.declared.faults.JsonFault.{JsonFault}
 use Rattle.fl_json.specs.declared.faults.JsonFault.TheVariants.{NoMemory, BadNumber, NotJson, Missing, WrongKind}
 
 -- what hands on a fault
-pub err_gives : {X Y : Type 0} (seen : X → Y) (r : Result X JsonFault) (e : JsonFault) (found : Result Y JsonFault) → IsErrAnd r (λ x. x ≡ e) → Fails e found → Gives seen r found
+pub err_gives : {X Y : Type 0} (seen : X → Y) (r : Result X JsonFault) (e : JsonFault) (found : Result Y JsonFault) → IsErrAnd r (λ x. x ≡ e) → Fails lasting e found → Gives lasting seen r found
 err_gives seen (Ok x) e found is h = absurd is
-err_gives seen (Err x) e found is h = subst (λ y. Fails y found) (sym is) h
+err_gives seen (Err x) e found is h = subst (λ y. Fails lasting y found) (sym is) h
 
-fails_along : (o : Option ℕ) (t : List ℕ) (next : Result Data JsonFault) (e : JsonFault) → Fails e (unless_bad o (Ok t)) → Fails e (unless_bad o next)
+fails_along : (o : Option ℕ) (t : List ℕ) (next : Result Data JsonFault) (e : JsonFault) → Fails lasting e (unless_bad o (Ok t)) → Fails lasting e (unless_bad o next)
 fails_along o t next NoMemory h = tt
 fails_along (Some place) t next (BadNumber p) h = cc
 fails_along None t next (BadNumber p) h = cc
@@ -29,7 +30,7 @@ fails_along (Some place) t next WrongKind h = cc
 fails_along None t next WrongKind h = cc
 
 -- a fault of the numbers is the fault of the text
-pub bad_reading : (text : List ℕ) (e : JsonFault) → Fails e (unless_bad (first_bad_number text) (Ok (rewritten text))) → Fails e (reading text)
+pub bad_reading : (text : List ℕ) (e : JsonFault) → Fails lasting e (unless_bad (first_bad_number text) (Ok (rewritten text))) → Fails lasting e (reading text)
 unfolding reading
 bad_reading text e h = fails_along (first_bad_number text) (rewritten text) _ e h
 

@@ -1,5 +1,5 @@
 -- What a text is read as, and what an object has under a key.
-use Rattle.std.specs.Prelude.{◌≡◌, ℕ, List, Option, Some, None, option_and_then, Result, Ok, Err, MatchResult, is_some, if◌then◌else◌}
+use Rattle.std.specs.Prelude.{ℕ, List, Option, Some, None, option_and_then, Result, Err, is_some, if◌then◌else◌}
 use Rattle.std.specs.Option.{ok_or}
 use Rattle.std.specs.Str.{is_utf8}
 use Rattle.serde_json.specs.Data.{Data}
@@ -22,21 +22,10 @@ unless_bad None found = found
 unfoldable pub reading : List ℕ → Result Data JsonFault
 reading text = unless_bad (first_bad_number text) (ok_or (json_value (rewritten text)) NotJson)
 
--- a call that may want memory and that otherwise finds this
-abbrev pub Fails : {T : Type 0} → JsonFault → Result T JsonFault → Type 0
-Fails NoMemory found = Unit {0}
-Fails (BadNumber place) found = found ≡ Err (BadNumber place)
-Fails NotJson found = found ≡ Err NotJson
-Fails Missing found = found ≡ Err Missing
-Fails WrongKind found = found ≡ Err WrongKind
-
-abbrev pub Gives : {X Y : Type 0} → (X → Y) → Result X JsonFault → Result Y JsonFault → Type 0
-Gives seen (Ok x) found = found ≡ Ok (seen x)
-Gives seen (Err e) found = Fails e found
-
--- a call that always finds this
-abbrev pub Finds : {X Y : Type 0} → (X → Y) → Result X JsonFault → Result Y JsonFault → Type 0
-Finds seen result found = MatchResult result (λ x. found ≡ Ok (seen x)) (λ e. found ≡ Err e)
+-- the faults that tell of what is read: all but want of memory
+abbrev pub lasting : JsonFault → Option JsonFault
+lasting NoMemory = None
+lasting fault = Some fault
 
 -- ---- fields
 

@@ -1,9 +1,10 @@
 //! The fields of an object.
 ghost use Rattle.std.specs.Prelude.{◌<◌, IfOk};
+ghost use Rattle.outcomes.specs.Outcomes.{Finds};
 ghost use Rattle.serde_json.specs.Data.{depth, items_depth};
 ghost use Rattle.serde_json.specs.Find.{as_str, as_array};
 ghost use Rattle.serde_json.specs.View.{view, items_view};
-ghost use Rattle.fl_json.specs.Reading.{Finds, field_as, as_any, as_natural};
+ghost use Rattle.fl_json.specs.Reading.{field_as, as_any, as_natural};
 ghost use Rattle.fl_json.specs.Valid.{IsValid, AreValid};
 
 use crate::faults::JsonFault;

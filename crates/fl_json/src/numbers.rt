@@ -1,9 +1,10 @@
 //! The number tokens of a text, and where fractions of zeros are read over.
-ghost use Rattle.std.specs.Prelude.{◌≡◌, ◌≤◌, ◌<◌, length, option_map, MatchResult, unwrap_or, false, Some, None, Ok, Err, ◌++◌};
+ghost use Rattle.std.specs.Prelude.{◌≡◌, ◌≤◌, ◌<◌, length, option_map, false, Some, None, Ok, Err};
 ghost use Rattle.std.specs.List.{prefix_len};
+ghost use Rattle.outcomes.specs.Outcomes.{Gives};
 ghost use Rattle.json.specs.Word.{head, after_minus};
 ghost use Rattle.fl_json.specs.Numbers.{begins_number, continues_number, string_len, piece_len, is_number, natural, is_whole, point_at, are_zeros, is_no_fraction, kept_number, kept, first_bad_number, rewritten};
-ghost use Rattle.fl_json.specs.Reading.{Gives, unless_bad};
+ghost use Rattle.fl_json.specs.Reading.{unless_bad, lasting};
 
 use crate::faults::JsonFault;
 use std::alloc::Global;
@@ -199,7 +200,7 @@ fn kept_of(piece: &[u8]) -> Option<&[u8]>
 
 /// The text in which whole numbers have no fraction.
 pub fn with_whole_numbers(alloc: Global, text: &[u8]) -> Result<Vec<u8>, JsonFault>
-    ensures { Gives (λ out. out.items) result
+    ensures { Gives lasting (λ out. out.items) result
         (unless_bad (first_bad_number text.now) (Ok (rewritten text.now))) }
 {
     let mut out = Vec::with_capacity(alloc, text.len())?;

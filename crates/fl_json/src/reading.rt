@@ -1,10 +1,11 @@
 //! The reader of JSON with whole numbers.
 ghost use Rattle.std.specs.Prelude.{◌≡◌, ◌≤◌, IfOk, Ok, false};
+ghost use Rattle.outcomes.specs.Outcomes.{Gives};
 ghost use Rattle.serde_json.specs.Data.{depth};
 ghost use Rattle.serde_json.specs.Read.{max_depth};
 ghost use Rattle.serde_json.specs.View.{view};
 ghost use Rattle.serde_json.specs.Written.{compact_text, has_float};
-ghost use Rattle.fl_json.specs.Reading.{Gives, reading};
+ghost use Rattle.fl_json.specs.Reading.{reading, lasting};
 ghost use Rattle.fl_json.specs.Valid.{IsValid};
 
 use crate::faults::JsonFault;
@@ -17,7 +18,7 @@ use std::alloc::{AllocError, Global};
 /// `BadNumber` at the first other number, and else `NotJson` where the text is no JSON for
 /// `serde_json`.
 pub fn read(alloc: Global, text: &[u8]) -> Result<Value, JsonFault>
-    ensures value { Gives (λ v. view v) result (reading text.now) }
+    ensures value { Gives lasting (λ v. view v) result (reading text.now) }
     ensures valid { IfOk result (λ v. IsValid (view v)) }
     ensures nests { IfOk result (λ v. depth (view v) ≤ max_depth) }
 {

@@ -9,8 +9,10 @@ use crate::faults::FluidFault;
 /// The digits in base 58, each at the place of its value.
 pub const BASE_58: &[u8; 58] = b"123456789ABCDEFGHJKLMNPQRSTUVWXYZabcdefghijkmnopqrstuvwxyz";
 
+/// The decimal digits, each at the place of its value.
 pub const BASE_10: &[u8; 10] = b"0123456789";
 
+/// The digits in base 16, each at the place of its value.
 pub const BASE_16: &[u8; 16] = b"0123456789abcdef";
 
 /// The value of a digit, or the base where it is none.

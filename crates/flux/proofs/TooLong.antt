@@ -1,11 +1,12 @@
 -- A text that goes on past the limit.
 use Rattle.std.proofs.Common.{◌≡◌, ℕ, ◌+◌, List, length, ap, arith, Some, cond, not}
 use Rattle.std.proofs.lemmas.Bool.{lt-ltb}
-use Rattle.workload.specs.Limits.{most_text}
+use Rattle.run_limits.specs.Limits.{most_text}
 use Rattle.std.specs.Str.{is_utf8}
-use Rattle.workload.specs.Lines.{lines_of}
-use Rattle.workload.specs.Reading.{first_fault, fault_in, empty}
-use Rattle.workload.specs.declared.faults.LineFault.TheVariants as line_fault
+use Rattle.workload_reader.specs.Lines.{lines_of}
+use Rattle.workload.specs.Laws.{empty}
+use Rattle.workload_reader.specs.Reading.{first_fault, fault_in}
+use Rattle.workload_reader.specs.declared.faults.LineFault.TheVariants as line_fault
 
 -- its first fault is that
 pub too_long : (size : ℕ) (text : List ℕ) → length text ≡ 16777216 + 1 → first_fault size text ≡ Some line_fault.TooLong

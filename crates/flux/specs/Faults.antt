@@ -1,8 +1,8 @@
 -- What the faults of a run mean.
 use Rattle.std.specs.Prelude.{◌≡◌, ◌⊎◌, ℕ, ◌<◌, List, Some, length, take}
 use Rattle.std.specs.Io.KnownBytes.{Appends}
-use Rattle.workload.specs.declared.faults.LineFault.{LineFault}
-use Rattle.workload.specs.Reading.{first_fault}
+use Rattle.workload_reader.specs.declared.faults.LineFault.{LineFault}
+use Rattle.workload_reader.specs.Reading.{first_fault}
 use Rattle.flux.specs.declared.call.Fault.{Fault}
 use Rattle.flux.specs.declared.call.Fault.TheVariants as fault
 use Rattle.run_options.specs.declared.Options.{Options}

@@ -3,6 +3,7 @@ use Rattle.std.specs.Prelude.{◌≡◌, ◌≢◌, ◌&&◌, ℕ, List, [], ◌
 use Rattle.std.specs.Str.{bytes_eq}
 use Rattle.fl_digest.specs.declared.Hash.TheVariants.{Sha1}
 use Rattle.run_options.specs.declared.Options.{Options}
+use Rattle.workload.specs.Limits.{most_commands}
 use Rattle.workload.specs.Words.{is_number, is_number_within, number_value}
 use Rattle.workload.specs.declared.work.Workload.{Workload}
 use Rattle.workload_generator.specs.Texts.{generated}
@@ -11,10 +12,6 @@ use Rattle.flux.specs.declared.call.Run.{Run}
 use Rattle.flux.specs.declared.generating.Generation.{Generation}
 use Rattle.flux.specs.Runs.{setup_of, IsRunOf, IsWorkOf}
 use Rattle.tap.specs.declared.weights.Weights.{Weights}
-
--- the most commands of a workload that is drawn
-abbrev pub most_commands : ℕ
-most_commands = 10000
 
 -- what a seed and a count of 1 to 10,000 draw a workload from
 abbrev pub generation_from : List ℕ → List ℕ → Option Generation

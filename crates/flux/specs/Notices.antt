@@ -1,6 +1,6 @@
 -- What is said of a run's fault.
 use Rattle.std.specs.Prelude.{ℕ, ◌==◌, List, Option, Some, None, codes, if◌then◌else◌}
-use Rattle.workload.specs.Faults.{fault_text as line_text}
+use Rattle.workload_reader.specs.Faults.{fault_text as line_text}
 use Rattle.flux_tools.specs.Notices.{fault_text as tool_text}
 use Rattle.flux.specs.declared.call.Fault.{Fault}
 use Rattle.flux.specs.declared.call.Fault.TheVariants as fault

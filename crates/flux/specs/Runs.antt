@@ -5,7 +5,7 @@ use Rattle.std.specs.Io.KnownBytes.{Consumes, IsAtEnd}
 use Rattle.run_options.specs.declared.Options.{Options}
 use Rattle.run_options.specs.Words.{options_of}
 use Rattle.workload.specs.declared.work.Workload.{Workload}
-use Rattle.workload.specs.Reading.{first_fault, spelled}
+use Rattle.workload_reader.specs.Reading.{first_fault, spelled}
 use Rattle.answers.specs.Chronicle.{Setup}
 use Rattle.world.specs.declared.order.Schedule.{Schedule}
 use Rattle.world.specs.declared.order.Schedule.TheVariants as schedule
@@ -63,10 +63,10 @@ pub record IsSpelled (size : ℕ) (input : Side) (work : Workload) : Type 0 wher
   pub ended : IsAtEnd input.after
   pub spelled_so : IsWorkOf size text work
 
--- the chronicle of the workload is a legal and whole one, settled where no drawn order is asked for,
--- the text prints it, and the steps made tell the whole of it; after each first part of it the jobs
--- of each living instance stand well in its grant, that of a child lies in what a job of its parent
--- holds, and no event of a job is lost or changed
+-- the chronicle of the workload is a legal and whole one, settled where no drawn order is asked
+-- for, the text prints it, and the steps made tell the whole of it; after each first part of it the
+-- jobs of each living instance stand well in its grant, that of a child lies in what a job of its
+-- parent holds, and no event of a job is lost or changed
 pub record IsRunOf (weights : Weights) (o : Options) (work : Workload)
     (run : Run) (text : List ℕ) : Type 0 where
   pub true_run : IsTrueRun (setup_of weights o work) (is_settled o) o.journal run.chronicle text

@@ -18,7 +18,7 @@ use outside::{ReadFault, Sink, Source, write_all};
 use run_options::{Options, read_options};
 use std::alloc::Global;
 use tap::Weights;
-use workload::LineFault;
+use workload_reader::LineFault;
 
 /// Why a run wrote nothing or not all.
 #[derive(Drop)]
@@ -249,8 +249,8 @@ pub fn flux<S: Source, K: Sink>(
 ) -> Run
     ensures status { result.status ≡ status_of result.fault }
     // the headline: what was written prints the one chronicle, which is legal and whole, and
-    // settled where the words ask for no shuffle, or is the summary of such a chronicle, or a tool's
-    // line
+    // settled where the words ask for no shuffle, or is the summary of such a chronicle, or the
+    // line of a tool
     ensures true_run { result.status ≡ 0 → (text : List ℕ)
         × IsOutput weights
         (map string_bytes words.now)

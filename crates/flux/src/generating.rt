@@ -21,13 +21,15 @@ use run_options::Options;
 use std::alloc::{AllocError, Global};
 use summaries::summary;
 use tap::Weights;
-use workload::laws::{
+use workload::Workload;
+use workload::limits::MOST_COMMANDS;
+use workload::words::{number, number_within};
+use workload_generator::generate;
+use workload_reader::laws::{
     spelled_commands_are_built, spelled_labels_are_their_own, spelled_tallies_are_kept,
     spelled_workloads_are_within,
 };
-use workload::words::{number, number_within};
-use workload::{LineFault, Workload, read};
-use workload_generator::generate;
+use workload_reader::{LineFault, read};
 use world::hosts_of_brokers;
 
 /// What a workload is drawn from: a seed, and how many commands there are, 1 to 10,000.
@@ -36,9 +38,6 @@ pub struct Generation {
     pub seed: u64,
     pub count: u32,
 }
-
-/// The most commands of a workload that is drawn.
-const MOST_COMMANDS: u64 = 10_000;
 
 /// The options of its run: those of `run --size 7`.
 const OPTIONS: Options = Options {
@@ -56,7 +55,7 @@ pub fn generation_of(words: &[String]) -> Option<Generation>
     match words {
         [word, seed, count] if word.as_str() == "gen" => Some(Generation {
             seed: number(seed.as_str())?,
-            count: number_within(count.as_str(), 1, MOST_COMMANDS)? as u32,
+            count: number_within(count.as_str(), 1, MOST_COMMANDS as u64)? as u32,
         }),
         _ => None,
     }

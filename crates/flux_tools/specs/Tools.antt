@@ -1,6 +1,6 @@
 -- The tools: which words ask for one, what it prints of the text that it is given, and why it
 -- refuses a text.
-use Rattle.std.specs.Prelude.{◌≡◌, ◌≢◌, ◌⊎◌, ℕ, List, [], ◌∷◌, ◌++◌, ◌+◌, Option, Some, None, Result, Ok, Err, codes, length, option_map, if◌then◌else◌}
+use Rattle.std.specs.Prelude.{◌≡◌, ◌≢◌, ℕ, List, [], ◌∷◌, ◌++◌, ◌+◌, Option, Some, None, Result, Ok, Err, codes, length, if◌then◌else◌}
 use Rattle.std.specs.Option.{option_map_or}
 use Rattle.std.specs.Str.{bytes_eq}
 use Rattle.std.specs.Io.KnownBytes.{Consumes, IsAtEnd}
@@ -8,11 +8,9 @@ use Rattle.lists.specs.Ascii.{newline, space}
 use Rattle.outside.specs.Causes.{Rose, HasReadCount}
 use Rattle.outside.specs.declared.reading.ReadFault.{ReadFault}
 use Rattle.outside.specs.declared.reading.ReadFault.TheVariants as read
-use Rattle.idset.specs.declared.faults.IdFault.{IdFault}
 use Rattle.idset.specs.declared.faults.IdFault.TheVariants as id
 use Rattle.idset.specs.Text as idset
 use Rattle.idset.specs.Runs as runs
-use Rattle.hostlist.specs.declared.faults.HostFault.{HostFault}
 use Rattle.hostlist.specs.declared.faults.HostFault.TheVariants as host
 use Rattle.hostlist.specs.Reading as hostlist
 use Rattle.hostlist.specs.Printing.{canonical}
@@ -30,6 +28,7 @@ use Rattle.job_states.specs.declared.job.Job.{Job}
 use Rattle.job_states.specs.declared.job.ReplayFault.{ReplayFault}
 use Rattle.job_states.specs.Names.{state_name}
 use Rattle.job_states.specs.Replay.{replayed}
+use Rattle.run_limits.specs.Limits.{most_text}
 use Rattle.flux_tools.specs.declared.tools.ToolName.{ToolName}
 use Rattle.flux_tools.specs.declared.tools.ToolName.TheVariants as tool
 use Rattle.flux_tools.specs.declared.faults.ToolFault.{ToolFault}
@@ -82,7 +81,8 @@ hostlist_answer text = option_map_or (λ fault. Err (Host fault))
 -- the three texts of an id, with a space between
 abbrev pub fluid_line : ℕ → List ℕ
 fluid_line id =
-    line (fluid.printed F58 id ++ space ∷ fluid.printed Dothex id ++ space ∷ fluid.printed Decimal id)
+    line (fluid.printed F58 id ++ space ∷ fluid.printed Dothex id
+    ++ space ∷ fluid.printed Decimal id)
 
 -- the three texts of the id that is told, or why there is none (Flux RFC 19)
 abbrev pub fluid_told : Result ℕ FluidFault → Result (List ℕ) ToolFault
@@ -112,7 +112,8 @@ answer tool.Fluid text = fluid_told (fluid.meaning text)
 answer tool.R text = r_told (resources.told text)
 answer tool.Replay text = log_told (log_reading text)
 
--- a call that finds this answer unless it wants memory
+-- a call that finds this answer unless it wants memory; a text that is there is never one that
+-- can't be read
 abbrev pub Fails : ToolFault → Result (List ℕ) ToolFault → Type 0
 Fails NoMemory found = Unit {0}
 Fails (Id fault) found = found ≡ Err (Id fault)
@@ -129,10 +130,6 @@ Gives seen (Ok x) found = found ≡ Ok (seen x)
 Gives seen (Err fault) found = Fails fault found
 
 -- ---- the text that a tool is given
-
--- the most bytes of an input
-abbrev pub most_text : ℕ
-most_text = 16777216
 
 -- the text that words give their tool: the word behind its name, or all that the source has
 abbrev pub IsGiven : List (List ℕ) → Option (List ℕ) → Option (List ℕ) → List ℕ → Type 0

@@ -1,15 +1,12 @@
 //! The tools that print one text canonically, or the state that a log tells.
-ghost use Rattle.std.specs.Prelude.{◌≡◌, IfErr, IfOk, IsTrue, Ok, Some, length, map, string_bytes, ◌↔◌};
-ghost use Rattle.std.specs.Io.KnownBytes.{Consumes, IsAtEnd};
-ghost use Rattle.flux_tools.specs.Tools.{AreReaderWords, AreToolWords, Gives, HasAnswer, HasCause, HasCount, answer, asked, reader_named, tool_named};
+ghost use Rattle.std.specs.Prelude.{◌≡◌, IfErr, IfOk, IsTrue, Ok, Some, map, string_bytes, ◌↔◌};
+ghost use Rattle.flux_tools.specs.Tools.{AreReaderWords, AreToolWords, HasAnswer, HasCause, HasCount, answer, asked, reader_named, tool_named};
 
 use crate::faults::ToolFault;
 use crate::lines::line_of;
 use outside::{ReadFault, Source, read_all};
+use run_limits::MOST_TEXT;
 use std::alloc::Global;
-
-/// The most bytes of an input.
-const MOST_TEXT: usize = 16_777_216;
 
 /// A tool, which prints a text canonically, or the state that it tells.
 #[derive(Clone, Copy, Debug, PartialEq, Eq)]

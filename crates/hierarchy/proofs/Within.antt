@@ -16,7 +16,7 @@ use Rattle.workload.specs.Actors.{are_together, home_of}
 use Rattle.workload.specs.Laws.{HasOwnLabels, IsBuilt, IsWithin, KeepsTallies}
 use Rattle.workload.specs.Limits.{most_actors, most_severity, most_urgency}
 use Rattle.workload.specs.Tallies.{begins, declares, is_declared, posts_on, seconds_of, submits}
-use Rattle.workload.specs.Verbs.{is_in_place}
+use Rattle.workload.specs.Actors.{is_in_place}
 use Rattle.workload.specs.declared.work.Actor.{Actor}
 use Rattle.workload.specs.declared.work.Command.{Command}
 use Rattle.workload.specs.declared.work.Command.TheVariants as command

@@ -27,8 +27,10 @@ pub record IsTrueRun (set : Setup) (settled journal : Bool)
 -- after each first part of the chronicle the logs of each living instance's jobs replay, and its
 -- live jobs stand well in its grant
 abbrev pub JobsStaySoundInAll : Setup → List Entry → Type 0
-JobsStaySoundInAll set c = (past more : List Entry) → c ≡ past ++ more → (i : ℕ) → IsTrue (lives past i)
-    → IsSound (instance_of (setup_in set past i)) (log_in (setup_in set past i).work (own_of set past i))
+JobsStaySoundInAll set c = (past more : List Entry) → c ≡ past ++ more
+    → (i : ℕ) → IsTrue (lives past i)
+    → IsSound (instance_of (setup_in set past i))
+    (log_in (setup_in set past i).work (own_of set past i))
 
 -- and the grant of each living child has the units of a live job of its living parent
 abbrev pub ChildrenStayNested : Setup → List Entry → Type 0

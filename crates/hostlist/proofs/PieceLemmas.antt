@@ -6,7 +6,8 @@ use Rattle.std.proofs.lemmas.Bool.Decides.{nat_tests}
 use Rattle.std.proofs.lemmas.List.{length-drop, drop-drop, take_all}
 use Rattle.std.proofs.lemmas.List.Splits.{slice_split_first}
 use Rattle.std.specs.Option.{option_map_or}
-use Rattle.hostlist.specs.Reading.{Faults, fault_in, hosts_in, piece_fault, piece_hosts, bracket_behind, pieces, text_fault, spelled, first_fault, or_else}
+use Rattle.outcomes.specs.Outcomes.{Faults, or_else}
+use Rattle.hostlist.specs.Reading.{fault_in, hosts_in, piece_fault, piece_hosts, bracket_behind, pieces, text_fault, spelled, first_fault, lasting}
 use Rattle.hostlist.specs.Parts.{left}
 use Rattle.hostlist.specs.declared.faults.HostFault.{HostFault}
 use Rattle.hostlist.specs.declared.faults.HostFault.TheVariants.{TooMany, NoMemory}
@@ -32,8 +33,8 @@ pub fault_behind : (end place : ℕ) (bracket : Option (List ℕ)) (all rest : L
 fault_behind end place bracket all rest piece here none = ap (fault_in end place bracket) here ∙ ap (λ f. or_else f (fault_in end (place + length piece + 1) (bracket_behind bracket piece) rest)) none
 
 -- a fault of the next piece is the first one
-pub fault_here : (end place : ℕ) (bracket : Option (List ℕ)) (all rest : List (List ℕ)) (piece : List ℕ) (e : HostFault) → all ≡ piece ∷ rest → Faults e (piece_fault place bracket piece)
-    → Faults e (fault_in end place bracket all)
+pub fault_here : (end place : ℕ) (bracket : Option (List ℕ)) (all rest : List (List ℕ)) (piece : List ℕ) (e : HostFault) → all ≡ piece ∷ rest → Faults lasting e (piece_fault place bracket piece)
+    → Faults lasting e (fault_in end place bracket all)
 fault_here end place bracket all rest piece NoMemory here h = tt
 fault_here end place bracket all rest piece e here h = ap (fault_in end place bracket) here ∙ ap (λ f. or_else f (fault_in end (place + length piece + 1) (bracket_behind bracket piece) rest)) h
 
@@ -102,7 +103,7 @@ rest_within text None h = tt
 rest_within text (Some tail) h = omega (arith, ap length h)
 
 -- the first fault of a text, where its pieces have one
-pub first_fault_here : (text : List ℕ) (e : HostFault) → Faults e (text_fault text) → Faults e (first_fault text)
+pub first_fault_here : (text : List ℕ) (e : HostFault) → Faults lasting e (text_fault text) → Faults lasting e (first_fault text)
 unfolding first_fault
 first_fault_here text NoMemory h = tt
 first_fault_here text e h = ap (λ f. or_else f (cond (ltb 65536 (length (spelled text))) (Some TooMany) None)) h

@@ -5,8 +5,9 @@ use Rattle.std.specs.List.{slice_split, onto_first, list_all}
 use Rattle.std.specs.Str.{all_ascii_digits}
 use Rattle.std.proofs.lemmas.Bool.Decides.{nat_tests}
 use Rattle.std.proofs.lemmas.List.{append-nil}
+use Rattle.outcomes.specs.Outcomes.{or_else}
 use Rattle.hostlist.specs.Names.{is_name_byte}
-use Rattle.hostlist.specs.Reading.{or_else, piece_fault, piece_hosts, bracket_behind, hosts_in, fault_in}
+use Rattle.hostlist.specs.Reading.{piece_fault, piece_hosts, bracket_behind, hosts_in, fault_in}
 use Rattle.hostlist.specs.declared.faults.HostFault.TheVariants.{BadText}
 use Rattle.hostlist.proofs.NameLemmas.{and_true, and_left, and_right, digits_named}
 

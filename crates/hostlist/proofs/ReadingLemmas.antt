@@ -6,9 +6,10 @@ use Rattle.std.specs.Char.{is_ascii_digit}
 use Rattle.std.specs.Prelude.{Option, Some, None, Result, Ok, Err, IsErrAnd, not, ◌==◌, nat_lt, if◌then◌else◌}
 use Rattle.std.proofs.lemmas.Bool.Decides.{nat_tests}
 use Rattle.std.proofs.lemmas.List.{length-take-le, length-drop}
+use Rattle.outcomes.specs.Outcomes.{Faults, Reads}
 use Rattle.hostlist.proofs.Numbers.{all_digits_is}
 use Rattle.hostlist.specs.Names.{is_name_byte, IsHostName}
-use Rattle.hostlist.specs.Reading.{Reads, Faults, behind, range_hosts, range_end, range_fault, prefix_of, name_fault, piece_fault, piece_hosts, bracket_behind}
+use Rattle.hostlist.specs.Reading.{behind, range_hosts, range_end, range_fault, prefix_of, name_fault, piece_fault, piece_hosts, bracket_behind, lasting}
 use Rattle.hostlist.specs.Parts.{IsRange, part_hosts, part_bracket}
 use Rattle.hostlist.specs.declared.parts.Range.{Range}
 use Rattle.hostlist.specs.declared.faults.HostFault.{HostFault}
@@ -32,14 +33,14 @@ pub length-take_while : {X : Type 0} (p : X → Bool) (xs : List X) → length (
 length-take_while p xs = length-take-le (prefix_len p xs) xs (prefix_len-le-length p xs)
 
 -- the same reading by another name of the first fault and of the value
-pub Reads-along : {X : Type 0} (f g : Option HostFault) (P Q : X → Type 0) (r : Result X HostFault) → f ≡ g → ((x : X) → P x → Q x) → Reads f P r → Reads g Q r
+pub Reads-along : {X : Type 0} (f g : Option HostFault) (P Q : X → Type 0) (r : Result X HostFault) → f ≡ g → ((x : X) → P x → Q x) → Reads lasting f P r → Reads lasting g Q r
 Reads-along f g P Q (Ok x) same to h = (sym same ∙ h.0, to x h.1)
-Reads-along f g P Q (Err e) same to h = subst (Faults e) same h
+Reads-along f g P Q (Err e) same to h = subst (Faults lasting e) same h
 
 -- what hands on a fault
-pub err_reads : {X : Type 0} (r : Result X HostFault) (e : HostFault) (f : Option HostFault) (P : X → Type 0) → IsErrAnd r (λ x. x ≡ e) → Faults e f → Reads f P r
+pub err_reads : {X : Type 0} (r : Result X HostFault) (e : HostFault) (f : Option HostFault) (P : X → Type 0) → IsErrAnd r (λ x. x ≡ e) → Faults lasting e f → Reads lasting f P r
 err_reads (Ok x) e f P is h = absurd is
-err_reads (Err x) e f P is h = subst (λ y. Faults y f) (sym is) h
+err_reads (Err x) e f P is h = subst (λ y. Faults lasting y f) (sym is) h
 
 -- a piece that begins with no byte of a name
 pub no_name : (place : ℕ) (piece : List ℕ) → prefix_len is_name_byte piece ≡ 0 → piece_fault place None piece ≡ Some (BadText place)

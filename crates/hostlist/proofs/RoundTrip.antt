@@ -5,8 +5,9 @@ use Rattle.std.specs.List.{list_all, prefix_len, take_while, join_with_byte, ran
 use Rattle.std.specs.Char.{is_ascii_digit}
 use Rattle.std.proofs.lemmas.Bool.Decides.{nat_tests}
 use Rattle.std.proofs.lemmas.List.{append-nil, take_at, drop_at}
+use Rattle.outcomes.specs.Outcomes.{first_some, or_else}
 use Rattle.hostlist.specs.Names.{is_name_byte, is_host_name, IsHostName, AreHostNames, padded, value_of, number_digits, number_prefix, shares_prefix, follows}
-use Rattle.hostlist.specs.Reading.{behind, digits_at, behind_digits, last_number, range_end, range_hosts, range_fault, number_fault, end_fault, first_of, or_else, prefix_of, pieces, spelled, text_fault, first_fault}
+use Rattle.hostlist.specs.Reading.{behind, digits_at, behind_digits, last_number, range_end, range_hosts, range_fault, number_fault, end_fault, prefix_of, pieces, spelled, text_fault, first_fault}
 use Rattle.hostlist.specs.Printing.{chunks_by, run_text, group_text, canonical}
 use Rattle.hostlist.specs.declared.faults.HostFault.{HostFault}
 use Rattle.hostlist.specs.declared.faults.HostFault.TheVariants.{Backwards, TooMany}
@@ -135,7 +136,7 @@ end_ok : (place : ℕ) (closes : Bool) → end_fault place (ending closes) ≡ N
 end_ok place true = refl
 end_ok place false = refl
 
-four_none : (a b c d : Option HostFault) → a ≡ None → b ≡ None → c ≡ None → d ≡ None → first_of (a ∷ b ∷ c ∷ d ∷ []) ≡ None
+four_none : (a b c d : Option HostFault) → a ≡ None → b ≡ None → c ≡ None → d ≡ None → first_some (a ∷ b ∷ c ∷ d ∷ []) ≡ None
 four_none a b c d p q r s = rw (p, q, r, s) refl
 
 clean_range : (text low high : List ℕ) (closes : Bool) (place : ℕ) → IsRangeText text low high closes → IsNumber low → IsNumber high → value_of low ≤ value_of high → range_fault place text ≡ None

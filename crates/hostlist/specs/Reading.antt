@@ -1,9 +1,10 @@
 -- The hosts that a text spells, and the first fault of a text that spells none (Flux RFC 29).
 -- A text is cut at its commas. A piece stands in a bracket, behind its prefix, or outside of one.
-use Rattle.std.specs.Prelude.{ℕ, ◌≡◌, ◌+◌, ◌-◌, ◌==◌, nat_lt, List, [], ◌∷◌, ◌++◌, map, Option, Some, None, is_some, Result, Ok, Err, length, drop, unwrap_or, if◌then◌else◌}
+use Rattle.std.specs.Prelude.{ℕ, ◌+◌, ◌-◌, ◌==◌, nat_lt, List, [], ◌∷◌, ◌++◌, map, Option, Some, None, is_some, length, drop, unwrap_or, if◌then◌else◌}
 use Rattle.std.specs.Option.{option_map_or}
 use Rattle.std.specs.List.{slice_split, take_while, prefix_len, range_with_len}
 use Rattle.std.specs.Char.{is_ascii_digit}
+use Rattle.outcomes.specs.Outcomes.{first_some, or_else}
 use Rattle.lists.specs.Ascii.{closing_bracket, comma, dash, opening_bracket}
 use Rattle.hostlist.specs.Names.{is_name_byte, value_of, padded}
 use Rattle.hostlist.specs.declared.faults.HostFault.{HostFault}
@@ -58,15 +59,6 @@ unfoldable pub bracket_behind : Option (List ℕ) → List ℕ → Option (List 
 bracket_behind bracket piece = option_map_or (λ range. if length (range_end range) == 0
     then Some (prefix_of bracket piece) else None) (range_of bracket piece) None
 
--- the first fault of a list, if there is one
-abbrev pub or_else : Option HostFault → Option HostFault → Option HostFault
-or_else None later = later
-or_else (Some fault) later = Some fault
-
-abbrev pub first_of : List (Option HostFault) → Option HostFault
-first_of [] = None
-first_of (fault ∷ more) = or_else fault (first_of more)
-
 -- a number has 1 to 9 digits
 abbrev pub number_fault : ℕ → List ℕ → Option HostFault
 number_fault place text = if prefix_len is_ascii_digit text == 0 then Some (BadText place)
@@ -80,7 +72,7 @@ end_fault place (b ∷ bs) = if b == closing_bracket
 
 -- the first fault of a range that begins at this place
 abbrev pub range_fault : ℕ → List ℕ → Option HostFault
-range_fault place range = first_of (number_fault place range
+range_fault place range = first_some (number_fault place range
     ∷ number_fault (place + (length range - length (last_number range))) (last_number range)
     ∷ (if nat_lt (value_of (digits_at (last_number range))) (value_of (digits_at range))
     then Some (Backwards place) else None)
@@ -132,13 +124,7 @@ unfoldable pub first_fault : List ℕ → Option HostFault
 first_fault text =
     or_else (text_fault text) (if nat_lt 65536 (length (spelled text)) then Some TooMany else None)
 
--- the fault that a reader answers is this one, want of memory apart
-abbrev pub Faults : HostFault → Option HostFault → Type 0
-Faults NoMemory fault = Unit {0}
-Faults e fault = fault ≡ Some e
-
--- what a reader gives where the first fault is this: there is none and the value is so, or it is
--- the fault
-abbrev pub Reads : {T : Type 0} → Option HostFault → (T → Type 0) → Result T HostFault → Type 0
-Reads fault P (Ok value) = (fault ≡ None) × P value
-Reads fault P (Err e) = Faults e fault
+-- the faults that tell of what is read: all but want of memory
+abbrev pub lasting : HostFault → Option HostFault
+lasting NoMemory = None
+lasting fault = Some fault

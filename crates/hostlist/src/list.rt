@@ -1,12 +1,13 @@
 //! Hosts in an order.
 ghost use Rattle.std.specs.Prelude.{◌≡◌, ◌≢◌, ◌≤◌, ◌<◌, ◌++◌, ◌∷◌, [], ℕ, Some, None, length, IfOk, OnOk, OnErr, IfSome, IsNone, slice_get, option_copied, IsTrue, ◌↔◌, nat_lt, if◌then◌else◌};
+ghost use Rattle.outcomes.specs.Outcomes.{Reads};
 ghost use Rattle.hostlist.specs.declared.faults.HostFault.TheVariants.{TooMany};
 ghost use Rattle.std.specs.Prelude.{bytes_eq};
 ghost use Rattle.std.specs.Cmp.{nat_eq_equiv, partial_equiv_from_equiv};
 ghost use Rattle.std.specs.Cmp.Lexicographic.{pointwise, lists_per, lists_equiv};
 ghost use Rattle.hostlist.specs.Names.{IsHostName, AreHostNames};
 ghost use Rattle.hostlist.specs.Printing.{canonical};
-ghost use Rattle.hostlist.specs.Reading.{Reads, first_fault, spelled};
+ghost use Rattle.hostlist.specs.Reading.{first_fault, spelled, lasting};
 
 use crate::faults::HostFault;
 use crate::names::HostName;
@@ -48,7 +49,8 @@ impl HostList {
     /// The list of hosts that a text spells (Flux RFC 29), or the text's first fault with its place
     /// in bytes. `TooMany` where it spells more than 65,536 hosts.
     pub fn read(alloc: Global, text: &[u8]) -> Result<HostList, HostFault>
-        ensures read { Reads (first_fault text.now) (λ hosts. hosts ≡ spelled text.now) result }
+        ensures read { Reads lasting (first_fault text.now) (λ hosts. hosts ≡ spelled text.now)
+            result }
         ensures named { IfOk result AreHostNames }
         ensures few { IfOk result (λ hosts. length hosts ≤ 65536) }
     {

@@ -1,11 +1,12 @@
 //! The reader of hostlists (Flux RFC 29).
-ghost use Rattle.std.specs.Prelude.{◌≡◌, ◌≤◌, ◌<◌, ◌+◌, ◌-◌, ◌^◌, ◌++◌, true, length, IfOk, OnOk, option_copied, min, None, MatchOption, ⊤, IfSome, not, ◌==◌};
+ghost use Rattle.std.specs.Prelude.{◌≡◌, ◌≤◌, ◌<◌, ◌+◌, ◌-◌, ◌^◌, true, length, IfOk, option_copied, min, None, IfSome, not, ◌==◌};
 ghost use Rattle.std.specs.Prelude.{◌∷◌, [], if◌then◌else◌};
-ghost use Rattle.std.specs.List.{take_while, prefix_len, list_all, slice_split, position_or_len};
+ghost use Rattle.std.specs.List.{take_while, prefix_len, slice_split, position_or_len};
 ghost use Rattle.std.specs.Char.{is_ascii_digit};
 ghost use Rattle.std.specs.Str.{all_ascii_digits};
-ghost use Rattle.hostlist.specs.Names.{is_name_byte, is_host_name, IsHostName, AreHostNames};
-ghost use Rattle.hostlist.specs.Reading.{Reads, behind, digits_at, behind_digits, number_fault, end_fault, range_fault, range_end, name_fault, piece_fault, piece_hosts, bracket_behind, fault_in, hosts_in, pieces, text_fault, spelled};
+ghost use Rattle.outcomes.specs.Outcomes.{Reads};
+ghost use Rattle.hostlist.specs.Names.{is_name_byte, IsHostName, AreHostNames};
+ghost use Rattle.hostlist.specs.Reading.{behind, digits_at, behind_digits, number_fault, end_fault, range_fault, piece_fault, piece_hosts, bracket_behind, pieces, text_fault, spelled, lasting};
 ghost use Rattle.hostlist.specs.Parts.{IsRange, part_hosts, part_bracket, left};
 
 use crate::faults::HostFault;
@@ -42,8 +43,8 @@ fn name_count(text: &[u8]) -> usize
 /// The digits of the number that a text begins with, and what stands behind them.
 fn number(place: usize, text: &[u8]) -> Result<(&[u8], &[u8]), HostFault>
     requires { place + length text.now < 2 ^ 64 }
-    ensures read { Reads (number_fault place text.now) (λ parts. (parts.0.now ≡ digits_at text.now)
-        × (parts.1.now ≡ behind_digits text.now)) result }
+    ensures read { Reads lasting (number_fault place text.now) (λ parts.
+        (parts.0.now ≡ digits_at text.now) × (parts.1.now ≡ behind_digits text.now)) result }
     ensures digits { IfOk result (λ parts. (all_ascii_digits parts.0.now ≡ true)
         × (length parts.0.now ≤ 9) × (0 < length parts.0.now)) }
 {
@@ -60,7 +61,8 @@ fn number(place: usize, text: &[u8]) -> Result<(&[u8], &[u8]), HostFault>
 /// Whether the bracket ends behind a range, where the text behind the range is this.
 fn ends_bracket(place: usize, text: &[u8]) -> Result<bool, HostFault>
     requires { place + length text.now < 2 ^ 64 }
-    ensures { Reads (end_fault place text.now) (λ ends. ends ≡ not (length text.now == 0)) result }
+    ensures { Reads lasting (end_fault place text.now) (λ ends. ends ≡ not (length text.now == 0))
+        result }
 {
     match text {
         [] => Ok(false),
@@ -73,7 +75,7 @@ fn ends_bracket(place: usize, text: &[u8]) -> Result<bool, HostFault>
 /// The range that a text at this place spells.
 fn read_range(place: usize, text: &[u8]) -> Result<Range, HostFault>
     requires { place + length text.now < 2 ^ 64 }
-    ensures { Reads (range_fault place text.now) (IsRange text.now) result }
+    ensures { Reads lasting (range_fault place text.now) (IsRange text.now) result }
 {
     let (first, rest) = number(place, text)?;
     let tail = behind(b'-', rest).unwrap_or(text);
@@ -96,7 +98,7 @@ fn read_range(place: usize, text: &[u8]) -> Result<Range, HostFault>
 /// The part that a piece outside of brackets spells: a host, or a name with a bracket behind it.
 fn read_item<'a>(place: usize, piece: &'a [u8]) -> Result<Part<'a>, HostFault>
     requires { place + length piece.now < 2 ^ 64 }
-    ensures read { Reads (piece_fault place None piece.now)
+    ensures read { Reads lasting (piece_fault place None piece.now)
         (λ part. (part_hosts part ≡ piece_hosts None piece.now)
         × (part_bracket part ≡ bracket_behind None piece.now)) result }
     ensures named { IfOk result (λ part. IsHostName part.prefix.now) }
@@ -131,7 +133,7 @@ fn read_part<'a>(
     piece: &'a [u8],
 ) -> Result<Part<'a>, HostFault>
     requires { place + length piece.now < 2 ^ 64 }
-    ensures read { Reads (piece_fault place (option_copied bracket.entry) piece.now)
+    ensures read { Reads lasting (piece_fault place (option_copied bracket.entry) piece.now)
         (λ part. (part_hosts part ≡ piece_hosts (option_copied bracket.entry) piece.now)
         × (part_bracket part ≡ bracket_behind (option_copied bracket.entry) piece.now)) result }
     ensures named { IfOk result (λ part. IfSome (option_copied bracket.entry) IsHostName
@@ -180,7 +182,7 @@ fn cut(text: &[u8]) -> (&[u8], Option<&[u8]>)
 
 /// How many hosts a text spells, up to the greatest number of its type.
 pub(crate) fn count_hosts(text: &[u8]) -> Result<u64, HostFault>
-    ensures { Reads (text_fault text.now)
+    ensures { Reads lasting (text_fault text.now)
         (λ count. count ≡ min (length (spelled text.now)) (2 ^ 64 - 1)) result }
 {
     let mut rest = uncut(text);
@@ -201,7 +203,8 @@ pub(crate) fn count_hosts(text: &[u8]) -> Result<u64, HostFault>
 
 /// The hosts that a text spells.
 pub(crate) fn read_hosts(alloc: Global, text: &[u8]) -> Result<Vec<HostName>, HostFault>
-    ensures read { Reads (text_fault text.now) (λ names. names.items ≡ spelled text.now) result }
+    ensures read { Reads lasting (text_fault text.now) (λ names. names.items ≡ spelled text.now)
+        result }
     ensures named { IfOk result (λ names. AreHostNames names.items) }
 {
     let mut names = Vec::new(alloc);

@@ -5,8 +5,9 @@ use Rattle.std.specs.List.{list_all, prefix_len, range_with_len}
 use Rattle.std.specs.Char.{is_ascii_digit}
 use Rattle.std.proofs.lemmas.Bool.Decides.{nat_tests}
 use Rattle.std.proofs.lemmas.List.{take-append-drop}
+use Rattle.outcomes.specs.Outcomes.{first_some, or_else}
 use Rattle.hostlist.specs.Names.{padded, value_of}
-use Rattle.hostlist.specs.Reading.{behind, digits_at, behind_digits, last_number, range_end, range_fault, number_fault, end_fault, first_of, or_else}
+use Rattle.hostlist.specs.Reading.{behind, digits_at, behind_digits, last_number, range_end, range_fault, number_fault, end_fault}
 use Rattle.hostlist.specs.Reading as reading
 use Rattle.hostlist.specs.declared.faults.HostFault.{HostFault}
 use Rattle.hostlist.specs.declared.faults.HostFault.TheVariants.{BadText, Backwards}
@@ -71,7 +72,7 @@ end_clean : (place : ℕ) (closes : Bool) → end_fault place (ending closes) �
 end_clean place true = refl
 end_clean place false = refl
 
-four_none : (a b c d : Option HostFault) → a ≡ None → b ≡ None → c ≡ None → d ≡ None → first_of (a ∷ b ∷ c ∷ d ∷ []) ≡ None
+four_none : (a b c d : Option HostFault) → a ≡ None → b ≡ None → c ≡ None → d ≡ None → first_some (a ∷ b ∷ c ∷ d ∷ []) ≡ None
 four_none a b c d p q r s = rw (p, q, r, s) refl
 
 -- a text that is read as a range has no fault, and its hosts are those of the range
@@ -101,7 +102,7 @@ pub or_none : (a b : Option HostFault) → or_else a b ≡ None → (a ≡ None)
 or_none None b h = (refl, h)
 or_none (Some e) b h = absurd (let no : ⊥ = cc in no)
 
-each_none : (a b c d : Option HostFault) → first_of (a ∷ b ∷ c ∷ d ∷ []) ≡ None → (a ≡ None) × (b ≡ None) × (c ≡ None) × (d ≡ None)
+each_none : (a b c d : Option HostFault) → first_some (a ∷ b ∷ c ∷ d ∷ []) ≡ None → (a ≡ None) × (b ≡ None) × (c ≡ None) × (d ≡ None)
 each_none a b c d h =
     let first = or_none a (or_else b (or_else c (or_else d None))) h in
     let second = or_none b (or_else c (or_else d None)) first.1 in

@@ -4,8 +4,9 @@ use Rattle.std.specs.Prelude.{Option, Some, None, unwrap_or}
 use Rattle.std.specs.List.{AllByRecursion as Each, list_all, join_with_byte}
 use Rattle.std.proofs.lemmas.Bool.Decides.{nat_tests}
 use Rattle.std.proofs.lemmas.List.{append-nil}
+use Rattle.outcomes.specs.Outcomes.{or_else}
 use Rattle.hostlist.specs.Names.{IsHostName}
-use Rattle.hostlist.specs.Reading.{or_else, pieces, spelled, text_fault, first_fault}
+use Rattle.hostlist.specs.Reading.{pieces, spelled, text_fault, first_fault}
 use Rattle.hostlist.specs.declared.faults.HostFault.TheVariants.{TooMany}
 use Rattle.hostlist.proofs.NameLemmas.{and_true, list_all-append}
 use Rattle.hostlist.proofs.ReadingLemmas.{no_name}

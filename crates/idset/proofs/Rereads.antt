@@ -11,9 +11,10 @@ use Rattle.std.proofs.lemmas.List.{take_more, length-take-le, length-map, map-ap
 use Rattle.std.proofs.lemmas.List.Elements.{All-cons, All-append}
 use Rattle.std.proofs.lemmas.List.Splits.{slice_split_none, slice_split_at}
 use Rattle.std.proofs.Math.Seq.{take-append_seam, drop-append_seam}
+use Rattle.outcomes.specs.Outcomes.{first_of, or_else}
 use Rattle.idset.specs.Ranges.{IsRange, AreApart, ids_in}
 use Rattle.idset.specs.Runs.{range_text}
-use Rattle.idset.specs.Text.{is_comma, is_no_digit, is_empty, leading_digits, behind_digits, number_value, range_of, body, is_bracketed, items, spelled, first_of, item_faults, behind_faults, or_else, faults_in, first_fault}
+use Rattle.idset.specs.Text.{is_comma, is_no_digit, is_empty, leading_digits, behind_digits, number_value, range_of, body, is_bracketed, items, spelled, item_faults, behind_faults, faults_in, first_fault}
 use Rattle.idset.specs.declared.ranges.IdRange.{IdRange}
 use Rattle.idset.specs.declared.faults.IdFault.{IdFault}
 use Rattle.idset.specs.declared.faults.IdFault.TheVariants as fault

@@ -19,7 +19,8 @@ runs (id ∷ ids) = onto_runs id (runs ids)
 
 -- a run of one prints as its id, a longer one as its first and last id with a dash between
 abbrev pub range_text : IdRange → List ℕ
-range_text r = if r.first == r.last then decimal r.first else decimal r.first ++ dash ∷ decimal r.last
+range_text r = if r.first == r.last then decimal r.first
+    else decimal r.first ++ dash ∷ decimal r.last
 
 -- the runs joined by commas
 unfoldable pub printed : List ℕ → List ℕ

@@ -1,8 +1,9 @@
 -- The idset that a text spells, and the first fault of a text that spells none (Flux RFC 22).
-use Rattle.std.specs.Prelude.{◌≡◌, ℕ, ◌+◌, ◌==◌, nat_lt, nat_le, List, [], ◌∷◌, Bool, true, false, not, ◌&&◌, Option, Some, None, Result, Ok, Err, length, drop, map, if◌then◌else◌}
+use Rattle.std.specs.Prelude.{ℕ, ◌+◌, ◌==◌, nat_lt, nat_le, List, [], ◌∷◌, Bool, true, false, not, ◌&&◌, Option, Some, None, length, drop, map, if◌then◌else◌}
 use Rattle.std.specs.List.{position_or_len, before_first, slice_split}
 use Rattle.std.specs.Char.{is_ascii_digit}
 use Rattle.std.specs.Str.Parse.{digits_value}
+use Rattle.outcomes.specs.Outcomes.{first_of, or_else}
 use Rattle.lists.specs.Ascii.{closing_bracket, comma, dash, digit_zero, opening_bracket}
 use Rattle.idset.specs.Ranges.{ids_in}
 use Rattle.idset.specs.declared.ranges.IdRange.{IdRange}
@@ -71,11 +72,6 @@ items (b ∷ bs) = slice_split is_comma (b ∷ bs)
 unfoldable pub spelled : List ℕ → List ℕ
 spelled text = ids_in (map range_of (items (body text)))
 
--- the first of these that applies
-abbrev pub first_of : List (Bool × IdFault) → Option IdFault
-first_of [] = None
-first_of (t ∷ ts) = if t.0 then Some t.1 else first_of ts
-
 -- the faults of a range of two numbers that begins at a place, from left to right, Backwards first
 abbrev pub pair_faults : ℕ → List ℕ → List ℕ → List (Bool × IdFault)
 pair_faults place first tail = (
@@ -106,11 +102,6 @@ abbrev pub item_faults : ℕ → List ℕ → List (Bool × IdFault)
 item_faults place item = (is_empty (leading_digits item), fault.BadText place)
     ∷ behind_faults place (leading_digits item) (behind_digits item)
 
--- the first of two faults, if there is one
-abbrev pub or_else : Option IdFault → Option IdFault → Option IdFault
-or_else None later = later
-or_else (Some e) later = Some e
-
 -- the first fault of items, the first of which begins at a place
 abbrev pub faults_in : ℕ → List (List ℕ) → Option IdFault
 faults_in place [] = None
@@ -130,13 +121,7 @@ unfoldable pub first_fault : List ℕ → Option IdFault
 first_fault text =
     or_else (faults_in (body_place text) (items (body text))) (first_of (end_faults text))
 
--- the fault that a reader answered is this one, want of memory apart
-abbrev pub Faults : IdFault → Option IdFault → Type 0
-Faults fault.NoMemory first = Unit {0}
-Faults e first = first ≡ Some e
-
--- what a reader gives where the first fault is this: there is none and the value is so, or it is
--- the fault
-abbrev pub Reads : {X : Type 0} → Option IdFault → (X → Type 0) → Result X IdFault → Type 0
-Reads first P (Ok x) = (first ≡ None) × P x
-Reads first P (Err e) = Faults e first
+-- the faults that tell of what is read: all but want of memory
+abbrev pub lasting : IdFault → Option IdFault
+lasting fault.NoMemory = None
+lasting fault = Some fault

@@ -1,10 +1,11 @@
 //! The reader of idsets (Flux RFC 22).
-ghost use Rattle.std.specs.Prelude.{◌≡◌, ℕ, ◌+◌, ◌-◌, ◌^◌, ◌<◌, ◌≤◌, nat_lt, ◌==◌, ◌∷◌, [], length, map, All, MatchOption, OnOk};
+ghost use Rattle.std.specs.Prelude.{◌≡◌, ◌+◌, ◌-◌, ◌^◌, ◌<◌, ◌≤◌, nat_lt, ◌==◌, ◌∷◌, [], length, map, All, MatchOption};
 ghost use Rattle.std.specs.List.{position_or_len, slice_split};
 ghost use Rattle.std.specs.Option.{SomeIff};
 ghost use Rattle.std.specs.Str.Parse.{AllDigits};
+ghost use Rattle.outcomes.specs.Outcomes.{Reads, first_of};
 ghost use Rattle.idset.specs.Ranges.{IsRange};
-ghost use Rattle.idset.specs.Text.{is_comma, is_no_digit, leading_digits, behind_digits, behind_zeros, number_value, body, body_place, pair_faults, pair_of, item_faults, range_of, items, faults_in, end_faults, first_of, Reads, first_fault, spelled};
+ghost use Rattle.idset.specs.Text.{is_comma, is_no_digit, leading_digits, behind_digits, behind_zeros, number_value, body, body_place, pair_faults, pair_of, item_faults, range_of, items, faults_in, end_faults, first_fault, spelled, lasting};
 
 use crate::faults::IdFault;
 use crate::ranges::{IdRange, LAST_ID};
@@ -80,7 +81,7 @@ fn is_below(digits: &[u8], others: &[u8]) -> bool
 fn pair(first: &[u8], tail: &[u8], place: usize) -> Result<IdRange, IdFault>
     requires digits { AllDigits 10 first.now }
     requires place { place + length first.now + 1 + length tail.now < 2 ^ 64 }
-    ensures { Reads (first_of (pair_faults place first.now tail.now))
+    ensures { Reads lasting (first_of (pair_faults place first.now tail.now))
         (λ r. (r ≡ pair_of first.now tail.now) × IsRange r) result }
 {
     let (second, rest) = digits(tail);
@@ -108,7 +109,7 @@ fn pair(first: &[u8], tail: &[u8], place: usize) -> Result<IdRange, IdFault>
 /// The range of an item that begins at a place of the text.
 fn range(item: &[u8], place: usize) -> Result<IdRange, IdFault>
     requires { place + length item.now < 2 ^ 64 }
-    ensures { Reads (first_of (item_faults place item.now)) (λ r. (r ≡ range_of item.now)
+    ensures { Reads lasting (first_of (item_faults place item.now)) (λ r. (r ≡ range_of item.now)
         × IsRange r) result }
 {
     let (first, behind) = digits(item);
@@ -150,8 +151,9 @@ fn cut(text: &[u8]) -> (&[u8], Option<&[u8]>)
 /// The ranges of a text's items. The text is what ends at a place of a longer one.
 fn ranges(alloc: Global, text: &[u8], end: usize) -> Result<Vec<IdRange>, IdFault>
     requires { length text.now ≤ end }
-    ensures { Reads (faults_in (end - length text.now) (slice_split is_comma text.now)) (λ rs.
-        (rs.items ≡ map range_of (slice_split is_comma text.now)) × All IsRange rs.items) result }
+    ensures { Reads lasting (faults_in (end - length text.now) (slice_split is_comma text.now))
+        (λ rs. (rs.items ≡ map range_of (slice_split is_comma text.now)) × All IsRange rs.items)
+        result }
 {
     let mut ranges = Vec::new(alloc);
     let mut rest = text;
@@ -170,7 +172,7 @@ fn ranges(alloc: Global, text: &[u8], end: usize) -> Result<Vec<IdRange>, IdFaul
 /// a longer one.
 fn item_ranges(alloc: Global, text: &[u8], end: usize) -> Result<Vec<IdRange>, IdFault>
     requires { length text.now ≤ end }
-    ensures { Reads (faults_in (end - length text.now) (items text.now))
+    ensures { Reads lasting (faults_in (end - length text.now) (items text.now))
         (λ rs. (rs.items ≡ map range_of (items text.now)) × All IsRange rs.items) result }
 {
     if text.is_empty() {
@@ -199,7 +201,7 @@ fn inside(text: &[u8]) -> (&[u8], usize)
 /// Tests what stands behind the items, from a place on.
 fn close(text: &[u8], end: usize) -> Result<(), IdFault>
     requires { end ≡ body_place text.now + length (body text.now) }
-    ensures { Reads (first_of (end_faults text.now)) (λ _. end ≤ length text.now) result }
+    ensures { Reads lasting (first_of (end_faults text.now)) (λ _. end ≤ length text.now) result }
 {
     if text.first() != Some(&b'[') {
         return Ok(());
@@ -218,7 +220,7 @@ impl IdSet {
     /// brackets. Numbers may have leading zeros, and items stand in any order and may overlap. Of
     /// several faults the leftmost is answered, and at one place Backwards before TooLarge.
     pub fn read(alloc: Global, text: &[u8]) -> Result<IdSet, IdFault>
-        ensures { Reads (first_fault text.now) (λ s. s ≡ spelled text.now) result }
+        ensures { Reads lasting (first_fault text.now) (λ s. s ≡ spelled text.now) result }
     {
         let (items, end) = inside(text);
         let ranges = item_ranges(alloc, items, end)?;

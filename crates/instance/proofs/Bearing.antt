@@ -15,7 +15,7 @@ use Rattle.resource_set.specs.declared.node.Resources.{Resources}
 use Rattle.services.specs.Agrees.{AgreesServices}
 use Rattle.services.specs.Asks.{Keeps}
 use Rattle.services.specs.Value.{ServicesValue}
-use Rattle.workload.specs.Limits.{most_seconds}
+use Rattle.run_limits.specs.Limits.{most_seconds}
 use Rattle.answers.specs.declared.chronicle.Entry.{Entry}
 use Rattle.answers.specs.declared.chronicle.Entry.TheVariants as entry
 use Rattle.answers.specs.declared.steps.Step.TheVariants as step

@@ -12,7 +12,7 @@ use Rattle.workload.specs.declared.work.Actor.{Actor}
 use Rattle.workload.specs.declared.work.Line.{Line}
 use Rattle.workload.specs.declared.work.Workload.{Workload}
 use Rattle.workload.specs.Laws.{IsBuilt, IsWithin, KeepsTallies}
-use Rattle.workload.specs.Limits.{most_seconds}
+use Rattle.run_limits.specs.Limits.{most_seconds}
 use Rattle.workload.specs.Tallies.{seconds_in, submits_in}
 use Rattle.answers.specs.Chronicle.{Setup}
 use Rattle.answers.specs.Commands.{broker_of, namespace_at, staged_at}

@@ -22,7 +22,8 @@ use Rattle.workload.specs.declared.work.Command.TheVariants as command
 use Rattle.workload.specs.declared.work.Line.{Line}
 use Rattle.workload.specs.declared.work.Workload.{Workload}
 use Rattle.workload.specs.Laws.{IsBuilt}
-use Rattle.answers.specs.Commands.{commands_of, command_at, used_name, namespace_at, subject_of, subject_at, op_of, takes_staged, since_last, staged_at, most_staged}
+use Rattle.kvs_txn.specs.Staged.{most_ops}
+use Rattle.answers.specs.Commands.{commands_of, command_at, used_name, namespace_at, subject_of, subject_at, op_of, takes_staged, since_last, staged_at}
 use Rattle.instance.specs.declared.seats.Seat.{Seat}
 use Rattle.instance.specs.Seats.{ops_after, space_after, with_op}
 use Rattle.instance.specs.Agrees.{command_of, is_of, IsPlaced}
@@ -143,19 +144,19 @@ take_push n xs y = elim (cases_lt (length xs) n) [
 ]
 
 -- a command that stages nothing leaves what is staged
-staged_still : (c : Command) → op_of c ≡ None → (xs : List Command) → take most_staged (filter_map op_of (since_last takes_staged xs ++ c ∷ [])) ≡ take most_staged (filter_map op_of (since_last takes_staged xs))
+staged_still : (c : Command) → op_of c ≡ None → (xs : List Command) → take most_ops (filter_map op_of (since_last takes_staged xs ++ c ∷ [])) ≡ take most_ops (filter_map op_of (since_last takes_staged xs))
 staged_still c none xs =
-    ap (take most_staged) (filter_map-append op_of (since_last takes_staged xs) (c ∷ [])
+    ap (take most_ops) (filter_map-append op_of (since_last takes_staged xs) (c ∷ [])
     ∙ ap (λ o. filter_map op_of (since_last takes_staged xs) ++ cons_option o []) none
     ∙ append-nil (filter_map op_of (since_last takes_staged xs)))
 
-staged_more : (c : Command) (o : Op) → op_of c ≡ Some o → (xs : List Command) → take most_staged (filter_map op_of (since_last takes_staged xs ++ c ∷ [])) ≡ with_op (take most_staged (filter_map op_of (since_last takes_staged xs))) o
+staged_more : (c : Command) (o : Op) → op_of c ≡ Some o → (xs : List Command) → take most_ops (filter_map op_of (since_last takes_staged xs ++ c ∷ [])) ≡ with_op (take most_ops (filter_map op_of (since_last takes_staged xs))) o
 staged_more c o some xs =
-    ap (take most_staged) (filter_map-append op_of (since_last takes_staged xs) (c ∷ [])
+    ap (take most_ops) (filter_map-append op_of (since_last takes_staged xs) (c ∷ [])
     ∙ ap (λ p. filter_map op_of (since_last takes_staged xs) ++ cons_option p []) some)
-    ∙ take_push most_staged (filter_map op_of (since_last takes_staged xs)) o
+    ∙ take_push most_ops (filter_map op_of (since_last takes_staged xs)) o
 
-staged_with : (c : Command) → (xs : List Command) → take most_staged (filter_map op_of (cond (takes_staged c) [] (since_last takes_staged xs ++ c ∷ []))) ≡ ops_after c (take most_staged (filter_map op_of (since_last takes_staged xs)))
+staged_with : (c : Command) → (xs : List Command) → take most_ops (filter_map op_of (cond (takes_staged c) [] (since_last takes_staged xs ++ c ∷ []))) ≡ ops_after c (take most_ops (filter_map op_of (since_last takes_staged xs)))
 staged_with (command.Put path bytes) xs = staged_more (command.Put path bytes) (op.Put path bytes) refl xs
 staged_with (command.Append path bytes) xs = staged_more (command.Append path bytes) (op.Append path bytes) refl xs
 staged_with (command.Unlink path) xs = staged_more (command.Unlink path) (op.Unlink path) refl xs
@@ -171,8 +172,8 @@ staged_on work a i c at =
     let below : i < length cs = slice_get_within cs i c at in
     let grown : take (i + 1) cs ≡ take i cs ++ c ∷ [] =
     ap (λ n. take n cs) (add-one i) ∙ take-suc cs i c below ∙ ap (λ x. take i cs ++ x ∷ []) (get_or_from_slice_get cs i c c at) in
-    ap (λ xs. take most_staged (filter_map op_of (since_last takes_staged xs))) grown
-    ∙ ap (λ xs. take most_staged (filter_map op_of xs)) (since_push takes_staged (take i cs) c)
+    ap (λ xs. take most_ops (filter_map op_of (since_last takes_staged xs))) grown
+    ∙ ap (λ xs. take most_ops (filter_map op_of xs)) (since_push takes_staged (take i cs) c)
     ∙ staged_with c (take i cs)
 
 -- a line's command is one of a verb that is built

@@ -39,7 +39,8 @@ use Rattle.answers.specs.declared.chronicle.Entry.{Entry}
 use Rattle.answers.specs.declared.chronicle.Entry.TheVariants as entry
 use Rattle.answers.specs.declared.steps.Step.TheVariants as step
 use Rattle.answers.specs.Chronicle.{Setup, top, issues, issues_of, is_issued, replies_to}
-use Rattle.answers.specs.Commands.{command_at, ask_of, ask_at, subject_at, subject_of, staged_at, op_of, most_staged, broker_of, since_last, takes_staged, commands_before}
+use Rattle.kvs_txn.specs.Staged.{most_ops}
+use Rattle.answers.specs.Commands.{command_at, ask_of, ask_at, subject_at, subject_of, staged_at, op_of, broker_of, since_last, takes_staged, commands_before}
 use Rattle.answers.specs.Floors.{floor}
 use Rattle.answers.specs.Jobs.{happening_of, instance_of, job_ask_at, job_ask_of, log_in}
 use Rattle.answers.specs.Legal.{IsLegalEntry, IsStaging}
@@ -47,6 +48,7 @@ use Rattle.answers.specs.Services.{setting_of, log_of, moment_of, asked_at}
 use Rattle.answers.specs.Whole.{IsEarlierEntry}
 use Rattle.answers.proofs.Services.{log_push, asks_of, asked_issued, issued_below}
 use Rattle.answers.proofs.Floors.{floor_push}
+use Rattle.run_limits.specs.Limits.{most_seconds, most_submits}
 use Rattle.instance.specs.declared.seats.Seat.{Seat}
 use Rattle.instance.specs.declared.seats.Waiting.TheVariants as waiting
 use Rattle.workload.specs.Laws.{IsBuilt}
@@ -119,7 +121,7 @@ own_moment by other floored None e = refl
 own_moment by other floored (Some x) e = e
 
 time_kept : (old new : JobServiceValue) → new.span ≡ old.span → (asked : JobAsk) → HasTime old asked → HasTime new asked
-time_kept old new same (ask_of_jobs.Advance seconds) time = subst (λ n. n + seconds ≤ 1000000000) (sym same) time
+time_kept old new same (ask_of_jobs.Advance seconds) time = subst (λ n. n + seconds ≤ most_seconds) (sym same) time
 time_kept old new same _ time = tt
 
 module _ (v : Own) (h : DoesAgree v) (a : ℕ) (seat : Seat) (is : IsIssuing v a seat) where
@@ -182,11 +184,11 @@ module _ (v : Own) (h : DoesAgree v) (a : ℕ) (seat : Seat) (is : IsIssuing v a
     abbrev txn : Txn
     txn = record { author = author.User a; ops = seat.staged.ops }
 
-    at_most : (by : By) → length (staged_at v.set.work by) ≤ most_staged
+    at_most : (by : By) → length (staged_at v.set.work by) ≤ most_ops
     at_most by = bound (filter_map op_of (since_last takes_staged (commands_before v.set.work by)))
       where
-        bound : (xs : List Op) → length (take most_staged xs) ≤ most_staged
-        bound xs = omega (arith, length-take most_staged xs)
+        bound : (xs : List Op) → length (take most_ops xs) ≤ most_ops
+        bound xs = omega (arith, length-take most_ops xs)
 
     asking : (asked : Option KvsAsk) → asked ≡ ask_of (record { author = author.User a; ops = seat.staged.ops }) cmd → ask_at v.set.work by ≡ asked
     asking asked eq =
@@ -292,7 +294,7 @@ module _ (v : Own) (h : DoesAgree v) (a : ℕ) (seat : Seat) (is : IsIssuing v a
         where
           on : (j : Ordered) → job ≡ j → IfAsked j (λ x. is_submission (Some (told x)) ≡ true → HasRoom middle.jobs)
           on ordered.Nothing same = tt
-          on (ordered.Job x) same = λ one. subst (λ n. n < 1000) (sym keeps.counts.submitted)
+          on (ordered.Job x) same = λ one. subst (λ n. n < most_submits) (sym keeps.counts.submitted)
               (room_for v.instance v.set.work.lines h.tallied h.few a seat is.sits is.below (λ l. mine.1.placed.here l is.below) d x (sym jeq ∙ ap asked_in same) one)
           on ordered.Shutdown same = tt
 
@@ -367,16 +369,16 @@ module _ (v : Own) (h : DoesAgree v) (a : ℕ) (seat : Seat) (is : IsIssuing v a
           last false false t = absurd (true≢false (sym t))
 
       -- an operation finds room or none, and asks nothing
-      waits_staged : (c : Command) (op : Op) → op_of c ≡ Some op → c ≡ cmd → asked ≡ None → (b : Bool) → nat_lt (length seat.staged.ops) most_staged ≡ b →
+      waits_staged : (c : Command) (op : Op) → op_of c ≡ Some op → c ≡ cmd → asked ≡ None → (b : Bool) → nat_lt (length seat.staged.ops) most_ops ≡ b →
           Waits v.set (log ++ cons_option o []) a (seat.issued + 1) (cond b waiting.Staged waiting.TxnFull)
       waits_staged c op stages same none true room = (
         omega arith,
         subst (λ n. is_asked (command_of a n) (log ++ cons_option o []) ≡ false) back (still none),
-        subst (λ n. IsStaging v.set (command_of a n) (λ m. m < most_staged)) back (record {
+        subst (λ n. IsStaging v.set (command_of a n) (λ m. m < most_ops)) back (record {
           asked = c;
           named = at ∙ ap Some (sym same);
           stages = ap is_some stages;
-          room = subst (λ ops. length ops < most_staged) mine.1.staged (ltb-true (length seat.staged.ops) most_staged room);
+          room = subst (λ ops. length ops < most_ops) mine.1.staged (ltb-true (length seat.staged.ops) most_ops room);
         }),
       )
         where
@@ -385,21 +387,21 @@ module _ (v : Own) (h : DoesAgree v) (a : ℕ) (seat : Seat) (is : IsIssuing v a
       waits_staged c op stages same none false room = (
         omega arith,
         subst (λ n. is_asked (command_of a n) (log ++ cons_option o []) ≡ false) back (still none),
-        subst (λ n. IsStaging v.set (command_of a n) (λ m. m ≡ most_staged)) back (record {
+        subst (λ n. IsStaging v.set (command_of a n) (λ m. m ≡ most_ops)) back (record {
           asked = c;
           named = at ∙ ap Some (sym same);
           stages = ap is_some stages;
-          room = full (ltb-false (length seat.staged.ops) most_staged room);
+          room = full (ltb-false (length seat.staged.ops) most_ops room);
         }),
       )
         where
           still : asked ≡ None → is_asked by (log ++ cons_option o []) ≡ false
           still none = asked_push by log o (ap (λ r. asks_of by (option_map (λ y. Asked by seen) r)) none) ∙ unasked
 
-          full : most_staged ≤ length seat.staged.ops → length (staged_at v.set.work by) ≡ most_staged
+          full : most_ops ≤ length seat.staged.ops → length (staged_at v.set.work by) ≡ most_ops
           full high =
               let same_length : length seat.staged.ops ≡ length (staged_at v.set.work by) = ap length mine.1.staged in
-              let short : length (staged_at v.set.work by) ≤ most_staged = at_most by in
+              let short : length (staged_at v.set.work by) ≤ most_ops = at_most by in
               omega arith
 
       -- a command on jobs or on time asks the service nothing, nor does a shutdown
@@ -416,14 +418,14 @@ module _ (v : Own) (h : DoesAgree v) (a : ℕ) (seat : Seat) (is : IsIssuing v a
       waits_jobs c some other same none = (omega arith, still_unasked none, ap is_some (ask_there c same) ∙ some, λ e. other (sym (ask_there c same) ∙ e))
 
       waits_issued : (c : Command) → IsBuilt c → c ≡ cmd → Waits v.set (log ++ cons_option o []) a (seat.issued + 1) (waiting_after c seat.staged.ops)
-      waits_issued (command.Put path bytes) known same = waits_staged (command.Put path bytes) (op.Put path bytes) refl same (eq ∙ ap (ask_of txn) (sym same)) (nat_lt (length seat.staged.ops) most_staged) refl
+      waits_issued (command.Put path bytes) known same = waits_staged (command.Put path bytes) (op.Put path bytes) refl same (eq ∙ ap (ask_of txn) (sym same)) (nat_lt (length seat.staged.ops) most_ops) refl
       waits_issued command.Commit known same = waits_asked (ask.Commit txn) (eq ∙ ap (ask_of txn) (sym same))
       waits_issued (command.Fence name count) known same = waits_asked (ask.Fence name count txn) (eq ∙ ap (ask_of txn) (sym same))
       waits_issued (command.Get path) known same = waits_asked (ask.Read query.Get path) (eq ∙ ap (ask_of txn) (sym same))
-      waits_issued (command.Append path bytes) known same = waits_staged (command.Append path bytes) (op.Append path bytes) refl same (eq ∙ ap (ask_of txn) (sym same)) (nat_lt (length seat.staged.ops) most_staged) refl
-      waits_issued (command.Unlink path) known same = waits_staged (command.Unlink path) (op.Unlink path) refl same (eq ∙ ap (ask_of txn) (sym same)) (nat_lt (length seat.staged.ops) most_staged) refl
-      waits_issued (command.Mkdir path) known same = waits_staged (command.Mkdir path) (op.Mkdir path) refl same (eq ∙ ap (ask_of txn) (sym same)) (nat_lt (length seat.staged.ops) most_staged) refl
-      waits_issued (command.Symlink path target) known same = waits_staged (command.Symlink path target) (op.Link path target) refl same (eq ∙ ap (ask_of txn) (sym same)) (nat_lt (length seat.staged.ops) most_staged) refl
+      waits_issued (command.Append path bytes) known same = waits_staged (command.Append path bytes) (op.Append path bytes) refl same (eq ∙ ap (ask_of txn) (sym same)) (nat_lt (length seat.staged.ops) most_ops) refl
+      waits_issued (command.Unlink path) known same = waits_staged (command.Unlink path) (op.Unlink path) refl same (eq ∙ ap (ask_of txn) (sym same)) (nat_lt (length seat.staged.ops) most_ops) refl
+      waits_issued (command.Mkdir path) known same = waits_staged (command.Mkdir path) (op.Mkdir path) refl same (eq ∙ ap (ask_of txn) (sym same)) (nat_lt (length seat.staged.ops) most_ops) refl
+      waits_issued (command.Symlink path target) known same = waits_staged (command.Symlink path target) (op.Link path target) refl same (eq ∙ ap (ask_of txn) (sym same)) (nat_lt (length seat.staged.ops) most_ops) refl
       waits_issued (command.Ls path) known same = waits_asked (ask.Read query.List path) (eq ∙ ap (ask_of txn) (sym same))
       waits_issued (command.Readlink path) known same = waits_asked (ask.Read query.Link path) (eq ∙ ap (ask_of txn) (sym same))
       waits_issued (command.Wait number) known same = waits_asked (ask.Wait number) (eq ∙ ap (ask_of txn) (sym same))
@@ -483,7 +485,7 @@ module _ (v : Own) (h : DoesAgree v) (a : ℕ) (seat : Seat) (is : IsIssuing v a
 
             busy_so : (c : Command) (r : Option Op) → is_free (option_map_or (λ op. room_behind seat.staged.ops) r (waits_for c)) ≡ false
             busy_so c None = busy_other c
-            busy_so c (Some op) = busy_room (nat_lt (length seat.staged.ops) most_staged)
+            busy_so c (Some op) = busy_room (nat_lt (length seat.staged.ops) most_ops)
 
             busy : (c : Command) → is_free (waiting_after c seat.staged.ops) ≡ false
             busy c = busy_so c (op_of c)

@@ -11,11 +11,12 @@ use Rattle.services.specs.Agrees.{AgreesServices}
 use Rattle.workload.specs.declared.work.Command.TheVariants as command
 use Rattle.workload.specs.declared.work.Line.{Line}
 use Rattle.workload.specs.Laws.{IsBuilt, IsWithin, KeepsTallies}
-use Rattle.workload.specs.Limits.{most_seconds}
+use Rattle.run_limits.specs.Limits.{most_seconds}
 use Rattle.workload.specs.Tallies.{seconds_in, submits_in}
 use Rattle.answers.specs.declared.chronicle.Entry.{Entry}
 use Rattle.answers.specs.Chronicle.{Setup, top, issues_of, is_issued, replies_to}
-use Rattle.answers.specs.Commands.{broker_of, command_at, namespace_at, staged_at, most_staged, subject_at}
+use Rattle.kvs_txn.specs.Staged.{most_ops}
+use Rattle.answers.specs.Commands.{broker_of, command_at, namespace_at, staged_at, subject_at}
 use Rattle.answers.specs.Floors.{floor}
 use Rattle.answers.specs.Legal.{IsLegal, IsStaging}
 use Rattle.answers.specs.Jobs.{instance_of, job_ask_at, log_in}
@@ -45,10 +46,10 @@ abbrev pub Waits : Setup → Log → ℕ → ℕ → Waiting → Type 0
 Waits set log actor issued waiting.Nothing = Unit {0}
 Waits set log actor issued waiting.Staged =
     (0 < issued) × (is_asked (command_of actor (issued - 1)) log ≡ false)
-    × IsStaging set (command_of actor (issued - 1)) (λ n. n < most_staged)
+    × IsStaging set (command_of actor (issued - 1)) (λ n. n < most_ops)
 Waits set log actor issued waiting.TxnFull =
     (0 < issued) × (is_asked (command_of actor (issued - 1)) log ≡ false)
-    × IsStaging set (command_of actor (issued - 1)) (λ n. n ≡ most_staged)
+    × IsStaging set (command_of actor (issued - 1)) (λ n. n ≡ most_ops)
 Waits set log actor issued (waiting.Tell to) =
     (0 < issued) × (is_asked (command_of actor (issued - 1)) log ≡ false)
     × (command_at set.work (command_of actor (issued - 1)) ≡ Some (command.Tell to))
@@ -107,8 +108,8 @@ is_ahead seats at = option_map_or (λ seat. nat_le seat.next at.0) (slice_get se
 abbrev pub lines_ahead : List Seat → List Line → List Line
 lines_ahead seats lines = map (λ at. at.1) (filter (is_ahead seats) (enumerate_from 0 lines))
 
--- what was issued and what is ahead submit as many jobs as all lines, and the seconds of the advances
--- that were issued leave room for those of the lines ahead
+-- what was issued and what is ahead submit as many jobs as all lines, and the seconds of the
+-- advances that were issued leave room for those of the lines ahead
 pub record IsTallied (v : InstanceValue) (lines : List Line) : Type 0 where
   pub submits : v.services.jobs.submitted + submits_in (lines_ahead v.seats lines)
       ≡ submits_in lines

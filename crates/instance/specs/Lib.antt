@@ -1,6 +1,6 @@
+-- what the calls promise
 pub mod Floors
 pub mod Seats
-pub mod Replies
 pub mod Value
 pub mod Jobs
 pub mod Steps
@@ -8,6 +8,8 @@ pub mod Order
 pub mod Agrees
 pub mod Family
 pub mod Closings
-pub mod First
 pub mod Makes
 pub mod View
+-- what the code keeps to that end
+pub mod Replies
+pub mod First

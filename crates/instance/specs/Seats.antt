@@ -13,7 +13,8 @@ use Rattle.services.specs.Steps.{can_take}
 use Rattle.services.specs.Value.{ServicesValue}
 use Rattle.workload.specs.declared.work.Command.{Command}
 use Rattle.workload.specs.declared.work.Command.TheVariants as command
-use Rattle.answers.specs.Commands.{op_of, takes_staged, most_staged, used_name}
+use Rattle.kvs_txn.specs.Staged.{most_ops}
+use Rattle.answers.specs.Commands.{op_of, takes_staged, used_name}
 use Rattle.answers.specs.Jobs.{job_ask_of}
 use Rattle.instance.specs.declared.seats.Seat.{Seat}
 use Rattle.instance.specs.declared.seats.Waiting.{Waiting}
@@ -22,11 +23,11 @@ use Rattle.instance.specs.Floors.{Floors, floor_in}
 
 -- what an operation that is to be staged behind these finds
 abbrev pub room_behind : List Op → Waiting
-room_behind ops = if nat_lt (length ops) most_staged then waiting.Staged else waiting.TxnFull
+room_behind ops = if nat_lt (length ops) most_ops then waiting.Staged else waiting.TxnFull
 
 -- the staged operations with one more, if there is room
 abbrev pub with_op : List Op → Op → List Op
-with_op ops op = if nat_lt (length ops) most_staged then ops ++ op ∷ [] else ops
+with_op ops op = if nat_lt (length ops) most_ops then ops ++ op ∷ [] else ops
 
 -- what an actor waits for whose command stages nothing
 abbrev pub waits_for : Command → Waiting

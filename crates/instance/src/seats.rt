@@ -7,7 +7,8 @@ ghost use Rattle.instance_rules.specs.Log.{Instance, Log, Served, service_of};
 ghost use Rattle.services.specs.Agrees.{AgreesServices};
 ghost use Rattle.services.specs.Asks.{IsServedAsk, Keeps, MayAsk};
 ghost use Rattle.workload.specs.Laws.{IsBuilt};
-ghost use Rattle.answers.specs.Commands.{ask_of, op_of, most_staged, subject_of};
+ghost use Rattle.kvs_txn.specs.Staged.{most_ops};
+ghost use Rattle.answers.specs.Commands.{ask_of, op_of, subject_of};
 ghost use Rattle.instance.specs.Seats.{room_behind, with_op, waiting_after, waits_for, ops_after, space_after, seat_floor, moment_asked, AreTold, IsTheAsk, has_come, is_free};
 ghost use Rattle.instance.specs.Steps.{has_issue, has_answer, next_of};
 
@@ -73,7 +74,7 @@ fn stage(staged: &mut Txn, op: Op) -> Result<Waiting, AllocError>
     ensures author { staged.new.author ≡ staged.old.author }
     ensures done { IfOk result (λ waiting. (waiting ≡ room_behind staged.old.ops)
         × (staged.new.ops ≡ with_op staged.old.ops op)) }
-    ensures full { most_staged ≤ length staged.old.ops → result ≡ Ok Waiting.TxnFull }
+    ensures full { most_ops ≤ length staged.old.ops → result ≡ Ok Waiting.TxnFull }
 {
     match staged.stage(op) {
         Ok(()) => Ok(Waiting::Staged),

@@ -9,11 +9,12 @@ use instance::{Instance, Setting};
 use std::alloc::Global;
 use std::test::Fail;
 use tap::Weights;
-use workload::laws::{
+use workload::{Actor, Grant, Line, Workload};
+use workload_reader::laws::{
     spelled_commands_are_built, spelled_labels_are_their_own, spelled_tallies_are_kept,
     spelled_workloads_are_within,
 };
-use workload::{Actor, Grant, Line, Workload, read};
+use workload_reader::read;
 
 const SETTING: Setting = Setting {
     size: 2,
@@ -21,8 +22,8 @@ const SETTING: Setting = Setting {
     hash: Hash::Sha1,
 };
 
-const GRANT: &str =
-    r#"{"version":1,"execution":{"R_lite":[{"rank":"0","children":{"core":"0-3"}}],"starttime":0,"expiration":0,"nodelist":["node0"]}}"#;
+const GRANT: &str = r#"{"version":1,"execution":{"R_lite":[{"rank":"0","children":{"core":"0-3"}}]\
+        ,"starttime":0,"expiration":0,"nodelist":["node0"]}}"#;
 
 /// Who acts, or none where the service does all that it can; and what happens.
 type Part = (Option<u32>, &'static str);
@@ -355,8 +356,10 @@ fn a_thousand_operations_are_staged_and_no_more(rt: HostRuntime) -> Result<(), F
 }
 
 /// An actor submits a job that runs for 3 seconds, lets 5 pass, and asks for the result.
-const JOBS: &str =
-    "actor a 0\na submit one {\"resources\":[{\"type\":\"slot\",\"count\":1,\"with\":[{\"type\":\"core\",\"count\":1}],\"label\":\"task\"}],\"tasks\":[{\"command\":[\"sleep\",\"3\"],\"slot\":\"task\",\"count\":{\"per_slot\":1}}],\"version\":1}\na advance 5\na result one\n";
+const JOBS: &str = "actor a 0\na submit one {\"resources\":[{\"type\":\"slot\",\"count\":1,\
+        \"with\":[{\"type\":\"core\",\"count\":1}],\"label\":\"task\"}],\
+        \"tasks\":[{\"command\":[\"sleep\",\"3\"],\"slot\":\"task\",\"count\":{\"per_slot\":1}}],\
+        \"version\":1}\na advance 5\na result one\n";
 
 /// What an actor sees, and the time.
 fn tell_seen(alloc: Global, text: &mut Vec<u8>, entries: &[Entry]) -> Result<(), Fail> {
@@ -479,14 +482,18 @@ fn seen_of(alloc: Global, text: &str) -> Result<Vec<u8>, Fail> {
 fn a_job_runs_while_time_goes_on(rt: HostRuntime) -> Result<(), Fail> {
     let text = seen_of(rt.alloc(), JOBS)?;
     let is_so = text.as_slice()
-        == b"0 issued 0, 0 submitted, 0 issued 1, ticked 3, ticked 5, 0 advanced, 0 issued 2, 0 ended, ".as_slice();
+        == b"0 issued 0, 0 submitted, 0 issued 1, ticked 3, ticked 5, 0 advanced, 0 issued 2, 0 \
+            ended, "
+            .as_slice();
     assert!(rt; is_so);
     Ok(())
 }
 
 /// An actor submits a job that runs for 3 seconds, and waits for its result.
-const SLEEP: &str =
-    "actor a 0\na submit one {\"resources\":[{\"type\":\"slot\",\"count\":1,\"with\":[{\"type\":\"core\",\"count\":1}],\"label\":\"task\"}],\"tasks\":[{\"command\":[\"sleep\",\"3\"],\"slot\":\"task\",\"count\":{\"per_slot\":1}}],\"version\":1}\na result one\n";
+const SLEEP: &str = "actor a 0\na submit one {\"resources\":[{\"type\":\"slot\",\"count\":1,\
+        \"with\":[{\"type\":\"core\",\"count\":1}],\"label\":\"task\"}],\
+        \"tasks\":[{\"command\":[\"sleep\",\"3\"],\"slot\":\"task\",\"count\":{\"per_slot\":1}}],\
+        \"version\":1}\na result one\n";
 
 /// Whether the job runs up to second 3, holds resources, and has no child, and nothing else is
 /// ahead.

@@ -40,6 +40,7 @@ impl Model for Queue {
 }
 
 impl Queue {
+    /// The queue without jobs.
     pub fn new(alloc: Global) -> Queue
         ensures { result ≡ ([], []) }
     {

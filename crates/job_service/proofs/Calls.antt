@@ -54,9 +54,10 @@ use Rattle.manager_rules.specs.declared.due.Due.{Due}
 use Rattle.resource_set.specs.Writing.{r_text}
 use Rattle.resource_set.specs.declared.node.Resources.{Resources}
 use Rattle.tap.specs.declared.Ask.{Ask}
+use Rattle.run_limits.specs.Limits.{most_seconds, most_submits}
 use Rattle.job_service.specs.Agrees.{AgreesJobs, IsAgreed, IsNewAsk, IsServedBy}
 use Rattle.job_service.specs.Children.{IsBearing}
-use Rattle.job_service.specs.Due.{IsEventDue, IsFoundBeside, Owes, scene_now}
+use Rattle.job_service.specs.Due.{IsEventDue, IsFoundBeside, Owes}
 use Rattle.job_service.specs.Judged.{AreJudged}
 use Rattle.job_service.specs.Posted.{IsAlone, IsNamed}
 use Rattle.job_service.specs.Refusals.{fault_for, is_refusal_of, reply_to, row_in}
@@ -253,12 +254,12 @@ module _ (spent : Bool) (weights : Weights) (birth size fanout : ℕ) (grant : R
   no_rows [] none = refl
   no_rows (row ∷ rows) none = absurd (none row (contains_from (row ∷ rows) row (inl refl)))
 
-  pub begun_timed : AreInTime commands birth birth (1000000000 + 0)
+  pub begun_timed : AreInTime commands birth birth (most_seconds + 0)
   begun_timed =
       let timed = begins_in_time commands plain (set plain) in
       record {
         present = omega arith;
-        targets = all_from (λ target. target ≤ birth + (1000000000 + 0)) (targets_of commands) (λ target i.
+        targets = all_from (λ target. target ≤ birth + (most_seconds + 0)) (targets_of commands) (λ target i.
             (let low : target ≤ birth + 0 = all_at (λ t. t ≤ birth + 0) (targets_of commands) target timed.targets i in omega (arith, low)));
       }
 
@@ -336,8 +337,8 @@ labelled_still v new inst log m jobs old later h = λ id c.
 
 -- of the time, of children, and of submissions
 pub record GoesOn (v : JobServiceValue) (manager : ManagerValue) (commands : CommandsValue) (refused : List Refused) (submitted span : ℕ) (bearing : Option ℕ) : Type 0 where
-  pub timed : AreInTime commands v.birth v.second (1000000000 + span)
-  pub near : span ≤ 1000000000
+  pub timed : AreInTime commands v.birth v.second (most_seconds + span)
+  pub near : span ≤ most_seconds
   pub bears : IsBearing commands manager.book bearing
   pub drawn : (rank : ℕ) → rank < length commands.issued → slice_index commands.issued rank ≤ submitted
   pub marked : AreMarkedBy commands v.second
@@ -351,7 +352,7 @@ alone_in v i = found-alone v.weights v.commands v.manager.book v.second v.birth 
 
 pub fit : (v : JobServiceValue) → IsFit v → (spent : Bool) (manager : ManagerValue) (commands : CommandsValue) (refused : List Refused) (later : Option Post) (submitted span : ℕ) (bearing : Option ℕ) → manager.spent ≡ false → manager.core.size ≡ v.manager.core.size
     → length commands.issued ≡ length v.commands.issued → IsFoundBeside v.weights manager.posted commands manager.book v.second v.birth later → IsNamed commands v.birth manager.posted
-    → length manager.book.jobs + count_by is_submit commands.rows ≤ submitted → submitted ≤ 1000 → GoesOn v manager commands refused submitted span bearing → IsAgreed (spanned (with_parts v spent manager commands refused later submitted) span bearing) → IsFit (spanned (with_parts v spent manager commands refused later submitted) span bearing)
+    → length manager.book.jobs + count_by is_submit commands.rows ≤ submitted → submitted ≤ most_submits → GoesOn v manager commands refused submitted span bearing → IsAgreed (spanned (with_parts v spent manager commands refused later submitted) span bearing) → IsFit (spanned (with_parts v spent manager commands refused later submitted) span bearing)
 fit v i spent manager commands refused later submitted span bearing ready size same sought posted counted bounded goes agreed = record {
   ready = ready;
   size = same ∙ i.size ∙ sym size;

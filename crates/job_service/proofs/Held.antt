@@ -10,6 +10,7 @@ use Rattle.job_manager.specs.Posts.{post_of}
 use Rattle.job_manager.specs.Value.{ManagerValue}
 use Rattle.job_manager.specs.declared.post.Post.{Post}
 use Rattle.manager_rules.specs.Posts as rules
+use Rattle.run_limits.specs.Limits.{most_seconds, most_submits}
 use Rattle.job_service.specs.Agrees.{IsAgreed}
 use Rattle.job_service.specs.Children.{IsBearing}
 use Rattle.job_service.specs.Times.{MayPassTo}
@@ -34,7 +35,7 @@ held_still s h spent manager ready size book posted agreed = record {
 
 -- where the manager stays, and what is due is looked for anew
 pub held_next : (s : Inside) → IsHeld s → (spent : Bool) (commands : CommandsValue) (refused : Vec Refused) (later : Option Post) (submitted span : ℕ) (bearing : Option ℕ) → length commands.issued ≡ length s.commands.issued → IsNamed commands s.birth s.manager.posted
-    → length s.manager.book.jobs + count_by is_submit commands.rows ≤ submitted → submitted ≤ 1000 → AreInTime commands s.birth s.second (1000000000 + span) → span ≤ 1000000000 → IsBearing commands s.manager.book bearing → ((rank : ℕ) → rank < length commands.issued → slice_index commands.issued rank ≤ submitted) → AreMarkedBy commands s.second → AreJudged commands s.manager.book.jobs refused.items
+    → length s.manager.book.jobs + count_by is_submit commands.rows ≤ submitted → submitted ≤ most_submits → AreInTime commands s.birth s.second (most_seconds + span) → span ≤ most_seconds → IsBearing commands s.manager.book bearing → ((rank : ℕ) → rank < length commands.issued → slice_index commands.issued rank ≤ submitted) → AreMarkedBy commands s.second → AreJudged commands s.manager.book.jobs refused.items
     → IsFoundBeside s.weights s.manager.posted commands s.manager.book s.second s.birth (option_map post_of later)
     → IsAgreed (spanned (with_parts (value_of s) spent s.manager commands refused.items (option_map post_of later) submitted) span bearing) → IsHeld (record s { spent = spent; commands = commands; refused = refused; found = later; bearing = bearing; submitted = submitted; span = span })
 held_next s h spent commands refused later submitted span bearing size named counted bounded timed near bears drawn marked judged found agreed =
@@ -59,7 +60,7 @@ held_posted s h spent manager id left post none ready is p names agreed =
 
 -- where a post has landed
 pub held_landed : (s : Inside) → IsHeld s → (spent : Bool) (manager : ManagerValue) (commands : CommandsValue) (refused : Vec Refused) (later : Option Post) (bearing : Option ℕ) → manager.spent ≡ false → manager.core.size ≡ s.manager.core.size → manager.posted ≡ None → length commands.issued ≡ length s.commands.issued
-    → length manager.book.jobs + count_by is_submit commands.rows ≤ s.submitted → AreInTime commands s.birth s.second (1000000000 + s.span) → IsBearing commands manager.book bearing → ((rank : ℕ) → rank < length commands.issued → slice_index commands.issued rank ≤ s.submitted) → AreMarkedBy commands s.second → AreJudged commands manager.book.jobs refused.items
+    → length manager.book.jobs + count_by is_submit commands.rows ≤ s.submitted → AreInTime commands s.birth s.second (most_seconds + s.span) → IsBearing commands manager.book bearing → ((rank : ℕ) → rank < length commands.issued → slice_index commands.issued rank ≤ s.submitted) → AreMarkedBy commands s.second → AreJudged commands manager.book.jobs refused.items
     → IsFoundBeside s.weights manager.posted commands manager.book s.second s.birth (option_map post_of later)
     → IsAgreed (spanned (with_parts (value_of s) spent manager commands refused.items (option_map post_of later) s.submitted) s.span bearing) → IsHeld (record s { spent = spent; manager = manager; commands = commands; refused = refused; found = later; bearing = bearing; submitting = None })
 held_landed s h spent manager commands refused later bearing ready size posted same counted timed bears drawn marked judged found agreed =
@@ -112,7 +113,7 @@ held_child s h spent commands children later bearing is bears found agreed =
     (subst (λ w. IsNamed w s.birth s.manager.posted) so (named_as s.commands children s.birth s.manager.posted i.posted))
     (subst (λ w. length s.manager.book.jobs + count_by is_submit w.rows ≤ s.submitted) so i.counted)
     i.bounded
-    (subst (λ w. AreInTime w s.birth s.second (1000000000 + s.span)) so (timed_as s.commands children s.birth s.second (1000000000 + s.span) i.timed))
+    (subst (λ w. AreInTime w s.birth s.second (most_seconds + s.span)) so (timed_as s.commands children s.birth s.second (most_seconds + s.span) i.timed))
     i.near bears
     (subst (λ (w : CommandsValue). (rank : ℕ) → rank < length w.issued → slice_index w.issued rank ≤ s.submitted) so i.drawn)
     (subst (λ w. AreMarkedBy w s.second) so i.marked)

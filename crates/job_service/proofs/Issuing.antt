@@ -12,6 +12,7 @@ use Rattle.instance_rules.specs.Log.{Instance, IsPending, JobAsk as Asks, JobRep
 use Rattle.instance_rules.specs.Replies.{AsksForEvent}
 use Rattle.job_clock.proofs.Times.{advance_in_time, other_in_time}
 use Rattle.job_clock.specs.Targets.{AreInTime}
+use Rattle.run_limits.specs.Limits.{most_seconds, most_submits}
 use Rattle.job_service.specs.Times.{HasTime, seconds_asked}
 use Rattle.job_commands.proofs.Desks.{there_and_back}
 use Rattle.job_commands.proofs.Logs.{differs}
@@ -264,7 +265,7 @@ counted_more jobs submitted more v new by rank now asked submits rows s is h =
     as_count true = refl
     as_count false = refl
 
-pub room_left : (v : JobServiceValue) (asked : JobAsk) (more : ℕ) (submits : Bool) → submits ≡ is_submission (Some (told asked)) → more ≡ bool_byte submits → (is_submission (Some (told asked)) ≡ true → HasRoom v) → v.submitted ≤ 1000 → v.submitted + more ≤ 1000
+pub room_left : (v : JobServiceValue) (asked : JobAsk) (more : ℕ) (submits : Bool) → submits ≡ is_submission (Some (told asked)) → more ≡ bool_byte submits → (is_submission (Some (told asked)) ≡ true → HasRoom v) → v.submitted ≤ most_submits → v.submitted + more ≤ 1000
 room_left v asked more true s is room h = let below = room (sym s) in let one : more ≡ 1 = is in omega (arith, below, one)
 room_left v asked more false s is room h = let none : more ≡ 0 = is in omega (arith, h, none)
 
@@ -299,13 +300,13 @@ issued_time v new by rank now birth span ask.Jobs rows h = subst (AreInTime new 
 issued_time v new by rank now birth span (ask.Why label) rows h = subst (AreInTime new birth now) (sym (plus-none span)) (other_in_time v new (issued_row v by rank now (ask.Why label)) birth now span rows refl h)
 issued_time v new by rank now birth span (ask.ResultOf label) rows h = subst (AreInTime new birth now) (sym (plus-none span)) (other_in_time v new (issued_row v by rank now (ask.ResultOf label)) birth now span rows refl h)
 
-pub issued_within : (v new : CommandsValue) (by : By) (rank now birth span : ℕ) (asked : JobAsk) → new.rows ≡ v.rows ++ issued_row v by rank now asked ∷ [] → AreInTime v birth now (1000000000 + span) → AreInTime new birth now (1000000000 + (span + seconds_asked asked))
+pub issued_within : (v new : CommandsValue) (by : By) (rank now birth span : ℕ) (asked : JobAsk) → new.rows ≡ v.rows ++ issued_row v by rank now asked ∷ [] → AreInTime v birth now (most_seconds + span) → AreInTime new birth now (most_seconds + (span + seconds_asked asked))
 issued_within v new by rank now birth span asked rows h =
     let more = seconds_asked asked in
-    let same : (1000000000 + span) + more ≡ 1000000000 + (span + more) = omega arith in
-    subst (AreInTime new birth now) same (issued_time v new by rank now birth (1000000000 + span) asked rows h)
+    let same : (most_seconds + span) + more ≡ most_seconds + (span + more) = omega arith in
+    subst (AreInTime new birth now) same (issued_time v new by rank now birth (most_seconds + span) asked rows h)
 
-pub time_left : (v : JobServiceValue) (asked : JobAsk) → HasTime v asked → v.span ≤ 1000000000 → v.span + seconds_asked asked ≤ 1000000000
+pub time_left : (v : JobServiceValue) (asked : JobAsk) → HasTime v asked → v.span ≤ most_seconds → v.span + seconds_asked asked ≤ most_seconds
 time_left v (ask.Advance seconds) h near = h
 time_left v _ h near = omega (arith, near)
 

@@ -1,5 +1,5 @@
 -- A command that shuts its instance down leaves the jobs where they are, when it is issued and when it is told so.
-use Rattle.std.proofs.Common.{◌≡◌, ◌≢◌, ℕ, List, [], ◌∷◌, ◌++◌, Bool, true, false, cond, inl, inr, Option, Some, None, Contains, refl, sym, ap, ap₂, ◌∙◌, subst, true≢false}
+use Rattle.std.proofs.Common.{◌≡◌, ◌≢◌, ℕ, List, [], ◌∷◌, ◌++◌, Bool, true, false, cond, inl, inr, Option, Some, None, Contains, refl, sym, ap, ap₂, ◌∙◌, subst}
 use Rattle.std.specs.Prelude.{filter, filter_map, not, option_map, slice_index}
 use Rattle.std.specs.List.{cons_option}
 use Rattle.job_rules.proofs.Among.{Among, contains_from}
@@ -32,7 +32,6 @@ use Rattle.job_service.specs.Agrees.{AgreesJobs}
 use Rattle.job_service.specs.Due.{Owes}
 use Rattle.job_service.specs.Refusals.{reply_to}
 use Rattle.job_service.specs.Value.{JobServiceValue}
-use Rattle.job_service.specs.declared.refusals.Refused.{Refused}
 use Rattle.job_service.proofs.Facts.{issued_service, legal_kept, replied_service, unissued_before, unissued_other, untold_kept}
 use Rattle.job_service.proofs.Calls.{facts}
 

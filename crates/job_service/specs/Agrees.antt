@@ -16,6 +16,7 @@ use Rattle.job_submissions.specs.Made.{AreLabelled}
 use Rattle.resource_set.specs.declared.node.Resources.{Resources}
 use Rattle.tap.specs.Factors.{priority_by}
 use Rattle.tap.specs.declared.weights.Weights.{Weights}
+use Rattle.run_limits.specs.Limits.{most_submits}
 use Rattle.job_service.specs.declared.refusals.Refused.{Refused}
 use Rattle.job_service.specs.Due.{Owes}
 use Rattle.job_service.specs.Refusals.{reply_to}
@@ -65,7 +66,7 @@ pub record AgreesJobs (v : JobServiceValue) (inst : Instance) (log : Log) : Type
 
 -- another submission can be issued
 abbrev pub HasRoom : JobServiceValue → Type 0
-HasRoom v = v.submitted < 1000
+HasRoom v = v.submitted < most_submits
 
 -- it stands where the log of some instance leaves it
 pub record IsAgreed (v : JobServiceValue) : Type 0 where

@@ -5,6 +5,7 @@ use Rattle.job_clock.specs.Standing.{PassesNone}
 use Rattle.job_clock.specs.Targets.{targets_of}
 use Rattle.job_commands.specs.declared.ask.JobAsk.{JobAsk}
 use Rattle.job_commands.specs.declared.ask.JobAsk.TheVariants as ask
+use Rattle.run_limits.specs.Limits.{most_seconds}
 use Rattle.job_service.specs.Value.{JobServiceValue}
 
 -- the seconds by which a command lets time go on
@@ -30,7 +31,7 @@ pub record KeepsCounts (old new : JobServiceValue) : Type 0 where
 
 -- all advances of the instance together let time go on by no more than 1,000,000,000 seconds
 abbrev pub HasTime : JobServiceValue → JobAsk → Type 0
-HasTime v (ask.Advance seconds) = v.span + seconds ≤ 1000000000
+HasTime v (ask.Advance seconds) = v.span + seconds ≤ most_seconds
 HasTime v _ = Unit {0}
 
 -- nothing is posted and nothing is due, and time may go on to this second by whatever advance of
@@ -40,7 +41,7 @@ pub record MayPassTo (v : JobServiceValue) (second : ℕ) : Type 0 where
   pub unfound : v.found ≡ None
   pub unborn : v.bearing ≡ None
   pub passes : PassesNone (seconds_left v.second v.manager.book) v.second second
-  pub near : second ≤ v.birth + 1000000000
+  pub near : second ≤ v.birth + most_seconds
 
 -- the seconds ahead that open advances wait for
 abbrev pub targets_left : JobServiceValue → List ℕ

@@ -6,10 +6,10 @@ use Rattle.manager_rules.specs.Posts.{Post}
 use Rattle.tap.specs.declared.weights.Weights.{Weights}
 use Rattle.job_service.specs.declared.refusals.Refused.{Refused}
 
--- the weights by which its jobs have their priorities, the second of its birth and the present one, the manager with the service below it, the open job
--- commands and the children, submissions that are refused, what is due and isn't posted, the first
--- job whose child is to be born, how many submissions were issued, and the seconds of all advances
--- that were issued
+-- the weights by which its jobs have their priorities, the second of its birth and the present one,
+-- the manager with the service below it, the open job commands and the children, submissions that
+-- are refused, what is due and isn't posted, the first job whose child is to be born, how many
+-- submissions were issued, and the seconds of all advances that were issued
 pub record JobServiceValue : Type 0 where
   pub spent : Bool
   pub weights : Weights

@@ -3,6 +3,7 @@ use Rattle.std.specs.Prelude.{◌≡◌, ℕ, ◌+◌, ◌≤◌, ◌<◌, ◌^�
 use Rattle.job_clock.specs.Targets.{AreInTime}
 use Rattle.job_commands.specs.Rows.{AreMarkedBy, is_submit}
 use Rattle.job_manager.specs.Posts.{post_of}
+use Rattle.run_limits.specs.Limits.{most_seconds, most_submits}
 use Rattle.job_service.specs.declared.service.JobService.TheInside.{Inside}
 use Rattle.job_service.specs.Agrees.{IsAgreed}
 use Rattle.job_service.specs.Children.{IsBearing}
@@ -32,16 +33,16 @@ pub record IsFit (v : JobServiceValue) : Type 0 where
   pub size : length v.commands.issued ≡ v.manager.core.size
   pub few : v.manager.core.size ≤ 32
   pub order : v.birth ≤ v.second
-  pub soon : v.second ≤ v.birth + 1000000000
+  pub soon : v.second ≤ v.birth + most_seconds
   pub early : v.birth + 2000000000 < 2 ^ 64
-  pub timed : AreInTime v.commands v.birth v.second (1000000000 + v.span)
-  pub near : v.span ≤ 1000000000
+  pub timed : AreInTime v.commands v.birth v.second (most_seconds + v.span)
+  pub near : v.span ≤ most_seconds
   pub sought : IsFoundBeside v.weights v.manager.posted v.commands v.manager.book v.second v.birth
       v.found
   pub posted : IsNamed v.commands v.birth v.manager.posted
   pub named : IsNamed v.commands v.birth v.found
   pub counted : length v.manager.book.jobs + count_by is_submit v.commands.rows ≤ v.submitted
-  pub bounded : v.submitted ≤ 1000
+  pub bounded : v.submitted ≤ most_submits
   pub drawn : (rank : ℕ) → rank < length v.commands.issued
       → slice_index v.commands.issued rank ≤ v.submitted
   pub marked : AreMarkedBy v.commands v.second

@@ -13,6 +13,7 @@ ghost use Rattle.kvs_rules.specs.Log.{Asked as AskedAt, Happened};
 ghost use Rattle.kvs_rules.specs.Quiet.{AreAllTold};
 ghost use Rattle.kvs_rules.specs.declared.events.KvsEvent.TheVariants as event;
 ghost use Rattle.resource_set.specs.Valid.{IsR};
+ghost use Rattle.run_limits.specs.Limits.{most_seconds};
 ghost use Rattle.job_service.specs.Agrees.{AgreesJobs, HasRoom, IsNewAsk, IsNewCommand, IsServedBy, MayAsk, MayIssue};
 ghost use Rattle.job_service.specs.Children.{IsFirstBirth, IsGrantedBy, NoBirth, grant_from, is_due, is_end_due, may_end};
 ghost use Rattle.job_service.specs.Makes.{Makes};
@@ -51,6 +52,7 @@ use kvs_rules::{KvsAsk, KvsStep};
 use kvs_txn::By;
 use lists::Bytes;
 use resource_set::Resources;
+use run_limits::MOST_SUBMITS;
 use std::alloc::{AllocError, Global};
 use std::marker::Model;
 use tap::Weights;
@@ -457,12 +459,12 @@ impl JobService {
     pub fn has_room(&self) -> bool
         ensures { IsTrue result ↔ HasRoom self.now }
     {
-        self.submitted < 1000
+        self.submitted < MOST_SUBMITS
     }
 
     /// Whether an advance by so many seconds can be issued.
     pub fn has_time(&self, seconds: u64) -> bool
-        ensures { IsTrue result ↔ (self.now.span + seconds ≤ 1000000000) }
+        ensures { IsTrue result ↔ (self.now.span + seconds ≤ most_seconds) }
     {
         is_within(self.span, seconds)
     }
@@ -526,8 +528,8 @@ impl JobService {
         self.manager.book().next_second(self.second)
     }
 
-    /// Lets time go on to this second, by an advance of whatever instance of the run. After an error
-    /// the service is spent.
+    /// Lets time go on to this second, by an advance of whatever instance of the run. After an
+    /// error the service is spent.
     pub fn tick(&mut self, second: u64) -> Result<(), AllocError>
         requires ready { self.old.spent ≡ false }
         requires may { MayPassTo self.old second }
@@ -569,8 +571,8 @@ impl JobService {
 
     /// Where nothing but time can go on, nothing is due by the log of the instance. Where no target
     /// is left besides, none of its advances is; and where all brokers are told, a job command that
-    /// is left waits for the result of a job that isn't over; shutdowns are another's. Nothing is due
-    /// where the core is still, nothing is to be posted and no child is to be born.
+    /// is left waits for the result of a job that isn't over; shutdowns are another's. Nothing is
+    /// due where the core is still, nothing is to be posted and no child is to be born.
     pub fn still(&self)
         requires { self.now.spent ≡ false }
         ensures idle { (inst : Instance) (log : Log) → AgreesJobs self.now inst log

@@ -2,6 +2,7 @@
 use Rattle.std.proofs.Common.{◌≡◌, ℕ, List, [], ◌∷◌, ◌++◌, drop, refl, sym, ap, ◌∙◌}
 use Rattle.std.specs.Prelude.{map, Option, Some, None, option_map, option_and_then, Result, Ok, Err, IsErrAnd}
 use Rattle.std.specs.Option.{ok_or}
+use Rattle.outcomes.specs.Outcomes.{Finds}
 use Rattle.serde_json.specs.Data.{Data}
 use Rattle.serde_json.specs.Find.{get, as_array}
 use Rattle.serde_json.specs.View.{view, items_view}
@@ -9,7 +10,7 @@ use Rattle.serde_json.specs.declared.value.Value.{Value}
 use Rattle.job_spec.specs.declared.faults.Place.{Place}
 use Rattle.job_spec.specs.declared.faults.SpecFault.{SpecFault}
 use Rattle.job_spec.specs.declared.faults.SpecFault.TheVariants.{BadField}
-use Rattle.job_spec.specs.Fields.{each, list_of, as_any, as_list, of_kind, field, Finds}
+use Rattle.job_spec.specs.Fields.{each, list_of, as_any, as_list, of_kind, field}
 
 -- the values of a list
 list_is : (vs : List Value) → list_of (items_view vs) ≡ map view vs

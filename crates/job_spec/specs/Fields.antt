@@ -1,12 +1,12 @@
 -- What stands in a JSON value, and the faults that a jobspec has there.
-use Rattle.std.specs.Prelude.{◌≡◌, ℕ, ◌&&◌, nat_le, List, [], ◌∷◌, Bool, Option, Some, None, option_map, option_and_then, Result, Ok, Err, MatchResult, if◌then◌else◌}
+use Rattle.std.specs.Prelude.{ℕ, ◌&&◌, nat_le, List, [], ◌∷◌, Bool, Option, Some, None, option_map, option_and_then, Result, Ok, Err, if◌then◌else◌}
 use Rattle.std.specs.Option.{ok_or}
 use Rattle.serde_json.specs.Data.{Data, Num, Items}
 use Rattle.serde_json.specs.Data as json
 use Rattle.serde_json.specs.Find.{get, as_number, as_u64, as_array}
 use Rattle.job_spec.specs.declared.faults.Place.{Place}
 use Rattle.job_spec.specs.declared.faults.SpecFault.{SpecFault}
-use Rattle.job_spec.specs.declared.faults.SpecFault.TheVariants.{NoMemory, NotJson, BadVersion, BadField, BadShape, BadCount, NoSlot, TooLarge}
+use Rattle.job_spec.specs.declared.faults.SpecFault.TheVariants.{NoMemory, BadField, BadShape, BadCount}
 
 infixl 10 ◌>>=◌
 abbrev pub ◌>>=◌ : {A B E : Type 0} → Result A E → (A → Result B E) → Result B E
@@ -86,21 +86,7 @@ count_at place key d = field as_any place key d >>= count_of place
 
 -- ---- answers of calls
 
--- a call that may want memory and that otherwise finds this
-abbrev pub Fails : {T : Type 0} → SpecFault → Result T SpecFault → Type 0
-Fails NoMemory found = Unit {0}
-Fails (NotJson fault) found = found ≡ Err (NotJson fault)
-Fails BadVersion found = found ≡ Err BadVersion
-Fails (BadField place) found = found ≡ Err (BadField place)
-Fails (BadShape place) found = found ≡ Err (BadShape place)
-Fails (BadCount place) found = found ≡ Err (BadCount place)
-Fails NoSlot found = found ≡ Err NoSlot
-Fails TooLarge found = found ≡ Err TooLarge
-
-abbrev pub Gives : {X Y : Type 0} → (X → Y) → Result X SpecFault → Result Y SpecFault → Type 0
-Gives seen (Ok x) found = found ≡ Ok (seen x)
-Gives seen (Err e) found = Fails e found
-
--- a call that always finds this
-abbrev pub Finds : {X Y : Type 0} → (X → Y) → Result X SpecFault → Result Y SpecFault → Type 0
-Finds seen result found = MatchResult result (λ x. found ≡ Ok (seen x)) (λ e. found ≡ Err e)
+-- the faults that tell of what is read: all but want of memory
+abbrev pub lasting : SpecFault → Option SpecFault
+lasting NoMemory = None
+lasting fault = Some fault

@@ -1,3 +1,4 @@
+-- what the calls promise
 pub mod Fields
 pub mod Numbers
 pub mod Resources
@@ -6,4 +7,5 @@ pub mod Limits
 pub mod Specs
 pub mod Sound
 pub mod Seen
+-- what the code keeps to that end
 pub mod Names

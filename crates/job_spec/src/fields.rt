@@ -1,8 +1,9 @@
 //! The values under the keys of a jobspec.
 ghost use Rattle.std.specs.Prelude.{IfOk, map, codes};
+ghost use Rattle.outcomes.specs.Outcomes.{Finds};
 ghost use Rattle.serde_json.specs.Find.{as_str};
 ghost use Rattle.serde_json.specs.View.{view};
-ghost use Rattle.job_spec.specs.Fields.{Finds, as_any, as_list, of_kind, field, only, count_of, count_at};
+ghost use Rattle.job_spec.specs.Fields.{as_any, as_list, of_kind, field, only, count_of, count_at};
 ghost use Rattle.job_spec.specs.Sound.{IsCount};
 
 use crate::faults::{Place, SpecFault};

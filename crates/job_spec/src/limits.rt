@@ -1,8 +1,9 @@
 //! The attributes of a jobspec: its duration and its dependencies (Flux RFC 25 and 26).
 ghost use Rattle.std.specs.Prelude.{◌≡◌, map};
 ghost use Rattle.std.specs.Option.{ok_or};
+ghost use Rattle.outcomes.specs.Outcomes.{Finds, Gives};
 ghost use Rattle.serde_json.specs.View.{view};
-ghost use Rattle.job_spec.specs.Fields.{Finds, Gives, each};
+ghost use Rattle.job_spec.specs.Fields.{each, lasting};
 ghost use Rattle.job_spec.specs.Limits.{attributes_of, system_of, duration_of, scheme_of, need_of, needs_of, limits_of};
 ghost use Rattle.job_spec.specs.Seen.{value_seen, limits_seen};
 
@@ -94,7 +95,7 @@ fn need_in(value: &Value) -> Result<Depend, SpecFault>
 
 /// The dependencies of a list.
 fn needs_in_list(alloc: Global, values: &[Value]) -> Result<Needs, SpecFault>
-    ensures { Gives (λ needs. needs) result (each need_of (map view values.now)) }
+    ensures { Gives lasting (λ needs. needs) result (each need_of (map view values.now)) }
 {
     let mut needs = ListOf::new(alloc);
     for value in values {
@@ -106,7 +107,7 @@ fn needs_in_list(alloc: Global, values: &[Value]) -> Result<Needs, SpecFault>
 /// The dependencies, of which there may be none.
 #[tactic(auto, unfolding(crate::specs::Limits::needs_of))]
 fn needs_in(alloc: Global, system: &Value) -> Result<Needs, SpecFault>
-    ensures { Gives (λ needs. needs) result (needs_of (view system.now)) }
+    ensures { Gives lasting (λ needs. needs) result (needs_of (view system.now)) }
 {
     match system.get("dependencies") {
         None => Ok(ListOf::new(alloc)),
@@ -117,7 +118,7 @@ fn needs_in(alloc: Global, system: &Value) -> Result<Needs, SpecFault>
 /// What the attributes of a jobspec say.
 #[tactic(auto, unfolding(crate::specs::Limits::limits_of, crate::specs::Limits::duration_of, crate::specs::Limits::needs_of))]
 pub fn limits_in(alloc: Global, value: &Value) -> Result<Limits, SpecFault>
-    ensures { Gives limits_seen result (limits_of (view value.now)) }
+    ensures { Gives lasting limits_seen result (limits_of (view value.now)) }
 {
     let Some(system) = system_in(value)? else {
         return Ok(Limits {

@@ -1,7 +1,8 @@
 //! The reader of jobspecs (Flux RFC 14 and 25).
 ghost use Rattle.std.specs.Prelude.{◌≡◌, ◌≤◌, IfOk, length, nat_le};
+ghost use Rattle.outcomes.specs.Outcomes.{Gives};
 ghost use Rattle.serde_json.specs.View.{view};
-ghost use Rattle.job_spec.specs.Fields.{Gives};
+ghost use Rattle.job_spec.specs.Fields.{lasting};
 ghost use Rattle.job_spec.specs.Sound.{IsSpec};
 ghost use Rattle.job_spec.specs.Specs.{is_version_1, spec_of, fault_of, spec_reading};
 
@@ -31,7 +32,7 @@ fn is_version_1(value: &Value) -> bool
 #[tactic(auto, unfolding(crate::specs::Specs::spec_of))]
 fn spec_in(alloc: Global, text: &[u8], value: &Value) -> Result<JobSpec, SpecFault>
     requires { length text.now ≤ 65536 }
-    ensures found { Gives (λ spec. spec) result (spec_of text.now (view value.now)) }
+    ensures found { Gives lasting (λ spec. spec) result (spec_of text.now (view value.now)) }
     ensures sound { IfOk result IsSpec }
 {
     if !is_version_1(value) {
@@ -78,7 +79,7 @@ fn fits(text: &[u8]) -> bool
 /// keys are read over. A job without `attributes.system` has no limit and no dependencies.
 #[tactic(auto, unfolding(crate::specs::Specs::spec_reading))]
 pub fn read(alloc: Global, text: &[u8]) -> Result<JobSpec, SpecFault>
-    ensures found { Gives (λ spec. spec) result (spec_reading text.now) }
+    ensures found { Gives lasting (λ spec. spec) result (spec_reading text.now) }
     ensures sound { IfOk result IsSpec }
 {
     if !fits(text) {

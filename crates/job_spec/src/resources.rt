@@ -1,7 +1,7 @@
 //! The resources of a jobspec: slots, and the nodes that have them.
 ghost use Rattle.std.specs.Prelude.{IfOk, map};
+ghost use Rattle.outcomes.specs.Outcomes.{Finds};
 ghost use Rattle.serde_json.specs.View.{view};
-ghost use Rattle.job_spec.specs.Fields.{Finds};
 ghost use Rattle.job_spec.specs.Resources.{is_core, units_alone, units_at, units_of_one, units_of_two, units_of, slots_of, exclusive_of, nodes_of, spread_of, wanted_of};
 ghost use Rattle.job_spec.specs.Seen.{units_seen, slots_seen, wanted_seen, AreUnits, AreSlots, IsWanted};
 

@@ -1,8 +1,9 @@
 //! The tasks of a jobspec.
 ghost use Rattle.std.specs.Prelude.{◌≡◌, ◌<◌, IfOk, map, length};
+ghost use Rattle.outcomes.specs.Outcomes.{Finds, Gives};
 ghost use Rattle.serde_json.specs.Find.{as_str};
 ghost use Rattle.serde_json.specs.View.{view};
-ghost use Rattle.job_spec.specs.Fields.{Finds, Gives, each, of_kind};
+ghost use Rattle.job_spec.specs.Fields.{each, of_kind, lasting};
 ghost use Rattle.job_spec.specs.Works.{command_of, number_of_tasks, tasks_of, task_of, work_of};
 ghost use Rattle.job_spec.specs.Seen.{work_seen, IsWork};
 ghost use Rattle.job_spec.specs.Sound.{AreTasks};
@@ -34,7 +35,7 @@ fn word_in(value: &Value) -> Result<&str, SpecFault>
 
 /// The words of a command.
 fn words_in(alloc: Global, values: &[Value]) -> Result<WordList, SpecFault>
-    ensures found { Gives (λ words. words) result
+    ensures found { Gives lasting (λ words. words) result
         (each (of_kind as_str Command) (map view values.now)) }
     ensures same { IfOk result (λ words. length words ≡ length values.now) }
 {
@@ -49,7 +50,7 @@ fn words_in(alloc: Global, values: &[Value]) -> Result<WordList, SpecFault>
 /// A list of at least one text.
 #[tactic(auto, unfolding(crate::specs::Works::command_of))]
 fn command_in(alloc: Global, value: &Value) -> Result<WordList, SpecFault>
-    ensures found { Gives (λ words. words) result (command_of (view value.now)) }
+    ensures found { Gives lasting (λ words. words) result (command_of (view value.now)) }
     ensures some { IfOk result (λ words. 0 < length words) }
 {
     let values = list(value, "command", Place::Command)?;
@@ -84,7 +85,7 @@ fn tasks_in(value: &Value) -> Result<Tasks, SpecFault>
 /// The task, which runs in the slot of this label.
 #[tactic(auto, unfolding(crate::specs::Works::task_of))]
 fn task_in(alloc: Global, label: &str, value: &Value) -> Result<Work, SpecFault>
-    ensures found { Gives work_seen result (task_of label.now (view value.now)) }
+    ensures found { Gives lasting work_seen result (task_of label.now (view value.now)) }
     ensures work { IfOk result IsWork }
 {
     let command = command_in(alloc, value)?;
@@ -98,7 +99,7 @@ fn task_in(alloc: Global, label: &str, value: &Value) -> Result<Work, SpecFault>
 /// What a jobspec runs in the slot of this label.
 #[tactic(auto, unfolding(crate::specs::Works::work_of))]
 pub fn work_in(alloc: Global, label: &str, value: &Value) -> Result<Work, SpecFault>
-    ensures found { Gives work_seen result (work_of label.now (view value.now)) }
+    ensures found { Gives lasting work_seen result (work_of label.now (view value.now)) }
     ensures work { IfOk result IsWork }
 {
     let only = only(list(value, "tasks", Place::Task)?, Place::Task)?;

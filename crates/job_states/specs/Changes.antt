@@ -2,6 +2,7 @@
 use Rattle.std.specs.Prelude.{ℕ, ◌-◌, ◌^◌, List, [], ◌∷◌, Bool, ◌||◌, Option, Some, None, is_none, is_some, codes, option_and_then, option_map, nat_le, if◌then◌else◌}
 use Rattle.std.specs.Str.{bytes_eq}
 use Rattle.std.specs.Result.{result_ok}
+use Rattle.outcomes.specs.Outcomes.{or_else}
 use Rattle.serde_json.specs.Data.{Data}
 use Rattle.serde_json.specs.Find.{get, as_str, as_bool}
 use Rattle.fl_json.specs.Reading.{reading, as_natural}
@@ -108,10 +109,6 @@ change_by name context = named name (
 -- the value of an event's context
 abbrev pub context_of : Event → Option Data
 context_of event = event.context >>= λ context. result_ok (reading context)
-
-abbrev pub or_else : {A : Type 0} → Option A → Option A → Option A
-or_else (Some x) other = Some x
-or_else None other = other
 
 -- what an event asks; none where its name is unknown or its context lacks what is needed
 abbrev pub change_of : Event → Option Change

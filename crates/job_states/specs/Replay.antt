@@ -1,5 +1,5 @@
 -- What the events of a log make of its job, or the first event that may not stand where it does.
-use Rattle.std.specs.Prelude.{◌≡◌, ℕ, ◌+◌, List, [], ◌∷◌, Option, Some, None, Result, Ok, Err, option_and_then}
+use Rattle.std.specs.Prelude.{ℕ, ◌+◌, List, [], ◌∷◌, Option, Some, None, Result, Ok, Err, option_and_then}
 use Rattle.event_log.specs.declared.event.Event.{Event}
 use Rattle.event_log.specs.Events.{◌>>=◌}
 use Rattle.job_states.specs.declared.job.Job.{Job}
@@ -34,11 +34,7 @@ abbrev pub replayed : List Event → Result Job ReplayFault
 replayed [] = Err (NotAllowed 0 None)
 replayed (event ∷ events) = begun event >>= λ job. replay_on 1 job events
 
--- a call that may want memory and that otherwise finds this
-abbrev pub Fails : {T : Type 0} → ReplayFault → Result T ReplayFault → Type 0
-Fails NoMemory found = Unit {0}
-Fails (NotAllowed index state) found = found ≡ Err (NotAllowed index state)
-
-abbrev pub Gives : {T : Type 0} → Result T ReplayFault → Result T ReplayFault → Type 0
-Gives (Ok x) found = found ≡ Ok x
-Gives (Err fault) found = Fails fault found
+-- the faults that tell of what is read: all but want of memory
+abbrev pub lasting : ReplayFault → Option ReplayFault
+lasting NoMemory = None
+lasting fault = Some fault

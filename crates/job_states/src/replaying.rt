@@ -1,6 +1,7 @@
 //! The replay of a log.
 ghost use Rattle.std.specs.Prelude.{◌≡◌, Ok, OnOk, OnErr, IfErr};
-ghost use Rattle.job_states.specs.Replay.{begun, stepped, replayed, Gives, Fails};
+ghost use Rattle.outcomes.specs.Outcomes.{Fails, Gives};
+ghost use Rattle.job_states.specs.Replay.{begun, stepped, replayed, lasting};
 
 use crate::changes::asked;
 use crate::job::{Change, Job, ReplayFault};
@@ -11,7 +12,7 @@ use std::alloc::Global;
 /// The job that the first event of a log begins (Flux RFC 21). `NotAllowed` where it is no
 /// submission.
 pub fn begin(alloc: Global, event: &Event) -> Result<Job, ReplayFault>
-    ensures { Gives result (begun event.now) }
+    ensures { Gives lasting (λ job. job) result (begun event.now) }
 {
     match asked(alloc, event)? {
         Some(Change::Submit { userid, urgency }) => Ok(submitted(alloc, userid, urgency)),
@@ -27,7 +28,8 @@ pub fn begin(alloc: Global, event: &Event) -> Result<Job, ReplayFault>
 /// isn't done stays as it was.
 pub fn step(alloc: Global, job: &mut Job, event: &Event, index: u64) -> Result<(), ReplayFault>
     ensures done { OnOk result (stepped index job.old event.now ≡ Ok job.new) }
-    ensures refused { IfErr result (λ fault. Fails fault (stepped index job.old event.now)) }
+    ensures refused { IfErr result (λ fault.
+        Fails lasting fault (stepped index job.old event.now)) }
     ensures kept { OnErr result (job.new ≡ job.old) }
 {
     let refusal = ReplayFault::NotAllowed {
@@ -47,7 +49,7 @@ pub fn step(alloc: Global, job: &mut Job, event: &Event, index: u64) -> Result<(
 /// The job that a log tells (Flux RFC 21). `NotAllowed` at the first event that may not stand where
 /// it does, and at the first place where there is no event.
 pub fn replay(alloc: Global, events: &[Event]) -> Result<Job, ReplayFault>
-    ensures { Gives result (replayed events.now) }
+    ensures { Gives lasting (λ job. job) result (replayed events.now) }
 {
     let Some((first, later)) = events.split_first() else {
         return Err(ReplayFault::NotAllowed {

@@ -53,7 +53,13 @@ fn listing_context(
         (number_member (codes "flags") 0 (number_member (codes "urgency") urgency
         (number_member (codes "userid") userid (number_member (codes "version") 1 no_members)))))) }
 {
-    json!(in alloc; {"depends": depends, "flags": 0, "urgency": urgency, "userid": userid, "version": 1})
+    json!(in alloc; {
+        "depends": depends,
+        "flags": 0,
+        "urgency": urgency,
+        "userid": userid,
+        "version": 1
+    })
 }
 
 /// What the submission of a job tells.

@@ -26,7 +26,8 @@ use tap::{Ask, Tap};
 
 /// A grant of two hosts of two cores, until second 1000.
 const GRANT: &str =
-    "{\"version\":1,\"execution\":{\"R_lite\":[{\"rank\":\"0-1\",\"children\":{\"core\":\"0-1\"}}],\"nodelist\":[\"a[0-1]\"],\"starttime\":0,\"expiration\":1000}}";
+    "{\"version\":1,\"execution\":{\"R_lite\":[{\"rank\":\"0-1\",\"children\":{\"core\":\"0-1\"}}],\
+        \"nodelist\":[\"a[0-1]\"],\"starttime\":0,\"expiration\":1000}}";
 
 /// What is done, and the events that follow. Jobs are submitted by id, urgency, slots, duration,
 /// command and dependencies.
@@ -43,7 +44,9 @@ const ROWS: [(&str, &str); 38] = [
     ),
     (
         "at 5;job 1 16 4 0 sleep/9;job 2 16 1 0 true;at 14",
-        "1 validate,1 depend,1 priority=20,1 alloc,1 start|2 validate,2 depend,2 priority=20|1 finish=0,1 release,1 free,1 clean,2 alloc,2 start,2 finish=0,2 release,2 free,2 clean",
+        "1 validate,1 depend,1 priority=20,1 alloc,1 start|2 validate,2 depend,2 priority=20|\
+            1 finish=0,1 release,1 free,1 clean,2 alloc,2 start,2 finish=0,2 release,2 free,\
+            2 clean",
     ),
     (
         "at 5;job 1 16 4 0 sleep/9;at 13",
@@ -51,12 +54,16 @@ const ROWS: [(&str, &str); 38] = [
     ),
     (
         "at 5;job 1 16 4 0 sleep/9;job 2 16 4 0 true;job 3 20 1 0 true;at 14",
-        "1 validate,1 depend,1 priority=20,1 alloc,1 start|2 validate,2 depend,2 priority=20|3 validate,3 depend,3 priority=24|1 finish=0,1 release,1 free,1 clean,3 alloc,3 start,3 finish=0,3 release,3 free,2 alloc,2 start,2 finish=0,2 release,2 free,2 clean,3 clean",
+        "1 validate,1 depend,1 priority=20,1 alloc,1 start|2 validate,2 depend,2 priority=20|\
+            3 validate,3 depend,3 priority=24|1 finish=0,1 release,1 free,1 clean,3 alloc,3 start,\
+            3 finish=0,3 release,3 free,2 alloc,2 start,2 finish=0,2 release,2 free,2 clean,\
+            3 clean",
     ),
     // Commands.
     (
         "at 5;job 1 0 1 0 true;urgency 1 16",
-        "1 validate,1 depend,1 priority=0|1 urgency,1 priority=20,1 alloc,1 start,1 finish=0,1 release,1 free,1 clean",
+        "1 validate,1 depend,1 priority=0|1 urgency,1 priority=20,1 alloc,1 start,1 finish=0,\
+            1 release,1 free,1 clean",
     ),
     (
         "at 5;job 1 0 1 0 true;urgency 1 0",
@@ -84,7 +91,8 @@ const ROWS: [(&str, &str); 38] = [
     ),
     (
         "at 5;job 1 16 1 0 sleep/9;cancel 1",
-        "1 validate,1 depend,1 priority=20,1 alloc,1 start|1 exception:cancel,1 finish=15,1 release,1 free,1 clean",
+        "1 validate,1 depend,1 priority=20,1 alloc,1 start|1 exception:cancel,1 finish=15,\
+            1 release,1 free,1 clean",
     ),
     (
         "at 5;job 1 0 1 0 true;cancel 2",
@@ -101,7 +109,8 @@ const ROWS: [(&str, &str); 38] = [
     ),
     (
         "at 5;job 1 16 1 7 sleep/9;at 12",
-        "1 validate,1 depend,1 priority=20,1 alloc,1 start|1 exception:timeout,1 finish=15,1 release,1 free,1 clean",
+        "1 validate,1 depend,1 priority=20,1 alloc,1 start|1 exception:timeout,1 finish=15,\
+            1 release,1 free,1 clean",
     ),
     (
         "at 5;job 1 16 1 9 sleep/9;at 14",
@@ -113,7 +122,8 @@ const ROWS: [(&str, &str); 38] = [
     ),
     (
         "at 5;job 1 16 1 0 sleep/2000;at 1000",
-        "1 validate,1 depend,1 priority=20,1 alloc,1 start|1 exception:timeout,1 finish=15,1 release,1 free,1 clean",
+        "1 validate,1 depend,1 priority=20,1 alloc,1 start|1 exception:timeout,1 finish=15,\
+            1 release,1 free,1 clean",
     ),
     // Children.
     (
@@ -142,37 +152,49 @@ const ROWS: [(&str, &str); 38] = [
     ),
     (
         "at 5;job 1 16 1 0 flux/broker;child 1 gone;cancel 1",
-        "1 validate,1 depend,1 priority=20,1 alloc,1 start||1 exception:cancel,1 finish=15,1 release,1 free,1 clean",
+        "1 validate,1 depend,1 priority=20,1 alloc,1 start||1 exception:cancel,1 finish=15,\
+            1 release,1 free,1 clean",
     ),
     // Dependencies: job 1 is `f2`.
     (
         "at 5;job 1 0 1 0 true;job 2 16 1 0 true after:f2;urgency 1 16",
-        "1 validate,1 depend,1 priority=0|2 validate,2 dependency-add|1 urgency,1 priority=20,1 alloc,1 start,1 finish=0,1 release,1 free,1 clean,2 dependency-remove,2 depend,2 priority=20,2 alloc,2 start,2 finish=0,2 release,2 free,2 clean",
+        "1 validate,1 depend,1 priority=0|2 validate,2 dependency-add|1 urgency,1 priority=20,\
+            1 alloc,1 start,1 finish=0,1 release,1 free,1 clean,2 dependency-remove,2 depend,\
+            2 priority=20,2 alloc,2 start,2 finish=0,2 release,2 free,2 clean",
     ),
     (
         "at 5;job 1 0 1 0 true;job 2 0 1 0 true after:f2;cancel 1",
-        "1 validate,1 depend,1 priority=0|2 validate,2 dependency-add|1 exception:cancel,1 clean,2 exception:dependency,2 clean",
+        "1 validate,1 depend,1 priority=0|2 validate,2 dependency-add|1 exception:cancel,1 clean,\
+            2 exception:dependency,2 clean",
     ),
     (
         "at 5;job 1 0 1 0 true;job 2 0 1 0 true afterany:f2;cancel 1",
-        "1 validate,1 depend,1 priority=0|2 validate,2 dependency-add|1 exception:cancel,1 clean,2 dependency-remove,2 depend,2 priority=0",
+        "1 validate,1 depend,1 priority=0|2 validate,2 dependency-add|1 exception:cancel,1 clean,\
+            2 dependency-remove,2 depend,2 priority=0",
     ),
     (
         "at 5;job 1 16 1 0 true;job 2 0 1 0 true afterok:f2",
-        "1 validate,1 depend,1 priority=20,1 alloc,1 start,1 finish=0,1 release,1 free,1 clean|2 validate,2 dependency-add,2 dependency-remove,2 depend,2 priority=0",
+        "1 validate,1 depend,1 priority=20,1 alloc,1 start,1 finish=0,1 release,1 free,1 clean|\
+            2 validate,2 dependency-add,2 dependency-remove,2 depend,2 priority=0",
     ),
     (
         "at 5;job 1 16 1 0 false;job 2 0 1 0 true afterok:f2",
-        "1 validate,1 depend,1 priority=20,1 alloc,1 start,1 finish=256,1 release,1 free,1 clean|2 validate,2 dependency-add,2 exception:dependency,2 clean",
+        "1 validate,1 depend,1 priority=20,1 alloc,1 start,1 finish=256,1 release,1 free,1 clean|\
+            2 validate,2 dependency-add,2 exception:dependency,2 clean",
     ),
     (
         "at 5;job 1 16 1 0 false;job 2 0 1 0 true afternotok:f2,after:f2,after:f2",
-        "1 validate,1 depend,1 priority=20,1 alloc,1 start,1 finish=256,1 release,1 free,1 clean|2 validate,2 dependency-add,2 dependency-add,2 dependency-remove,2 dependency-remove,2 depend,2 priority=0",
+        "1 validate,1 depend,1 priority=20,1 alloc,1 start,1 finish=256,1 release,1 free,1 clean|\
+            2 validate,2 dependency-add,2 dependency-add,2 dependency-remove,2 dependency-remove,\
+            2 depend,2 priority=0",
     ),
     // What is said of jobs, and what is ahead.
     (
-        "at 5;job 1 16 4 0 sleep/9;job 2 16 4 0 true;job 3 20 1 0 true;job 4 0 1 0 true;why 1;why 2;why 3;why 4;why 5",
-        "1 validate,1 depend,1 priority=20,1 alloc,1 start|2 validate,2 depend,2 priority=20|3 validate,3 depend,3 priority=24|4 validate,4 depend,4 priority=0|RUN|behind 3|busy 1|held|no job",
+        "at 5;job 1 16 4 0 sleep/9;job 2 16 4 0 true;job 3 20 1 0 true;job 4 0 1 0 true;why 1;\
+            why 2;why 3;why 4;why 5",
+        "1 validate,1 depend,1 priority=20,1 alloc,1 start|2 validate,2 depend,2 priority=20|\
+            3 validate,3 depend,3 priority=24|4 validate,4 depend,4 priority=0|RUN|behind 3|busy 1|\
+            held|no job",
     ),
     (
         "at 5;job 1 16 4 3 sleep/9;ahead",
@@ -184,7 +206,8 @@ const ROWS: [(&str, &str); 38] = [
     ),
     (
         "at 5;job 7 16 1 0 true;job 2 0 1 0 true;jobs",
-        "7 validate,7 depend,7 priority=20,7 alloc,7 start,7 finish=0,7 release,7 free,7 clean|2 validate,2 depend,2 priority=0|2 SCHED 7 INACTIVE",
+        "7 validate,7 depend,7 priority=20,7 alloc,7 start,7 finish=0,7 release,7 free,7 clean|\
+            2 validate,2 depend,2 priority=0|2 SCHED 7 INACTIVE",
     ),
 ];
 
@@ -238,7 +261,11 @@ fn job(
         None => String::new(alloc),
     };
     let text = format!(in alloc;
-        "{{\"resources\":[{{\"type\":\"slot\",\"count\":{slots},\"with\":[{{\"type\":\"core\",\"count\":1}}],\"label\":\"task\"}}],\"tasks\":[{{\"command\":[{command}],\"slot\":\"task\",\"count\":{{\"per_slot\":1}}}}],\"attributes\":{{\"system\":{{\"duration\":{duration},\"dependencies\":[{needs}]}}}},\"version\":1}}"
+        "{{\"resources\":[{{\"type\":\"slot\",\"count\":{slots},\"with\":[{{\"type\":\"core\",\
+            \"count\":1}}],\"label\":\"task\"}}],\"tasks\":[{{\"command\":[{command}],\
+            \"slot\":\"task\",\"count\":{{\"per_slot\":1}}}}],\
+            \"attributes\":{{\"system\":{{\"duration\":{duration},\"dependencies\":[{needs}]}}}},\
+            \"version\":1}}"
     )?;
     Ok(job_spec::read(alloc, text.as_bytes())?)
 }

@@ -58,7 +58,9 @@ const LATER: [(u64, &str); 8] = [
 /// A job of this command.
 fn job(rt: &HostRuntime, command: &str) -> Result<JobSpec, Fail> {
     let text = format!(in rt.alloc();
-        "{{\"resources\":[{{\"type\":\"slot\",\"count\":1,\"with\":[{{\"type\":\"core\",\"count\":1}}],\"label\":\"task\"}}],\"tasks\":[{{\"command\":[{command}],\"slot\":\"task\",\"count\":{{\"per_slot\":1}}}}],\"version\":1}}"
+        "{{\"resources\":[{{\"type\":\"slot\",\"count\":1,\"with\":[{{\"type\":\"core\",\
+            \"count\":1}}],\"label\":\"task\"}}],\"tasks\":[{{\"command\":[{command}],\
+            \"slot\":\"task\",\"count\":{{\"per_slot\":1}}}}],\"version\":1}}"
     )?;
     Ok(job_spec::read(rt.alloc(), text.as_bytes())?)
 }

@@ -101,7 +101,8 @@ const CONTEXTS: [(usize, &str, &str, bool); 49] = [
     (
         0,
         "submit",
-        "{\"flags\":18446744073709551615,\"urgency\":1,\"userid\":1,\"version\":18446744073709551615}",
+        "{\"flags\":18446744073709551615,\"urgency\":1,\"userid\":1,\
+            \"version\":18446744073709551615}",
         true,
     ),
     (

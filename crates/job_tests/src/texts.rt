@@ -8,7 +8,10 @@ use std::test::Fail;
 
 /// A jobspec that waits for the start of job 1, which is `f2`.
 const SPEC: &str =
-    "{\"resources\":[{\"type\":\"slot\",\"count\":1,\"with\":[{\"type\":\"core\",\"count\":1}],\"label\":\"task\"}],\"tasks\":[{\"command\":[\"true\"],\"slot\":\"task\",\"count\":{\"per_slot\":1}}],\"attributes\":{\"system\":{\"duration\":0,\"dependencies\":[{\"scheme\":\"after\",\"value\":\"f2\"}]}},\"version\":1}";
+    "{\"resources\":[{\"type\":\"slot\",\"count\":1,\"with\":[{\"type\":\"core\",\"count\":1}],\
+        \"label\":\"task\"}],\"tasks\":[{\"command\":[\"true\"],\"slot\":\"task\",\
+        \"count\":{\"per_slot\":1}}],\"attributes\":{\"system\":{\"duration\":0,\
+        \"dependencies\":[{\"scheme\":\"after\",\"value\":\"f2\"}]}},\"version\":1}";
 
 /// Contexts of submissions, and the dependencies of the job.
 const ROWS: [(&str, &str); 5] = [

@@ -171,18 +171,21 @@ pub fn is_held_of(row: &Row, by: By) -> bool
         && matches!(&row.stage, Stage::Held { .. })
 }
 
+/// The place of the oldest request on its way from one broker to another.
 pub fn first_on(rows: &Vec<Row>, from: u32, to: u32) -> Option<usize>
     ensures { result ≡ position (is_on from to) rows.now.items }
 {
     rows.iter().position(|row| is_on(row, from, to))
 }
 
+/// The place of the oldest request that its broker may serve.
 pub fn first_served(rows: &Vec<Row>, spaces: &Vec<Space>, broker: u32) -> Option<usize>
     ensures { result ≡ position (may_serve spaces.now.items broker) rows.now.items }
 {
     rows.iter().position(|row| may_serve(row, spaces, broker))
 }
 
+/// The place of the request of this command that holds its answer.
 pub fn first_held(rows: &Vec<Row>, by: By) -> Option<usize>
     ensures { result ≡ position (λ row. same_command by row.by && is_held row) rows.now.items }
 {
@@ -365,16 +368,16 @@ pub fn put_stage(rows: &mut Vec<Row>, i: usize, stage: Stage)
     set_stage(&mut rows[i], stage);
 }
 
-/// What enters a namespace at rank 0: a commit, or a member of the fence of a name that waits for so
-/// many.
+/// What enters a namespace at rank 0: a commit, or a member of the fence of a name that waits for
+/// so many.
 #[derive(Drop)]
 pub enum Entrant {
     Commit { txn: Txn },
     Member { name: Bytes, count: u32, txn: Txn },
 }
 
-/// Lets a request that has come to rank 0 wait to land in the namespace of a place in the table, and
-/// gives what enters there.
+/// Lets a request that has come to rank 0 wait to land in the namespace of a place in the table,
+/// and gives what enters there.
 pub fn take_entrant(rows: &mut Vec<Row>, i: usize, space: usize) -> Entrant
     requires within { i < length rows.old.items }
     requires enters { (d : Row) → is_entering (slice_index_or rows.old.items i d).stage ≡ true }

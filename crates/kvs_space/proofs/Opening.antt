@@ -9,7 +9,7 @@ use Rattle.kvs_model.specs.History.{after, first_store}
 use Rattle.kvs_rules.specs.Brokers.{parent}
 use Rattle.kvs_rules.specs.Namespaces.{is_primary, scope_of}
 use Rattle.fence_merge.specs.Merging.{MergerValue}
-use Rattle.kvs_space.specs.Links.{IsAnnounced, IsAnnouncedBut, latest}
+use Rattle.kvs_space.specs.Links.{IsAnnounced, IsAnnouncedBut, greatest}
 use Rattle.kvs_space.specs.Sound.{IsSoundSpace, idle}
 use Rattle.kvs_space.specs.Space.{SpaceValue, seen, begun}
 use Rattle.kvs_space.proofs.Posting.{no-fences}
@@ -31,7 +31,7 @@ module _ (size : ℕ) (some : 1 ≤ size) where
     others = λ b above below ne.
         let low : b < size = subst (λ m. b < m) (length-replicate size 0) below in
         let up : parent fanout b < size = let q = parent-low b fanout in omega arith in
-        ap (latest (slice_index (replicate size 0) b)) (get_or-replicate size b [] [] low) ∙ none b low ∙ sym (none (parent fanout b) up);
+        ap (greatest (slice_index (replicate size 0) b)) (get_or-replicate size b [] [] low) ∙ none b low ∙ sym (none (parent fanout b) up);
     here = λ h. absurd (omega arith);
   }
 

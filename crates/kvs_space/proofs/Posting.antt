@@ -16,7 +16,7 @@ use Rattle.kvs_rules.specs.Namespaces.{is_primary, primary, scope_of}
 use Rattle.store_laws.specs.Reserved.{IsUserAuthor}
 use Rattle.store_laws.specs.Posts.{AreTaken, is_manager, posts_in}
 use Rattle.store_laws.proofs.Posts.{posts-begin, users-step, posts-step, posts-taken}
-use Rattle.kvs_space.specs.Links.{latest}
+use Rattle.kvs_space.specs.Links.{greatest}
 use Rattle.kvs_space.specs.Space.{SpaceValue, begun, seen}
 use Rattle.std.specs.List.{IsDistinct}
 use Rattle.fence_merge.specs.Fences.{AreFences}
@@ -131,7 +131,7 @@ begun-space fanout grant size name known stores links n l k st ls = record {
     newest = λ b above below.
         let lb : b < size = subst (λ m. b < m) long below in
         let p : parent fanout b < size = let q = parent-low b fanout in omega arith in
-        ap (latest (slice_index known b)) (ap (λ x. get_or x b []) ls ∙ get_or-replicate size b [] [] lb) ∙ one b lb ∙ sym (one (parent fanout b) p);
+        ap (greatest (slice_index known b)) (ap (λ x. get_or x b []) ls ∙ get_or-replicate size b [] [] lb) ∙ one b lb ∙ sym (one (parent fanout b) p);
   };
   newest = one 0 (omega arith);
   replicas = record {

@@ -4,9 +4,9 @@ use Rattle.kvs_rules.specs.Brokers.{parent}
 use Rattle.kvs_space.specs.Space.{link_at}
 
 -- the greatest of the number that was heard and those on the way
-abbrev pub latest : ℕ → List ℕ → ℕ
-latest heard [] = heard
-latest heard (n ∷ ns) = latest (max heard n) ns
+abbrev pub greatest : ℕ → List ℕ → ℕ
+greatest heard [] = heard
+greatest heard (n ∷ ns) = greatest (max heard n) ns
 
 -- the link to a broker, after a broker has told its children a number
 abbrev pub told : ℕ → ℕ → ℕ → ℕ → List ℕ → List ℕ
@@ -22,7 +22,7 @@ pub record AreTold (fanout from number : ℕ) (old new : List (List ℕ)) : Type
 pub record IsAnnounced (fanout : ℕ) (heard : List ℕ) (links : List (List ℕ)) : Type 0 where
   pub same_len : length links ≡ length heard
   pub newest : (b : ℕ) → 0 < b → b < length heard
-      → latest (slice_index heard b) (link_at links b) ≡ slice_index heard (parent fanout b)
+      → greatest (slice_index heard b) (link_at links b) ≡ slice_index heard (parent fanout b)
 
 -- the same, where one broker is about to hear a number
 pub record IsAnnouncedBut (broker number fanout : ℕ)
@@ -31,9 +31,9 @@ pub record IsAnnouncedBut (broker number fanout : ℕ)
   pub within : broker < length heard
   pub higher : slice_index heard broker < number
   pub others : (b : ℕ) → 0 < b → b < length heard → b ≢ broker
-      → latest (slice_index heard b) (link_at links b) ≡ slice_index heard (parent fanout b)
+      → greatest (slice_index heard b) (link_at links b) ≡ slice_index heard (parent fanout b)
   pub here : 0 < broker
-      → latest number (link_at links broker) ≡ slice_index heard (parent fanout broker)
+      → greatest number (link_at links broker) ≡ slice_index heard (parent fanout broker)
 
 -- the numbers from the old one up to that of the parent
 pub record IsNext (fanout : ℕ) (heard : List ℕ) (broker number : ℕ) : Type 0 where

@@ -22,6 +22,7 @@ impl Model for Link {
 }
 
 impl Link {
+    /// The link with nothing on its way.
     pub fn new(alloc: Global) -> Link
         ensures { result ≡ [] }
     {
@@ -30,6 +31,7 @@ impl Link {
         }
     }
 
+    /// Sends a number behind those on their way.
     pub fn push(&mut self, number: u64) -> Result<(), AllocError>
         ensures { OnOk result (self.new ≡ self.old ++ number ∷ []) }
     {
@@ -37,6 +39,7 @@ impl Link {
         Ok(())
     }
 
+    /// Takes the number that was sent first.
     pub fn pop(&mut self) -> Option<u64>
         ensures first { self.old ≡ option_to_list result ++ self.new }
         ensures some { IsSome result ↔ (0 < length self.old) }
@@ -44,6 +47,7 @@ impl Link {
         self.numbers.pop_front()
     }
 
+    /// Whether nothing is on its way.
     pub fn is_empty(&self) -> bool
         ensures { result ≡ (length self.now == 0) }
     {

@@ -14,15 +14,18 @@ use std::test::Fail;
 
 /// What a tree of four brokers tells of the rows of `CHAIN`.
 const STORY: &str =
-    "landed 1 by 0, 0 heard 1, 1 heard 1, 2 heard 1, 3 heard 1, denied 1, 0 committed 1, 1 refused 0, 2 value 1, a stands, still";
+    "landed 1 by 0, 0 heard 1, 1 heard 1, 2 heard 1, 3 heard 1, denied 1, 0 committed 1, 1 refused \
+        0, 2 value 1, a stands, still";
 
 /// What it tells of the rows of `PAIR`.
 const TOGETHER: &str =
-    "landed 1 by 0 1, 0 heard 1, 1 heard 1, 2 heard 1, 3 heard 1, 0 committed 1, 1 committed 1, a stands, b stands, still";
+    "landed 1 by 0 1, 0 heard 1, 1 heard 1, 2 heard 1, 3 heard 1, 0 committed 1, 1 committed 1, a \
+        stands, b stands, still";
 
 /// What it tells of the row of `ONE` behind a post.
 const BEHIND_A_POST: &str =
-    "landed 1 by manager 0, 0 heard 1, 1 heard 1, 2 heard 1, 3 heard 1, 0 committed 1, a stands, job.x stands, still";
+    "landed 1 by manager 0, 0 heard 1, 1 heard 1, 2 heard 1, 3 heard 1, 0 committed 1, a stands, \
+        job.x stands, still";
 
 #[derive(Clone, Copy)]
 enum Asked {

@@ -1,5 +1,5 @@
 -- Time may go on to the sooner of the next target and the next end.
-use Rattle.std.proofs.Common.{◌≡◌, ℕ, ◌+◌, ◌<◌, ◌≤◌, ◌⊎◌, ◌||◌, inl, inr, true, false, List, Option, Some, None, Contains, arith, sym, subst, true≢false}
+use Rattle.std.proofs.Common.{◌≡◌, ℕ, ◌<◌, ◌≤◌, ◌⊎◌, ◌||◌, inl, inr, true, false, List, Option, Some, None, Contains, arith, sym, subst, true≢false}
 use Rattle.std.specs.Prelude.{All, IfSome, filter, flat_map, is_some, nat_lt}
 use Rattle.std.proofs.lemmas.Bool.{ltb-true, or_parts}
 use Rattle.std.proofs.lemmas.List.Elements.{All-contains, All-nil, All-weaker, filter_passes}

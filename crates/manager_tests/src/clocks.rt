@@ -11,7 +11,8 @@ use std::test::Fail;
 
 /// A grant of one host of two cores, without an end.
 const GRANT: &str =
-    "{\"version\":1,\"execution\":{\"R_lite\":[{\"rank\":\"0\",\"children\":{\"core\":\"0-1\"}}],\"nodelist\":[\"a0\"],\"starttime\":0,\"expiration\":0}}";
+    "{\"version\":1,\"execution\":{\"R_lite\":[{\"rank\":\"0\",\"children\":{\"core\":\"0-1\"}}],\
+        \"nodelist\":[\"a0\"],\"starttime\":0,\"expiration\":0}}";
 
 /// The seconds of three advances that were issued at second 5, and which second comes next after
 /// another one: 0 where none does.

@@ -24,22 +24,31 @@ use tap::Weights;
 
 /// The R of a host with two cores.
 const GRANT: &str =
-    "{\"version\":1,\"execution\":{\"R_lite\":[{\"rank\":\"0\",\"children\":{\"core\":\"0-1\"}}],\"nodelist\":[\"a0\"],\"starttime\":0,\"expiration\":0}}";
+    "{\"version\":1,\"execution\":{\"R_lite\":[{\"rank\":\"0\",\"children\":{\"core\":\"0-1\"}}],\
+        \"nodelist\":[\"a0\"],\"starttime\":0,\"expiration\":0}}";
 
 /// An accepted jobspec.
 const SPEC: &str =
-    "{\"resources\":[{\"type\":\"slot\",\"count\":1,\"with\":[{\"type\":\"core\",\"count\":1}],\"label\":\"task\"}],\"tasks\":[{\"command\":[\"true\"],\"slot\":\"task\",\"count\":{\"per_slot\":1}}],\"version\":1}";
+    "{\"resources\":[{\"type\":\"slot\",\"count\":1,\"with\":[{\"type\":\"core\",\"count\":1}],\
+        \"label\":\"task\"}],\"tasks\":[{\"command\":[\"true\"],\"slot\":\"task\",\
+        \"count\":{\"per_slot\":1}}],\"version\":1}";
 
 /// The jobspec of a job that sleeps.
 const SLEEP: &str =
-    "{\"resources\":[{\"type\":\"slot\",\"count\":1,\"with\":[{\"type\":\"core\",\"count\":1}],\"label\":\"task\"}],\"tasks\":[{\"command\":[\"sleep\",\"10\"],\"slot\":\"task\",\"count\":{\"per_slot\":1}}],\"version\":1}";
+    "{\"resources\":[{\"type\":\"slot\",\"count\":1,\"with\":[{\"type\":\"core\",\"count\":1}],\
+        \"label\":\"task\"}],\"tasks\":[{\"command\":[\"sleep\",\"10\"],\"slot\":\"task\",\
+        \"count\":{\"per_slot\":1}}],\"version\":1}";
 
 /// The jobspec of a job that begins an instance, and of one that does so for three seconds at most.
 const BROKER: &str =
-    "{\"resources\":[{\"type\":\"slot\",\"count\":1,\"with\":[{\"type\":\"core\",\"count\":1}],\"label\":\"task\"}],\"tasks\":[{\"command\":[\"flux\",\"broker\"],\"slot\":\"task\",\"count\":{\"per_slot\":1}}],\"version\":1}";
+    "{\"resources\":[{\"type\":\"slot\",\"count\":1,\"with\":[{\"type\":\"core\",\"count\":1}],\
+        \"label\":\"task\"}],\"tasks\":[{\"command\":[\"flux\",\"broker\"],\"slot\":\"task\",\
+        \"count\":{\"per_slot\":1}}],\"version\":1}";
 
 const BRIEF: &str =
-    "{\"resources\":[{\"type\":\"slot\",\"count\":1,\"with\":[{\"type\":\"core\",\"count\":1}],\"label\":\"task\"}],\"tasks\":[{\"command\":[\"flux\",\"broker\"],\"slot\":\"task\",\"count\":{\"per_slot\":1}}],\"attributes\":{\"system\":{\"duration\":3.0}},\"version\":1}";
+    "{\"resources\":[{\"type\":\"slot\",\"count\":1,\"with\":[{\"type\":\"core\",\"count\":1}],\
+        \"label\":\"task\"}],\"tasks\":[{\"command\":[\"flux\",\"broker\"],\"slot\":\"task\",\
+        \"count\":{\"per_slot\":1}}],\"attributes\":{\"system\":{\"duration\":3.0}},\"version\":1}";
 
 /// Commands, and what is told at once and what is due then.
 const ROWS: [(&str, &str); 6] = [
@@ -466,7 +475,8 @@ fn a_job_ends_well_once_its_child_has_shut_down(rt: HostRuntime) -> Result<(), F
     let told = shutdown_told(rt.alloc())?;
     assert_eq!(rt;
         told.as_str(),
-        "submitted 0; born true true, may go true false; gone, due false true, may go false; ended 0; "
+        "submitted 0; born true true, may go true false; gone, due false true, may go false; ended \
+            0; "
     );
     Ok(())
 }
@@ -492,7 +502,8 @@ fn a_job_that_is_ending_waits_for_its_child(rt: HostRuntime) -> Result<(), Fail>
     let told = timeout_told(rt.alloc(), false)?;
     assert_eq!(rt;
         told.as_str(),
-        "submitted 0; born true true, may go true false; gone, due false true, may go false; advanced 10; "
+        "submitted 0; born true true, may go true false; gone, due false true, may go false; \
+            advanced 10; "
     );
     Ok(())
 }

@@ -22,7 +22,8 @@ use tap::{Ask, Tap};
 
 /// A grant of two hosts of two cores, until second 1000.
 const GRANT: &str =
-    "{\"version\":1,\"execution\":{\"R_lite\":[{\"rank\":\"0-1\",\"children\":{\"core\":\"0-1\"}}],\"nodelist\":[\"a[0-1]\"],\"starttime\":0,\"expiration\":1000}}";
+    "{\"version\":1,\"execution\":{\"R_lite\":[{\"rank\":\"0-1\",\"children\":{\"core\":\"0-1\"}}],\
+        \"nodelist\":[\"a[0-1]\"],\"starttime\":0,\"expiration\":1000}}";
 
 /// Jobs as urgency, slots and command, all submitted at second 5; a second, and the events that the
 /// logs have then.
@@ -46,7 +47,8 @@ const ROWS: [(&str, u64, &str); 5] = [
     (
         "16 4 sleep/9;16 1 true",
         14,
-        "submit validate depend priority alloc start finish release free clean,submit validate depend priority alloc start finish release free clean",
+        "submit validate depend priority alloc start finish release free clean,\
+            submit validate depend priority alloc start finish release free clean",
     ),
 ];
 
@@ -119,7 +121,10 @@ fn jobspec(alloc: Global, text: &Bytes) -> Result<JobSpec, Fail>
 fn text(alloc: Global, slots: u32, words: &str) -> Result<String, Fail> {
     let command = command(alloc, words)?;
     Ok(format!(in alloc;
-        "{{\"resources\":[{{\"type\":\"slot\",\"count\":{slots},\"with\":[{{\"type\":\"core\",\"count\":1}}],\"label\":\"task\"}}],\"tasks\":[{{\"command\":[{command}],\"slot\":\"task\",\"count\":{{\"per_slot\":1}}}}],\"attributes\":{{\"system\":{{\"duration\":0}}}},\"version\":1}}"
+        "{{\"resources\":[{{\"type\":\"slot\",\"count\":{slots},\"with\":[{{\"type\":\"core\",\
+            \"count\":1}}],\"label\":\"task\"}}],\"tasks\":[{{\"command\":[{command}],\
+            \"slot\":\"task\",\"count\":{{\"per_slot\":1}}}}],\
+            \"attributes\":{{\"system\":{{\"duration\":0}}}},\"version\":1}}"
     )?)
 }
 

@@ -14,7 +14,8 @@ use std::test::Fail;
 
 /// A grant of one host of two cores.
 const GRANT: &str =
-    "{\"version\":1,\"execution\":{\"R_lite\":[{\"rank\":\"0\",\"children\":{\"core\":\"0-1\"}}],\"nodelist\":[\"a0\"],\"starttime\":0,\"expiration\":0}}";
+    "{\"version\":1,\"execution\":{\"R_lite\":[{\"rank\":\"0\",\"children\":{\"core\":\"0-1\"}}],\
+        \"nodelist\":[\"a0\"],\"starttime\":0,\"expiration\":0}}";
 
 /// What is said of a command.
 #[derive(Clone, Copy, Debug, PartialEq, Eq)]

@@ -17,11 +17,14 @@ use std::test::Fail;
 
 /// An accepted jobspec.
 const SPEC: &str =
-    "{\"resources\":[{\"type\":\"slot\",\"count\":1,\"with\":[{\"type\":\"core\",\"count\":1}],\"label\":\"task\"}],\"tasks\":[{\"command\":[\"true\"],\"slot\":\"task\",\"count\":{\"per_slot\":1}}],\"version\":1}";
+    "{\"resources\":[{\"type\":\"slot\",\"count\":1,\"with\":[{\"type\":\"core\",\"count\":1}],\
+        \"label\":\"task\"}],\"tasks\":[{\"command\":[\"true\"],\"slot\":\"task\",\
+        \"count\":{\"per_slot\":1}}],\"version\":1}";
 
 /// The R of two hosts.
 const GRANT: &str =
-    "{\"version\":1,\"execution\":{\"R_lite\":[{\"rank\":\"0-1\",\"children\":{\"core\":\"0-1\"}}],\"nodelist\":[\"a[0-1]\"],\"starttime\":0,\"expiration\":1000}}";
+    "{\"version\":1,\"execution\":{\"R_lite\":[{\"rank\":\"0-1\",\"children\":{\"core\":\"0-1\"}}],\
+        \"nodelist\":[\"a[0-1]\"],\"starttime\":0,\"expiration\":1000}}";
 
 /// A book of no jobs.
 fn book(alloc: Global) -> Result<Book, Fail> {
@@ -82,7 +85,8 @@ fn fault_at(alloc: Global, text: &str, depends: bool) -> Result<Option<Fault>, F
 const ROWS: [(&str, &str); 2] = [
     (
         SPEC,
-        "33554432000 {\"context\":{\"flags\":0,\"urgency\":7,\"userid\":3,\"version\":1},\"name\":\"submit\",\"timestamp\":7}\n",
+        "33554432000 {\"context\":{\"flags\":0,\"urgency\":7,\"userid\":3,\"version\":1},\
+            \"name\":\"submit\",\"timestamp\":7}\n",
     ),
     ("{\"version\":2}", "nothing"),
 ];

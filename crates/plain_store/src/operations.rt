@@ -8,6 +8,7 @@ ghost use Rattle.plain_store.specs.Effects.{Gives};
 
 use crate::slots::{Item, Table};
 use crate::walks::follow;
+use kvs_model::MOST_BYTES;
 use kvs_txn::{Author, Cause, Op, Path, Scope};
 use lists::{Bytes, Copied};
 use std::alloc::{AllocError, Global};
@@ -176,7 +177,7 @@ fn overfills(table: &Table, who: Author, op: &Op, at: &[Bytes]) -> bool
     match who {
         Author::Manager => false,
         Author::User(_) => match op {
-            Op::Append { path: _, bytes } => 65536 < length_after(table.at(at), bytes),
+            Op::Append { path: _, bytes } => MOST_BYTES < length_after(table.at(at), bytes),
             Op::Put { path: _, bytes: _ } => false,
             Op::Unlink { path: _ } => false,
             Op::Mkdir { path: _ } => false,

@@ -8,6 +8,7 @@ ghost use Rattle.plain_store.specs.Counted.{AreCounts, AreCountable, from_on, st
 ghost use Rattle.plain_store.specs.Held.{node_of, store_of, slot_at, written, undone, are_logged, link_target, listing};
 
 use crate::counts::{Counts, count_in, forget_count, make_count, recount};
+use kvs_model::MOST_NAMES;
 use kvs_txn::{Kind, Listed, NameList, Path};
 use lists::{Bytes, Copied, ListOf};
 use std::alloc::{AllocError, Global};
@@ -226,7 +227,7 @@ impl Table {
         ensures { result
             ≡ nat_le most_names (length (names_in (store_of self.now.slots.entries) path.now)) }
     {
-        2048 <= count_in(&self.counts, path)
+        MOST_NAMES <= count_in(&self.counts, path)
     }
 
     /// Whether a directory stands at the path.

@@ -4,12 +4,13 @@ use Rattle.std.specs.Prelude.{Result, Ok, Err, IsErrAnd}
 use Rattle.std.specs.List.{find, list_any, All}
 use Rattle.std.proofs.lemmas.List.{take_more, get_or-map, length-map}
 use Rattle.std.specs.List.Sorted.{IsStrictlyIncreasing}
+use Rattle.outcomes.specs.Outcomes.{Fails, Gives, or_else}
 use Rattle.idset.specs.Ids.{has, IsIdSet}
 use Rattle.resource_set.specs.Units.{AreHosts, AreDistinct}
 use Rattle.resource_set.proofs.Ranks.{distinct_told}
 use Rattle.resource_set.proofs.Booleans.{placed_anew}
 use Rattle.resource_set.specs.Places.{place_of}
-use Rattle.resource_set.specs.Reading.{Fails, Gives, has_rank, or_else, twice_behind, unless_twice, node_at, nodes_with, ranks_of, are_distinct}
+use Rattle.resource_set.specs.Reading.{has_rank, twice_behind, unless_twice, node_at, nodes_with, ranks_of, are_distinct, lasting}
 use Rattle.resource_set.specs.declared.entries.Entry.{Entry}
 use Rattle.resource_set.specs.declared.node.Node.{Node}
 use Rattle.resource_set.specs.declared.faults.RFault.{RFault}
@@ -17,12 +18,12 @@ use Rattle.resource_set.specs.declared.faults.RFault.TheVariants.{NoMemory, NotJ
 use Rattle.resource_set.proofs.Places.{or_place, place_of-push, is_some-place_of, find-alike, not_found}
 
 -- what hands on a fault
-pub err_gives : {X Y : Type 0} (seen : X → Y) (r : Result X RFault) (e : RFault) (found : Result Y RFault) → IsErrAnd r (λ x. x ≡ e) → Fails e found → Gives seen r found
+pub err_gives : {X Y : Type 0} (seen : X → Y) (r : Result X RFault) (e : RFault) (found : Result Y RFault) → IsErrAnd r (λ x. x ≡ e) → Fails lasting e found → Gives lasting seen r found
 err_gives seen (Ok x) e found is h = absurd is
-err_gives seen (Err x) e found is h = subst (λ y. Fails y found) (sym is) h
+err_gives seen (Err x) e found is h = subst (λ y. Fails lasting y found) (sym is) h
 
 -- the first rank that stands twice is the fault of all
-fails_first : (e : RFault) (o later : Option ℕ) → Fails e (unless_twice o) → Fails e (unless_twice (or_else o later))
+fails_first : (e : RFault) (o later : Option ℕ) → Fails lasting e (unless_twice o) → Fails lasting e (unless_twice (or_else o later))
 fails_first e (Some r) later h = h
 fails_first NoMemory None later h = tt
 fails_first (NotJson f) None later h = cc
@@ -63,12 +64,12 @@ once_more entries i entry ids old inside at placed same none =
 
 -- an entry with a rank that stands before
 pub fails_there : (entries : List Entry) (i : ℕ) (entry : Entry) (ids : List ℕ) (old : ℕ → Option ℕ) (e : RFault) → i < length entries → entry ≡ get_or entries i entry → ((r : ℕ) → old r ≡ place_of (has_rank r) (take i entries)) → ids ≡ entry.ranks
-    → Fails e (unless_twice (find (λ r. is_some (old r)) ids)) → Fails e (unless_twice (twice_behind (take i entries) (drop i entries)))
+    → Fails lasting e (unless_twice (find (λ r. is_some (old r)) ids)) → Fails lasting e (unless_twice (twice_behind (take i entries) (drop i entries)))
 fails_there entries i entry ids old e inside at placed same fails =
     let done = take i entries in
-    subst (λ l. Fails e (unless_twice (twice_behind done l))) (sym (rest_of entries i entry inside at))
+    subst (λ l. Fails lasting e (unless_twice (twice_behind done l))) (sym (rest_of entries i entry inside at))
     (fails_first e (find (λ r. list_any (has_rank r) done) entry.ranks) (twice_behind (done ++ entry ∷ []) (drop (i + 1) entries))
-    (subst (λ o. Fails e (unless_twice o)) (met_alike old done ids entry.ranks placed same) fails))
+    (subst (λ o. Fails lasting e (unless_twice o)) (met_alike old done ids entry.ranks placed same) fails))
 
 -- ---- nodes
 

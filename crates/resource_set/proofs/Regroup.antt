@@ -10,12 +10,13 @@ use Rattle.std.proofs.lemmas.List.{get_or_append_left}
 use Rattle.std.proofs.lemmas.List.Folds.{list_any-append, list_any_none}
 use Rattle.std.proofs.lemmas.List.Elements.{All-head, All-tail, All-nil, All-cons, All-push, All-map, All-weaker}
 use Rattle.std.proofs.lemmas.List.Kept.{AllPairs-from_increasing}
+use Rattle.outcomes.specs.Outcomes.{or_else}
 use Rattle.idset.specs.Ids.{has, list_of}
 use Rattle.idset.proofs.Members.{same_ids}
 use Rattle.resource_set.specs.declared.entries.Entry.{Entry}
 use Rattle.resource_set.specs.declared.node.Node.{Node}
 use Rattle.resource_set.specs.Units.{AreHosts}
-use Rattle.resource_set.specs.Reading.{has_rank, or_else, twice_behind, ranks_of, node_at, node_with, nodes_with, no_entry}
+use Rattle.resource_set.specs.Reading.{has_rank, twice_behind, ranks_of, node_at, node_with, nodes_with, no_entry}
 use Rattle.resource_set.specs.Canonical.{first_rank}
 use Rattle.resource_set.specs.Writing.{fits_in, single, added, with_node, entries_of}
 use Rattle.resource_set.proofs.Grouping.{all-with_node}

@@ -1,8 +1,9 @@
 -- The resources that a JSON value tells (R, version 1, of Flux RFC 20).
-use Rattle.std.specs.Prelude.{◌≡◌, ℕ, ◌^◌, ◌-◌, ◌==◌, min, List, [], ◌∷◌, ◌++◌, Bool, true, false, not, ◌&&◌, Option, Some, None, is_none, unwrap_or, option_map, option_and_then, Result, Ok, Err, codes, length, map, flat_map, if◌then◌else◌}
+use Rattle.std.specs.Prelude.{ℕ, ◌^◌, ◌-◌, ◌==◌, min, List, [], ◌∷◌, ◌++◌, Bool, true, false, not, ◌&&◌, Option, Some, None, is_none, unwrap_or, option_map, option_and_then, Result, Ok, Err, codes, length, map, flat_map, if◌then◌else◌}
 use Rattle.std.specs.List.{find, list_any, zip}
 use Rattle.std.specs.Option.{ok_or, option_map_or}
 use Rattle.std.specs.Str.{bytes_eq}
+use Rattle.outcomes.specs.Outcomes.{or_else}
 use Rattle.serde_json.specs.Data.{Data, Items, no_items, item}
 use Rattle.serde_json.specs.Find.{get, as_str, as_array, as_object}
 use Rattle.fl_json.specs.Reading.{as_natural, reading}
@@ -97,11 +98,6 @@ entries_in (item d ds) = do
 abbrev pub has_rank : ℕ → Entry → Bool
 has_rank rank entry = has entry.ranks rank
 
--- the first of two ranks, if there is one
-abbrev pub or_else : Option ℕ → Option ℕ → Option ℕ
-or_else None later = later
-or_else (Some rank) later = Some rank
-
 -- the first rank that an entry has and one before it has, too
 abbrev pub twice_behind : List Entry → List Entry → Option ℕ
 twice_behind before [] = None
@@ -189,16 +185,7 @@ as_r (Err fault) = Err (NotJson fault)
 abbrev pub told : List ℕ → Result Resources RFault
 told text = as_r (reading text) >>= resources_of
 
--- a call that may want memory and that otherwise finds this
-abbrev pub Fails : {T : Type 0} → RFault → Result T RFault → Type 0
-Fails NoMemory found = Unit {0}
-Fails (NotJson fault) found = found ≡ Err (NotJson fault)
-Fails BadVersion found = found ≡ Err BadVersion
-Fails (BadField key) found = found ≡ Err (BadField key)
-Fails (RankTwice rank) found = found ≡ Err (RankTwice rank)
-Fails (HostsDiffer ranks names) found = found ≡ Err (HostsDiffer ranks names)
-Fails HostTwice found = found ≡ Err HostTwice
-
-abbrev pub Gives : {X Y : Type 0} → (X → Y) → Result X RFault → Result Y RFault → Type 0
-Gives seen (Ok x) found = found ≡ Ok (seen x)
-Gives seen (Err e) found = Fails e found
+-- the faults that tell of what is read: all but want of memory
+abbrev pub lasting : RFault → Option RFault
+lasting NoMemory = None
+lasting fault = Some fault

@@ -1,10 +1,11 @@
 //! The fields of an R.
 ghost use Rattle.std.specs.Prelude.{◌≡◌, IfOk, OnOk, option_and_then, ◌++◌};
 ghost use Rattle.std.specs.Option.{ok_or};
+ghost use Rattle.outcomes.specs.Outcomes.{Gives};
 ghost use Rattle.serde_json.specs.Find.{get, as_str};
 ghost use Rattle.serde_json.specs.View.{view, items_view};
 ghost use Rattle.hostlist.specs.Names.{AreHostNames};
-ghost use Rattle.resource_set.specs.Reading.{Gives, object_at, list_at, text_at, ids_of, ids_at, ids_if_there, seconds_at, is_version_1, hosts_of, all_hosts, hosts_at};
+ghost use Rattle.resource_set.specs.Reading.{object_at, list_at, ids_of, ids_at, ids_if_there, seconds_at, is_version_1, hosts_of, hosts_at, lasting};
 ghost use Rattle.resource_set.specs.declared.faults.RFault.TheVariants.{BadField};
 ghost use Rattle.resource_set.specs.declared.faults.RKey.TheVariants.{Nodelist};
 
@@ -21,7 +22,7 @@ pub(crate) fn object_under<'a>(
     key: &str,
     field: RKey,
 ) -> Result<&'a Value, RFault>
-    ensures { Gives (λ v. view v.now) result
+    ensures { Gives lasting (λ v. view v.now) result
         (ok_or (object_at key.now (view value.now)) (BadField field)) }
 {
     match value.get(key) {
@@ -36,7 +37,7 @@ pub(crate) fn list_under<'a>(
     key: &str,
     field: RKey,
 ) -> Result<&'a [Value], RFault>
-    ensures { Gives (λ vs. items_view vs.now) result
+    ensures { Gives lasting (λ vs. items_view vs.now) result
         (ok_or (list_at key.now (view value.now)) (BadField field)) }
 {
     match value.get(key).and_then(Value::as_array) {
@@ -47,7 +48,7 @@ pub(crate) fn list_under<'a>(
 
 /// The ids that a text spells.
 fn ids_in(alloc: Global, text: &str, field: RKey) -> Result<IdSet, RFault>
-    ensures { Gives (λ s. s) result (ok_or (ids_of text.now) (BadField field)) }
+    ensures { Gives lasting (λ s. s) result (ok_or (ids_of text.now) (BadField field)) }
 {
     match IdSet::read(alloc, text.as_bytes()) {
         Ok(ids) => Ok(ids),
@@ -63,7 +64,8 @@ pub(crate) fn ids_under(
     key: &str,
     field: RKey,
 ) -> Result<IdSet, RFault>
-    ensures { Gives (λ s. s) result (ok_or (ids_at key.now (view value.now)) (BadField field)) }
+    ensures { Gives lasting (λ s. s) result
+        (ok_or (ids_at key.now (view value.now)) (BadField field)) }
 {
     match value.get(key).and_then(Value::as_str) {
         Some(text) => ids_in(alloc, text, field),
@@ -78,7 +80,7 @@ pub(crate) fn ids_or_none(
     key: &str,
     field: RKey,
 ) -> Result<IdSet, RFault>
-    ensures { Gives (λ s. s) result
+    ensures { Gives lasting (λ s. s) result
         (ok_or (ids_if_there key.now (view value.now)) (BadField field)) }
 {
     if value.get(key).is_none() {
@@ -89,7 +91,7 @@ pub(crate) fn ids_or_none(
 
 /// The seconds under a key; 0 where the key is missing.
 pub(crate) fn seconds_under(value: &Value, key: &str, field: RKey) -> Result<u64, RFault>
-    ensures { Gives (λ n. n) result
+    ensures { Gives lasting (λ n. n) result
         (ok_or (seconds_at key.now (view value.now)) (BadField field)) }
 {
     match value.get(key) {
@@ -110,7 +112,8 @@ pub(crate) fn has_version_1(value: &Value) -> bool
 
 /// The hosts that a text spells.
 fn hosts_in(alloc: Global, text: &str) -> Result<HostList, RFault>
-    ensures hosts { Gives (λ names. names) result (ok_or (hosts_of text.now) (BadField Nodelist)) }
+    ensures hosts { Gives lasting (λ names. names) result
+        (ok_or (hosts_of text.now) (BadField Nodelist)) }
     ensures named { IfOk result AreHostNames }
 {
     match HostList::read(alloc, text.as_bytes()) {
@@ -122,7 +125,7 @@ fn hosts_in(alloc: Global, text: &str) -> Result<HostList, RFault>
 
 /// The hosts that a value's text spells.
 fn hosts_told(alloc: Global, value: &Value) -> Result<HostList, RFault>
-    ensures hosts { Gives (λ names. names) result
+    ensures hosts { Gives lasting (λ names. names) result
         (ok_or (option_and_then hosts_of (as_str (view value.now))) (BadField Nodelist)) }
     ensures named { IfOk result AreHostNames }
 {
@@ -145,7 +148,7 @@ fn add_hosts(hosts: &mut Vec<Bytes>, names: &HostList) -> Result<(), AllocError>
 
 /// The hosts that the texts of a list spell, joined in their order.
 pub(crate) fn hosts_under(alloc: Global, value: &Value, key: &str) -> Result<Vec<Bytes>, RFault>
-    ensures hosts { Gives (λ names. names.items) result
+    ensures hosts { Gives lasting (λ names. names.items) result
         (ok_or (hosts_at key.now (view value.now)) (BadField Nodelist)) }
     ensures named { IfOk result (λ names. AreHostNames names.items) }
 {

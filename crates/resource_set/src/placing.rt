@@ -1,13 +1,14 @@
 //! Which entry has a rank, and which host belongs to it.
-ghost use Rattle.std.specs.Prelude.{◌≡◌, ℕ, length, IfOk, OnOk, MatchResult, Some, None, is_some, unwrap_or, cond, option_copied, []};
+ghost use Rattle.std.specs.Prelude.{◌≡◌, ℕ, length, IfOk, OnOk, Some, None, is_some, unwrap_or, cond, option_copied, []};
 ghost use Rattle.std.specs.List.{find};
 ghost use Rattle.std.specs.List.Sorted.{IsStrictlyIncreasing};
 ghost use Rattle.std.specs.Ordering.{nat_cmp};
 ghost use Rattle.std.specs.BTreeMap.{get};
+ghost use Rattle.outcomes.specs.Outcomes.{Gives};
 ghost use Rattle.idset.specs.Ids.{has, IsIdSet};
 ghost use Rattle.resource_set.specs.Units.{AreHosts, host_names};
 ghost use Rattle.resource_set.specs.Places.{IsRankIndex};
-ghost use Rattle.resource_set.specs.Reading.{Gives, Fails, has_rank, twice_behind, ranks_of, node_with, nodes_with, nodes_of, are_distinct, unless_twice, told_count, no_entry};
+ghost use Rattle.resource_set.specs.Reading.{has_rank, twice_behind, ranks_of, node_with, nodes_with, nodes_of, are_distinct, unless_twice, told_count, no_entry, lasting};
 
 use crate::entries::Entry;
 use crate::faults::RFault;
@@ -22,7 +23,7 @@ fn place_ranks(places: &mut BTreeMap<u32, usize>, ranks: &[u32], place: usize) -
     requires { IsStrictlyIncreasing ranks.now }
     ensures placed { OnOk result ((rank : ℕ) → get nat_cmp places.new rank
         ≡ cond (has ranks.now rank) (Some place) (get nat_cmp places.old rank)) }
-    ensures once { Gives (λ _. 0) result
+    ensures once { Gives lasting (λ _. 0) result
         (unless_twice (find (λ rank. is_some (get nat_cmp places.old rank)) ranks.now)) }
 {
     for rank in ranks {
@@ -36,7 +37,7 @@ fn place_ranks(places: &mut BTreeMap<u32, usize>, ranks: &[u32], place: usize) -
 /// Which entry has a rank.
 fn places_of(alloc: Global, entries: &[Entry]) -> Result<BTreeMap<u32, usize>, RFault>
     ensures placed { IfOk result (λ places. IsRankIndex places entries.now) }
-    ensures once { Gives (λ _. 0) result (unless_twice (twice_behind [] entries.now)) }
+    ensures once { Gives lasting (λ _. 0) result (unless_twice (twice_behind [] entries.now)) }
 {
     let mut places = BTreeMap::new(alloc);
     for (place, entry) in entries.iter().enumerate() {
@@ -147,7 +148,7 @@ pub(crate) fn hosts_at_ranks(
     entries: &[Entry],
     hosts: &[Bytes],
 ) -> Result<Vec<Node>, RFault>
-    ensures found { Gives (λ nodes. nodes.items) result (nodes_of entries.now hosts.now) }
+    ensures found { Gives lasting (λ nodes. nodes.items) result (nodes_of entries.now hosts.now) }
     ensures valid { IfOk result (λ nodes. AreHosts nodes.items) }
     ensures names { IfOk result (λ nodes. host_names nodes.items ≡ hosts.now) }
 {

@@ -1,7 +1,8 @@
 //! Reading an R.
-ghost use Rattle.std.specs.Prelude.{◌≡◌, IfOk, ◌++◌};
+ghost use Rattle.std.specs.Prelude.{IfOk};
+ghost use Rattle.outcomes.specs.Outcomes.{Gives};
 ghost use Rattle.serde_json.specs.View.{view, items_view};
-ghost use Rattle.resource_set.specs.Reading.{Gives, entry_of, entries_in, executed, resources_of, told};
+ghost use Rattle.resource_set.specs.Reading.{entry_of, entries_in, executed, resources_of, told, lasting};
 ghost use Rattle.resource_set.specs.Valid.{IsR};
 
 use crate::entries::Entry;
@@ -17,7 +18,7 @@ use std::alloc::Global;
 /// The entry that a value tells.
 #[tactic(auto, unfolding(crate::specs::Reading::entry_of))]
 fn entry_in(alloc: Global, value: &Value) -> Result<Entry, RFault>
-    ensures { Gives (λ e. e) result (entry_of (view value.now)) }
+    ensures { Gives lasting (λ e. e) result (entry_of (view value.now)) }
 {
     if !value.is_object() {
         return Err(RFault::BadField(RKey::RLite));
@@ -31,7 +32,7 @@ fn entry_in(alloc: Global, value: &Value) -> Result<Entry, RFault>
 
 /// The entries that values tell.
 fn entries_told(alloc: Global, values: &[Value]) -> Result<Vec<Entry>, RFault>
-    ensures { Gives (λ entries. entries.items) result (entries_in (items_view values.now)) }
+    ensures { Gives lasting (λ entries. entries.items) result (entries_in (items_view values.now)) }
 {
     let mut entries = Vec::new(alloc);
     for value in values {
@@ -43,7 +44,7 @@ fn entries_told(alloc: Global, values: &[Value]) -> Result<Vec<Entry>, RFault>
 /// The resources of the object under `execution`.
 #[tactic(auto, unfolding(crate::specs::Reading::executed))]
 fn executed_in(alloc: Global, value: &Value) -> Result<Resources, RFault>
-    ensures found { Gives (λ r. r) result (executed (view value.now)) }
+    ensures found { Gives lasting (λ r. r) result (executed (view value.now)) }
     ensures valid { IfOk result IsR }
 {
     let entries = entries_told(alloc, list_under(value, "R_lite", RKey::RLite)?)?;
@@ -61,7 +62,7 @@ fn executed_in(alloc: Global, value: &Value) -> Result<Resources, RFault>
 /// The resources that a value tells.
 #[tactic(auto, unfolding(crate::specs::Reading::resources_of))]
 fn resources_in(alloc: Global, value: &Value) -> Result<Resources, RFault>
-    ensures found { Gives (λ r. r) result (resources_of (view value.now)) }
+    ensures found { Gives lasting (λ r. r) result (resources_of (view value.now)) }
     ensures valid { IfOk result IsR }
 {
     if !has_version_1(value) {
@@ -75,7 +76,7 @@ fn resources_in(alloc: Global, value: &Value) -> Result<Resources, RFault>
 /// the first is answered: `execution`, `R_lite` and its entries from first to last (`rank`,
 /// `children`, `core` and `gpu` of each), `nodelist`, `starttime`, `expiration`.
 pub fn read(alloc: Global, text: &[u8]) -> Result<Resources, RFault>
-    ensures found { Gives (λ r. r) result (told text.now) }
+    ensures found { Gives lasting (λ r. r) result (told text.now) }
     ensures valid { IfOk result IsR }
 {
     match fl_json::read(alloc, text) {

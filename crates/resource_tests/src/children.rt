@@ -6,16 +6,24 @@ use std::test::Fail;
 /// What stands under `execution` of a job's R, and of its child's.
 const GRANTS: [(&str, &str); 4] = [
     (
-        "{\"R_lite\":[{\"children\":{\"core\":\"0-3\",\"gpu\":\"1\"},\"rank\":\"3\"},{\"children\":{\"core\":\"2\"},\"rank\":\"7\"}],\"expiration\":3600,\"nodelist\":[\"node[3,7]\"],\"starttime\":5}",
-        "{\"R_lite\":[{\"children\":{\"core\":\"0-3\",\"gpu\":\"1\"},\"rank\":\"0\"},{\"children\":{\"core\":\"2\"},\"rank\":\"1\"}],\"expiration\":3600,\"nodelist\":[\"node[3,7]\"],\"starttime\":5}",
+        "{\"R_lite\":[{\"children\":{\"core\":\"0-3\",\"gpu\":\"1\"},\"rank\":\"3\"},\
+            {\"children\":{\"core\":\"2\"},\"rank\":\"7\"}],\"expiration\":3600,\
+            \"nodelist\":[\"node[3,7]\"],\"starttime\":5}",
+        "{\"R_lite\":[{\"children\":{\"core\":\"0-3\",\"gpu\":\"1\"},\"rank\":\"0\"},\
+            {\"children\":{\"core\":\"2\"},\"rank\":\"1\"}],\"expiration\":3600,\
+            \"nodelist\":[\"node[3,7]\"],\"starttime\":5}",
     ),
     (
-        "{\"R_lite\":[{\"children\":{\"core\":\"0\"},\"rank\":\"2,4,65535\"}],\"expiration\":0,\"nodelist\":[\"c,a,b\"],\"starttime\":0}",
-        "{\"R_lite\":[{\"children\":{\"core\":\"0\"},\"rank\":\"0-2\"}],\"expiration\":0,\"nodelist\":[\"c,a,b\"],\"starttime\":0}",
+        "{\"R_lite\":[{\"children\":{\"core\":\"0\"},\"rank\":\"2,4,65535\"}],\"expiration\":0,\
+            \"nodelist\":[\"c,a,b\"],\"starttime\":0}",
+        "{\"R_lite\":[{\"children\":{\"core\":\"0\"},\"rank\":\"0-2\"}],\"expiration\":0,\
+            \"nodelist\":[\"c,a,b\"],\"starttime\":0}",
     ),
     (
-        "{\"R_lite\":[{\"children\":{\"core\":\"0\"},\"rank\":\"0\"}],\"expiration\":0,\"nodelist\":[\"node0\"],\"starttime\":0}",
-        "{\"R_lite\":[{\"children\":{\"core\":\"0\"},\"rank\":\"0\"}],\"expiration\":0,\"nodelist\":[\"node0\"],\"starttime\":0}",
+        "{\"R_lite\":[{\"children\":{\"core\":\"0\"},\"rank\":\"0\"}],\"expiration\":0,\
+            \"nodelist\":[\"node0\"],\"starttime\":0}",
+        "{\"R_lite\":[{\"children\":{\"core\":\"0\"},\"rank\":\"0\"}],\"expiration\":0,\
+            \"nodelist\":[\"node0\"],\"starttime\":0}",
     ),
     (
         "{\"R_lite\":[],\"expiration\":0,\"nodelist\":[],\"starttime\":0}",

@@ -6,11 +6,17 @@ use std::test::Fail;
 
 /// A job of one slot of one core.
 const J1: &str =
-    "{\"resources\":[{\"type\":\"slot\",\"count\":1,\"with\":[{\"type\":\"core\",\"count\":1}],\"label\":\"task\"}],\"tasks\":[{\"command\":[\"true\"],\"slot\":\"task\",\"count\":{\"per_slot\":1}}],\"attributes\":{\"system\":{\"duration\":0}},\"version\":1}";
+    "{\"resources\":[{\"type\":\"slot\",\"count\":1,\"with\":[{\"type\":\"core\",\"count\":1}],\
+        \"label\":\"task\"}],\"tasks\":[{\"command\":[\"true\"],\"slot\":\"task\",\
+        \"count\":{\"per_slot\":1}}],\"attributes\":{\"system\":{\"duration\":0}},\"version\":1}";
 
 /// A job with a duration, and with keys that are read over.
 const J2: &str =
-    "{\"resources\":[{\"type\":\"slot\",\"count\":1,\"with\":[{\"type\":\"core\",\"count\":1}],\"label\":\"task\"}],\"tasks\":[{\"command\":[\"sleep\",\"10\"],\"slot\":\"task\",\"count\":{\"per_slot\":1}}],\"attributes\":{\"system\":{\"duration\":3600.0,\"cwd\":\"/home/u\",\"environment\":{\"LANG\":\"C\"},\"shell\":{\"options\":{\"rlimit\":{\"nofile\":1024}}}}},\"version\":1}";
+    "{\"resources\":[{\"type\":\"slot\",\"count\":1,\"with\":[{\"type\":\"core\",\"count\":1}],\
+        \"label\":\"task\"}],\"tasks\":[{\"command\":[\"sleep\",\"10\"],\"slot\":\"task\",\
+        \"count\":{\"per_slot\":1}}],\"attributes\":{\"system\":{\"duration\":3600.0,\
+        \"cwd\":\"/home/u\",\"environment\":{\"LANG\":\"C\"},\
+        \"shell\":{\"options\":{\"rlimit\":{\"nofile\":1024}}}}},\"version\":1}";
 
 /// What is told of the first job.
 const PLAIN: &str = "on None false 1 of 1+0 PerSlot(1) for 0: true";
@@ -42,7 +48,8 @@ const SLOTS: [&str; 29] = [
     "3 BadField(Slot) | \"slot\",\"count\":1 | \"slot\",\"count\":{\"min\":1}",
     "5 BadCount(Slot) | \"slot\",\"count\":1 | \"slot\",\"count\":0",
     "5 BadCount(Slot) | \"slot\",\"count\":1 | \"slot\",\"count\":-1",
-    "on None false 65536 of 1+0 PerSlot(1) for 0: true | \"slot\",\"count\":1 | \"slot\",\"count\":65536",
+    "on None false 65536 of 1+0 PerSlot(1) for 0: true | \"slot\",\"count\":1 | \"slot\",\
+        \"count\":65536",
     "5 BadCount(Slot) | \"slot\",\"count\":1 | \"slot\",\"count\":65537",
     "3 BadField(Slot) | \"label\":\"task\" | \"label\":null",
     "3 BadField(Slot) | \"label\":\"task\" | \"other\":\"task\"",
@@ -56,15 +63,20 @@ const SLOTS: [&str; 29] = [
     "3 BadField(Core) | \"core\",\"count\":1 | \"core\"",
     "5 BadCount(Core) | \"core\",\"count\":1 | \"core\",\"count\":0",
     "3 BadField(Core) | \"core\",\"count\":1 | \"core\",\"count\":[1]",
-    "on None false 1 of 2+3 PerSlot(1) for 0: true | \"core\",\"count\":1} | \"core\",\"count\":2},{\"type\":\"gpu\",\"count\":3}",
-    "on None false 1 of 2+3 PerSlot(1) for 0: true | {\"type\":\"core\",\"count\":1} | {\"type\":\"gpu\",\"count\":3},{\"type\":\"core\",\"count\":2}",
+    "on None false 1 of 2+3 PerSlot(1) for 0: true | \"core\",\"count\":1} | \"core\",\"count\":2},\
+        {\"type\":\"gpu\",\"count\":3}",
+    "on None false 1 of 2+3 PerSlot(1) for 0: true | {\"type\":\"core\",\
+        \"count\":1} | {\"type\":\"gpu\",\"count\":3},{\"type\":\"core\",\"count\":2}",
     "4 BadShape(Slot) | \"count\":1} | \"count\":1},{\"type\":\"core\",\"count\":1}",
-    "4 BadShape(Slot) | {\"type\":\"core\",\"count\":1} | {\"type\":\"gpu\",\"count\":1},{\"type\":\"gpu\",\"count\":1}",
-    "4 BadShape(Slot) | \"count\":1} | \"count\":1},{\"type\":\"gpu\",\"count\":1},{\"type\":\"gpu\",\"count\":1}",
+    "4 BadShape(Slot) | {\"type\":\"core\",\"count\":1} | {\"type\":\"gpu\",\"count\":1},\
+        {\"type\":\"gpu\",\"count\":1}",
+    "4 BadShape(Slot) | \"count\":1} | \"count\":1},{\"type\":\"gpu\",\"count\":1},\
+        {\"type\":\"gpu\",\"count\":1}",
     "3 BadField(Gpu) | \"count\":1} | \"count\":1},{\"type\":\"gpu\"}",
     "5 BadCount(Gpu) | \"count\":1} | \"count\":1},{\"type\":\"gpu\",\"count\":65537}",
     "5 BadCount(Core) | \"count\":1} | \"count\":0},{\"type\":\"gpu\",\"count\":\"1\"}",
-    "5 BadCount(Core) | {\"type\":\"core\",\"count\":1} | {\"type\":\"gpu\",\"count\":0},{\"type\":\"core\",\"count\":0}",
+    "5 BadCount(Core) | {\"type\":\"core\",\"count\":1} | {\"type\":\"gpu\",\"count\":0},\
+        {\"type\":\"core\",\"count\":0}",
     "4 BadShape(Slot) | \"count\":1} | \"count\":0},{\"type\":\"socket\"}",
 ];
 
@@ -97,12 +109,14 @@ const TASKS: [&str; 22] = [
 /// The same in the attributes.
 const ATTRIBUTES: [&str; 20] = [
     "on None false 1 of 1+0 PerSlot(1) for 0: true | \"attributes\" | \"other\"",
-    "on None false 1 of 1+0 PerSlot(1) for 0: true | \"attributes\": | \"attributes\":null, \"other\":",
+    "on None false 1 of 1+0 PerSlot(1) for 0: true | \"attributes\": | \"attributes\":null, \
+        \"other\":",
     "3 BadField(Attributes) | \"attributes\": | \"attributes\":[], \"other\":",
     "on None false 1 of 1+0 PerSlot(1) for 0: true | \"system\" | \"user\"",
     "3 BadField(Attributes) | \"system\": | \"system\":null, \"user\":",
     "on None false 1 of 1+0 PerSlot(1) for 0: true | \"duration\" | \"other\"",
-    "on None false 1 of 1+0 PerSlot(1) for 18446744073709551615: true | \"duration\":0 | \"duration\":18446744073709551615",
+    "on None false 1 of 1+0 PerSlot(1) for 18446744073709551615: true | \"duration\":0 | \
+        \"duration\":18446744073709551615",
     "3 BadField(Duration) | \"duration\":0 | \"duration\":-1",
     "3 BadField(Duration) | \"duration\":0 | \"duration\":null",
     "3 BadField(Duration) | \"duration\":0 | \"duration\":\"1m\",\"dependencies\":5",
@@ -112,17 +126,27 @@ const ATTRIBUTES: [&str; 20] = [
     "3 BadField(Dependencies) | \"duration\":0 | \"dependencies\":[{\"value\":\"f1\"}]",
     "4 BadShape(Dependencies) | \"duration\":0 | \"dependencies\":[{\"scheme\":\"before\"}]",
     "3 BadField(Dependencies) | \"duration\":0 | \"dependencies\":[{\"scheme\":\"after\"}]",
-    "3 BadField(Dependencies) | \"duration\":0 | \"dependencies\":[{\"scheme\":\"after\",\"value\":5}]",
-    "3 BadField(Dependencies) | \"duration\":0 | \"dependencies\":[{\"scheme\":\"after\",\"value\":\"f0\"}]",
-    "4 BadShape(Dependencies) | \"duration\":0 | \"dependencies\":[{\"scheme\":\"after\",\"value\":\"f2\"},{\"scheme\":\"\"}]",
-    "on None false 1 of 1+0 PerSlot(1) for 0: true; After 1024; AfterAny 1234; AfterOk 16777216000; AfterNotOk 0 | \"duration\":0 | \"dependencies\":[{\"scheme\":\"after\",\"value\":\"fJf\"},{\"value\":\"1234\",\"scheme\":\"afterany\"},{\"scheme\":\"afterok\",\"value\":\"0000.0003.e800.0000\"},{\"scheme\":\"afternotok\",\"value\":\"f1\",\"other\":5}]",
+    "3 BadField(Dependencies) | \"duration\":0 | \"dependencies\":[{\"scheme\":\"after\",\
+        \"value\":5}]",
+    "3 BadField(Dependencies) | \"duration\":0 | \"dependencies\":[{\"scheme\":\"after\",\
+        \"value\":\"f0\"}]",
+    "4 BadShape(Dependencies) | \"duration\":0 | \"dependencies\":[{\"scheme\":\"after\",\
+        \"value\":\"f2\"},{\"scheme\":\"\"}]",
+    "on None false 1 of 1+0 PerSlot(1) for 0: true; After 1024; AfterAny 1234; AfterOk \
+        16777216000; AfterNotOk 0 | \"duration\":0 | \"dependencies\":[{\"scheme\":\"after\",\
+        \"value\":\"fJf\"},{\"value\":\"1234\",\"scheme\":\"afterany\"},{\"scheme\":\"afterok\",\
+        \"value\":\"0000.0003.e800.0000\"},{\"scheme\":\"afternotok\",\"value\":\"f1\",\
+        \"other\":5}]",
 ];
 
 /// What is told of the first job, and what stands in place of its slot.
 const NODES: [&str; 12] = [
-    "on Some(2) false 1 of 1+0 PerSlot(1) for 0: true | {\"type\":\"node\",\"count\":2,\"with\":[@]}",
-    "on Some(2) true 1 of 1+0 PerSlot(1) for 0: true | {\"type\":\"node\",\"count\":2,\"exclusive\":true,\"with\":[@]}",
-    "on Some(65536) false 1 of 1+0 PerSlot(1) for 0: true | {\"type\":\"node\",\"count\":65536,\"exclusive\":false,\"with\":[@]}",
+    "on Some(2) false 1 of 1+0 PerSlot(1) for 0: true | {\"type\":\"node\",\"count\":2,\
+        \"with\":[@]}",
+    "on Some(2) true 1 of 1+0 PerSlot(1) for 0: true | {\"type\":\"node\",\"count\":2,\
+        \"exclusive\":true,\"with\":[@]}",
+    "on Some(65536) false 1 of 1+0 PerSlot(1) for 0: true | {\"type\":\"node\",\"count\":65536,\
+        \"exclusive\":false,\"with\":[@]}",
     "3 BadField(Node) | {\"type\":\"node\",\"with\":[@]}",
     "5 BadCount(Node) | {\"type\":\"node\",\"count\":0,\"exclusive\":5,\"with\":[@]}",
     "3 BadField(Node) | {\"type\":\"node\",\"count\":1,\"exclusive\":null,\"with\":[]}",
@@ -147,8 +171,10 @@ const SHORT: [&str; 9] = [
     "2 BadVersion | {\"version\":2,\"resources\":[]}",
     "4 BadShape(Resources) | {\"version\":1,\"tasks\":[],\"resources\":[]}",
     "3 BadField(Slot) | {\"version\":1,\"resources\":[{\"type\":\"slot\"}],\"tasks\":5}",
-    "5 BadCount(Slot) | {\"attributes\":5,\"version\":1,\"resources\":[{\"type\":\"slot\",\"count\":0}]}",
-    "3 BadField(Slot) | {\"version\":1,\"resources\":[{\"type\":\"slot\",\"count\":1,\"label\":5,\"with\":5}]}",
+    "5 BadCount(Slot) | {\"attributes\":5,\"version\":1,\"resources\":[{\"type\":\"slot\",\
+        \"count\":0}]}",
+    "3 BadField(Slot) | {\"version\":1,\"resources\":[{\"type\":\"slot\",\"count\":1,\"label\":5,\
+        \"with\":5}]}",
 ];
 
 /// What is told of a job.

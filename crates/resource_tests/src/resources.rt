@@ -8,22 +8,25 @@ use std::alloc::Global;
 use std::test::Fail;
 
 /// The R of one host.
-const ONE: &str =
-    "{\"execution\":{\"R_lite\":[{\"children\":{\"core\":\"0\"},\"rank\":\"0\"}],\"expiration\":3600,\"nodelist\":[\"node0\"],\"starttime\":0},\"version\":1}";
+const ONE: &str = "{\"execution\":{\"R_lite\":[{\"children\":{\"core\":\"0\"},\"rank\":\"0\"}],\
+        \"expiration\":3600,\"nodelist\":[\"node0\"],\"starttime\":0},\"version\":1}";
 
 /// The R of two hosts, with blanks, a fraction of zeros and keys in another order.
 const TWO: &str =
-    "{\"version\": 1, \"execution\": {\"R_lite\": [{\"rank\": \"0-1\", \"children\": {\"core\": \"0-3\"}}], \"starttime\": 0.0, \"expiration\": 0.0, \"nodelist\": [\"node[0-1]\"]}}";
+    "{\"version\": 1, \"execution\": {\"R_lite\": [{\"rank\": \"0-1\", \"children\": {\"core\": \
+        \"0-3\"}}], \"starttime\": 0.0, \"expiration\": 0.0, \"nodelist\": [\"node[0-1]\"]}}";
 
 /// The canonical text of the same.
 const TWO_PRINTED: &str =
-    "{\"execution\":{\"R_lite\":[{\"children\":{\"core\":\"0-3\"},\"rank\":\"0-1\"}],\"expiration\":0,\"nodelist\":[\"node[0-1]\"],\"starttime\":0},\"version\":1}";
+    "{\"execution\":{\"R_lite\":[{\"children\":{\"core\":\"0-3\"},\"rank\":\"0-1\"}],\
+        \"expiration\":0,\"nodelist\":[\"node[0-1]\"],\"starttime\":0},\"version\":1}";
 
 /// What stands under `execution`, and the canonical text of the same.
 const TOLD: [(&str, &str); 8] = [
     (
         "{\"R_lite\":[{\"rank\":\"0\",\"children\":{\"core\":\"0\"}}],\"nodelist\":[\"a\"]}",
-        "{\"R_lite\":[{\"children\":{\"core\":\"0\"},\"rank\":\"0\"}],\"expiration\":0,\"nodelist\":[\"a\"],\"starttime\":0}",
+        "{\"R_lite\":[{\"children\":{\"core\":\"0\"},\"rank\":\"0\"}],\"expiration\":0,\
+            \"nodelist\":[\"a\"],\"starttime\":0}",
     ),
     (
         "{\"R_lite\":[],\"nodelist\":[],\"starttime\":3600.0,\"expiration\":18446744073709551615}",
@@ -31,32 +34,47 @@ const TOLD: [(&str, &str); 8] = [
     ),
     // Ranks stand in any order, and hosts belong to them in order.
     (
-        "{\"R_lite\":[{\"rank\":\"3\",\"children\":{\"core\":\"0\"}},{\"rank\":\"0-1\",\"children\":{\"core\":\"1\"}}],\"nodelist\":[\"c\",\"a,b\"]}",
-        "{\"R_lite\":[{\"children\":{\"core\":\"1\"},\"rank\":\"0-1\"},{\"children\":{\"core\":\"0\"},\"rank\":\"3\"}],\"expiration\":0,\"nodelist\":[\"c,a,b\"],\"starttime\":0}",
+        "{\"R_lite\":[{\"rank\":\"3\",\"children\":{\"core\":\"0\"}},{\"rank\":\"0-1\",\
+            \"children\":{\"core\":\"1\"}}],\"nodelist\":[\"c\",\"a,b\"]}",
+        "{\"R_lite\":[{\"children\":{\"core\":\"1\"},\"rank\":\"0-1\"},\
+            {\"children\":{\"core\":\"0\"},\"rank\":\"3\"}],\"expiration\":0,\"nodelist\":[\"c,a,\
+            b\"],\"starttime\":0}",
     ),
     // Equal children stand in one entry, also where others stand between.
     (
-        "{\"R_lite\":[{\"rank\":\"0\",\"children\":{\"core\":\"0-1\"}},{\"rank\":\"1\",\"children\":{\"core\":\"2\",\"gpu\":\"1,0\"}},{\"rank\":\"2\",\"children\":{\"core\":\"1,0\",\"gpu\":\"\"}}],\"nodelist\":[\"n[7-9]\"]}",
-        "{\"R_lite\":[{\"children\":{\"core\":\"0-1\"},\"rank\":\"0,2\"},{\"children\":{\"core\":\"2\",\"gpu\":\"0-1\"},\"rank\":\"1\"}],\"expiration\":0,\"nodelist\":[\"n[7-9]\"],\"starttime\":0}",
+        "{\"R_lite\":[{\"rank\":\"0\",\"children\":{\"core\":\"0-1\"}},{\"rank\":\"1\",\
+            \"children\":{\"core\":\"2\",\"gpu\":\"1,0\"}},{\"rank\":\"2\",\
+            \"children\":{\"core\":\"1,0\",\"gpu\":\"\"}}],\"nodelist\":[\"n[7-9]\"]}",
+        "{\"R_lite\":[{\"children\":{\"core\":\"0-1\"},\"rank\":\"0,2\"},\
+            {\"children\":{\"core\":\"2\",\"gpu\":\"0-1\"},\"rank\":\"1\"}],\"expiration\":0,\
+            \"nodelist\":[\"n[7-9]\"],\"starttime\":0}",
     ),
     // The same cores with other GPUs are other children.
     (
-        "{\"R_lite\":[{\"rank\":\"0\",\"children\":{\"core\":\"1\",\"gpu\":\"2\"}},{\"rank\":\"1\",\"children\":{\"core\":\"1\",\"gpu\":\"3\"}}],\"nodelist\":[\"x,y\"]}",
-        "{\"R_lite\":[{\"children\":{\"core\":\"1\",\"gpu\":\"2\"},\"rank\":\"0\"},{\"children\":{\"core\":\"1\",\"gpu\":\"3\"},\"rank\":\"1\"}],\"expiration\":0,\"nodelist\":[\"x,y\"],\"starttime\":0}",
+        "{\"R_lite\":[{\"rank\":\"0\",\"children\":{\"core\":\"1\",\"gpu\":\"2\"}},{\"rank\":\"1\",\
+            \"children\":{\"core\":\"1\",\"gpu\":\"3\"}}],\"nodelist\":[\"x,y\"]}",
+        "{\"R_lite\":[{\"children\":{\"core\":\"1\",\"gpu\":\"2\"},\"rank\":\"0\"},\
+            {\"children\":{\"core\":\"1\",\"gpu\":\"3\"},\"rank\":\"1\"}],\"expiration\":0,\
+            \"nodelist\":[\"x,y\"],\"starttime\":0}",
     ),
     // A host without cores, and an entry without ranks.
     (
-        "{\"R_lite\":[{\"rank\":\"5\",\"children\":{\"core\":\"\"}},{\"rank\":\"\",\"children\":{\"core\":\"1\"}}],\"nodelist\":[\"a\"]}",
-        "{\"R_lite\":[{\"children\":{\"core\":\"\"},\"rank\":\"5\"}],\"expiration\":0,\"nodelist\":[\"a\"],\"starttime\":0}",
+        "{\"R_lite\":[{\"rank\":\"5\",\"children\":{\"core\":\"\"}},{\"rank\":\"\",\
+            \"children\":{\"core\":\"1\"}}],\"nodelist\":[\"a\"]}",
+        "{\"R_lite\":[{\"children\":{\"core\":\"\"},\"rank\":\"5\"}],\"expiration\":0,\
+            \"nodelist\":[\"a\"],\"starttime\":0}",
     ),
     // Other keys are read over, and of a key that stands twice the last counts.
     (
-        "{\"R_lite\":[{\"rank\":\"1\",\"rank\":\"0\",\"x\":1,\"children\":{\"core\":\"0\",\"y\":[]}}],\"nodelist\":[\"a\"],\"properties\":{}}",
-        "{\"R_lite\":[{\"children\":{\"core\":\"0\"},\"rank\":\"0\"}],\"expiration\":0,\"nodelist\":[\"a\"],\"starttime\":0}",
+        "{\"R_lite\":[{\"rank\":\"1\",\"rank\":\"0\",\"x\":1,\"children\":{\"core\":\"0\",\
+            \"y\":[]}}],\"nodelist\":[\"a\"],\"properties\":{}}",
+        "{\"R_lite\":[{\"children\":{\"core\":\"0\"},\"rank\":\"0\"}],\"expiration\":0,\
+            \"nodelist\":[\"a\"],\"starttime\":0}",
     ),
     (
         "{\"R_lite\":[{\"rank\":\"0-1\",\"children\":{\"core\":\"0\"}}],\"nodelist\":[\"a,a1\"]}",
-        "{\"R_lite\":[{\"children\":{\"core\":\"0\"},\"rank\":\"0-1\"}],\"expiration\":0,\"nodelist\":[\"a,a1\"],\"starttime\":0}",
+        "{\"R_lite\":[{\"children\":{\"core\":\"0\"},\"rank\":\"0-1\"}],\"expiration\":0,\
+            \"nodelist\":[\"a,a1\"],\"starttime\":0}",
     ),
 ];
 
@@ -136,16 +154,21 @@ const FAULTS: [(&str, &str); 35] = [
         "a bad field: Expiration",
     ),
     (
-        "{\"R_lite\":[{\"rank\":\"0\",\"children\":{\"core\":\"0\"}},{\"rank\":\"0\",\"children\":{\"core\":\"0\"}}],\"nodelist\":[],\"expiration\":[]}",
+        "{\"R_lite\":[{\"rank\":\"0\",\"children\":{\"core\":\"0\"}},{\"rank\":\"0\",\
+            \"children\":{\"core\":\"0\"}}],\"nodelist\":[],\"expiration\":[]}",
         "a bad field: Expiration",
     ),
     // Ranks and hosts, in order.
     (
-        "{\"R_lite\":[{\"rank\":\"0-4\",\"children\":{\"core\":\"0\"}},{\"rank\":\"7\",\"children\":{\"core\":\"0\"}},{\"rank\":\"2-9\",\"children\":{\"core\":\"0\"}}],\"nodelist\":[]}",
+        "{\"R_lite\":[{\"rank\":\"0-4\",\"children\":{\"core\":\"0\"}},{\"rank\":\"7\",\
+            \"children\":{\"core\":\"0\"}},{\"rank\":\"2-9\",\"children\":{\"core\":\"0\"}}],\
+            \"nodelist\":[]}",
         "rank 2 stands twice",
     ),
     (
-        "{\"R_lite\":[{\"rank\":\"7\",\"children\":{\"core\":\"0\"}},{\"rank\":\"3\",\"children\":{\"core\":\"0\"}},{\"rank\":\"6-7\",\"children\":{\"core\":\"0\"}},{\"rank\":\"3\",\"children\":{\"core\":\"0\"}}],\"nodelist\":[\"a,a\"]}",
+        "{\"R_lite\":[{\"rank\":\"7\",\"children\":{\"core\":\"0\"}},{\"rank\":\"3\",\
+            \"children\":{\"core\":\"0\"}},{\"rank\":\"6-7\",\"children\":{\"core\":\"0\"}},\
+            {\"rank\":\"3\",\"children\":{\"core\":\"0\"}}],\"nodelist\":[\"a,a\"]}",
         "rank 7 stands twice",
     ),
     (
@@ -169,7 +192,8 @@ const FAULTS: [(&str, &str); 35] = [
         "a host stands twice",
     ),
     (
-        "{\"R_lite\":[{\"rank\":\"0-2\",\"children\":{\"core\":\"0\"}}],\"nodelist\":[\"a1\",\"b,a[1]\"]}",
+        "{\"R_lite\":[{\"rank\":\"0-2\",\"children\":{\"core\":\"0\"}}],\"nodelist\":[\"a1\",\"b,\
+            a[1]\"]}",
         "a host stands twice",
     ),
     ("[]", "a bad field: Execution"),
@@ -260,13 +284,16 @@ fn of(rt: &HostRuntime, hosts: &[(&str, &str, &str)]) -> Result<Resources, Fail>
     for (host, cores, gpus) in hosts {
         let comma = if rank == 0 { "" } else { "," };
         entries.push_str(format!(in rt.alloc();
-            "{comma}{{\"rank\":\"{rank}\",\"children\":{{\"core\":\"{cores}\",\"gpu\":\"{gpus}\"}}}}"
-        )?.as_str())?;
+            "{comma}{{\"rank\":\"{rank}\",\"children\":{{\"core\":\"{cores}\",\
+                \"gpu\":\"{gpus}\"}}}}"
+        )?
+        .as_str())?;
         names.push_str(format!(in rt.alloc(); "{comma}\"{host}\"")?.as_str())?;
         rank = rank.wrapping_add(1);
     }
     let text = format!(in rt.alloc();
-        "{{\"version\":1,\"execution\":{{\"R_lite\":[{entries}],\"nodelist\":[{names}],\"starttime\":5,\"expiration\":9}}}}"
+        "{{\"version\":1,\"execution\":{{\"R_lite\":[{entries}],\"nodelist\":[{names}],\
+            \"starttime\":5,\"expiration\":9}}}}"
     )?;
     Ok(read(rt.alloc(), text.as_bytes())?)
 }

@@ -1,4 +1,6 @@
+-- what the calls promise
 pub mod Looks
 pub mod Numbers
-pub mod Rule
 pub mod Values
+-- what the code keeps to that end
+pub mod Rule

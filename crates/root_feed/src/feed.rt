@@ -15,7 +15,15 @@ pub trait FeedName {
 }
 
 impl FeedName for Brand {
-    ghost table = { record { words = 0; slots = 0; views_name = 0; atom = 0; block = 0; offset = 0; slot_names = [] } };
+    ghost table = { record {
+      words = 0;
+      slots = 0;
+      views_name = 0;
+      atom = 0;
+      block = 0;
+      offset = 0;
+      slot_names = [];
+    } };
 }
 
 /// A word for each broker, with the number of the newest root that it has heard.

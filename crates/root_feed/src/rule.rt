@@ -38,14 +38,16 @@ impl TableRule<(), View, usize> for Heralds {
 pub struct Loads;
 
 impl Play<(), View> for Loads {
-    ghost then = { λ step before found after. LoadsWord step.word before.0 found after.0 × (after.1 ≡ before.1) };
+    ghost then = { λ step before found after.
+        LoadsWord step.word before.0 found after.0 × (after.1 ≡ before.1) };
 }
 
 /// A herald stores a number in its word.
 pub struct Stores;
 
 impl Play<(), View> for Stores {
-    ghost then = { λ step before found after. StoresWord step.word before.0 step.first after.0 × (after.1 ≡ before.1) };
+    ghost then = { λ step before found after.
+        StoresWord step.word before.0 step.first after.0 × (after.1 ≡ before.1) };
 }
 
 /// Splits off what was seen, and joins it elsewhere.

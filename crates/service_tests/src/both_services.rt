@@ -16,7 +16,8 @@ use tap::Weights;
 
 /// A grant of one host of two cores.
 const GRANT: &str =
-    "{\"version\":1,\"execution\":{\"R_lite\":[{\"rank\":\"0\",\"children\":{\"core\":\"0-1\"}}],\"nodelist\":[\"a0\"],\"starttime\":0,\"expiration\":0}}";
+    "{\"version\":1,\"execution\":{\"R_lite\":[{\"rank\":\"0\",\"children\":{\"core\":\"0-1\"}}],\
+        \"nodelist\":[\"a0\"],\"starttime\":0,\"expiration\":0}}";
 
 /// What a command asks about a key of `primary` or about a content.
 #[derive(Clone, Copy)]

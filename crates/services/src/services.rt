@@ -417,8 +417,8 @@ impl Services {
         Ok(())
     }
 
-    /// Lets time go on to this second, by an advance of whatever instance of the run. After an error
-    /// the services are spent.
+    /// Lets time go on to this second, by an advance of whatever instance of the run. After an
+    /// error the services are spent.
     pub fn tick(&mut self, second: u64) -> Result<(), AllocError>
         requires ready { self.old.spent ≡ false }
         requires may { MayPassTo self.old.jobs second }
@@ -440,8 +440,8 @@ impl Services {
     /// Where nothing but time can go on, each broker has heard the last landing and of each live
     /// namespace, and nothing is due. Where no target is left besides, no advance is, and a command
     /// waits for a number that hasn't landed, for members of a fence that haven't come, or for the
-    /// result of a job that isn't over. Nothing is due where no step of the key-value service can be
-    /// made, nothing is to be posted and no child is to be born.
+    /// result of a job that isn't over. Nothing is due where no step of the key-value service can
+    /// be made, nothing is to be posted and no child is to be born.
     pub fn still(&self)
         requires { self.now.spent ≡ false }
         ensures quiet { (inst : Instance) (log : Log) → AgreesServices self.now inst log

@@ -1,4 +1,6 @@
+-- what the calls promise
 pub mod Counts
-pub mod Landings
 pub mod Roots
 pub mod Summary
+-- what the code keeps to that end
+pub mod Landings

@@ -6,7 +6,14 @@ use std::test::Fail;
 
 /// The log of a job from its submission to its end.
 const LOG: &str =
-    "{\"context\":{\"flags\":0,\"urgency\":16,\"userid\":0,\"version\":1},\"name\":\"submit\",\"timestamp\":0}\n{\"name\":\"validate\",\"timestamp\":0}\n{\"name\":\"depend\",\"timestamp\":0}\n{\"context\":{\"priority\":16},\"name\":\"priority\",\"timestamp\":0}\n{\"name\":\"alloc\",\"timestamp\":0}\n{\"name\":\"start\",\"timestamp\":0}\n{\"context\":{\"status\":0},\"name\":\"finish\",\"timestamp\":10}\n{\"context\":{\"final\":true,\"ranks\":\"0\"},\"name\":\"release\",\"timestamp\":10}\n{\"name\":\"free\",\"timestamp\":10}\n{\"name\":\"clean\",\"timestamp\":10}\n";
+    "{\"context\":{\"flags\":0,\"urgency\":16,\"userid\":0,\"version\":1},\"name\":\"submit\",\
+        \"timestamp\":0}\n{\"name\":\"validate\",\"timestamp\":0}\n\
+        {\"name\":\"depend\",\"timestamp\":0}\n\
+        {\"context\":{\"priority\":16},\"name\":\"priority\",\"timestamp\":0}\n\
+        {\"name\":\"alloc\",\"timestamp\":0}\n{\"name\":\"start\",\"timestamp\":0}\n\
+        {\"context\":{\"status\":0},\"name\":\"finish\",\"timestamp\":10}\n\
+        {\"context\":{\"final\":true,\"ranks\":\"0\"},\"name\":\"release\",\"timestamp\":10}\n\
+        {\"name\":\"free\",\"timestamp\":10}\n{\"name\":\"clean\",\"timestamp\":10}\n";
 
 /// Texts and the canonical logs that they tell; a fault is told by words.
 const TEXTS: [(&str, &str); 33] = [

@@ -43,20 +43,25 @@ const CASES: [(&str, &str, &str); 26] = [
 ];
 
 /// An R as it is printed.
-const R: &str =
-    "{\"execution\":{\"R_lite\":[{\"children\":{\"core\":\"0\"},\"rank\":\"0\"}],\"expiration\":3600,\"nodelist\":[\"node0\"],\"starttime\":0},\"version\":1}\n";
+const R: &str = "{\"execution\":{\"R_lite\":[{\"children\":{\"core\":\"0\"},\"rank\":\"0\"}],\
+        \"expiration\":3600,\"nodelist\":[\"node0\"],\"starttime\":0},\"version\":1}\n";
 
 /// The log of a job that is submitted and cancelled.
 const LOG: &str =
-    "{\"context\":{\"flags\":0,\"urgency\":16,\"userid\":0,\"version\":1},\"name\":\"submit\",\"timestamp\":0}\n{\"name\":\"validate\",\"timestamp\":0}\n{\"context\":{\"severity\":0,\"type\":\"cancel\"},\"name\":\"exception\",\"timestamp\":10}\n{\"name\":\"clean\",\"timestamp\":10}\n";
+    "{\"context\":{\"flags\":0,\"urgency\":16,\"userid\":0,\"version\":1},\"name\":\"submit\",\
+        \"timestamp\":0}\n{\"name\":\"validate\",\"timestamp\":0}\n\
+        {\"context\":{\"severity\":0,\"type\":\"cancel\"},\"name\":\"exception\",\
+        \"timestamp\":10}\n{\"name\":\"clean\",\"timestamp\":10}\n";
 
 /// Tools that read the source: what it has, and what they print; a refusal is told by its notice.
 const READERS: [(&str, &str, &str); 14] = [
     ("R", R, R),
     (
         "R",
-        "{\"version\":1,\"execution\":{\"R_lite\":[{\"rank\":\"0-999\",\"children\":{\"core\":\"0-127\"}}],\"nodelist\":[\"n[0-999]\"]}}",
-        "{\"execution\":{\"R_lite\":[{\"children\":{\"core\":\"0-127\"},\"rank\":\"0-999\"}],\"expiration\":0,\"nodelist\":[\"n[0-999]\"],\"starttime\":0},\"version\":1}\n",
+        "{\"version\":1,\"execution\":{\"R_lite\":[{\"rank\":\"0-999\",\
+            \"children\":{\"core\":\"0-127\"}}],\"nodelist\":[\"n[0-999]\"]}}",
+        "{\"execution\":{\"R_lite\":[{\"children\":{\"core\":\"0-127\"},\"rank\":\"0-999\"}],\
+            \"expiration\":0,\"nodelist\":[\"n[0-999]\"],\"starttime\":0},\"version\":1}\n",
     ),
     ("R", "{ \"version\" : 2, \"execution\": {} }", "BadVersion"),
     ("R", "{\"version\":1}", "BadField"),
@@ -64,17 +69,20 @@ const READERS: [(&str, &str, &str); 14] = [
     ("R", "", "NotJson"),
     (
         "R",
-        "{\"execution\":{\"R_lite\":[{\"children\":{\"core\":\"0\"},\"rank\":\"0\"}],\"nodelist\":[\"a,b\"]},\"version\":1}",
+        "{\"execution\":{\"R_lite\":[{\"children\":{\"core\":\"0\"},\"rank\":\"0\"}],\
+            \"nodelist\":[\"a,b\"]},\"version\":1}",
         "HostsDiffer",
     ),
     (
         "R",
-        "{\"execution\":{\"R_lite\":[{\"children\":{\"core\":\"0\"},\"rank\":\"0-1\"}],\"nodelist\":[\"a,a\"]},\"version\":1}",
+        "{\"execution\":{\"R_lite\":[{\"children\":{\"core\":\"0\"},\"rank\":\"0-1\"}],\
+            \"nodelist\":[\"a,a\"]},\"version\":1}",
         "HostTwice",
     ),
     (
         "R",
-        "{\"execution\":{\"R_lite\":[{\"children\":{\"core\":\"0\"},\"rank\":\"0,1\"},{\"children\":{\"core\":\"0\"},\"rank\":\"1\"}],\"nodelist\":[]},\"version\":1}",
+        "{\"execution\":{\"R_lite\":[{\"children\":{\"core\":\"0\"},\"rank\":\"0,1\"},\
+            {\"children\":{\"core\":\"0\"},\"rank\":\"1\"}],\"nodelist\":[]},\"version\":1}",
         "RankTwice",
     ),
     ("replay", LOG, "INACTIVE\n"),

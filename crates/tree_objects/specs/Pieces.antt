@@ -1,6 +1,7 @@
 -- The texts of entries, of which that of their directory is made.
 use Rattle.std.specs.Prelude.{◌≡◌, ℕ, List, [], ◌∷◌, ◌++◌, ⊤}
 use Rattle.json.specs.Print.{quoted}
+use Rattle.lists.specs.Ascii.{colon}
 use Rattle.kvs_model.specs.Store.{Name}
 use Rattle.tree_rules.specs.Objects.{Tree, tree_text}
 use Rattle.tree_objects.specs.Level.{tree_of}
@@ -8,7 +9,7 @@ use Rattle.tree_objects.specs.declared.object.Object.{Object}
 
 -- an entry as it stands in the text of its directory
 unfoldable pub entry_text : Name → Tree → List ℕ
-entry_text name tree = quoted name ++ 58 ∷ tree_text tree
+entry_text name tree = quoted name ++ colon ∷ tree_text tree
 
 -- the text of an entry, if there is one
 abbrev pub IsTextOf : Name → Tree → List ℕ → Type 0

@@ -25,15 +25,13 @@ ghost use Rattle.tree_store.specs.Shown.{with_open};
 use crate::kept::Kept;
 use blob_store::BlobStore;
 use fl_digest::BlobRef;
+use kvs_model::MOST_NAMES;
 use kvs_txn::Path;
 use lists::{Bytes, Copied};
 use std::alloc::{AllocError, Global};
 use std::collections::BTreeMap;
 use std::marker::Model;
 use tree_objects::{Object, ObjectFault, ObjectMap, read};
-
-/// The most names of a directory.
-const MOST_NAMES: usize = 2048;
 
 /// Decoded directories, which contracts see as a list in the order of their paths. In the directory
 /// above, an open one stands as one without names. What the transaction wrote stands as a whole

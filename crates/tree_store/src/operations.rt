@@ -21,13 +21,11 @@ use crate::opened::{Opened, are_bytes};
 use crate::walks::resolve;
 use blob_store::BlobStore;
 use fl_digest::BlobRef;
+use kvs_model::MOST_BYTES;
 use kvs_txn::{Author, Cause, Op, Path, Scope};
 use lists::{Bytes, Copied};
 use std::alloc::{AllocError, Global};
 use tree_objects::Object;
-
-/// The most bytes of a value that a user's append may make.
-const MOST_BYTES: usize = 65536;
 
 /// Puts a directory at a path below the root, unless one stands there. The one above is open.
 fn make_place(alloc: Global, opened: &mut Opened, at: &[Bytes]) -> Result<(), AllocError>

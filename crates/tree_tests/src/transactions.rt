@@ -14,7 +14,8 @@ use tree_store::{Kept, TreeFault, first};
 
 /// The grant of seven hosts with four cores each.
 const GRANT: &str =
-    r#"{"execution":{"R_lite":[{"children":{"core":"0-3"},"rank":"0-6"}],"expiration":0,"nodelist":["node[0-6]"],"starttime":0},"version":1}"#;
+    "{\"execution\":{\"R_lite\":[{\"children\":{\"core\":\"0-3\"},\"rank\":\"0-6\"}],\
+        \"expiration\":0,\"nodelist\":[\"node[0-6]\"],\"starttime\":0},\"version\":1}";
 
 /// The reference of the first store with this grant, as other programs compute it.
 const FIRST: &str = "sha1-7c76e6293a7b129f1c2af42517287437a3a4559c";

@@ -1,3 +1,5 @@
+-- what the calls promise
 pub mod Walks
-pub mod Pins
 pub mod Legs
+-- what the code keeps to that end
+pub mod Pins

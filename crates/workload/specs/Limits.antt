@@ -1,10 +1,6 @@
 -- The limits of a workload's text.
 use Rattle.std.specs.Prelude.{ℕ}
 
--- the most bytes of a text: 16 MiB
-abbrev pub most_text : ℕ
-most_text = 16777216
-
 -- the most bytes of a line before its newline: 1 MiB
 abbrev pub most_line : ℕ
 most_line = 1048576
@@ -47,10 +43,7 @@ most_gpus = 16
 abbrev pub most_members : ℕ
 most_members = 256
 
--- the most submissions, and the most dependencies that the line of one names
-abbrev pub most_submits : ℕ
-most_submits = 1000
-
+-- the most dependencies that the line of a submission names
 abbrev pub most_needs : ℕ
 most_needs = 32
 
@@ -68,7 +61,3 @@ most_severity = 7
 -- the most events that are asked for of the job of one label
 abbrev pub most_posts : ℕ
 most_posts = 100
-
--- the most seconds of all advances together
-abbrev pub most_seconds : ℕ
-most_seconds = 1000000000

@@ -2,10 +2,15 @@
 use Rattle.std.specs.Prelude.{ℕ, ◌+◌, List, Bool, true, false, count_by}
 use Rattle.std.specs.List.{list_any, sum_by}
 use Rattle.std.specs.Str.{bytes_eq}
-use Rattle.workload.specs.Submits.{begins_instance}
 use Rattle.workload.specs.declared.work.Command.{Command}
 use Rattle.workload.specs.declared.work.Command.TheVariants as command
 use Rattle.workload.specs.declared.work.Line.{Line}
+use Rattle.std.specs.Option.{option_map_or}
+use Rattle.std.specs.Result.{result_ok}
+use Rattle.job_spec.specs.Specs.{spec_reading}
+use Rattle.shells.specs.declared.ends.Ending.{Ending}
+use Rattle.shells.specs.declared.ends.Ending.TheVariants.{At, Child}
+use Rattle.shells.specs.Endings.{ending_of}
 
 -- the command submits a job under this label
 abbrev pub declares : List ℕ → Command → Bool
@@ -23,6 +28,16 @@ submits _ = false
 -- how many jobs these lines submit
 abbrev pub submits_in : List Line → ℕ
 submits_in lines = count_by (λ line. submits line.command) lines
+
+-- the command ends with its instance
+abbrev pub is_child : Ending → Bool
+is_child Child = true
+is_child (At second status) = false
+
+-- the text is a jobspec whose command begins an instance
+unfoldable pub begins_instance : List ℕ → Bool
+begins_instance text =
+    option_map_or (λ spec. is_child (ending_of spec 0)) (result_ok (spec_reading text)) false
 
 -- the command submits a job that begins an instance
 abbrev pub begins : Command → Bool

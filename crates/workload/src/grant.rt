@@ -1,7 +1,8 @@
 //! The resources that a workload gives its instance.
 ghost use Rattle.std.specs.Prelude.{◌≡◌, IfOk};
 ghost use Rattle.std.specs.List.{list_any};
-ghost use Rattle.resource_set.specs.Reading.{Gives, told};
+ghost use Rattle.outcomes.specs.Outcomes.{Gives};
+ghost use Rattle.resource_set.specs.Reading.{told, lasting as lasting_r};
 ghost use Rattle.resource_set.specs.Valid.{IsR};
 ghost use Rattle.resource_set.specs.Writing.{r_text};
 ghost use Rattle.workload.specs.Grants.{is_past_grant, is_past_host};
@@ -56,7 +57,7 @@ fn has_past_host(nodes: &[Node]) -> bool
 impl Grant {
     /// The resources that a text tells, or the first fault of the text.
     pub fn read(alloc: Global, text: &[u8]) -> Result<Grant, RFault>
-        ensures { Gives (λ r. r) result (told text.now) }
+        ensures { Gives lasting_r (λ r. r) result (told text.now) }
     {
         let resources = read(alloc, text)?;
         Ok(Grant { resources })

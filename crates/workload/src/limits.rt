@@ -1,8 +1,5 @@
 //! The limits of a workload's text.
 
-/// The most bytes of a text: 16 MiB.
-pub const MOST_TEXT: usize = 16_777_216;
-
 /// The most bytes of a line before its newline: 1 MiB.
 pub const MOST_LINE: usize = 1_048_576;
 
@@ -30,9 +27,6 @@ pub const MOST_GPUS: u32 = 16;
 /// The most members of a fence.
 pub const MOST_MEMBERS: u64 = 256;
 
-/// The most submissions.
-pub const MOST_SUBMITS: usize = 1_000;
-
 /// The most instances, the top one included.
 pub const MOST_INSTANCES: usize = 16;
 
@@ -47,6 +41,3 @@ pub const MOST_SEVERITY: u64 = 7;
 
 /// The most events that are asked for of the job of one label.
 pub const MOST_POSTS: usize = 100;
-
-/// The most seconds of all advances together.
-pub const MOST_SECONDS: u64 = 1_000_000_000;

@@ -1,11 +1,12 @@
 //! What the command lines of a workload declare and ask for in all.
 ghost use Rattle.std.specs.Prelude.{◌≡◌, ◌^◌, ◌-◌, min, IfOk};
 ghost use Rattle.std.specs.Str.{bytes_eq};
-ghost use Rattle.workload.specs.Tallies.{begins, declares, instances_in, is_declared, submits, submits_in, posts_on, posts_in, seconds_of, seconds_in};
+ghost use Rattle.workload.specs.Tallies.{begins, begins_instance, declares, instances_in, is_declared, submits, submits_in, posts_on, posts_in, seconds_of, seconds_in};
 
-use crate::submits::begins_instance;
 use crate::work::{Command, Line};
+use job_spec::SpecFault;
 use lists::Bytes;
+use shells::{Ending, ending};
 use std::alloc::{AllocError, Global};
 
 /// Whether a label is this one.
@@ -46,6 +47,21 @@ pub fn submits_in(lines: &[Line]) -> usize
     ensures { result ≡ submits_in lines.now }
 {
     lines.iter().filter(|line| submits(&line.command)).count()
+}
+
+/// Whether a text is a jobspec whose command begins an instance.
+#[tactic(auto, unfolding(crate::specs::Tallies::begins_instance))]
+pub fn begins_instance(alloc: Global, text: &[u8]) -> Result<bool, AllocError>
+    ensures { IfOk result (λ begins. begins ≡ begins_instance text.now) }
+{
+    match job_spec::read(alloc, text) {
+        Ok(spec) => match ending(&spec, 0) {
+            Ending::Child => Ok(true),
+            Ending::At { .. } => Ok(false),
+        },
+        Err(SpecFault::NoMemory) => Err(AllocError),
+        Err(_) => Ok(false),
+    }
 }
 
 /// Whether a command submits a job that begins an instance.

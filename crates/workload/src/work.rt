@@ -1,7 +1,7 @@
 //! The types of a workload.
 ghost use Rattle.std.specs.Prelude.{◌≡◌, ◌<◌, length, IfSome};
 ghost use Rattle.workload.specs.Actors.{place_of};
-ghost use Rattle.workload.specs.Reading.{empty};
+ghost use Rattle.workload.specs.Laws.{empty};
 
 use crate::grant::Grant;
 use fl_digest::BlobRef;

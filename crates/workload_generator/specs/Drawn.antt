@@ -4,6 +4,7 @@ use Rattle.std.specs.List.{range_with_len}
 use Rattle.rand_pcg.specs.Lcg.{Lcg}
 use Rattle.rand_pcg.specs.Pcg.{pcg32}
 use Rattle.workload.specs.Draws.{seeded}
+use Rattle.run_limits.specs.Limits.{most_submits}
 use Rattle.workload_generator.specs.declared.drawn.Drawn.{Drawn}
 use Rattle.workload_generator.specs.declared.drawn.Kind.{Kind}
 use Rattle.workload_generator.specs.declared.drawn.Kind.TheVariants as kind
@@ -47,10 +48,6 @@ unfoldable pub submissions : ℕ → ℕ → ℕ
 submissions seed place =
     count_by (λ earlier. is_submission (drawn seed earlier)) (range_with_len 0 place)
 
--- the most submissions of a workload
-abbrev pub most_submissions : ℕ
-most_submissions = 1000
-
 -- what a command asks for behind so many submissions: behind the most, a commit in the place of a
 -- submission
 abbrev pub within : ℕ → Kind → Kind
@@ -58,7 +55,7 @@ within before kind.Put = kind.Put
 within before kind.Append = kind.Append
 within before kind.Commit = kind.Commit
 within before kind.Get = kind.Get
-within before kind.Submit = if nat_lt before most_submissions then kind.Submit else kind.Commit
+within before kind.Submit = if nat_lt before most_submits then kind.Submit else kind.Commit
 within before kind.Advance = kind.Advance
 
 -- what is asked for by a command behind so many submissions

@@ -2,10 +2,8 @@
 ghost use Rattle.std.specs.Prelude.{◌≡◌};
 ghost use Rattle.workload_generator.specs.Drawn.{asked, behind_three, is_submission, kind_at, next_three};
 
+use run_limits::MOST_SUBMITS;
 use workload::Draws;
-
-/// The most submissions of a workload.
-const MOST_SUBMISSIONS: u32 = 1000;
 
 /// The three words that are drawn for a command: by them its actor is chosen, what it asks for, and
 /// its key, its slots or its seconds.
@@ -64,7 +62,7 @@ impl Drawn {
         ensures { result ≡ asked submissions self.now }
     {
         match kind_of(self.asks % 10) {
-            Kind::Submit if MOST_SUBMISSIONS <= submissions => Kind::Commit,
+            Kind::Submit if MOST_SUBMITS <= u64::from(submissions) => Kind::Commit,
             kind => kind,
         }
     }

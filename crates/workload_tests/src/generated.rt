@@ -85,7 +85,7 @@ fn a_seed_draws_these_lines(rt: HostRuntime) -> Result<(), Fail> {
 /// How many actors and command lines are read of a workload.
 fn sizes(alloc: Global, seed: u64, count: u32) -> Result<(usize, usize), Fail> {
     let text = generate(alloc, seed, count)?;
-    match workload::read(alloc, text.as_slice(), 7) {
+    match workload_reader::read(alloc, text.as_slice(), 7) {
         Ok(work) => Ok((work.actors.as_slice().len(), work.lines.as_slice().len())),
         Err(_) => Err("it spells a workload".into()),
     }

@@ -1,13 +1,14 @@
 //! Workloads on keys, and the faults of other texts.
 use lists::{Bytes, Copied};
+use run_limits::MOST_TEXT;
 use std::alloc::{AllocError, Global};
 use std::process::Abort;
 use std::test::Fail;
 use workload::draws::Draws;
-use workload::faults::{LineFault, Which};
-use workload::limits::{MOST_ACTORS, MOST_COMMANDS, MOST_LINE, MOST_TEXT, MOST_VALUE};
-use workload::reader::read;
+use workload::limits::{MOST_ACTORS, MOST_COMMANDS, MOST_LINE, MOST_VALUE};
 use workload::work::{Command, Line, Workload};
+use workload_reader::faults::{LineFault, Which};
+use workload_reader::reader::read;
 
 const SIZE: u32 = 4;
 
@@ -112,14 +113,18 @@ const SHORT: [Short; 66] = [
     (b"actor a 0\na shutdown", 2, Told::Unformed),
     (b"actor a 0\nb shutdown", 2, Told::Unknown),
     (
-        br#"actor a 0
-a submit j urgency=x {"resources":[{"type":"slot","count":1,"with":[{"type":"core","count":1}],"label":"task"}],"tasks":[{"command":["flux","broker"],"slot":"task","count":{"per_slot":1}}],"version":1}"#,
+        b"actor a 0\na submit j urgency=x {\"resources\":[{\"type\":\"slot\",\"count\":1,\
+            \"with\":[{\"type\":\"core\",\"count\":1}],\"label\":\"task\"}],\"tasks\":[\
+            {\"command\":[\"flux\",\"broker\"],\"slot\":\"task\",\"count\":{\"per_slot\":1}}],\
+            \"version\":1}",
         2,
         Told::Misnumbered,
     ),
     (
-        br#"actor a 0
-a submit j {"resources":[{"type":"slot","count":1,"with":[{"type":"core","count":1}],"label":"task"}],"tasks":[{"command":["flux","broker"],"slot":"task","count":{"per_slot":1}}],"version":1}"#,
+        b"actor a 0\na submit j {\"resources\":[{\"type\":\"slot\",\"count\":1,\
+            \"with\":[{\"type\":\"core\",\"count\":1}],\"label\":\"task\"}],\"tasks\":[\
+            {\"command\":[\"flux\",\"broker\"],\"slot\":\"task\",\"count\":{\"per_slot\":1}}],\
+            \"version\":1}",
         0,
         Told::Fine,
     ),
@@ -170,7 +175,8 @@ a submit j {"resources":[{"type":"slot","count":1,"with":[{"type":"core","count"
     (b"actor a 0\na ns-use", 2, Told::Unformed),
     (b"actor a 0\na ns use n", 2, Told::Unformed),
     (
-        b"actor a 0\na submit j {}\na submit k urgency=0 dep=after:j {}\na cancel j\na raise k oom 2 a note\na urgency k 31",
+        b"actor a 0\na submit j {}\na submit k urgency=0 dep=after:j {}\na cancel j\n\
+            a raise k oom 2 a note\na urgency k 31",
         0,
         Told::Fine,
     ),
@@ -202,7 +208,8 @@ a submit j {"resources":[{"type":"slot","count":1,"with":[{"type":"core","count"
         Told::Fine,
     ),
     (
-        b"actor a 3\na content-load sha256-ba7816bf8f01cfea414140de5dae2223b00361a396177a9cb410ff61f20015ad",
+        b"actor a 3\na content-load \
+            sha256-ba7816bf8f01cfea414140de5dae2223b00361a396177a9cb410ff61f20015ad",
         0,
         Told::Fine,
     ),
@@ -335,7 +342,9 @@ fn texts_at_the_limits_have_their_faults(rt: HostRuntime) -> Result<(), Fail> {
 
 /// A grant's line, as people write an R (RFC 20).
 const GRANT: &[u8] =
-    b"grant {\"version\": 1, \"execution\": {\"R_lite\": [{\"rank\": \"0-1\", \"children\": {\"core\": \"0-3\"}}], \"starttime\": 0.0, \"expiration\": 0.0, \"nodelist\": [\"node[0-1]\"]}}\n";
+    b"grant {\"version\": 1, \"execution\": {\"R_lite\": [{\"rank\": \"0-1\", \"children\": \
+        {\"core\": \"0-3\"}}], \"starttime\": 0.0, \"expiration\": 0.0, \"nodelist\": \
+        [\"node[0-1]\"]}}\n";
 
 const GRANTS: [Long; 18] = [
     (b"", GRANT, 1, b"actor a 0\na commit", 0, Told::Fine),
@@ -387,7 +396,9 @@ fn grants_have_their_faults(rt: HostRuntime) -> Result<(), Fail> {
 /// A grant's line of the ranks and hosts from 0 on to this one, with these cores and GPUs each.
 fn grant_line(alloc: Global, last: u32, cores: &str, gpus: &str) -> Result<String, AllocError> {
     format!(in alloc;
-        "grant {{\"version\":1,\"execution\":{{\"R_lite\":[{{\"rank\":\"0-{last}\",\"children\":{{\"core\":\"{cores}\",\"gpu\":\"{gpus}\"}}}}],\"nodelist\":[\"n[0-{last}]\"]}}}}\n"
+        "grant {{\"version\":1,\"execution\":{{\"R_lite\":[{{\"rank\":\"0-{last}\",\
+            \"children\":{{\"core\":\"{cores}\",\"gpu\":\"{gpus}\"}}}}],\
+            \"nodelist\":[\"n[0-{last}]\"]}}}}\n"
     )
 }
 
@@ -472,7 +483,10 @@ fn a_grant_is_kept_by_what_it_tells(rt: HostRuntime) -> Result<(), Fail> {
     assert_eq!(rt; (nodes, past), (2, false));
     assert_eq!(rt;
         text.as_slice(),
-        b"{\"execution\":{\"R_lite\":[{\"children\":{\"core\":\"0-3\"},\"rank\":\"0-1\"}],\"expiration\":0,\"nodelist\":[\"node[0-1]\"],\"starttime\":0},\"version\":1}".as_slice()
+        b"{\"execution\":{\"R_lite\":[{\"children\":{\"core\":\"0-3\"},\"rank\":\"0-1\"}],\
+            \"expiration\":0,\"nodelist\":[\"node[0-1]\"],\"starttime\":0},\
+            \"version\":1}"
+            .as_slice()
     );
     Ok(())
 }

@@ -1,14 +1,15 @@
 //! The lines of child instances.
 use lists::ListOf;
+use run_limits::MOST_SUBMITS;
 use std::alloc::Global;
 use std::test::Fail;
-use workload::faults::{LineFault, Which};
-use workload::homes::said_by;
-use workload::limits::{MOST_ACTORS, MOST_INSTANCES, MOST_SUBMITS};
-use workload::reader::declared;
-use workload::verbs::Verb;
+use workload::limits::{MOST_ACTORS, MOST_INSTANCES};
 use workload::words::cut;
 use workload::work::{Actor, ActorList, Command, Line, LineList, Workload};
+use workload_reader::faults::{LineFault, Which};
+use workload_reader::homes::said_by;
+use workload_reader::reader::declared;
+use workload_reader::verbs::Verb;
 
 const SIZE: u32 = 4;
 
@@ -171,11 +172,15 @@ fn commands_keep_to_their_instances(rt: HostRuntime) -> Result<(), Fail> {
 
 /// A jobspec whose command is a broker.
 const CHILD: &str =
-    r#"{"resources":[{"type":"slot","count":1,"with":[{"type":"core","count":1}],"label":"task"}],"tasks":[{"command":["flux","broker"],"slot":"task","count":{"per_slot":1}}],"attributes":{"system":{"duration":0}},"version":1}"#;
+    "{\"resources\":[{\"type\":\"slot\",\"count\":1,\"with\":[{\"type\":\"core\",\"count\":1}],\
+        \"label\":\"task\"}],\"tasks\":[{\"command\":[\"flux\",\"broker\"],\"slot\":\"task\",\
+        \"count\":{\"per_slot\":1}}],\"attributes\":{\"system\":{\"duration\":0}},\"version\":1}";
 
 /// One that is no accepted jobspec, of another version.
 const REFUSED: &str =
-    r#"{"resources":[{"type":"slot","count":1,"with":[{"type":"core","count":1}],"label":"task"}],"tasks":[{"command":["flux","broker"],"slot":"task","count":{"per_slot":1}}],"attributes":{"system":{"duration":0}},"version":2}"#;
+    "{\"resources\":[{\"type\":\"slot\",\"count\":1,\"with\":[{\"type\":\"core\",\"count\":1}],\
+        \"label\":\"task\"}],\"tasks\":[{\"command\":[\"flux\",\"broker\"],\"slot\":\"task\",\
+        \"count\":{\"per_slot\":1}}],\"attributes\":{\"system\":{\"duration\":0}},\"version\":2}";
 
 /// Submissions of a text, so many, with labels of their own.
 fn submissions(alloc: Global, text: &str, count: usize) -> Result<LineList, Fail> {
@@ -242,7 +247,7 @@ fn other_faults_come_before_too_many_instances(rt: HostRuntime) -> Result<(), Fa
     let submits = limit(Which::Submits);
     assert!(rt; is_one_more(alloc, (CHILD, most), "l0", CHILD, UNFORMED)?);
     assert!(rt; is_one_more(alloc, (CHILD, most), "m urgency=32", CHILD, MISNUMBERED)?);
-    assert!(rt; is_one_more(alloc, ("{}", MOST_SUBMITS), "m", CHILD, submits)?);
+    assert!(rt; is_one_more(alloc, ("{}", MOST_SUBMITS as usize), "m", CHILD, submits)?);
     Ok(())
 }
 

@@ -1,22 +1,28 @@
 //! The lines of jobs and time.
 use job_spec::Scheme;
 use lists::ListOf;
+use run_limits::MOST_SUBMITS;
 use std::alloc::Global;
 use std::process::Abort;
 use std::test::Fail;
-use workload::faults::{LineFault, Which};
-use workload::limits::{MOST_POSTS, MOST_SUBMITS, MOST_VALUE};
-use workload::verbs::{Verb, command};
+use workload::limits::{MOST_POSTS, MOST_VALUE};
 use workload::words::cut;
 use workload::work::{Command, InfoKey, Line, LineList, Needed, Workload};
+use workload_reader::faults::{LineFault, Which};
+use workload_reader::verbs::{Verb, command};
 
 /// A submission of a jobspec of one slot with a command.
 const GOOD: &str =
-    r#"submit j {"resources":[{"type":"slot","count":1,"with":[{"type":"core","count":1}],"label":"task"}],"tasks":[{"command":["true"],"slot":"task","count":{"per_slot":1}}],"attributes":{"system":{"duration":0}},"version":1}"#;
+    "submit j {\"resources\":[{\"type\":\"slot\",\"count\":1,\"with\":[{\"type\":\"core\",\
+        \"count\":1}],\"label\":\"task\"}],\"tasks\":[{\"command\":[\"true\"],\"slot\":\"task\",\
+        \"count\":{\"per_slot\":1}}],\"attributes\":{\"system\":{\"duration\":0}},\"version\":1}";
 
 /// One whose command is a broker.
 const CHILD: &str =
-    r#"submit m {"resources":[{"type":"slot","count":1,"with":[{"type":"core","count":1}],"label":"task"}],"tasks":[{"command":["flux","broker"],"slot":"task","count":{"per_slot":1}}],"attributes":{"system":{"duration":0}},"version":1}"#;
+    "submit m {\"resources\":[{\"type\":\"slot\",\"count\":1,\"with\":[{\"type\":\"core\",\
+        \"count\":1}],\"label\":\"task\"}],\"tasks\":[{\"command\":[\"flux\",\"broker\"],\
+        \"slot\":\"task\",\"count\":{\"per_slot\":1}}],\
+        \"attributes\":{\"system\":{\"duration\":0}},\"version\":1}";
 
 /// Lines with one that a text spells behind them, or those lines and the fault of that text, which
 /// stands in line 1.

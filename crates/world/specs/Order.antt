@@ -42,8 +42,8 @@ steps_in v kind.End i h = only_if (may_go v.homes h) (step.End i)
 
 -- the services of each instance list a step where they can make one
 abbrev pub ListTurns : List Home → Type 0
-ListTurns homes = (i : ℕ) (h : Home) → slice_get homes i ≡ Some h → possible h.instance.services ≡ []
-    → (s : KvsStep) → can_step h.instance.services s ≡ false
+ListTurns homes = (i : ℕ) (h : Home) → slice_get homes i ≡ Some h
+    → possible h.instance.services ≡ [] → (s : KvsStep) → can_step h.instance.services s ≡ false
 
 -- those that are left where it has gone: its actors are told
 abbrev pub steps_left : WorldValue → Kind → ℕ → List Step

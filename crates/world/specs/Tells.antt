@@ -11,7 +11,7 @@ use Rattle.instance_rules.specs.Family.{HasTarget, Living, OfLiving}
 use Rattle.kvs_rules.specs.declared.events.KvsStep.{KvsStep}
 use Rattle.services.specs.Steps.{can_step}
 use Rattle.manager_rules.specs.Times.{IsEndDue, IsIdle, seconds_ahead}
-use Rattle.workload.specs.Limits.{most_seconds}
+use Rattle.run_limits.specs.Limits.{most_seconds}
 use Rattle.world.specs.declared.homes.Home.{Home}
 use Rattle.world.specs.declared.homes.Origin.{Origin}
 

@@ -113,7 +113,8 @@ pub fn work_for(
     size: u32,
 ) -> Result<Workload, AllocError>
     requires { 1 ≤ size }
-    ensures { IfOk result (λ own. own ≡ work_for work.now (option_map (λ l. l.now) label.entry) size) }
+    ensures { IfOk result (λ own.
+        own ≡ work_for work.now (option_map (λ l. l.now) label.entry) size) }
 {
     let mut actors = ListOf::new(alloc);
     for actor in work.actors.as_slice() {

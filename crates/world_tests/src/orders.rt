@@ -8,11 +8,11 @@ use kvs_rules::KvsStep;
 use std::alloc::Global;
 use std::test::Fail;
 use tap::Weights;
-use workload::laws::{
+use workload_reader::laws::{
     spelled_commands_are_built, spelled_labels_are_their_own, spelled_tallies_are_kept,
     spelled_workloads_are_within,
 };
-use workload::read;
+use workload_reader::read;
 use world::{Ended, Schedule, Setting, World};
 
 const SETTING: Setting = Setting {
@@ -29,26 +29,44 @@ const COMMANDS: [u32; 2] = [3, 3];
 
 /// A job that runs two seconds and one that ends at once, and time that goes on past both.
 const JOBS: &str =
-    "actor a 1\nactor b 3\na submit j {\"resources\":[{\"type\":\"slot\",\"count\":1,\"with\":[{\"type\":\"core\",\"count\":1}],\"label\":\"task\"}],\"tasks\":[{\"command\":[\"sleep\",\"2\"],\"slot\":\"task\",\"count\":{\"per_slot\":1}}],\"version\":1}\nb submit k {\"resources\":[{\"type\":\"slot\",\"count\":1,\"with\":[{\"type\":\"core\",\"count\":4}],\"label\":\"task\"}],\"tasks\":[{\"command\":[\"true\"],\"slot\":\"task\",\"count\":{\"per_slot\":1}}],\"version\":1}\na advance 3\nb result k\na result j\nb jobs\na info j eventlog\n";
+    "actor a 1\nactor b 3\na submit j {\"resources\":[{\"type\":\"slot\",\"count\":1,\
+        \"with\":[{\"type\":\"core\",\"count\":1}],\"label\":\"task\"}],\
+        \"tasks\":[{\"command\":[\"sleep\",\"2\"],\"slot\":\"task\",\"count\":{\"per_slot\":1}}],\
+        \"version\":1}\nb submit k {\"resources\":[{\"type\":\"slot\",\"count\":1,\
+        \"with\":[{\"type\":\"core\",\"count\":4}],\"label\":\"task\"}],\
+        \"tasks\":[{\"command\":[\"true\"],\"slot\":\"task\",\"count\":{\"per_slot\":1}}],\
+        \"version\":1}\na advance 3\nb result k\na result j\nb jobs\na info j eventlog\n";
 
 /// How many commands each of these actors has.
 const JOB_COMMANDS: [u32; 2] = [4, 3];
 
 /// A job that is an instance of two brokers, in which an actor stores something and submits a job
 /// that is an instance of one broker; both are shut down.
-const CHILDREN: &str =
-    "actor a 3\nactor b 1 of j\nactor c 0 of k\na submit j {\"resources\":[{\"type\":\"slot\",\"count\":2,\"with\":[{\"type\":\"core\",\"count\":4}],\"label\":\"task\"}],\"tasks\":[{\"command\":[\"flux\",\"broker\"],\"slot\":\"task\",\"count\":{\"per_slot\":1}}],\"version\":1}\nb put x y\nb commit\nb submit k {\"resources\":[{\"type\":\"slot\",\"count\":1,\"with\":[{\"type\":\"core\",\"count\":1}],\"label\":\"task\"}],\"tasks\":[{\"command\":[\"flux\",\"broker\"],\"slot\":\"task\",\"count\":{\"per_slot\":1}}],\"version\":1}\nc get x\nc shutdown\nb result k\nb shutdown\na advance 1\na result j\n";
+const CHILDREN: &str = "actor a 3\nactor b 1 of j\nactor c 0 of k\n\
+        a submit j {\"resources\":[{\"type\":\"slot\",\"count\":2,\"with\":[{\"type\":\"core\",\
+        \"count\":4}],\"label\":\"task\"}],\"tasks\":[{\"command\":[\"flux\",\"broker\"],\
+        \"slot\":\"task\",\"count\":{\"per_slot\":1}}],\"version\":1}\nb put x y\nb commit\n\
+        b submit k {\"resources\":[{\"type\":\"slot\",\"count\":1,\"with\":[{\"type\":\"core\",\
+        \"count\":1}],\"label\":\"task\"}],\"tasks\":[{\"command\":[\"flux\",\"broker\"],\
+        \"slot\":\"task\",\"count\":{\"per_slot\":1}}],\"version\":1}\nc get x\nc shutdown\n\
+        b result k\nb shutdown\na advance 1\na result j\n";
 
 /// How many commands each of these actors has.
 const CHILDREN_COMMANDS: [u32; 3] = [3, 5, 2];
 
 /// A job in a grant of two hosts, whose cores are 2 to 5 and whose time ends at second 100.
-const GRANTED: &str =
-    "grant {\"version\":1,\"execution\":{\"R_lite\":[{\"rank\":\"0-1\",\"children\":{\"core\":\"2-5\"}}],\"starttime\":0,\"expiration\":100,\"nodelist\":[\"fast[7-8]\"]}}\nactor a 2\na submit j {\"resources\":[{\"type\":\"slot\",\"count\":5,\"with\":[{\"type\":\"core\",\"count\":1}],\"label\":\"task\"}],\"tasks\":[{\"command\":[\"true\"],\"slot\":\"task\",\"count\":{\"per_slot\":1}}],\"version\":1}\na info j R\n";
+const GRANTED: &str = "grant {\"version\":1,\"execution\":{\"R_lite\":[{\"rank\":\"0-1\",\
+        \"children\":{\"core\":\"2-5\"}}],\"starttime\":0,\"expiration\":100,\
+        \"nodelist\":[\"fast[7-8]\"]}}\nactor a 2\n\
+        a submit j {\"resources\":[{\"type\":\"slot\",\"count\":5,\"with\":[{\"type\":\"core\",\
+        \"count\":1}],\"label\":\"task\"}],\"tasks\":[{\"command\":[\"true\"],\"slot\":\"task\",\
+        \"count\":{\"per_slot\":1}}],\"version\":1}\na info j R\n";
 
 /// The resources of its job.
 const GRANTED_R: &str =
-    "{\"execution\":{\"R_lite\":[{\"children\":{\"core\":\"2-5\"},\"rank\":\"0\"},{\"children\":{\"core\":\"2\"},\"rank\":\"1\"}],\"expiration\":100,\"nodelist\":[\"fast[7-8]\"],\"starttime\":0},\"version\":1}";
+    "{\"execution\":{\"R_lite\":[{\"children\":{\"core\":\"2-5\"},\"rank\":\"0\"},\
+        {\"children\":{\"core\":\"2\"},\"rank\":\"1\"}],\"expiration\":100,\
+        \"nodelist\":[\"fast[7-8]\"],\"starttime\":0},\"version\":1}";
 
 /// Every step of the service of four brokers.
 const SERVICE: [KvsStep; 11] = [
@@ -250,8 +268,8 @@ fn every_order_of_jobs_ends_with_every_command_answered(rt: HostRuntime) -> Resu
     Ok(())
 }
 
-/// Whether runs of instances within instances end in the fixed order and in ten drawn ones, with one
-/// reply to each command.
+/// Whether runs of instances within instances end in the fixed order and in ten drawn ones, with
+/// one reply to each command.
 fn children_end_whole(alloc: Global) -> Result<bool, Fail> {
     let mut whole = said_run(alloc, CHILDREN, &CHILDREN_COMMANDS, Schedule::Settled)?.whole;
     for seed in 0..10 {

@@ -9,7 +9,7 @@ ghost use Rattle.job_book.specs.Seconds.{IsSoonest};
 ghost use Rattle.job_service.specs.Children.{IsFirstBirth, IsGrantedBy, NoBirth};
 ghost use Rattle.manager_rules.specs.Times.{IsEndDue, IsIdle, seconds_ahead};
 ghost use Rattle.resource_set.specs.Valid.{IsR};
-ghost use Rattle.workload.specs.Limits.{most_seconds};
+ghost use Rattle.run_limits.specs.Limits.{most_seconds};
 ghost use Rattle.instance.specs.Agrees.{AgreesOwn};
 ghost use Rattle.instance.specs.Family.{LivesAs, OfOwn, bearing, birth_of, ends_left, grant_at, is_due, is_end_due, may_end, present, targets_left};
 ghost use Rattle.instance.specs.Makes.{Bears, LetsGo, PassesTo};

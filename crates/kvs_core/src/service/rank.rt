@@ -27,8 +27,8 @@ const MOST_LIVE: usize = 16;
 const MOST_SPACES: usize = u32::MAX as usize;
 
 impl Core {
-    /// Lets a commit or a member of a fence that has come to rank 0 wait to land in the namespace of
-    /// this place in the table.
+    /// Lets a commit or a member of a fence that has come to rank 0 wait to land in the namespace
+    /// of this place in the table.
     fn admit(&mut self, i: usize, k: usize) -> Result<(), CoreFault>
         requires ready { self.old.spent ≡ false }
         requires within { i < length self.old.rows }

@@ -235,7 +235,7 @@ impl World {
             return None;
         }
         let homes = self.homes.as_slice();
-        // nothing that can be made is missed, and the run has come to rest where a command is issued
+        // nothing that can be made is missed, and the run is at rest where a command is issued
         turns_are_listed(homes);
         rest(homes);
         match self.nth(0) {

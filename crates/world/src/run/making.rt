@@ -28,8 +28,12 @@ fn issued_from(place: Place, lines: &[Line], actor: u32) -> Place
     requires few { length lines.now < 2 ^ 32 }
     requires next { IsNextLine lines.now actor place.issued place.next }
     requires more { place.next < length lines.now }
-    ensures waits { result
-        ≡ record { home = place.home; next = result.next; issued = place.issued + 1; waits = true } }
+    ensures waits { result ≡ record {
+      home = place.home;
+      next = result.next;
+      issued = place.issued + 1;
+      waits = true;
+    } }
     ensures next { IsNextLine lines.now actor (place.issued + 1) result.next }
 {
     Place {

@@ -1,7 +1,8 @@
 use Rattle.std.proofs.Common.{◌≡◌, ◌+◌, ◌-◌, ◌<◌, ◌≤◌, ◌++◌, ◌∷◌, [], length, take, drop, sym, ap, ◌∙◌, subst, arith, length-drop}
 use Rattle.std.proofs.lemmas.Bool.Decides.{nat_tests}
+use Rattle.outcomes.specs.Outcomes.{Fails}
 use Rattle.event_log.specs.Events.{◌>>=◌, IsEvent}
-use Rattle.event_log.specs.Logs.{events_from, log_reading, Fails}
+use Rattle.event_log.specs.Logs.{events_from, log_reading, lasting}
 use Rattle.std.specs.List.{All}
 use Rattle.std.proofs.lemmas.List.Elements.{All-nil, All-push}
 use Rattle.event_log.proofs.Lines.{parts, first_len, with_front, with_later, front_none, is_reading, rest_is, log_fails, fault_gives, all_behind}
@@ -23,7 +24,7 @@ returns-in_err-event-clause-log c =
     let front : first ≡ take (first_len rest) rest = c.split_at.ensures.front ∙ ap (λ n. take n rest) c.line_len.ensures.value in
     let back : behind ≡ drop (first_len rest) rest = c.split_at.ensures.back ∙ ap (λ n. drop n rest) c.line_len.ensures.value in
     let is = sym c.lines.invariant.told ∙ rest_is c.lines.events.items (c.lines.line + 1) rest first behind some front back in
-    let failed : Fails c.in_err-event.field-0.0 (log_reading c.args.text.now) = log_fails _ _ (with_later c.lines.events.items (c.lines.line + 1) behind) _ is c.in_err-event.ensures.event in
+    let failed : Fails lasting c.in_err-event.field-0.0 (log_reading c.args.text.now) = log_fails _ _ (with_later c.lines.events.items (c.lines.line + 1) behind) _ is c.in_err-event.ensures.event in
     fault_gives (λ v. v.items) c.from_residual.result c.in_err-event.field-0.0 (log_reading c.args.text.now) c.from_residual.ensures.1 failed
 
 pub lines-preserved : goal.lines-preserved

@@ -3,8 +3,9 @@ use Rattle.std.specs.Prelude.{Some, None}
 use Rattle.std.specs.List.{take_while, prefix_len}
 use Rattle.std.proofs.lemmas.List.{nil_from_length}
 use Rattle.std.proofs.lemmas.Bool.Decides.{nat_tests}
+use Rattle.outcomes.specs.Outcomes.{Faults}
 use Rattle.hostlist.specs.Names.{is_name_byte, IsHostName}
-use Rattle.hostlist.specs.Reading.{behind, Faults, range_hosts, range_end}
+use Rattle.hostlist.specs.Reading.{behind, range_hosts, range_end, lasting}
 use Rattle.hostlist.specs.declared.faults.HostFault.TheVariants.{BadText}
 use Rattle.hostlist.proofs.ReadingLemmas.{no_name, plain, stray, ranged_item, kept_hosts, kept_bracket, plain_hosts, plain_bracket, front_name, err_reads}
 use Rattle.hostlist.proofs.reading.read_item.Goals as goal
@@ -44,7 +45,7 @@ returns-in_err-range-clause-read c =
     let some : 0 < prefix_len is_name_byte piece = omega (arith, c.name_count-count.ensures.count) in
     let rest : c.split_at.result.1.now ≡ drop (prefix_len is_name_byte piece) piece = c.split_at.ensures.back ∙ ap (λ n. drop n piece) c.name_count-count.ensures.count in
     let p = ranged_item c.args.place piece c.in-Some.text.now some (ap (behind 91) (sym rest) ∙ sym c.in-Some.ensures) in
-    err_reads c.from_residual.result c.in_err-range.field-0.0 _ _ c.from_residual.ensures.1 (subst (Faults c.in_err-range.field-0.0) (sym p.fault) c.in_err-range.ensures)
+    err_reads c.from_residual.result c.in_err-range.field-0.0 _ _ c.from_residual.ensures.1 (subst (Faults lasting c.in_err-range.field-0.0) (sym p.fault) c.in_err-range.ensures)
 
 pub returns-clause-read : goal.returns-clause-read
 returns-clause-read c =

@@ -1,6 +1,7 @@
 use Rattle.std.proofs.Common.{subst, sym, map}
+use Rattle.outcomes.specs.Outcomes.{Finds}
 use Rattle.serde_json.specs.View.{view}
-use Rattle.job_spec.specs.Fields.{Finds, as_list}
+use Rattle.job_spec.specs.Fields.{as_list}
 use Rattle.job_spec.proofs.Lists.{err_finds, missing, present}
 use Rattle.job_spec.proofs.fields.list.Goals as goal
 

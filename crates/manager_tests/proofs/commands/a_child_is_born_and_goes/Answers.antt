@@ -1,4 +1,4 @@
-use Rattle.std.proofs.Common.{◌≡◌, Contains, [], refl, sym, subst}
+use Rattle.std.proofs.Common.{Contains, [], refl, sym, subst}
 use Rattle.std.proofs.lemmas.List.Elements.{Contains-push}
 use Rattle.job_rules.proofs.Among.{among_from}
 use Rattle.job_commands.specs.Children.{born_child}

@@ -1,5 +1,4 @@
-use Rattle.std.proofs.Common.{◌≡◌, ◌<◌, [], None, refl, rules, sym, true}
-use Rattle.job_manager.specs.Posts.{told}
+use Rattle.std.proofs.Common.{◌<◌, refl, rules}
 use Rattle.manager_tests.proofs.Submitted.{submitted-due}
 use Rattle.manager_tests.proofs.managers.enter.Goals as goal
 

@@ -1,7 +1,8 @@
 use Rattle.std.proofs.Common.{◌≡◌, ℕ, ◌+◌, ◌-◌, ◌∙◌, List, length, map, ap, sym, subst, arith}
 use Rattle.std.specs.Prelude.{None}
+use Rattle.outcomes.specs.Outcomes.{Faults, first_of, or_else}
 use Rattle.idset.specs.Ranges.{ids_in}
-use Rattle.idset.specs.Text.{first_fault, spelled, body, body_place, items, range_of, faults_in, end_faults, first_of, or_else, Faults}
+use Rattle.idset.specs.Text.{first_fault, spelled, body, body_place, items, range_of, faults_in, end_faults, lasting}
 use Rattle.idset.specs.declared.faults.IdFault.{IdFault}
 use Rattle.idset.specs.declared.faults.IdFault.TheVariants as fault
 use Rattle.idset.proofs.Readings.{err_reads}
@@ -13,14 +14,14 @@ item_faults_are text inner end e f =
     let place : end - length inner ≡ body_place text = omega (arith, ap length e, f) in
     ap (λ n. faults_in n (items inner)) place ∙ ap (λ t. faults_in (body_place text) (items t)) e
 
-in_items : (text : List ℕ) (e : IdFault) → Faults e (faults_in (body_place text) (items (body text))) → Faults e (first_fault text)
+in_items : (text : List ℕ) (e : IdFault) → Faults lasting e (faults_in (body_place text) (items (body text))) → Faults lasting e (first_fault text)
 unfolding first_fault
 in_items text fault.NoMemory h = tt
 in_items text e h = ap (λ f. or_else f (first_of (end_faults text))) h
 
-at_end : (text : List ℕ) (e : IdFault) → faults_in (body_place text) (items (body text)) ≡ None → Faults e (first_of (end_faults text)) → Faults e (first_fault text)
+at_end : (text : List ℕ) (e : IdFault) → faults_in (body_place text) (items (body text)) ≡ None → Faults lasting e (first_of (end_faults text)) → Faults lasting e (first_fault text)
 unfolding first_fault
-at_end text e none h = subst (Faults e) (sym (ap (λ f. or_else f (first_of (end_faults text))) none)) h
+at_end text e none h = subst (Faults lasting e) (sym (ap (λ f. or_else f (first_of (end_faults text))) none)) h
 
 no_fault : (text : List ℕ) → faults_in (body_place text) (items (body text)) ≡ None → first_of (end_faults text) ≡ None → first_fault text ≡ None
 unfolding first_fault
@@ -34,7 +35,7 @@ pub returns-in_err-ranges : goal.returns-in_err-ranges
 returns-in_err-ranges c =
     let text = c.args.text.now in
     let e = c.in_err-ranges.field-0.0 in
-    err_reads c.from_residual.result e _ _ c.from_residual.ensures.1 (in_items text e (subst (Faults e) (item_faults_are text c.inside-end.result.0.now c.inside-end.result.1 c.inside-end.ensures.body c.inside-end.ensures.end) c.in_err-ranges.ensures))
+    err_reads c.from_residual.result e _ _ c.from_residual.ensures.1 (in_items text e (subst (Faults lasting e) (item_faults_are text c.inside-end.result.0.now c.inside-end.result.1 c.inside-end.ensures.body c.inside-end.ensures.end) c.in_err-ranges.ensures))
 
 pub returns-in_err-close : goal.returns-in_err-close
 returns-in_err-close c =

@@ -7,6 +7,7 @@ use Rattle.kvs_rules.specs.Namespaces.{newest_store, primary}
 use Rattle.instance_rules.specs.Desks.{is_submission}
 use Rattle.instance_rules.specs.Log.{Issued, service_of}
 use Rattle.job_clock.specs.Targets.{AreInTime}
+use Rattle.run_limits.specs.Limits.{most_seconds}
 use Rattle.job_service.specs.Times.{HasTime}
 use Rattle.job_commands.specs.Asks.{told}
 use Rattle.job_commands.specs.Rows.{issued_row}
@@ -52,8 +53,8 @@ invariant_of-self-2 c = λ _.
     (named_more c.self.inside.commands c.issue.new.self c.self.inside.birth row c.self.inside.manager.posted c.in_ok-issue.ensures.rows i.posted)
     (counted_more (length c.self.inside.manager.book.jobs) c.self.inside.submitted c.from.result c.self.inside.commands c.issue.new.self c.args.by c.args.rank c.self.inside.second c.args.ask c.is_submit.result c.in_ok-issue.ensures.rows c.is_submit.ensures c.from.ensures i.counted)
     (room_left v c.args.ask c.from.result c.is_submit.result c.is_submit.ensures c.from.ensures room i.bounded)
-    (subst (λ n. AreInTime c.issue.new.self c.self.inside.birth c.self.inside.second (1000000000 + (c.self.inside.span + n))) (sym c.seconds_asked.ensures) (issued_within c.self.inside.commands c.issue.new.self c.args.by c.args.rank c.self.inside.second c.self.inside.birth c.self.inside.span c.args.ask c.in_ok-issue.ensures.rows i.timed))
-    (subst (λ n. c.self.inside.span + n ≤ 1000000000) (sym c.seconds_asked.ensures) (time_left v c.args.ask (subst (λ w. HasTime w c.args.ask) (sym c.self.view_is) c.requires.time) i.near))
+    (subst (λ n. AreInTime c.issue.new.self c.self.inside.birth c.self.inside.second (most_seconds + (c.self.inside.span + n))) (sym c.seconds_asked.ensures) (issued_within c.self.inside.commands c.issue.new.self c.args.by c.args.rank c.self.inside.second c.self.inside.birth c.self.inside.span c.args.ask c.in_ok-issue.ensures.rows i.timed))
+    (subst (λ n. c.self.inside.span + n ≤ most_seconds) (sym c.seconds_asked.ensures) (time_left v c.args.ask (subst (λ w. HasTime w c.args.ask) (sym c.self.view_is) c.requires.time) i.near))
     (subst (λ l. IsBearing (record c.self.inside.commands { children = l }) c.self.inside.manager.book c.self.inside.bearing) (sym c.in_ok-issue.ensures.children) i.bearing)
     (issued_drawn v m.inst m.log m.agrees.commands c.issue.new.self c.args.by c.args.ask c.from.result c.is_submit.result m.new.asks commands c.in_ok-issue.ensures.size c.is_submit.ensures c.from.ensures i.drawn)
     (c.in_ok-issue.ensures.marked i.marked)

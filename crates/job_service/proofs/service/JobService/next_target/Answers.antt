@@ -1,5 +1,6 @@
 use Rattle.std.proofs.Common.{◌∙◌, ◌<◌, ◌+◌, ◌^◌, arith, sym, ap, subst, Contains}
 use Rattle.instance_rules.specs.Family.{HasTarget}
+use Rattle.run_limits.specs.Limits.{most_seconds}
 use Rattle.job_service.specs.Agrees.{AgreesJobs}
 use Rattle.job_service.specs.Times.{targets_left}
 use Rattle.job_service.specs.View.{value_of}
@@ -16,4 +17,4 @@ returns-clause-targets c = λ inst log l target a lives.
 pub next_target-requires : goal.next_target-requires
 next_target-requires c =
     let i = (c.self.invariant (ap (λ v. v.spent) c.self.view_is ∙ c.requires)).fit in
-    in_time_below c.self.inside.commands c.self.inside.birth c.self.inside.second (1000000000 + c.self.inside.span) (2 ^ 64) i.timed (let a = i.early in let b = i.near in omega (arith, a, b))
+    in_time_below c.self.inside.commands c.self.inside.birth c.self.inside.second (most_seconds + c.self.inside.span) (2 ^ 64) i.timed (let a = i.early in let b = i.near in omega (arith, a, b))

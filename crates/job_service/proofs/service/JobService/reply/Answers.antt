@@ -6,6 +6,7 @@ use Rattle.job_clock.proofs.Times.{fewer_in_time}
 use Rattle.job_commands.specs.Rows.{is_of, mark_at}
 use Rattle.job_commands.specs.declared.tally.Mark.{Mark}
 use Rattle.job_manager.specs.Posts.{post_of}
+use Rattle.run_limits.specs.Limits.{most_seconds}
 use Rattle.job_service.specs.Agrees.{AgreesJobs, IsAgreed}
 use Rattle.job_service.specs.Children.{IsBearing}
 use Rattle.job_service.specs.Judged.{AreJudged}
@@ -45,7 +46,7 @@ invariant_of-self-2 c = λ _.
     held_next c.self.inside held false c.reply.new.self c.forget.new.list c.in_ok-self-inside.field-0 c.self.inside.submitted c.self.inside.span c.self.inside.bearing (ap length c.reply.ensures.size)
     (named_less c.self.inside.commands c.reply.new.self c.self.inside.birth c.args.by c.self.inside.manager.posted c.reply.ensures.rows (not_kept v g.inst g.log g.agrees c.args.by free) i.posted)
     (counted_less (length c.self.inside.manager.book.jobs) c.self.inside.submitted c.self.inside.commands c.reply.new.self c.args.by c.reply.ensures.rows i.counted)
-    i.bounded (fewer_in_time c.self.inside.commands c.reply.new.self (λ row. not (is_of c.args.by row)) c.self.inside.birth c.self.inside.second (1000000000 + c.self.inside.span) c.reply.ensures.rows i.timed) i.near
+    i.bounded (fewer_in_time c.self.inside.commands c.reply.new.self (λ row. not (is_of c.args.by row)) c.self.inside.birth c.self.inside.second (most_seconds + c.self.inside.span) c.reply.ensures.rows i.timed) i.near
     (subst (λ l. IsBearing (record c.self.inside.commands { children = l }) c.self.inside.manager.book c.self.inside.bearing) (sym c.reply.ensures.children) i.bearing)
     (subst (λ issued. (rank : ℕ) → rank < length issued → slice_index issued rank ≤ c.self.inside.submitted) (sym c.reply.ensures.size) i.drawn)
     (subst (λ (marks : List Mark). (rank : ℕ) → (mark_at marks rank).second ≤ c.self.inside.second) (sym c.reply.ensures.marks) i.marked)

@@ -7,6 +7,7 @@ use Rattle.job_manager.specs.Posts.{post_of}
 use Rattle.kvs_core.specs.Agrees.{Agrees}
 use Rattle.kvs_core.specs.Posted.{newest_of}
 use Rattle.kvs_rules.specs.Namespaces.{newest_store, primary}
+use Rattle.run_limits.specs.Limits.{most_seconds}
 use Rattle.job_service.specs.Agrees.{AgreesJobs}
 use Rattle.job_service.specs.Children.{IsBearing}
 use Rattle.job_service.specs.View.{IsHeld, value_of}
@@ -88,7 +89,7 @@ invariant_of-self-2 c = λ _.
     let counted = i.counted in
     subst (λ o. IsHeld (record c.self.inside { spent = false; manager = c.turn.new.self; commands = c.land.new.commands; refused = c.land.new.refused; found = c.in_ok-self-inside.field-0; bearing = c.in_ok-self-inside-2.field-0; submitting = o })) (sym c.take.ensures.after)
     (held_landed c.self.inside held false c.turn.new.self c.land.new.commands c.land.new.refused c.in_ok-self-inside.field-0 c.in_ok-self-inside-2.field-0 e.ready e.makes.size posted size (omega (arith, fewer, counted))
-    (turned_time v g.inst g.log g.agrees c.keeps.ensures newest c.turn.new.self c.args.step c.in_ok-events.events e.makes e.follows c.what_is_posted_lands_as_it_is_due.ensures c.in-Some.number numbered c.land.new.commands c.land.new.refused.items c.command_posted-by.result c.take.result c.command_posted-by.ensures is_id i.posted c.in_ok-land.ensures (1000000000 + c.self.inside.span) i.timed)
+    (turned_time v g.inst g.log g.agrees c.keeps.ensures newest c.turn.new.self c.args.step c.in_ok-events.events e.makes e.follows c.what_is_posted_lands_as_it_is_due.ensures c.in-Some.number numbered c.land.new.commands c.land.new.refused.items c.command_posted-by.result c.take.result c.command_posted-by.ensures is_id i.posted c.in_ok-land.ensures (most_seconds + c.self.inside.span) i.timed)
     (subst (λ b. IsBearing c.land.new.commands b c.in_ok-self-inside-2.field-0) c.book-2.ensures c.in_ok-self-inside-2.ensures)
     (turned_drawn v g.inst g.log g.agrees c.keeps.ensures newest c.turn.new.self c.args.step c.in_ok-events.events e.makes e.follows c.what_is_posted_lands_as_it_is_due.ensures c.in-Some.number numbered c.land.new.commands c.land.new.refused.items c.command_posted-by.result c.take.result c.command_posted-by.ensures is_id i.posted c.in_ok-land.ensures c.self.inside.submitted i.drawn)
     (turned_marked v g.inst g.log g.agrees c.keeps.ensures newest c.turn.new.self c.args.step c.in_ok-events.events e.makes e.follows c.what_is_posted_lands_as_it_is_due.ensures c.in-Some.number numbered c.land.new.commands c.land.new.refused.items c.command_posted-by.result c.take.result c.command_posted-by.ensures is_id i.posted c.in_ok-land.ensures c.self.inside.second i.marked)

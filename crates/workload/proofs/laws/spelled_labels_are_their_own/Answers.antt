@@ -1,5 +1,0 @@
-use Rattle.workload.proofs.Labels.{text_labels}
-use Rattle.workload.proofs.laws.spelled_labels_are_their_own.Goals as goal
-
-pub returns : goal.returns
-returns c = text_labels

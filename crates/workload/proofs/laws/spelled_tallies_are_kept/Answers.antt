@@ -1,5 +1,0 @@
-use Rattle.workload.proofs.Totals.{text_tallies}
-use Rattle.workload.proofs.laws.spelled_tallies_are_kept.Goals as goal
-
-pub returns : goal.returns
-returns c = text_tallies

@@ -1,0 +1,11 @@
+pub mod LineLemmas
+pub mod Along
+pub mod Within
+pub mod Built
+pub mod FirstFaults
+pub mod References
+pub mod Rows
+pub mod Texts
+pub mod Commands
+pub mod Labels
+pub mod Totals
