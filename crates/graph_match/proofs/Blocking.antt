@@ -14,6 +14,7 @@ use Rattle.resource_set.specs.declared.node.Node.{Node}
 use Rattle.job_rules.specs.Fits.{AllApart, AreApart, AreBlockers, CanFit, IsGrant, IsSpec, free_of, has_unit, nodes_of, others_at, with_ids, without_nodes}
 use Rattle.job_rules.specs.Worths.{total, wanted, worth}
 use Rattle.job_rules.proofs.Among.{Among, among_append, among_from, among_has, among_left, among_map, among_mapped, among_right, contains_from, has_among}
+use Rattle.job_rules.proofs.UnitKinds.{kind, kind_apart}
 use Rattle.job_rules.proofs.Sets.{can_fit_enough, enough_can_fit, free_is}
 use Rattle.graph_match.specs.declared.place.Place.{Place}
 use Rattle.graph_match.specs.declared.rooms.Room.{Room}
@@ -41,32 +42,29 @@ abbrev pub IsApartBy : (Node → List ℕ) → Type 0
 IsApartBy kind = (a b : List Node) → AreApart a b → (host : List ℕ) (id : ℕ) → has_unit kind a host id ≡ true → has_unit kind b host id ≡ false
 
 -- ---- a job is apart from those before and behind it
-apart_at : (kind : Node → List ℕ) → IsApartBy kind → (live : List Hold) (i : ℕ) (hold : Hold) (host : List ℕ) (id : ℕ) → AllApart live → i < length live → hold ≡ get_or live i hold → has_unit kind hold.nodes host id ≡ true → (has_unit kind (nodes_of (take i live)) host id ≡ false) × (has_unit kind (nodes_of (drop (suc i) live)) host id ≡ false)
-apart_at kind by [] i hold host id a h e t = let no : ⊥ = omega (arith, h) in absurd no
-apart_at kind by (x ∷ xs) zero hold host id a h e t = (refl, by x.nodes (nodes_of xs) a.0 host id (ap (λ y. has_unit kind y.nodes host id) (sym e) ∙ t))
-apart_at kind by (x ∷ xs) (suc i) hold host id a h e t =
+apart_at : (gpu : Bool) (live : List Hold) (i : ℕ) (hold : Hold) (host : List ℕ) (id : ℕ) → AllApart live → i < length live → hold ≡ get_or live i hold → has_unit (kind gpu) hold.nodes host id ≡ true → (has_unit (kind gpu) (nodes_of (take i live)) host id ≡ false) × (has_unit (kind gpu) (nodes_of (drop (suc i) live)) host id ≡ false)
+apart_at gpu [] i hold host id a h e t = let no : ⊥ = omega (arith, h) in absurd no
+apart_at gpu (x ∷ xs) zero hold host id a h e t = (refl, kind_apart gpu x.nodes (nodes_of xs) a.0 host id (ap (λ y. has_unit (kind gpu) y.nodes host id) (sym e) ∙ t))
+apart_at gpu (x ∷ xs) (suc i) hold host id a h e t =
     let within : i < length xs = omega (arith, h) in
-    let more = apart_at kind by xs i hold host id a.1 within e t in
-    let there : has_unit kind (nodes_of xs) host id ≡ true = held (read_among xs i hold within e) in
-    let none : has_unit kind x.nodes host id ≡ false = false_from_ne_true (has_unit kind x.nodes host id) (λ u. true≢false (sym there ∙ by x.nodes (nodes_of xs) a.0 host id u)) in
-    (has_both kind x.nodes (nodes_of (take i xs)) host id ∙ or_from (has_unit kind x.nodes host id) (has_unit kind (nodes_of (take i xs)) host id) none more.0, more.1)
-  where
-    held : Among hold xs → has_unit kind (nodes_of xs) host id ≡ true
-    held i = has_held kind xs hold host id i t
+    let more = apart_at gpu xs i hold host id a.1 within e t in
+    let there : has_unit (kind gpu) (nodes_of xs) host id ≡ true = has_held (kind gpu) xs hold host id (read_among xs i hold within e) t in
+    let none : has_unit (kind gpu) x.nodes host id ≡ false = false_from_ne_true (has_unit (kind gpu) x.nodes host id) (λ u. true≢false (sym there ∙ kind_apart gpu x.nodes (nodes_of xs) a.0 host id u)) in
+    (has_both (kind gpu) x.nodes (nodes_of (take i xs)) host id ∙ or_from (has_unit (kind gpu) x.nodes host id) (has_unit (kind gpu) (nodes_of (take i xs)) host id) none more.0, more.1)
 
 pub apart_others : (list : List ℕ) (live : List Hold) (i : ℕ) (hold : Hold) → AllApart live → i < length live → hold ≡ get_or live i hold → AreApart hold.nodes (rest_of list i live)
-apart_others list live i hold a h e host id = (one (λ n. n.cores) (λ a b x host id. (x host id).0), one (λ n. n.gpus) (λ a b x host id. (x host id).1))
+apart_others list live i hold a h e host id = (one false, one true)
   where
     next : i + 1 ≡ suc i
     next = omega arith
 
-    one : (kind : Node → List ℕ) → IsApartBy kind → has_unit kind hold.nodes host id ≡ true → has_unit kind (rest_of list i live) host id ≡ false
-    one kind by t =
-        let both = apart_at kind by live i hold host id a h e t in
-        has_both kind (listed list i live) (later (i + 1) live) host id
-        ∙ or_from (has_unit kind (listed list i live) host id) (has_unit kind (later (i + 1) live) host id)
-        (has_fewer kind (λ x. has list x.id) (take i live) host id both.0)
-        (ap (λ n. has_unit kind (nodes_of (drop n live)) host id) next ∙ both.1)
+    one : (gpu : Bool) → has_unit (kind gpu) hold.nodes host id ≡ true → has_unit (kind gpu) (rest_of list i live) host id ≡ false
+    one gpu t =
+        let both = apart_at gpu live i hold host id a h e t in
+        has_both (kind gpu) (listed list i live) (later (i + 1) live) host id
+        ∙ or_from (has_unit (kind gpu) (listed list i live) host id) (has_unit (kind gpu) (later (i + 1) live) host id)
+        (has_fewer (kind gpu) (λ x. has list x.id) (take i live) host id both.0)
+        (ap (λ n. has_unit (kind gpu) (nodes_of (drop n live)) host id) next ∙ both.1)
 
 -- ---- the order of the jobs doesn't matter to what is left
 swap : (a h b : Bool) → (a || (h || b)) ≡ (h || (a || b))
@@ -81,7 +79,7 @@ has_swapped kind a h b host id =
     ∙ sym (has_both kind h (a ++ b) host id ∙ ap (λ x. has_unit kind h host id || x) (has_both kind a b host id))
 
 pub rooms_swapped : (a h b : List Node) (grant : List Node) → rooms_without (a ++ (h ++ b)) grant ≡ rooms_without (h ++ (a ++ b)) grant
-rooms_swapped a h b grant = rooms_same (a ++ (h ++ b)) (h ++ (a ++ b)) grant (λ host id. has_swapped (λ n. n.cores) a h b host id) (λ host id. has_swapped (λ n. n.gpus) a h b host id)
+rooms_swapped a h b grant = rooms_same (a ++ (h ++ b)) (h ++ (a ++ b)) grant (λ gpu host id. has_swapped (kind gpu) a h b host id)
 
 later_step : (live : List Hold) (i : ℕ) (hold : Hold) → i < length live → hold ≡ get_or live i hold → later i live ≡ hold.nodes ++ later (i + 1) live
 later_step live i hold h e = ap nodes_of (drop_more live i hold h ∙ ap (λ x. x ∷ drop (i + 1) live) (sym e))

@@ -1,5 +1,5 @@
 -- Counts of what is left on hosts while the units of more or fewer nodes are taken, and what they bring to a job.
-use Rattle.std.proofs.Common.{◌≡◌, ◌≢◌, ℕ, suc, zero, ◌+◌, ◌*◌, ◌/◌, ◌<◌, ◌≤◌, min, Bool, true, false, cond, not, ◌&&◌, ◌||◌, eqb, inl, inr, List, [], ◌∷◌, length, get_or, set, map, Option, Some, None, refl, sym, ap, ◌∙◌, arith}
+use Rattle.std.proofs.Common.{◌≡◌, ◌≢◌, ℕ, suc, zero, ◌+◌, ◌-◌, ◌*◌, ◌/◌, ◌<◌, ◌≤◌, min, Bool, true, false, cond, not, ◌&&◌, ◌||◌, eqb, inl, inr, List, [], ◌∷◌, length, get_or, set, map, Option, Some, None, refl, sym, ap, ◌∙◌, arith}
 use Rattle.std.specs.Prelude.{filter}
 use Rattle.std.specs.List.{AllByRecursion as Each}
 use Rattle.std.specs.Str.{bytes_eq}
@@ -12,7 +12,9 @@ use Rattle.job_spec.specs.declared.spec.JobSpec.{JobSpec}
 use Rattle.resource_set.specs.declared.node.Node.{Node}
 use Rattle.job_rules.specs.Fits.{AreApart, HasIdSets, IsGrant, IsPartOf, has_unit, left_on, without_nodes}
 use Rattle.job_rules.specs.Worths.{total, worth}
-use Rattle.job_rules.proofs.Among.{Among, Distinct, among_filter, among_has, among_kept, among_mapped, distinct_filter, distinct_from, distinct_rising, has_among, no_more}
+use Rattle.job_rules.proofs.Among.{Among, Distinct, among_filter, among_has, among_kept, among_mapped, distinct_filter, distinct_from, has_among, no_more}
+use Rattle.job_rules.proofs.UnitKinds.{kind, kind_apart, kind_distinct, kind_part, kind_set}
+use Rattle.job_rules.proofs.Sets.{filter_short}
 use Rattle.job_rules.proofs.Few.{hosts_of, other_bytes, same_bytes}
 use Rattle.graph_match.specs.declared.rooms.Room.{Room}
 use Rattle.graph_match.specs.Rooms.{brought, has_enough, room_of, rooms_without, slot_count, worth_of, worth_as as worth_in}
@@ -23,19 +25,29 @@ use Rattle.graph_match.proofs.Fitting.{ranks_rising}
 abbrev pub room_with : ℕ → ℕ → Room
 room_with cores gpus = record { cores = cores; gpus = gpus }
 
-pub same_room : (a b : Room) → a.cores ≡ b.cores → a.gpus ≡ b.gpus → a ≡ b
+-- a room with so many units more, and less
+abbrev pub more_room : Room → Room → Room
+more_room room units = room_with (room.cores + units.cores) (room.gpus + units.gpus)
+
+abbrev pub less_room : Room → Room → Room
+less_room room units = room_with (room.cores - units.cores) (room.gpus - units.gpus)
+
+same_room : (a b : Room) → a.cores ≡ b.cores → a.gpus ≡ b.gpus → a ≡ b
 same_room a b c g = ap (λ x. room_with x a.gpus) c ∙ ap (λ x. room_with b.cores x) g
 
+pub more_less : (room units : Room) → less_room (more_room room units) units ≡ room
+more_less room units = same_room _ _ (omega arith) (omega arith)
+
 -- nodes that have the same units of a host leave the same there
-left_same : (kind : Node → List ℕ) (a b : List Node) (g : Node) → ((id : ℕ) → has_unit kind a g.host id ≡ has_unit kind b g.host id) → left_on kind a g ≡ left_on kind b g
-left_same kind a b g h = filter_agree (λ id. not (has_unit kind a g.host id)) (λ id. not (has_unit kind b g.host id)) (λ id. ap not (h id)) (kind g)
+pub room_same : (a b : List Node) (g : Node) → ((gpu : Bool) (id : ℕ) → has_unit (kind gpu) a g.host id ≡ has_unit (kind gpu) b g.host id) → room_of (without_nodes a g) ≡ room_of (without_nodes b g)
+room_same a b g h = same_room _ _ (same false) (same true)
+  where
+    same : (gpu : Bool) → length (left_on (kind gpu) a g) ≡ length (left_on (kind gpu) b g)
+    same gpu = ap length (filter_agree (λ id. not (has_unit (kind gpu) a g.host id)) (λ id. not (has_unit (kind gpu) b g.host id)) (λ id. ap not (h gpu id)) (kind gpu g))
 
-pub room_same : (a b : List Node) (g : Node) → ((id : ℕ) → has_unit (λ n. n.cores) a g.host id ≡ has_unit (λ n. n.cores) b g.host id) → ((id : ℕ) → has_unit (λ n. n.gpus) a g.host id ≡ has_unit (λ n. n.gpus) b g.host id) → room_of (without_nodes a g) ≡ room_of (without_nodes b g)
-room_same a b g c u = same_room _ _ (ap length (left_same (λ n. n.cores) a b g c)) (ap length (left_same (λ n. n.gpus) a b g u))
-
-pub rooms_same : (a b : List Node) (grant : List Node) → ((host : List ℕ) (id : ℕ) → has_unit (λ n. n.cores) a host id ≡ has_unit (λ n. n.cores) b host id) → ((host : List ℕ) (id : ℕ) → has_unit (λ n. n.gpus) a host id ≡ has_unit (λ n. n.gpus) b host id) → rooms_without a grant ≡ rooms_without b grant
-rooms_same a b [] c u = refl
-rooms_same a b (g ∷ gs) c u = ap (λ r. r ∷ rooms_without a gs) (room_same a b g (c g.host) (u g.host)) ∙ ap (λ rs. room_of (without_nodes b g) ∷ rs) (rooms_same a b gs c u)
+pub rooms_same : (a b : List Node) (grant : List Node) → ((gpu : Bool) (host : List ℕ) (id : ℕ) → has_unit (kind gpu) a host id ≡ has_unit (kind gpu) b host id) → rooms_without a grant ≡ rooms_without b grant
+rooms_same a b [] h = refl
+rooms_same a b (g ∷ gs) h = ap (λ r. r ∷ rooms_without a gs) (room_same a b g (λ gpu. h gpu g.host)) ∙ ap (λ rs. room_of (without_nodes b g) ∷ rs) (rooms_same a b gs h)
 
 -- two lists of nodes that differ at one host alone
 pub only_at : (a b : List Node) (grant : List Node) (at : ℕ) (d : Node) → at < length grant → Distinct (hosts_of grant) → ((g : Node) → g.host ≢ (get_or grant at d).host → room_of (without_nodes a g) ≡ room_of (without_nodes b g)) → rooms_without a grant ≡ set (rooms_without b grant) at (room_of (without_nodes a (get_or grant at d)))
@@ -73,27 +85,21 @@ among_count ids all d e h =
     let many : length ids ≤ length (filter (has ids) all) = no_more ids (filter (has ids) all) d (λ id i. among_kept (has ids) all id (has_among all id (h id (among_has ids id i))) (among_has ids id i)) in
     omega (arith, few, many)
 
-pub left_counts : (kind : Node → List ℕ) (node g : Node) (rest : List Node) → node.host ≡ g.host → Distinct (kind node) → Distinct (kind g) → ((id : ℕ) → has (kind node) id ≡ true → has (kind g) id ≡ true) → ((id : ℕ) → has_unit kind (node ∷ []) g.host id ≡ true → has_unit kind rest g.host id ≡ false) → length (left_on kind rest g) ≡ length (left_on kind (node ∷ rest) g) + length (kind node)
-left_counts kind node g rest e d f part apart =
-    split_count (has (kind node)) (λ id. has_unit kind rest g.host id) (kind g) (λ id t. apart id (or_left _ _ (here id ∙ t)))
-    ∙ ap (λ n. length (filter (λ id. not (has (kind node) id || has_unit kind rest g.host id)) (kind g)) + n) (among_count (kind node) (kind g) d f part)
-    ∙ ap (λ ids. length ids + length (kind node)) (filter_agree (λ id. not (has (kind node) id || has_unit kind rest g.host id)) (λ id. not (has_unit kind (node ∷ rest) g.host id)) (λ id. ap (λ b. not (b || has_unit kind rest g.host id)) (sym (here id))) (kind g))
+pub room_counts : (node g : Node) (rest : List Node) → IsPartOf node g → HasIdSets node → HasIdSets g → AreApart (node ∷ []) rest → room_of (without_nodes rest g) ≡ more_room (room_of (without_nodes (node ∷ rest) g)) (room_of node)
+room_counts node g rest part sn sg apart = same_room _ _ (counts false) (counts true)
   where
-    here : (id : ℕ) → (bytes_eq node.host g.host && has (kind node) id) ≡ has (kind node) id
-    here id = ap (λ b. b && has (kind node) id) (same_bytes node.host g.host e)
+    here : (gpu : Bool) (id : ℕ) → (bytes_eq node.host g.host && has (kind gpu node) id) ≡ has (kind gpu node) id
+    here gpu id = ap (λ b. b && has (kind gpu node) id) (same_bytes node.host g.host part.host)
 
-pub room_counts : (node g : Node) (rest : List Node) → IsPartOf node g → HasIdSets node → HasIdSets g → AreApart (node ∷ []) rest → (length (left_on (λ n. n.cores) rest g) ≡ length (left_on (λ n. n.cores) (node ∷ rest) g) + length node.cores) × (length (left_on (λ n. n.gpus) rest g) ≡ length (left_on (λ n. n.gpus) (node ∷ rest) g) + length node.gpus)
-room_counts node g rest part sn sg apart = (
-  left_counts (λ n. n.cores) node g rest part.host (distinct_rising node.cores sn.0.rising) (distinct_rising g.cores sg.0.rising) part.cores (λ id. (apart g.host id).0),
-  left_counts (λ n. n.gpus) node g rest part.host (distinct_rising node.gpus sn.1.rising) (distinct_rising g.gpus sg.1.rising) part.gpus (λ id. (apart g.host id).1),
-)
+    counts : (gpu : Bool) → length (left_on (kind gpu) rest g) ≡ length (left_on (kind gpu) (node ∷ rest) g) + length (kind gpu node)
+    counts gpu =
+        split_count (has (kind gpu node)) (λ id. has_unit (kind gpu) rest g.host id) (kind gpu g) (λ id t. kind_apart gpu (node ∷ []) rest apart g.host id (or_left _ _ (here gpu id ∙ t)))
+        ∙ ap (λ n. length (filter (λ id. not (has (kind gpu node) id || has_unit (kind gpu) rest g.host id)) (kind gpu g)) + n) (among_count (kind gpu node) (kind gpu g) (kind_distinct gpu node sn) (kind_distinct gpu g sg) (kind_part gpu node g part))
+        ∙ ap (λ ids. length ids + length (kind gpu node)) (filter_agree (λ id. not (has (kind gpu node) id || has_unit (kind gpu) rest g.host id)) (λ id. not (has_unit (kind gpu) (node ∷ rest) g.host id)) (λ id. ap (λ b. not (b || has_unit (kind gpu) rest g.host id)) (sym (here gpu id))) (kind gpu g))
 
 -- elsewhere the node counts for nothing
 pub elsewhere : (node : Node) (rest : List Node) (g : Node) → g.host ≢ node.host → room_of (without_nodes (node ∷ rest) g) ≡ room_of (without_nodes rest g)
-elsewhere node rest g far = room_same (node ∷ rest) rest g (λ id. ap (λ b. (b && has node.cores id) || has_unit (λ n. n.cores) rest g.host id) miss) (λ id. ap (λ b. (b && has node.gpus id) || has_unit (λ n. n.gpus) rest g.host id) miss)
-  where
-    miss : bytes_eq node.host g.host ≡ false
-    miss = other_bytes node.host g.host (λ e. far (sym e))
+elsewhere node rest g far = room_same (node ∷ rest) rest g (λ gpu id. ap (λ b. (b && has (kind gpu node) id) || has_unit (kind gpu) rest g.host id) (other_bytes node.host g.host (λ e. far (sym e))))
 
 -- ---- what rooms bring
 pub brought_set : (spec : JobSpec) (grant : List Node) (rooms : List Room) (at : ℕ) (new : Room) (d : Node) (e : Room) → at < length grant → length rooms ≡ length grant → brought spec grant (set rooms at new) + worth_of spec (room_of (get_or grant at d)) (get_or rooms at e) ≡ brought spec grant rooms + worth_of spec (room_of (get_or grant at d)) new
@@ -135,24 +141,13 @@ worth_small spec whole room h = at spec.nodes
     at None = slots
     at (Some count) = one (has_enough spec whole room)
 
-pub left_small : (taken : List Node) (g : Node) → HasIdSets g → (length (left_on (λ n. n.cores) taken g) ≤ 65536) × (length (left_on (λ n. n.gpus) taken g) ≤ 65536)
-left_small taken g s = (
-  omega (arith, short (λ id. not (has_unit (λ n. n.cores) taken g.host id)) g.cores, set_length g.cores s.0),
-  omega (arith, short (λ id. not (has_unit (λ n. n.gpus) taken g.host id)) g.gpus, set_length g.gpus s.1),
-)
-  where
-    short : (p : ℕ → Bool) (xs : List ℕ) → length (filter p xs) ≤ length xs
-    short p [] = omega arith
-    short p (x ∷ xs) = at (p x) (short p xs)
-      where
-        at : (b : Bool) → length (filter p xs) ≤ length xs → length (cond b (x ∷ filter p xs) (filter p xs)) ≤ suc (length xs)
-        at true h = omega (arith, h)
-        at false h = omega (arith, h)
+pub left_small : (gpu : Bool) (taken : List Node) (g : Node) → HasIdSets g → length (left_on (kind gpu) taken g) ≤ 65536
+left_small gpu taken g s = omega (arith, filter_short (λ id. not (has_unit (kind gpu) taken g.host id)) (kind gpu g), set_length (kind gpu g) (kind_set gpu g s))
 
 brought_small : (spec : JobSpec) (taken gs : List Node) → Each HasIdSets gs → brought spec gs (rooms_without taken gs) ≤ length gs * 65536
 brought_small spec taken [] s = omega arith
 brought_small spec taken (g ∷ gs) s =
-    let here = worth_small spec (room_of g) (room_of (without_nodes taken g)) (left_small taken g s.0).0 in
+    let here = worth_small spec (room_of g) (room_of (without_nodes taken g)) (left_small false taken g s.0) in
     let more = brought_small spec taken gs s.1 in
     omega (arith, here, more)
 

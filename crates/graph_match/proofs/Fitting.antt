@@ -10,11 +10,12 @@ use Rattle.job_spec.specs.declared.spec.JobSpec.{JobSpec}
 use Rattle.job_rules.specs.declared.hold.Hold.{Hold}
 use Rattle.resource_set.specs.declared.node.Node.{Node}
 use Rattle.resource_set.specs.Units.{AreDistinct, AreHosts}
-use Rattle.job_rules.specs.Fits.{AreApart, AreBlockers, AreLive, AreWithin, CanFit, HasIdSets, IsGrant, IsPartOf, IsSpec, IsWithin, NeverFits, end_of, first_fit, free_of, has_unit, left_on, nodes_of, sooner, without_nodes}
+use Rattle.job_rules.specs.Fits.{AreApart, AreBlockers, AreLive, AreWithin, CanFit, HasIdSets, IsGrant, IsPartOf, IsSpec, IsWithin, NeverFits, end_of, first_fit, free_of, has_unit, nodes_of, sooner, without_nodes}
 use Rattle.job_rules.specs.Worths.{give_as, total, wanted, worth}
-use Rattle.job_rules.proofs.Among.{Among, Distinct, among_filter, among_from, among_has, among_map, among_mapped, any_from, contains_from, distinct_rising, each_at, each_from, has_among}
+use Rattle.job_rules.proofs.Among.{Among, Distinct, among_from, among_has, among_map, among_mapped, any_from, contains_from, distinct_rising, each_at, each_from, has_among}
 use Rattle.job_rules.proofs.Counts.{enough, not_found, picked, picks}
 use Rattle.job_rules.proofs.Few.{bytes_same, hosts_of}
+use Rattle.job_rules.proofs.UnitKinds.{apart_from, kind, kind_free, kind_part, part_from, unit_left}
 use Rattle.job_rules.proofs.Sets.{IsFree, IsPiece, among_picked, can_fit_enough, enough_can_fit, free_is, grant_is, picks_set, piece}
 use Rattle.graph_match.specs.declared.place.Place.{Place}
 use Rattle.graph_match.specs.declared.spot.Spot.{Spot}
@@ -74,12 +75,7 @@ same_ranks taken [] = refl
 same_ranks taken (g ∷ gs) = ap (λ rs. g.rank ∷ rs) (same_ranks taken gs)
 
 piece_part : (f node : Node) → IsPiece f node → IsPartOf node f
-piece_part f node p = record {
-  rank = p.rank;
-  host = p.host;
-  cores = λ id e. among_has f.cores id (p.cores id (has_among node.cores id e));
-  gpus = λ id e. among_has f.gpus id (p.gpus id (has_among node.gpus id e));
-}
+piece_part f node p = part_from node f p.rank p.host (λ gpu id e. among_has (kind gpu f) id (p.ids gpu id (has_among (kind gpu node) id e)))
 
 pub picks_within : (spec : JobSpec) (grant taken : List Node) (left : ℕ) → IsGrant grant → AreWithin (picks spec grant left (map (without_nodes taken) grant)) (map (without_nodes taken) grant)
 picks_within spec grant taken left is =
@@ -149,16 +145,10 @@ fresh_kept nodes places live h s e l = subst (λ ps. IsKept ps live) (sym e) (su
 within_grant : (taken grant : List Node) (node : Node) → IsWithin (map (without_nodes taken) grant) node → IsWithin grant node
 within_grant taken grant node h =
     let hit = among_map (without_nodes taken) grant h.0 (among_from (map (without_nodes taken) grant) h.0 h.1) in
-    let part : IsPartOf node (without_nodes taken hit.0) = subst (IsPartOf node) (sym hit.2) h.2 in (
-      hit.0,
-      contains_from grant hit.0 hit.1,
-      record {
-        rank = part.rank;
-        host = part.host;
-        cores = λ id e. among_has hit.0.cores id (among_filter (λ id. not (has_unit (λ n. n.cores) taken hit.0.host id)) hit.0.cores id (has_among (left_on (λ n. n.cores) taken hit.0) id (part.cores id e))).0;
-        gpus = λ id e. among_has hit.0.gpus id (among_filter (λ id. not (has_unit (λ n. n.gpus) taken hit.0.host id)) hit.0.gpus id (has_among (left_on (λ n. n.gpus) taken hit.0) id (part.gpus id e))).0;
-      },
-    )
+    let left : Node = without_nodes taken hit.0 in
+    let part : IsPartOf node left = subst (IsPartOf node) (sym hit.2) h.2 in
+    let whole = part_from node hit.0 part.rank part.host (λ gpu id e. among_has (kind gpu hit.0) id (kind_free gpu taken hit.0 id (has_among (kind gpu left) id (kind_part gpu node left part id e))).0) in
+    (hit.0, contains_from grant hit.0 hit.1, whole)
 
 pub are_within_grant : (taken grant nodes : List Node) → AreWithin nodes (map (without_nodes taken) grant) → AreWithin nodes grant
 are_within_grant taken grant nodes w = record {
@@ -166,22 +156,14 @@ are_within_grant taken grant nodes w = record {
   inside = each_from (IsWithin grant) nodes (λ node i. within_grant taken grant node (each_at (IsWithin (map (without_nodes taken) grant)) nodes node w.inside i));
 }
 
-free_apart : (kind : Node → List ℕ) (taken grant nodes : List Node) → ((node g : Node) → IsPartOf node (without_nodes taken g) → (id : ℕ) → has (kind node) id ≡ true → has (left_on kind taken g) id ≡ true) → Each (IsWithin (map (without_nodes taken) grant)) nodes → (host : List ℕ) (id : ℕ) → has_unit kind nodes host id ≡ true → has_unit kind taken host id ≡ false
-free_apart kind taken grant nodes f w host id e =
-    let hit = any_from (λ n. bytes_eq n.host host && has (kind n) id) nodes e in
-    let parts = and_parts (bytes_eq hit.0.host host) (has (kind hit.0) id) hit.2 in
-    let home = each_at (IsWithin (map (without_nodes taken) grant)) nodes hit.0 w hit.1 in
-    let from = among_map (without_nodes taken) grant home.0 (among_from (map (without_nodes taken) grant) home.0 home.1) in
-    let part : IsPartOf hit.0 (without_nodes taken from.0) = subst (IsPartOf hit.0) (sym from.2) home.2 in
-    let left = among_filter (λ id. not (has_unit kind taken from.0.host id)) (kind from.0) id (has_among (left_on kind taken from.0) id (f hit.0 from.0 part id parts.1)) in
-    let same : from.0.host ≡ host = sym part.host ∙ bytes_same hit.0.host host parts.0 in
-    ap (λ h. has_unit kind taken h id) (sym same) ∙ not-true (has_unit kind taken from.0.host id) left.1
-
 pub free_of_others : (taken grant nodes : List Node) → AreWithin nodes (map (without_nodes taken) grant) → AreApart nodes taken
-free_of_others taken grant nodes w host id = (
-  free_apart (λ n. n.cores) taken grant nodes (λ node g part i e. part.cores i e) w.inside host id,
-  free_apart (λ n. n.gpus) taken grant nodes (λ node g part i e. part.gpus i e) w.inside host id,
-)
+free_of_others taken grant nodes w = apart_from nodes taken (λ gpu host id e.
+    let hit = any_from (λ n. bytes_eq n.host host && has (kind gpu n) id) nodes e in
+    let parts = and_parts (bytes_eq hit.0.host host) (has (kind gpu hit.0) id) hit.2 in
+    let home = each_at (IsWithin (map (without_nodes taken) grant)) nodes hit.0 w.inside hit.1 in
+    let there = among_from (map (without_nodes taken) grant) home.0 home.1 in
+    let unit = has_among (kind gpu home.0) id (kind_part gpu hit.0 home.0 home.2 id parts.1) in
+    (unit_left gpu grant taken host id (home.0, there, sym home.2.host ∙ bytes_same hit.0.host host parts.0, unit)).1)
 
 each_with : (P : Hold → Type 0) (hold : Hold) (holds : List Hold) → P hold → Each P holds → Each P (with_hold hold holds)
 each_with P hold [] h e = (h, tt)
@@ -204,10 +186,9 @@ not_among id holds new h i e = new (contains_from (ids_of holds) id (subst (λ n
 
 -- what is kept once the marks follow what jobs hold
 kept_after : (free : Bool) (nodes : List Node) (places : List Place) (live after : List Hold) → IsKept places live → AreLive (map node_of places) after
-    → ((host : List ℕ) (id : ℕ) → cond (has_unit (λ n. n.cores) nodes host id) (not free) (has_unit (λ n. n.cores) (nodes_of live) host id) ≡ has_unit (λ n. n.cores) (nodes_of after) host id)
-    → ((host : List ℕ) (id : ℕ) → cond (has_unit (λ n. n.gpus) nodes host id) (not free) (has_unit (λ n. n.gpus) (nodes_of live) host id) ≡ has_unit (λ n. n.gpus) (nodes_of after) host id)
+    → ((gpu : Bool) (host : List ℕ) (id : ℕ) → cond (has_unit (kind gpu) nodes host id) (not free) (has_unit (kind gpu) (nodes_of live) host id) ≡ has_unit (kind gpu) (nodes_of after) host id)
     → IsKept (map (after_each free nodes) places) after
-kept_after free nodes places live after k alive cores gpus = record {
+kept_after free nodes places live after k alive held = record {
   grant = subst IsGrant (sym same) k.grant;
   live = subst (λ grant. AreLive grant after) (sym same) alive;
   marks = marks places k.marks;
@@ -216,16 +197,15 @@ kept_after free nodes places live after k alive cores gpus = record {
     same : map node_of (map (after_each free nodes) places) ≡ map node_of places
     same = after_nodes free nodes places
 
-    one : (kind : Node → List ℕ) (spots : Place → List Spot) → ((node : Node) (place : Place) → spots (marked_place free node place) ≡ map (marked_at free (kind node)) (spots place))
-        → ((host : List ℕ) (id : ℕ) → cond (has_unit kind nodes host id) (not free) (has_unit kind (nodes_of live) host id) ≡ has_unit kind (nodes_of after) host id)
-        → (place : Place) → MarksBy (λ id. has_unit kind (nodes_of live) place.host id) (spots place) → MarksBy (λ id. has_unit kind (nodes_of after) (after_each free nodes place).host id) (spots (after_each free nodes place))
-    one kind spots marked held place m = subst (λ h. MarksBy (λ id. has_unit kind (nodes_of after) h id) (spots (after_each free nodes place))) (sym (ap (λ n. n.host) (after_node free nodes place)))
-        (marks_same (λ id. cond (has_unit kind nodes place.host id) (not free) (has_unit kind (nodes_of live) place.host id)) (λ id. has_unit kind (nodes_of after) place.host id) (spots (after_each free nodes place)) (held place.host)
-        (marks_after free kind spots marked (λ id. has_unit kind (nodes_of live) place.host id) nodes place place.host refl m))
+    one : (gpu : Bool) (spots : Place → List Spot) → ((node : Node) (place : Place) → spots (marked_place free node place) ≡ map (marked_at free (kind gpu node)) (spots place))
+        → (place : Place) → MarksBy (λ id. has_unit (kind gpu) (nodes_of live) place.host id) (spots place) → MarksBy (λ id. has_unit (kind gpu) (nodes_of after) (after_each free nodes place).host id) (spots (after_each free nodes place))
+    one gpu spots marked place m = subst (λ h. MarksBy (λ id. has_unit (kind gpu) (nodes_of after) h id) (spots (after_each free nodes place))) (sym (ap (λ n. n.host) (after_node free nodes place)))
+        (marks_same (λ id. cond (has_unit (kind gpu) nodes place.host id) (not free) (has_unit (kind gpu) (nodes_of live) place.host id)) (λ id. has_unit (kind gpu) (nodes_of after) place.host id) (spots (after_each free nodes place)) (held gpu place.host)
+        (marks_after free (kind gpu) spots marked (λ id. has_unit (kind gpu) (nodes_of live) place.host id) nodes place place.host refl m))
 
     marks : (ps : List Place) → Each (IsMarked (nodes_of live)) ps → Each (IsMarked (nodes_of after)) (map (after_each free nodes) ps)
     marks [] m = tt
-    marks (p ∷ ps) m = ((one (λ n. n.cores) (λ x. x.cores) (λ n x. refl) cores p m.0.0, one (λ n. n.gpus) (λ x. x.gpus) (λ n x. refl) gpus p m.0.1), marks ps m.1)
+    marks (p ∷ ps) m = ((one false (λ x. x.cores) (λ n x. refl) p m.0.0, one true (λ x. x.gpus) (λ n x. refl) p m.0.1), marks ps m.1)
 
 cond_or : (a b : Bool) → cond a true b ≡ (a || b)
 cond_or true b = refl
@@ -242,10 +222,7 @@ held_kept places live hold k new w = kept_after false hold.nodes places live (wi
   rising = rises 0 (ids_of (with_hold hold live)) (rise_with 0 hold live (rise_of 0 (ids_of live) (λ u. omega arith) k.live.rising) (omega arith) (not_among hold.id live new));
   within = each_with (λ h. AreWithin h.nodes (map node_of places)) hold live (are_within_grant (nodes_of live) (map node_of places) hold.nodes w) k.live.within;
   apart = apart_with hold live (free_of_others (nodes_of live) (map node_of places) hold.nodes w) k.live.apart;
-}) (held (λ n. n.cores)) (held (λ n. n.gpus))
-  where
-    held : (kind : Node → List ℕ) (host : List ℕ) (id : ℕ) → cond (has_unit kind hold.nodes host id) true (has_unit kind (nodes_of live) host id) ≡ has_unit kind (nodes_of (with_hold hold live)) host id
-    held kind host id = cond_or (has_unit kind hold.nodes host id) (has_unit kind (nodes_of live) host id) ∙ sym (has_with kind hold live host id)
+}) (λ gpu host id. cond_or (has_unit (kind gpu) hold.nodes host id) (has_unit (kind gpu) (nodes_of live) host id) ∙ sym (has_with (kind gpu) hold live host id))
 
 -- ---- one less
 pub left_kept : (places : List Place) (live : List Hold) (hold : Hold) → IsKept places live → Among hold live → Distinct (ids_of live) → IsKept (map (after_each true hold.nodes) places) (without_hold hold.id live)
@@ -253,10 +230,7 @@ left_kept places live hold k i d = kept_after true hold.nodes places live (witho
   rising = rises 0 (ids_of (without_hold hold.id live)) (rise_filter (λ h. not (eqb h.id hold.id)) 0 live (rise_of 0 (ids_of live) (λ u. omega arith) k.live.rising));
   within = each_filter (λ h. AreWithin h.nodes (map node_of places)) (λ h. not (eqb h.id hold.id)) live k.live.within;
   apart = apart_filter (λ h. not (eqb h.id hold.id)) live k.live.apart;
-}) (left (λ n. n.cores) (λ a b h host id. (h host id).0)) (left (λ n. n.gpus) (λ a b h host id. (h host id).1))
-  where
-    left : (kind : Node → List ℕ) → ((a b : List Node) → AreApart a b → (host : List ℕ) (id : ℕ) → has_unit kind a host id ≡ true → has_unit kind b host id ≡ false) → (host : List ℕ) (id : ℕ) → cond (has_unit kind hold.nodes host id) false (has_unit kind (nodes_of live) host id) ≡ has_unit kind (nodes_of (without_hold hold.id live)) host id
-    left kind by host id = cond_and (has_unit kind hold.nodes host id) (has_unit kind (nodes_of live) host id) ∙ has_without kind by live hold host id d k.live.apart i
+}) (λ gpu host id. cond_and (has_unit (kind gpu) hold.nodes host id) (has_unit (kind gpu) (nodes_of live) host id) ∙ has_without gpu live hold host id d k.live.apart i)
 
 -- ---- what the calls leave, in the terms of what they read
 abbrev pub allot : List Node → ℕ → List Hold → Allotment

@@ -12,6 +12,7 @@ use Rattle.idset.specs.Ids.{has}
 use Rattle.job_rules.specs.declared.hold.Hold.{Hold}
 use Rattle.resource_set.specs.declared.node.Node.{Node}
 use Rattle.job_rules.specs.Fits.{AllApart, AreApart, has_unit, nodes_of}
+use Rattle.job_rules.proofs.UnitKinds.{apart_from, kind, kind_apart}
 use Rattle.job_rules.proofs.Among.{Among, Distinct, among_from, among_map, among_mapped, contains_from}
 use Rattle.graph_match.specs.Holds.{IsNew, with_hold, without_hold}
 
@@ -137,7 +138,7 @@ apart_filter p [] a = tt
 apart_filter p (x ∷ xs) a = at (p x) (apart_filter p xs a.1)
   where
     at : (b : Bool) → AllApart (filter p xs) → AllApart (cond b (x ∷ filter p xs) (filter p xs))
-    at true more = (λ host id. (λ e. has_fewer (λ n. n.cores) p xs host id ((a.0 host id).0 e), λ e. has_fewer (λ n. n.gpus) p xs host id ((a.0 host id).1 e)), more)
+    at true more = (apart_from x.nodes (nodes_of (filter p xs)) (λ gpu host id e. has_fewer (kind gpu) p xs host id (kind_apart gpu x.nodes (nodes_of xs) a.0 host id e)), more)
     at false more = more
 
 -- one way round: a job apart from others, and the others from it
@@ -149,18 +150,18 @@ pub apart_with : (hold : Hold) (holds : List Hold) → AreApart hold.nodes (node
 apart_with hold [] a all = (a, tt)
 apart_with hold (x ∷ xs) a all = at (ltb hold.id x.id) (apart_with hold xs tail all.1)
   where
-    one : (kind : Node → List ℕ) (host : List ℕ) (id : ℕ) → (has_unit kind hold.nodes host id ≡ true → has_unit kind (nodes_of (x ∷ xs)) host id ≡ false) → has_unit kind hold.nodes host id ≡ true → (has_unit kind x.nodes host id ≡ false) × (has_unit kind (nodes_of xs) host id ≡ false)
-    one kind host id f e = or_parts (has_unit kind x.nodes host id) (has_unit kind (nodes_of xs) host id) (sym (has_both kind x.nodes (nodes_of xs) host id) ∙ f e)
+    one : (gpu : Bool) (host : List ℕ) (id : ℕ) → has_unit (kind gpu) hold.nodes host id ≡ true → (has_unit (kind gpu) x.nodes host id ≡ false) × (has_unit (kind gpu) (nodes_of xs) host id ≡ false)
+    one gpu host id e = or_parts (has_unit (kind gpu) x.nodes host id) (has_unit (kind gpu) (nodes_of xs) host id) (sym (has_both (kind gpu) x.nodes (nodes_of xs) host id) ∙ kind_apart gpu hold.nodes (nodes_of (x ∷ xs)) a host id e)
 
     tail : AreApart hold.nodes (nodes_of xs)
-    tail host id = (λ e. (one (λ n. n.cores) host id (a host id).0 e).1, λ e. (one (λ n. n.gpus) host id (a host id).1 e).1)
+    tail = apart_from hold.nodes (nodes_of xs) (λ gpu host id e. (one gpu host id e).1)
 
-    both : (kind : Node → List ℕ) (host : List ℕ) (id : ℕ) → (has_unit kind hold.nodes host id ≡ true → has_unit kind (nodes_of (x ∷ xs)) host id ≡ false) → (has_unit kind x.nodes host id ≡ true → has_unit kind (nodes_of xs) host id ≡ false) → has_unit kind x.nodes host id ≡ true → has_unit kind (nodes_of (with_hold hold xs)) host id ≡ false
-    both kind host id f g e = has_with kind hold xs host id ∙ or_from _ _ (away (has_unit kind hold.nodes host id) (has_unit kind x.nodes host id) (λ t. (one kind host id f t).0) e) (g e)
+    both : AreApart x.nodes (nodes_of (with_hold hold xs))
+    both = apart_from x.nodes (nodes_of (with_hold hold xs)) (λ gpu host id e. has_with (kind gpu) hold xs host id ∙ or_from _ _ (away (has_unit (kind gpu) hold.nodes host id) (has_unit (kind gpu) x.nodes host id) (λ t. (one gpu host id t).0) e) (kind_apart gpu x.nodes (nodes_of xs) all.0 host id e))
 
     at : (t : Bool) → AllApart (with_hold hold xs) → AllApart (cond t (hold ∷ x ∷ xs) (x ∷ with_hold hold xs))
     at true more = (a, all)
-    at false more = (λ host id. (both (λ n. n.cores) host id (a host id).0 (all.0 host id).0, both (λ n. n.gpus) host id (a host id).1 (all.0 host id).1), more)
+    at false more = (both, more)
 
 -- what is held once a job has given its units back
 without_head : (x r : Bool) → (x ≡ true → r ≡ false) → ((x || r) && not x) ≡ r
@@ -180,23 +181,22 @@ has_held kind (x ∷ xs) hold host id i e = has_both kind x.nodes (nodes_of xs) 
   | inr j ↦ or_right _ _ (has_held kind xs hold host id j e)
 ]
 
-module _ (kind : Node → List ℕ) (apart_by : (a b : List Node) → AreApart a b → (host : List ℕ) (id : ℕ) → has_unit kind a host id ≡ true → has_unit kind b host id ≡ false) where
-  pub has_without : (holds : List Hold) (hold : Hold) (host : List ℕ) (id : ℕ) → Distinct (ids_of holds) → AllApart holds → Among hold holds → (has_unit kind (nodes_of holds) host id && not (has_unit kind hold.nodes host id)) ≡ has_unit kind (nodes_of (without_hold hold.id holds)) host id
-  has_without [] hold host id d a i = absurd i
-  has_without (x ∷ xs) hold host id d a i = elim i [
-    | inl same ↦
-        let gone : without_hold hold.id (x ∷ xs) ≡ xs = ap (λ b. cond (not b) (x ∷ without_hold hold.id xs) (without_hold hold.id xs)) (eq-eqb x.id hold.id (ap (λ h. h.id) same)) ∙ nothing_gone hold.id xs (λ y j e. d.0 y.id (among_mapped (λ h. h.id) xs y j) (ap (λ h. h.id) same ∙ sym e)) in
-        ap (λ b. b && not (has_unit kind hold.nodes host id)) (has_both kind x.nodes (nodes_of xs) host id)
-        ∙ ap (λ h. (has_unit kind x.nodes host id || has_unit kind (nodes_of xs) host id) && not (has_unit kind h.nodes host id)) (sym same)
-        ∙ without_head (has_unit kind x.nodes host id) (has_unit kind (nodes_of xs) host id) (apart_by x.nodes (nodes_of xs) a.0 host id)
-        ∙ ap (λ hs. has_unit kind (nodes_of hs) host id) (sym gone)
-    | inr j ↦
-        let kept : without_hold hold.id (x ∷ xs) ≡ x ∷ without_hold hold.id xs = ap (λ b. cond (not b) (x ∷ without_hold hold.id xs) (without_hold hold.id xs)) (ne_eqb x.id hold.id (d.0 hold.id (among_mapped (λ h. h.id) xs hold j))) in
-        ap (λ b. b && not (has_unit kind hold.nodes host id)) (has_both kind x.nodes (nodes_of xs) host id)
-        ∙ without_tail (has_unit kind x.nodes host id) (has_unit kind (nodes_of xs) host id) (has_unit kind hold.nodes host id) (has_unit kind (nodes_of (without_hold hold.id xs)) host id)
-        (apart_by x.nodes (nodes_of xs) a.0 host id) (has_held kind xs hold host id j) (has_without xs hold host id d.1 a.1 j)
-        ∙ sym (ap (λ hs. has_unit kind (nodes_of hs) host id) kept ∙ has_both kind x.nodes (nodes_of (without_hold hold.id xs)) host id)
-  ]
+pub has_without : (gpu : Bool) (holds : List Hold) (hold : Hold) (host : List ℕ) (id : ℕ) → Distinct (ids_of holds) → AllApart holds → Among hold holds → (has_unit (kind gpu) (nodes_of holds) host id && not (has_unit (kind gpu) hold.nodes host id)) ≡ has_unit (kind gpu) (nodes_of (without_hold hold.id holds)) host id
+has_without gpu [] hold host id d a i = absurd i
+has_without gpu (x ∷ xs) hold host id d a i = elim i [
+  | inl same ↦
+      let gone : without_hold hold.id (x ∷ xs) ≡ xs = ap (λ b. cond (not b) (x ∷ without_hold hold.id xs) (without_hold hold.id xs)) (eq-eqb x.id hold.id (ap (λ h. h.id) same)) ∙ nothing_gone hold.id xs (λ y j e. d.0 y.id (among_mapped (λ h. h.id) xs y j) (ap (λ h. h.id) same ∙ sym e)) in
+      ap (λ b. b && not (has_unit (kind gpu) hold.nodes host id)) (has_both (kind gpu) x.nodes (nodes_of xs) host id)
+      ∙ ap (λ h. (has_unit (kind gpu) x.nodes host id || has_unit (kind gpu) (nodes_of xs) host id) && not (has_unit (kind gpu) h.nodes host id)) (sym same)
+      ∙ without_head (has_unit (kind gpu) x.nodes host id) (has_unit (kind gpu) (nodes_of xs) host id) (kind_apart gpu x.nodes (nodes_of xs) a.0 host id)
+      ∙ ap (λ hs. has_unit (kind gpu) (nodes_of hs) host id) (sym gone)
+  | inr j ↦
+      let kept : without_hold hold.id (x ∷ xs) ≡ x ∷ without_hold hold.id xs = ap (λ b. cond (not b) (x ∷ without_hold hold.id xs) (without_hold hold.id xs)) (ne_eqb x.id hold.id (d.0 hold.id (among_mapped (λ h. h.id) xs hold j))) in
+      ap (λ b. b && not (has_unit (kind gpu) hold.nodes host id)) (has_both (kind gpu) x.nodes (nodes_of xs) host id)
+      ∙ without_tail (has_unit (kind gpu) x.nodes host id) (has_unit (kind gpu) (nodes_of xs) host id) (has_unit (kind gpu) hold.nodes host id) (has_unit (kind gpu) (nodes_of (without_hold hold.id xs)) host id)
+      (kind_apart gpu x.nodes (nodes_of xs) a.0 host id) (has_held (kind gpu) xs hold host id j) (has_without gpu xs hold host id d.1 a.1 j)
+      ∙ sym (ap (λ hs. has_unit (kind gpu) (nodes_of hs) host id) kept ∙ has_both (kind gpu) x.nodes (nodes_of (without_hold hold.id xs)) host id)
+]
 
 -- where a partition point is by ids
 pub ids_rise : (holds : List Hold) → IsStrictlyIncreasing (ids_of holds) → (i j : ℕ) (d : Hold) → i ≤ j → j < length holds → (get_or holds i d).id ≤ (get_or holds j d).id

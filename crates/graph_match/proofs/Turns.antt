@@ -64,26 +64,23 @@ found_place places rank place r c before after =
 pub places_rise : (places : List Place) → IsGrant (map node_of places) → IsStrictlyIncreasing (map (λ p. p.rank) places)
 places_rise places grant = subst IsStrictlyIncreasing (sym (place_ranks places)) grant.hosts.rising
 
-pub node_there : (nodes : List Node) (places : List Place) (i : ℕ) (node : Node) → Each (IsWithin (map node_of places)) nodes → i < length nodes → node ≡ get_or nodes i node → Contains (map (λ p. p.rank) places) node.rank
-node_there nodes places i node inside h e =
-    let home = each_at (IsWithin (map node_of places)) nodes node inside (read_among nodes i node h e) in
+pub inside_at : (places : List Place) (nodes : List Node) (i : ℕ) (node : Node) → Each (IsWithin (map node_of places)) nodes → i < length nodes → node ≡ get_or nodes i node → IsWithin (map node_of places) node
+inside_at places nodes i node inside h e = each_at (IsWithin (map node_of places)) nodes node inside (read_among nodes i node h e)
+
+pub node_there : (places : List Place) (node : Node) → IsWithin (map node_of places) node → Contains (map (λ p. p.rank) places) node.rank
+node_there places node home =
     let mapped : Among home.0.rank (map (λ n. n.rank) (map node_of places)) = among_mapped (λ n. n.rank) (map node_of places) home.0 (among_from (map node_of places) home.0 home.1) in
     contains_from (map (λ p. p.rank) places) node.rank (subst (λ xs. Among node.rank xs) (sym (place_ranks places)) (subst (λ r. Among r (map (λ n. n.rank) (map node_of places))) (sym home.2.rank) mapped))
 
 -- a node of a job, and the place of its rank, as a turn reads them
-pub record IsRead (nodes : List Node) (places : List Place) (i : ℕ) (node : Node) (at : ℕ) (p : Place) : Type 0 where
+pub record IsRead (places : List Place) (node : Node) (at : ℕ) (p : Place) : Type 0 where
   pub grant : IsGrant (map node_of places)
-  pub inside : Each (IsWithin (map node_of places)) nodes
-  pub within : i < length nodes
-  pub node_is : node ≡ get_or nodes i node
+  pub inside : IsWithin (map node_of places) node
   pub there : at < length places
   pub place_is : p ≡ get_or places at p
   pub rank : p.rank ≡ node.rank
 
-module _ {nodes : List Node} {places : List Place} {i : ℕ} {node : Node} {at : ℕ} {p : Place} (read : IsRead nodes places i node at p) where
-  pub read_node : Among node nodes
-  read_node = read_among nodes i node read.within read.node_is
-
+module _ {places : List Place} {node : Node} {at : ℕ} {p : Place} (read : IsRead places node at p) where
   read_place : Among (node_of p) (map node_of places)
   read_place = among_mapped node_of places p (read_among places at p read.there read.place_is)
 
@@ -98,7 +95,7 @@ module _ {nodes : List Node} {places : List Place} {i : ℕ} {node : Node} {at :
 
   pub read_part : IsPartOf node (node_of p)
   read_part =
-      let home = each_at (IsWithin (map node_of places)) nodes node read.inside read_node in
+      let home = read.inside in
       let ranks : Distinct (map (λ n. n.rank) (map node_of places)) = distinct_rising (map (λ n. n.rank) (map node_of places)) read.grant.hosts.rising in
       let same : home.0 ≡ node_of p = same_image (λ n. n.rank) (map node_of places) home.0 (node_of p) ranks (among_from (map node_of places) home.0 home.1) read_place (sym home.2.rank ∙ sym read.rank) in
       subst (IsPartOf node) same home.2
@@ -114,12 +111,12 @@ turn_grant t grant = subst IsGrant (sym t.same) grant
 pub turn_inside : {free : Bool} {nodes : List Node} {all now : List Place} {i : ℕ} → IsTurn free nodes all now i → Each (IsWithin (map node_of all)) nodes → Each (IsWithin (map node_of now)) nodes
 turn_inside {free} {nodes} t inside = subst (λ hosts. Each (IsWithin hosts) nodes) (sym t.same) inside
 
-pub turn_more : {free : Bool} {nodes : List Node} {all now : List Place} {i : ℕ} {node : Node} {at : ℕ} {p : Place} → IsTurn free nodes all now i → IsRead nodes now i node at p → IsTurn free nodes all (set now at (marked_place free node p)) (i + 1)
-turn_more {free} {nodes} {all} {now} {i} {node} {at} {p} t read = record {
+pub turn_more : {free : Bool} {nodes : List Node} {all now : List Place} {i : ℕ} {node : Node} {at : ℕ} {p : Place} → IsTurn free nodes all now i → i < length nodes → node ≡ get_or nodes i node → IsRead now node at p → IsTurn free nodes all (set now at (marked_place free node p)) (i + 1)
+turn_more {free} {nodes} {all} {now} {i} {node} {at} {p} t h e read = record {
   done =
       ap (λ x. map (after_each free (drop (i + 1) nodes)) (set now at (marked_place free node x))) read.place_is
       ∙ sym (one_more free node (drop (i + 1) nodes) now at p read.there (ap (λ x. x.host) (sym read.place_is) ∙ sym (read_part read).host) hosts)
-      ∙ ap (λ ns. map (after_each free ns) now) (ap (λ n. n ∷ drop (i + 1) nodes) read.node_is ∙ sym (drop_more nodes i node read.within))
+      ∙ ap (λ ns. map (after_each free ns) now) (ap (λ n. n ∷ drop (i + 1) nodes) e ∙ sym (drop_more nodes i node h))
       ∙ t.done;
   same =
       map-set node_of now at (marked_place free node p)

@@ -1,5 +1,5 @@
 //! The units of a grant, and who holds them.
-ghost use Rattle.std.specs.Prelude.{◌≡◌, slice_index_or, ◌<◌, ◌≤◌, ◌↔◌, ◌+◌, ◌-◌, ◌^◌, ◌++◌, List, [], length, map, take, drop, IfNone, IfSome, nat_le, nat_lt, Contains, IfOk, OnOk, OnErr, IsTrue, Some, None, All, remove};
+ghost use Rattle.std.specs.Prelude.{◌≡◌, slice_index_or, ◌<◌, ◌≤◌, ◌↔◌, ◌+◌, ◌-◌, ◌^◌, ◌++◌, ◌∷◌, List, [], length, map, take, drop, IfNone, IfSome, nat_le, nat_lt, Contains, IfOk, OnOk, OnErr, IsTrue, MatchBool, Some, None, All, remove, if◌then◌else◌};
 ghost use Rattle.std.specs.Bool.{OnFalse};
 ghost use Rattle.std.specs.List.{HoldsAt, AllByRecursion as Each};
 ghost use Rattle.std.specs.List.Sorted.{IsStrictlyIncreasing};
@@ -214,27 +214,25 @@ fn count(node: &Node) -> Room
     }
 }
 
-/// A host's room with so many units more.
-fn plus(room: Room, units: Room) -> Room
-    requires cores { room.cores + units.cores < 2 ^ 32 }
-    requires gpus { room.gpus + units.gpus < 2 ^ 32 }
-    ensures { result ≡ record { cores = room.cores + units.cores; gpus = room.gpus + units.gpus } }
+/// A host's room with so many units more, where they are freed, or so many less.
+fn changed(room: Room, units: Room, free: bool) -> Room
+    requires { MatchBool free
+        ((room.cores + units.cores < 2 ^ 32) × (room.gpus + units.gpus < 2 ^ 32))
+        ((units.cores ≤ room.cores) × (units.gpus ≤ room.gpus)) }
+    ensures { result ≡ if free
+        then record { cores = room.cores + units.cores; gpus = room.gpus + units.gpus }
+        else record { cores = room.cores - units.cores; gpus = room.gpus - units.gpus } }
 {
-    Room {
-        cores: room.cores + units.cores,
-        gpus: room.gpus + units.gpus,
-    }
-}
-
-/// A host's room with so many units less.
-fn minus(room: Room, units: Room) -> Room
-    requires cores { units.cores ≤ room.cores }
-    requires gpus { units.gpus ≤ room.gpus }
-    ensures { result ≡ record { cores = room.cores - units.cores; gpus = room.gpus - units.gpus } }
-{
-    Room {
-        cores: room.cores - units.cores,
-        gpus: room.gpus - units.gpus,
+    if free {
+        Room {
+            cores: room.cores + units.cores,
+            gpus: room.gpus + units.gpus,
+        }
+    } else {
+        Room {
+            cores: room.cores - units.cores,
+            gpus: room.gpus - units.gpus,
+        }
     }
 }
 
@@ -251,6 +249,36 @@ fn moved(place: &Place, spec: &JobSpec, sum: u64, old: Room, new: Room) -> u64
     sum - u64::from(worth(spec, whole, old)) + u64::from(worth(spec, whole, new))
 }
 
+/// Frees a node's units in the room of its host, or takes them there, where other nodes' units are
+/// taken too, and gives what all hosts bring then.
+fn exchange(
+    places: &[Place],
+    spec: &JobSpec,
+    rooms: &mut [Room],
+    sum: u64,
+    node: &Node,
+    free: bool,
+) -> u64
+    requires spec { IsSpec spec.now }
+    requires grant { IsGrant (map node_of places.now) }
+    requires inside { IsWithin (map node_of places.now) node.now }
+    requires taken { (others : List Taken) × AreApart (node.now ∷ []) others
+        × AreRooms spec.now (map node_of places.now)
+        (if free then node.now ∷ others else others) rooms.old sum }
+    ensures { (others : List Taken) → AreApart (node.now ∷ []) others
+        → AreRooms spec.now (map node_of places.now)
+        (if free then node.now ∷ others else others) rooms.old sum
+        → AreRooms spec.now (map node_of places.now)
+        (if free then others else node.now ∷ others) rooms.new result }
+{
+    let at = place_of(places, node.rank);
+    let place = &places[at];
+    let old = rooms[at];
+    let new = changed(old, count(node), free);
+    rooms[at] = new;
+    moved(place, spec, sum, old, new)
+}
+
 /// Frees a job's units in the rooms of hosts where other nodes' units stay taken, and gives what
 /// they bring then.
 fn add(places: &[Place], spec: &JobSpec, rooms: &mut [Room], sum: u64, nodes: &[Node]) -> u64
@@ -265,13 +293,7 @@ fn add(places: &[Place], spec: &JobSpec, rooms: &mut [Room], sum: u64, nodes: &[
 {
     let mut sum = sum;
     for node in nodes {
-        let at = place_of(places, node.rank);
-        let place = &places[at];
-        let more = count(node);
-        let old = rooms[at];
-        let new = plus(old, more);
-        sum = moved(place, spec, sum, old, new);
-        rooms[at] = new;
+        sum = exchange(places, spec, rooms, sum, node, true);
     }
     sum
 }
@@ -290,13 +312,7 @@ fn take_back(places: &[Place], spec: &JobSpec, rooms: &mut [Room], sum: u64, nod
 {
     let mut sum = sum;
     for node in nodes {
-        let at = place_of(places, node.rank);
-        let place = &places[at];
-        let less = count(node);
-        let old = rooms[at];
-        let new = minus(old, less);
-        sum = moved(place, spec, sum, old, new);
-        rooms[at] = new;
+        sum = exchange(places, spec, rooms, sum, node, false);
     }
     sum
 }

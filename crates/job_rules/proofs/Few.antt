@@ -3,13 +3,14 @@ use Rattle.std.proofs.Common.{◌≡◌, ◌≢◌, ℕ, ◌+◌, ◌*◌, ◌/�
 use Rattle.std.specs.List.{AllByRecursion as Each}
 use Rattle.std.specs.Str.{bytes_eq}
 use Rattle.std.proofs.lemmas.Nat.{le-div}
-use Rattle.std.proofs.lemmas.Bool.{true≢false, eqb-false, false_from_ne_true}
+use Rattle.std.proofs.lemmas.Bool.{eqb-false, false_from_ne_true}
 use Rattle.std.proofs.lemmas.Slice.Eq.{bytes_eq-Decides}
 use Rattle.job_spec.specs.declared.spec.JobSpec.{JobSpec}
 use Rattle.resource_set.specs.declared.node.Node.{Node}
-use Rattle.resource_set.specs.Units.{LiesIn, ResourceUnit, core_of, gpu_of, units_of, units_of_node}
+use Rattle.resource_set.specs.Units.{LiesIn, units_of, units_of_node}
 use Rattle.job_rules.specs.Fits.{IsSpec, IsUnitSet, room_on}
-use Rattle.job_rules.proofs.Among.{Among, Distinct, among_append, among_flat, among_flattened, among_from, among_left, among_map, among_mapped, among_right, contains_from, distinct_from, distinct_left, distinct_part, distinct_right, distinct_unmapped, each_at, each_from, no_more, same_image}
+use Rattle.job_rules.proofs.Among.{Among, Distinct, among_mapped, distinct_from, distinct_part, each_at, each_from, no_more, same_image}
+use Rattle.job_rules.proofs.UnitKinds.{asked, kind, kind_once, lies_at}
 use Rattle.job_rules.specs.Worths.{total}
 
 pub same_bytes : (a b : List ℕ) → a ≡ b → bytes_eq a b ≡ true
@@ -76,40 +77,6 @@ few v w (node ∷ nodes) free d m =
     others : (ys : List Node) → ((y : Node) → Among y ys → node.host ≢ y.host) → Each (IsMatched v w free) ys → Each (IsMatched v (but node.host w) free) ys
     others ys far h = each_from (IsMatched v (but node.host w) free) ys (λ y i. other y (far y i) (each_at (IsMatched v w free) ys y h i))
 
--- units
-among_cores : (free : List Node) (node : Node) (id : ℕ) → Among (core_of node id) (units_of free) → (f : Node) × Among f free × (f.host ≡ node.host) × Among id f.cores
-among_cores free node id i =
-    let found = among_flat units_of_node free (core_of node id) i in
-    let here = at found.0 (among_append (map (core_of found.0) found.0.cores) (map (gpu_of found.0) found.0.gpus) (core_of node id) found.2) in
-    (found.0, found.1, here.0, here.1)
-  where
-    at : (f : Node) → Among (core_of node id) (map (core_of f) f.cores) ⊎ Among (core_of node id) (map (gpu_of f) f.gpus) → (f.host ≡ node.host) × Among id f.cores
-    at f i = elim i [
-      | inl c ↦ let hit = among_map (core_of f) f.cores (core_of node id) c in (ap (λ u. u.host) hit.2, subst (λ n. Among n f.cores) (ap (λ u. u.id) hit.2) hit.1)
-      | inr g ↦ let hit = among_map (gpu_of f) f.gpus (core_of node id) g in absurd (true≢false (ap (λ u. u.is_gpu) hit.2))
-    ]
-
-among_gpus : (free : List Node) (node : Node) (id : ℕ) → Among (gpu_of node id) (units_of free) → (f : Node) × Among f free × (f.host ≡ node.host) × Among id f.gpus
-among_gpus free node id i =
-    let found = among_flat units_of_node free (gpu_of node id) i in
-    let here = at found.0 (among_append (map (core_of found.0) found.0.cores) (map (gpu_of found.0) found.0.gpus) (gpu_of node id) found.2) in
-    (found.0, found.1, here.0, here.1)
-  where
-    at : (f : Node) → Among (gpu_of node id) (map (core_of f) f.cores) ⊎ Among (gpu_of node id) (map (gpu_of f) f.gpus) → (f.host ≡ node.host) × Among id f.gpus
-    at f i = elim i [
-      | inl c ↦ let hit = among_map (core_of f) f.cores (gpu_of node id) c in absurd (true≢false (sym (ap (λ u. u.is_gpu) hit.2)))
-      | inr g ↦ let hit = among_map (gpu_of f) f.gpus (gpu_of node id) g in (ap (λ u. u.host) hit.2, subst (λ n. Among n f.gpus) (ap (λ u. u.id) hit.2) hit.1)
-    ]
-
-core_among : (nodes : List Node) (node : Node) (id : ℕ) → Among node nodes → Among id node.cores → Among (core_of node id) (units_of nodes)
-core_among nodes node id i j = among_flattened units_of_node nodes node (core_of node id) i (among_left (map (core_of node) node.cores) (map (gpu_of node) node.gpus) (core_of node id) (among_mapped (core_of node) node.cores id j))
-
-gpu_among : (nodes : List Node) (node : Node) (id : ℕ) → Among node nodes → Among id node.gpus → Among (gpu_of node id) (units_of nodes)
-gpu_among nodes node id i j = among_flattened units_of_node nodes node (gpu_of node id) i (among_right (map (core_of node) node.cores) (map (gpu_of node) node.gpus) (gpu_of node id) (among_mapped (gpu_of node) node.gpus id j))
-
-lies : (nodes free : List Node) (unit : ResourceUnit) → LiesIn nodes free → Among unit (units_of nodes) → Among unit (units_of free)
-lies nodes free unit inside i = among_from (units_of free) unit (inside unit (contains_from (units_of nodes) unit i))
-
 some_id : (ids : List ℕ) → 1 ≤ length ids → (id : ℕ) × Among id ids
 some_id [] h = let none : ⊥ = omega (arith, h) in absurd none
 some_id (id ∷ ids) h = (id, inl refl)
@@ -119,37 +86,33 @@ pub record IsCovered (free : List Node) (node : Node) : Type 0 where
   pub free_host : Node
   pub among : Among free_host free
   pub host : free_host.host ≡ node.host
-  pub cores : length node.cores ≤ length free_host.cores
-  pub gpus : length node.gpus ≤ length free_host.gpus
+  pub enough : (gpu : Bool) → length (kind gpu node) ≤ length (kind gpu free_host)
 
 pub covered : (nodes free : List Node) (node : Node) → Distinct (hosts_of free) → IsUnitSet nodes → LiesIn nodes free → Among node nodes → 1 ≤ length node.cores → IsCovered free node
 covered nodes free node d set inside i some =
     let first = some_id node.cores some in
-    let hit = among_cores free node first.0 (lies nodes free (core_of node first.0) inside (core_among nodes node first.0 i first.1)) in
-    let units = distinct_part units_of_node nodes node (distinct_from (units_of nodes) set.once) i in
+    let hit = lies_at nodes free inside false node first.0 i first.1 in
     record {
       free_host = hit.0;
       among = hit.1;
       host = hit.2;
-      cores = no_more node.cores hit.0.cores
-          (distinct_unmapped (core_of node) node.cores (distinct_left (map (core_of node) node.cores) (map (gpu_of node) node.gpus) units))
-          (λ id j. let more = among_cores free node id (lies nodes free (core_of node id) inside (core_among nodes node id i j)) in
-          subst (λ f. Among id f.cores) (same_image (λ n. n.host) free more.0 hit.0 d more.1 hit.1 (more.2 ∙ sym hit.2)) more.3);
-      gpus = no_more node.gpus hit.0.gpus
-          (distinct_unmapped (gpu_of node) node.gpus (distinct_right (map (core_of node) node.cores) (map (gpu_of node) node.gpus) units))
-          (λ id j. let more = among_gpus free node id (lies nodes free (gpu_of node id) inside (gpu_among nodes node id i j)) in
-          subst (λ f. Among id f.gpus) (same_image (λ n. n.host) free more.0 hit.0 d more.1 hit.1 (more.2 ∙ sym hit.2)) more.3);
+      enough = λ gpu. no_more (kind gpu node) (kind gpu hit.0)
+          (kind_once gpu node (distinct_part units_of_node nodes node (distinct_from (units_of nodes) set.once) i))
+          (λ id j. let more = lies_at nodes free inside gpu node id i j in
+          subst (λ f. Among id (kind gpu f)) (same_image (λ n. n.host) free more.0 hit.0 d more.1 hit.1 (more.2 ∙ sym hit.2)) more.3);
     }
 
 -- room for slots
-pub has_room : (spec : JobSpec) (count : ℕ) (f : Node) → IsSpec spec → count * spec.cores ≤ length f.cores → count * spec.gpus ≤ length f.gpus → count ≤ room_on spec f
-has_room spec count f is c g = at (eqb spec.gpus 0) refl
+pub has_room : (spec : JobSpec) (count : ℕ) (f : Node) → IsSpec spec → ((gpu : Bool) → count * asked gpu spec ≤ length (kind gpu f)) → count ≤ room_on spec f
+has_room spec count f is h = at (eqb spec.gpus 0) refl
   where
+    by : (gpu : Bool) → 0 < asked gpu spec → count ≤ length (kind gpu f) / asked gpu spec
+    by gpu some = le-div count (length (kind gpu f)) (asked gpu spec) some (h gpu)
+
     at : (b : Bool) → eqb spec.gpus 0 ≡ b → count ≤ cond b (length f.cores / spec.cores) (min (length f.cores / spec.cores) (length f.gpus / spec.gpus))
-    at true e = le-div count (length f.cores) spec.cores (omega (arith, is.cores.0)) c
+    at true e = by false (omega (arith, is.cores.0))
     at false e =
         let some : spec.gpus ≡ 0 → ⊥ = eqb-false spec.gpus 0 e in
-        let above : 0 < spec.gpus = omega (arith, some) in
-        let by_cores : count ≤ length f.cores / spec.cores = le-div count (length f.cores) spec.cores (omega (arith, is.cores.0)) c in
-        let by_gpus : count ≤ length f.gpus / spec.gpus = le-div count (length f.gpus) spec.gpus above g in
+        let by_cores : count ≤ length f.cores / spec.cores = by false (omega (arith, is.cores.0)) in
+        let by_gpus : count ≤ length f.gpus / spec.gpus = by true (omega (arith, some)) in
         omega (arith, by_cores, by_gpus)

@@ -5,3 +5,4 @@ pub mod Fits
 pub mod Lying
 pub mod Sets
 pub mod Unique
+pub mod UnitKinds

@@ -5,15 +5,17 @@ use Rattle.std.specs.List.{AllByRecursion as Each}
 use Rattle.std.specs.Str.{bytes_eq}
 use Rattle.std.proofs.Math.Nat.{mul-div_cancel}
 use Rattle.std.proofs.lemmas.Bool.{cases_lt, true≢false, eqb-true, eq-eqb, leb-true, le-leb, and_from, and_parts, or_right, or_left}
+use Rattle.std.proofs.lemmas.List.Filters.{length-filter_both}
 use Rattle.std.proofs.lemmas.List.{length-map, length-take-le}
 use Rattle.job_spec.specs.declared.spec.JobSpec.{JobSpec}
 use Rattle.resource_set.specs.declared.node.Node.{Node}
 use Rattle.resource_set.specs.Units.{LiesIn, ResourceUnit, core_of, gpu_of, units_of, units_of_node}
 use Rattle.job_rules.specs.Fits.{CanFit, HasIdSets, HasSlots, HaveSlots, IsGrant, IsNodeFor, IsSpec, IsUnitSet, IsWholeHost, Satisfies, SatisfiesAs, first_fit, first_fit_as, given_by, has_unit, is_wholly_free, lowest, room_on, serves, without_nodes}
-use Rattle.job_rules.proofs.Among.{Among, Distinct, among_append, among_filter, among_flat, among_flattened, among_from, among_left, among_map, among_mapped, among_right, among_take, any_at, any_from, are_distinct, contains_from, distinct-append, distinct_filter, distinct_from, distinct_mapped, distinct_rising, distinct_take, each_at, each_from, same_image}
+use Rattle.job_rules.proofs.Among.{Among, Distinct, among_filter, among_from, among_map, among_mapped, among_take, any_at, any_from, are_distinct, contains_from, distinct-append, distinct_filter, distinct_from, distinct_mapped, distinct_take, each_at, each_from, same_image}
 use Rattle.job_rules.specs.Worths.{give_as, total, worth, worth_as, wanted}
 use Rattle.job_rules.proofs.Counts.{picked, picks, enough, found, not_found, too_few}
-use Rattle.job_rules.proofs.Few.{IsMatched, bytes_same, covered, few, has_room, hosts_of, same_bytes}
+use Rattle.job_rules.proofs.UnitKinds.{asked, kind, kind_left, kind_lowest, kind_distinct, lies_from, node_among, unit_among}
+use Rattle.job_rules.proofs.Few.{IsCovered, IsMatched, bytes_same, covered, few, has_room, hosts_of, same_bytes}
 use Rattle.job_rules.proofs.Fits.{slots_on, spread_has}
 
 -- a host with what is left of a host of the grant
@@ -22,14 +24,11 @@ pub record IsLeft (grant : List Node) (f : Node) : Type 0 where
   pub among : Among whole grant
   pub rank : f.rank ≡ whole.rank
   pub host : f.host ≡ whole.host
-  pub cores : (id : ℕ) → Among id f.cores → Among id whole.cores
-  pub gpus : (id : ℕ) → Among id f.gpus → Among id whole.gpus
-  pub fewer : (length f.cores ≤ length whole.cores) × (length f.gpus ≤ length whole.gpus)
-  pub all_cores : length f.cores ≡ length whole.cores → f.cores ≡ whole.cores
-  pub all_gpus : length f.gpus ≡ length whole.gpus → f.gpus ≡ whole.gpus
+  pub fewer : (gpu : Bool) → length (kind gpu f) ≤ length (kind gpu whole)
+  pub all : (gpu : Bool) → length (kind gpu f) ≡ length (kind gpu whole) → kind gpu f ≡ kind gpu whole
 
 abbrev pub HasDistinct : Node → Type 0
-HasDistinct f = Distinct f.cores × Distinct f.gpus
+HasDistinct f = (gpu : Bool) → Distinct (kind gpu f)
 
 pub record IsFree (grant free : List Node) : Type 0 where
   pub hosts : Distinct (hosts_of free)
@@ -45,13 +44,8 @@ same_node a b r h c g =
     ap (λ x. node_with x a.host a.cores a.gpus) (sym r) ∙ ap (λ x. node_with b.rank x a.cores a.gpus) (sym h) ∙ ap (λ x. node_with b.rank b.host x a.gpus) (sym c) ∙ ap (λ x. node_with b.rank b.host b.cores x) (sym g)
 
 -- a filter that leaves as many leaves all
-filter_short : (p : ℕ → Bool) (xs : List ℕ) → length (filter p xs) ≤ length xs
-filter_short p [] = omega arith
-filter_short p (x ∷ xs) = at (p x) (filter_short p xs)
-  where
-    at : (b : Bool) → length (filter p xs) ≤ length xs → length (cond b (x ∷ filter p xs) (filter p xs)) ≤ suc (length xs)
-    at true h = omega (arith, h)
-    at false h = omega (arith, h)
+pub filter_short : (p : ℕ → Bool) (xs : List ℕ) → length (filter p xs) ≤ length xs
+filter_short p xs = omega (arith, length-filter_both p (λ x. not (p x)) (λ x. refl) xs)
 
 filter_whole : (p : ℕ → Bool) (xs : List ℕ) → length (filter p xs) ≡ length xs → filter p xs ≡ xs
 filter_whole p [] e = refl
@@ -67,11 +61,8 @@ left_is taken grant g i = record {
   among = i;
   rank = refl;
   host = refl;
-  cores = λ id j. (among_filter (λ id. not (has_unit (λ n. n.cores) taken g.host id)) g.cores id j).0;
-  gpus = λ id j. (among_filter (λ id. not (has_unit (λ n. n.gpus) taken g.host id)) g.gpus id j).0;
-  fewer = (filter_short (λ id. not (has_unit (λ n. n.cores) taken g.host id)) g.cores, filter_short (λ id. not (has_unit (λ n. n.gpus) taken g.host id)) g.gpus);
-  all_cores = filter_whole (λ id. not (has_unit (λ n. n.cores) taken g.host id)) g.cores;
-  all_gpus = filter_whole (λ id. not (has_unit (λ n. n.gpus) taken g.host id)) g.gpus;
+  fewer = λ gpu. subst (λ ids. length ids ≤ length (kind gpu g)) (sym (kind_left gpu taken g)) (filter_short (λ id. not (has_unit (kind gpu) taken g.host id)) (kind gpu g));
+  all = λ gpu. subst (λ ids. length ids ≡ length (kind gpu g) → ids ≡ kind gpu g) (sym (kind_left gpu taken g)) (filter_whole (λ id. not (has_unit (kind gpu) taken g.host id)) (kind gpu g));
 }
 
 same_hosts : (taken : List Node) (grant : List Node) → hosts_of (map (without_nodes taken) grant) ≡ hosts_of grant
@@ -87,14 +78,14 @@ free_is grant taken is = record {
 }
   where
     kept : (g : Node) → HasIdSets g → HasDistinct (without_nodes taken g)
-    kept g sets = (distinct_filter (λ id. not (has_unit (λ n. n.cores) taken g.host id)) g.cores (distinct_rising g.cores sets.0.rising), distinct_filter (λ id. not (has_unit (λ n. n.gpus) taken g.host id)) g.gpus (distinct_rising g.gpus sets.1.rising))
+    kept g sets = λ gpu. subst Distinct (sym (kind_left gpu taken g)) (distinct_filter (λ id. not (has_unit (kind gpu) taken g.host id)) (kind gpu g) (kind_distinct gpu g sets))
 
 pub grant_is : (grant : List Node) → IsGrant grant → IsFree grant grant
 grant_is grant is = record {
   hosts = distinct_from (hosts_of grant) is.hosts.hosts;
   of = distinct_from (hosts_of grant) is.hosts.hosts;
-  sets = each_from HasDistinct grant (λ g i. let sets = each_at HasIdSets grant g is.sets i in (distinct_rising g.cores sets.0.rising, distinct_rising g.gpus sets.1.rising));
-  left = each_from (IsLeft grant) grant (λ g i. record { whole = g; among = i; rank = refl; host = refl; cores = λ id j. j; gpus = λ id j. j; fewer = (omega arith, omega arith); all_cores = λ e. refl; all_gpus = λ e. refl });
+  sets = each_from HasDistinct grant (λ g i gpu. kind_distinct gpu g (each_at HasIdSets grant g is.sets i));
+  left = each_from (IsLeft grant) grant (λ g i. record { whole = g; among = i; rank = refl; host = refl; fewer = λ gpu. omega arith; all = λ gpu e. refl });
 }
 
 -- ---- where some units satisfy the job the free hosts bring enough
@@ -118,50 +109,55 @@ module _ (spec : JobSpec) (grant free : List Node) (is : IsSpec spec) (f : IsFre
   product_above : (a b : ℕ) → 1 ≤ a → 1 ≤ b → 1 ≤ a * b
   product_above a b h k = grind arith
 
+  -- a host of the set with so many slots: the free host of its name has room for as many
+  roomy : (nodes : List Node) (node : Node) → IsUnitSet nodes → LiesIn nodes free → Among node nodes → (count : ℕ) → 1 ≤ count → ((gpu : Bool) → count * asked gpu spec ≤ length (kind gpu node)) → (hit : IsCovered free node) × (count ≤ room_on spec hit.free_host)
+  roomy nodes node set inside i count some h =
+      let positive : 1 ≤ count * spec.cores = product_above count spec.cores some is.cores.0 in
+      let cores : count * spec.cores ≤ length node.cores = h false in
+      let hit = covered nodes free node f.hosts set inside i (omega (arith, positive, cores)) in
+      (hit, has_room spec count hit.free_host is (λ gpu. omega (arith, h gpu, hit.enough gpu)))
+
+  slots_there : (count : ℕ) (node : Node) → HasSlots spec count node → (gpu : Bool) → count * asked gpu spec ≤ length (kind gpu node)
+  slots_there count node h false = omega (arith, h.0)
+  slots_there count node h true = omega (arith, h.1)
+
   matched_slots : (nodes : List Node) (node : Node) → IsUnitSet nodes → LiesIn nodes free → Among node nodes → (k : ℕ) × HasSlots spec k node → IsMatched (λ n. length n.cores / spec.cores) (room_on spec) free node
-  matched_slots nodes node set inside i h = at h.0 h.1.0 h.1.1
+  matched_slots nodes node set inside i h = at h.0 h.1
     where
-      at : (k : ℕ) → length node.cores ≡ k * spec.cores → length node.gpus ≡ k * spec.gpus → IsMatched (λ n. length n.cores / spec.cores) (room_on spec) free node
-      at zero c g =
-          let above : 0 < spec.cores = omega (arith, is.cores.0) in
-          inl (ap (λ n. n / spec.cores) c ∙ mul-div_cancel 0 above)
-      at (suc k) c g =
-          let above : 0 < spec.cores = omega (arith, is.cores.0) in
-          let value : length node.cores / spec.cores ≡ suc k = ap (λ n. n / spec.cores) c ∙ mul-div_cancel (suc k) above in
-          let positive : 1 ≤ suc k * spec.cores = product_above (suc k) spec.cores (omega arith) is.cores.0 in
-          let hit = covered nodes free node f.hosts set inside i (omega (arith, c, positive)) in
-          let room : suc k ≤ room_on spec hit.free_host = has_room spec (suc k) hit.free_host is (omega (arith, hit.cores, c)) (omega (arith, hit.gpus, g)) in
-          inr (hit.free_host, hit.among, hit.host, subst (λ n. n ≤ room_on spec hit.free_host) (sym value) room)
+      value : (k : ℕ) → HasSlots spec k node → length node.cores / spec.cores ≡ k
+      value k h = ap (λ n. n / spec.cores) h.0 ∙ mul-div_cancel k (omega (arith, is.cores.0))
 
-  one_for : (host : Node) → serves spec grant host ≡ true → 1 ≤ cond (serves spec grant host) 1 0
-  one_for host e = subst (λ b. 1 ≤ cond b 1 0) (sym e) (omega arith)
+      at : (k : ℕ) → HasSlots spec k node → IsMatched (λ n. length n.cores / spec.cores) (room_on spec) free node
+      at zero h = inl (value 0 h)
+      at (suc k) h =
+          let hit = roomy nodes node set inside i (suc k) (omega arith) (slots_there (suc k) node h) in
+          inr (hit.0.free_host, hit.0.among, hit.0.host, subst (λ n. n ≤ room_on spec hit.0.free_host) (sym (value (suc k) h)) hit.1)
 
-  whole_serves : (host node : Node) → Among host free → host.host ≡ node.host → Among node grant → length node.cores ≤ length host.cores → length node.gpus ≤ length host.gpus → is_wholly_free grant host ≡ true
-  whole_serves host node i e j c g =
-      let left = each_at (IsLeft grant) free host f.left i in
-      let same : left.whole ≡ node = same_image (λ n. n.host) grant left.whole node f.of left.among j (sym left.host ∙ e) in
-      let cores : length node.cores ≡ length host.cores = omega (arith, c, left.fewer.0, ap (λ n. length n.cores) same) in
-      let gpus : length node.gpus ≡ length host.gpus = omega (arith, g, left.fewer.1, ap (λ n. length n.gpus) same) in
+  whole_serves : (node : Node) (hit : IsCovered free node) → Among node grant → is_wholly_free grant hit.free_host ≡ true
+  whole_serves node hit j =
+      let host = hit.free_host in
+      let left = each_at (IsLeft grant) free host f.left hit.among in
+      let same : left.whole ≡ node = same_image (λ n. n.host) grant left.whole node f.of left.among j (sym left.host ∙ hit.host) in
+      let alike : (gpu : Bool) → length (kind gpu node) ≡ length (kind gpu host) = λ gpu. omega (arith, hit.enough gpu, left.fewer gpu, ap (λ n. length (kind gpu n)) same) in
       any_at (λ g. bytes_eq g.host host.host && (eqb (length g.cores) (length host.cores)) && (eqb (length g.gpus) (length host.gpus))) grant node j
-      (and_from _ _ (and_from _ _ (same_bytes node.host host.host (sym e)) (eq-eqb _ _ cores)) (eq-eqb _ _ gpus))
+      (and_from _ _ (and_from _ _ (same_bytes node.host host.host (sym hit.host)) (eq-eqb _ _ (alike false))) (eq-eqb _ _ (alike true)))
 
   matched_host : (nodes : List Node) (node : Node) → IsUnitSet nodes → LiesIn nodes free → Among node nodes → IsNodeFor spec grant node → IsMatched (λ _. 1) (λ n. cond (serves spec grant n) 1 0) free node
   matched_host nodes node set inside i h = at spec.exclusive refl h
     where
-      slot_above : 1 ≤ spec.slots * spec.cores
-      slot_above = product_above spec.slots spec.cores is.slots.0 is.cores.0
+      matched : ((gpu : Bool) → spec.slots * asked gpu spec ≤ length (kind gpu node)) → ((hit : IsCovered free node) → (not spec.exclusive || is_wholly_free grant hit.free_host) ≡ true) → IsMatched (λ _. 1) (λ n. cond (serves spec grant n) 1 0) free node
+      matched slots whole =
+          let hit = roomy nodes node set inside i spec.slots is.slots.0 slots in
+          let served : serves spec grant hit.0.free_host ≡ true = and_from _ _ (le-leb _ _ hit.1) (whole hit.0) in
+          inr (hit.0.free_host, hit.0.among, hit.0.host, subst (λ b. 1 ≤ cond b 1 0) (sym served) (omega arith))
+
+      on_whole : IsWholeHost spec grant node → (gpu : Bool) → spec.slots * asked gpu spec ≤ length (kind gpu node)
+      on_whole h false = h.1
+      on_whole h true = h.2
 
       at : (b : Bool) → spec.exclusive ≡ b → MatchBool b (IsWholeHost spec grant node) (HasSlots spec spec.slots node) → IsMatched (λ _. 1) (λ n. cond (serves spec grant n) 1 0) free node
-      at true e h =
-          let hit = covered nodes free node f.hosts set inside i (omega (arith, h.1, slot_above)) in
-          let room : spec.slots ≤ room_on spec hit.free_host = has_room spec spec.slots hit.free_host is (omega (arith, hit.cores, h.1)) (omega (arith, hit.gpus, h.2)) in
-          let whole = whole_serves hit.free_host node hit.among hit.host (among_from grant node h.0) hit.cores hit.gpus in
-          inr (hit.free_host, hit.among, hit.host, one_for hit.free_host (and_from _ _ (le-leb _ _ room) (or_right _ _ whole)))
-      at false e h =
-          let hit = covered nodes free node f.hosts set inside i (omega (arith, h.0, slot_above)) in
-          let room : spec.slots ≤ room_on spec hit.free_host = has_room spec spec.slots hit.free_host is (omega (arith, hit.cores, h.0)) (omega (arith, hit.gpus, h.1)) in
-          let free_one : not spec.exclusive ≡ true = ap not e in
-          inr (hit.free_host, hit.among, hit.host, one_for hit.free_host (and_from _ _ (le-leb _ _ room) (or_left _ _ free_one)))
+      at true e h = matched (on_whole h) (λ hit. or_right _ _ (whole_serves node hit (among_from grant node h.0)))
+      at false e h = matched (slots_there spec.slots node h) (λ hit. or_left _ _ (ap not e))
 
   pub can_fit_enough : CanFit spec grant free → wanted spec ≤ total (worth spec grant) free
   can_fit_enough can = at spec.nodes can.satisfied
@@ -186,17 +182,15 @@ module _ (spec : JobSpec) (grant free : List Node) (is : IsSpec spec) (f : IsFre
 pub record IsPiece (f node : Node) : Type 0 where
   pub rank : node.rank ≡ f.rank
   pub host : node.host ≡ f.host
-  pub cores : (id : ℕ) → Among id node.cores → Among id f.cores
-  pub gpus : (id : ℕ) → Among id node.gpus → Among id f.gpus
+  pub ids : (gpu : Bool) (id : ℕ) → Among id (kind gpu node) → Among id (kind gpu f)
   pub sets : HasDistinct f → HasDistinct node
 
 piece_lowest : (spec : JobSpec) (k : ℕ) (f : Node) → IsPiece f (lowest spec k f)
 piece_lowest spec k f = record {
   rank = refl;
   host = refl;
-  cores = λ id i. among_take (k * spec.cores) f.cores id i;
-  gpus = λ id i. among_take (k * spec.gpus) f.gpus id i;
-  sets = λ d. (distinct_take (k * spec.cores) f.cores d.0, distinct_take (k * spec.gpus) f.gpus d.1);
+  ids = λ gpu id i. among_take (k * asked gpu spec) (kind gpu f) id (subst (λ ids. Among id ids) (kind_lowest gpu spec k f) i);
+  sets = λ d gpu. subst Distinct (sym (kind_lowest gpu spec k f)) (distinct_take (k * asked gpu spec) (kind gpu f) (d gpu));
 }
 
 pub piece : (o : Option ℕ) (spec : JobSpec) (k : ℕ) (f : Node) → IsPiece f (give_as o spec k f)
@@ -204,7 +198,7 @@ piece None spec k f = piece_lowest spec k f
 piece (Some count) spec k f = at spec.exclusive
   where
     at : (b : Bool) → IsPiece f (cond b f (lowest spec spec.slots f))
-    at true = record { rank = refl; host = refl; cores = λ id i. i; gpus = λ id i. i; sets = λ d. d }
+    at true = record { rank = refl; host = refl; ids = λ gpu id i. i; sets = λ d. d }
     at false = piece_lowest spec spec.slots f
 
 -- each host that is taken is a piece of a free one
@@ -234,38 +228,20 @@ picked_hosts w give left (f ∷ fs) h d = at (eqb (min left (w f)) 0) (picked_ho
     at true more = more
     at false more = (apart, more)
 
-unit_host : (node : Node) (unit : ResourceUnit) → Among unit (units_of_node node) → unit.host ≡ node.host
-unit_host node unit i = elim (among_append (map (core_of node) node.cores) (map (gpu_of node) node.gpus) unit i) [
-  | inl c ↦ sym (ap (λ u. u.host) (among_map (core_of node) node.cores unit c).2)
-  | inr g ↦ sym (ap (λ u. u.host) (among_map (gpu_of node) node.gpus unit g).2)
-]
-
 once : (nodes : List Node) → Distinct (hosts_of nodes) → Each HasDistinct nodes → Distinct (units_of nodes)
 once [] d s = tt
 once (node ∷ nodes) d s = distinct-append (units_of_node node) (units_of nodes) here (once nodes d.1 s.1) apart
   where
     here : Distinct (units_of_node node)
     here = distinct-append (map (core_of node) node.cores) (map (gpu_of node) node.gpus)
-        (distinct_mapped (core_of node) node.cores (λ x y e. ap (λ u. u.id) e) s.0.0)
-        (distinct_mapped (gpu_of node) node.gpus (λ x y e. ap (λ u. u.id) e) s.0.1)
+        (distinct_mapped (core_of node) node.cores (λ x y e. ap (λ u. u.id) e) (s.0 false))
+        (distinct_mapped (gpu_of node) node.gpus (λ x y e. ap (λ u. u.id) e) (s.0 true))
         (λ unit i j. true≢false (ap (λ u. u.is_gpu) (among_map (gpu_of node) node.gpus unit j).2 ∙ sym (ap (λ u. u.is_gpu) (among_map (core_of node) node.cores unit i).2)))
 
     apart : (unit : ResourceUnit) → Among unit (units_of_node node) → Among unit (units_of nodes) → ⊥
     apart unit i j =
-        let hit = among_flat units_of_node nodes unit j in
-        d.0 hit.0.host (among_mapped (λ n. n.host) nodes hit.0 hit.1) (sym (unit_host node unit i) ∙ unit_host hit.0 unit hit.2)
-
-piece_unit : (f node : Node) (unit : ResourceUnit) → IsPiece f node → Among unit (units_of_node node) → Among unit (units_of_node f)
-piece_unit f node unit p i = elim (among_append (map (core_of node) node.cores) (map (gpu_of node) node.gpus) unit i) [
-  | inl c ↦
-      let hit = among_map (core_of node) node.cores unit c in
-      let same : core_of f hit.0 ≡ unit = ap (λ h. let u : ResourceUnit = record { host = h; is_gpu = false; id = hit.0 } in u) (sym p.host) ∙ hit.2 in
-      among_left (map (core_of f) f.cores) (map (gpu_of f) f.gpus) unit (subst (λ u. Among u (map (core_of f) f.cores)) same (among_mapped (core_of f) f.cores hit.0 (p.cores hit.0 hit.1)))
-  | inr g ↦
-      let hit = among_map (gpu_of node) node.gpus unit g in
-      let same : gpu_of f hit.0 ≡ unit = ap (λ h. let u : ResourceUnit = record { host = h; is_gpu = true; id = hit.0 } in u) (sym p.host) ∙ hit.2 in
-      among_right (map (core_of f) f.cores) (map (gpu_of f) f.gpus) unit (subst (λ u. Among u (map (gpu_of f) f.gpus)) same (among_mapped (gpu_of f) f.gpus hit.0 (p.gpus hit.0 hit.1)))
-]
+        let hit = unit_among nodes unit j in
+        d.0 hit.0.host (among_mapped (λ n. n.host) nodes hit.0 hit.1) ((node_among node unit i).0 ∙ sym hit.2)
 
 module _ (spec : JobSpec) (grant free : List Node) (f : IsFree grant free) where
   piece_of : (left : ℕ) (node : Node) → Among node (picks spec grant left free) → (h : Node) × Among h free × IsPiece h node
@@ -283,10 +259,7 @@ module _ (spec : JobSpec) (grant free : List Node) (f : IsFree grant free) where
       }
 
   pub picks_inside : (left : ℕ) → LiesIn (picks spec grant left free) free
-  picks_inside left unit c =
-      let hit = among_flat units_of_node (picks spec grant left free) unit (among_from (units_of (picks spec grant left free)) unit c) in
-      let from = piece_of left hit.0 hit.1 in
-      contains_from (units_of free) unit (among_flattened units_of_node free from.0 unit from.1 (piece_unit from.0 hit.0 unit from.2 hit.2))
+  picks_inside left = lies_from (picks spec grant left free) free (λ gpu node id i j. let hit = piece_of left node i in (hit.0, hit.1, sym hit.2.host, hit.2.ids gpu id j))
 
   whole_host : (h : Node) → Among h free → is_wholly_free grant h ≡ true → Among h grant
   whole_host h i e =
@@ -297,7 +270,7 @@ module _ (spec : JobSpec) (grant free : List Node) (f : IsFree grant free) where
       let same : left.whole ≡ hit.0 = same_image (λ n. n.host) grant left.whole hit.0 f.of left.among hit.1 (sym left.host ∙ sym (bytes_same hit.0.host h.host more.0)) in
       let cores : length h.cores ≡ length left.whole.cores = sym (eqb-true _ _ more.1) ∙ sym (ap (λ n. length n.cores) same) in
       let gpus : length h.gpus ≡ length left.whole.gpus = sym (eqb-true _ _ parts.1) ∙ sym (ap (λ n. length n.gpus) same) in
-      subst (λ n. Among n grant) (same_node left.whole h left.rank left.host (left.all_cores cores) (left.all_gpus gpus)) left.among
+      subst (λ n. Among n grant) (same_node left.whole h left.rank left.host (left.all false cores) (left.all true gpus)) left.among
 
   satisfied_hosts : (is : IsSpec spec) (h : Node) → Among h free → serves spec grant h ≡ true → IsNodeFor spec grant (given_by spec h)
   satisfied_hosts is h i e = at spec.exclusive refl

@@ -2,15 +2,16 @@
 use Rattle.std.proofs.Common.{◌≡◌, ℕ, suc, zero, ◌+◌, ◌<◌, ◌≤◌, Bool, true, false, cond, not, ◌&&◌, ◌||◌, eqb, ltb, inl, inr, List, [], ◌∷◌, length, get_or, map, refl, sym, ap, ◌∙◌, subst, arith}
 use Rattle.std.specs.Prelude.{Contains, filter}
 use Rattle.std.specs.List.Sorted.{IsStrictlyIncreasing}
-use Rattle.std.proofs.lemmas.Bool.{true≢false, and_parts, and_from, eqb-false, ltb-true, lt-ltb, or_left, or_right, not-true, cases_lt}
+use Rattle.std.proofs.lemmas.Bool.{true≢false, false_from_ne_true, and_parts, and_from, eqb-false, ltb-true, lt-ltb, or_left, or_right, not-true, cases_lt}
 use Rattle.std.specs.Str.{bytes_eq}
 use Rattle.idset.specs.Ids.{has}
 use Rattle.job_spec.specs.declared.spec.JobSpec.{JobSpec}
 use Rattle.job_rules.specs.declared.hold.Hold.{Hold}
 use Rattle.resource_set.specs.declared.node.Node.{Node}
-use Rattle.resource_set.specs.Units.{LiesIn, core_of, gpu_of, units_of, units_of_node}
-use Rattle.job_rules.specs.Fits.{AreBlockers, CanFit, free_of, has_unit, left_on, nodes_of, others_at, without_nodes}
-use Rattle.job_rules.proofs.Among.{Among, among_append, among_filter, among_flat, among_flattened, among_from, among_has, among_kept, among_left, among_map, among_mapped, among_right, any_at, any_from, contains_from, has_among}
+use Rattle.resource_set.specs.Units.{LiesIn}
+use Rattle.job_rules.specs.Fits.{AreBlockers, CanFit, free_of, has_unit, nodes_of, others_at, without_nodes}
+use Rattle.job_rules.proofs.UnitKinds.{kind, left_unit, lies_from, unit_left}
+use Rattle.job_rules.proofs.Among.{Among, among_filter, among_flat, among_flattened, among_from, among_has, among_kept, among_map, any_at, any_from, contains_from, has_among}
 
 abbrev Rises : ℕ → List ℕ → Type 0
 Rises n [] = Unit {0}
@@ -99,37 +100,15 @@ module _ (spec : JobSpec) (grant : List Node) (live : List Hold) (a b : List ℕ
       (moved b a q (λ hold i. sym (agree (suc hold.id) hold i (omega arith))))
 
 -- ---- with fewer nodes taken more is free
-fewer_units : (kind : Node → List ℕ) (few more : List Node) (g : Node) → ((id : ℕ) → has_unit kind few g.host id ≡ true → has_unit kind more g.host id ≡ true) → (id : ℕ) → Among id (left_on kind more g) → Among id (left_on kind few g)
-fewer_units kind few more g f id i =
-    let hit = among_filter (λ id. not (has_unit kind more g.host id)) (kind g) id i in
-    among_kept (λ id. not (has_unit kind few g.host id)) (kind g) id hit.0 (by (has_unit kind few g.host id) (has_unit kind more g.host id) (f id) hit.1)
-  where
-    by : (s t : Bool) → (s ≡ true → t ≡ true) → not t ≡ true → not s ≡ true
-    by true t f e = absurd (true≢false (sym (f refl) ∙ not-true t e))
-    by false t f e = refl
-
 pub more_free : (grant few more : List Node) → ((n : Node) → Among n few → Among n more) → LiesIn (map (without_nodes more) grant) (map (without_nodes few) grant)
-more_free grant few more sub unit c =
-    let i = among_from (units_of (map (without_nodes more) grant)) unit c in
-    let hit = among_flat units_of_node (map (without_nodes more) grant) unit i in
-    let from = among_map (without_nodes more) grant hit.0 hit.1 in
-    let here : Among unit (units_of_node (without_nodes more from.0)) = subst (λ n. Among unit (units_of_node n)) (sym from.2) hit.2 in
-    contains_from (units_of (map (without_nodes few) grant)) unit (among_flattened units_of_node (map (without_nodes few) grant) (without_nodes few from.0) unit (among_mapped (without_nodes few) grant from.0 from.1) (unit_in from.0 here))
+more_free grant few more sub = lies_from (map (without_nodes more) grant) (map (without_nodes few) grant) (λ gpu node id i j.
+    let left = unit_left gpu grant more node.host id (node, i, refl, j) in
+    left_unit gpu grant few node.host id left.0 (false_from_ne_true (has_unit (kind gpu) few node.host id) (λ t. true≢false (sym (kept gpu node.host id t) ∙ left.1))))
   where
-    kept : (kind : Node → List ℕ) (g : Node) (id : ℕ) → has_unit kind few g.host id ≡ true → has_unit kind more g.host id ≡ true
-    kept kind g id t =
-        let hit = any_from (λ n. bytes_eq n.host g.host && has (kind n) id) few t in
-        any_at (λ n. bytes_eq n.host g.host && has (kind n) id) more hit.0 (sub hit.0 hit.1) hit.2
-
-    unit_in : (g : Node) → Among unit (units_of_node (without_nodes more g)) → Among unit (units_of_node (without_nodes few g))
-    unit_in g i = elim (among_append (map (core_of g) (left_on (λ n. n.cores) more g)) (map (gpu_of g) (left_on (λ n. n.gpus) more g)) unit i) [
-      | inl c ↦
-          let hit = among_map (core_of g) (left_on (λ n. n.cores) more g) unit c in
-          among_left (map (core_of g) (left_on (λ n. n.cores) few g)) (map (gpu_of g) (left_on (λ n. n.gpus) few g)) unit (subst (λ u. Among u (map (core_of g) (left_on (λ n. n.cores) few g))) hit.2 (among_mapped (core_of g) (left_on (λ n. n.cores) few g) hit.0 (fewer_units (λ n. n.cores) few more g (kept (λ n. n.cores) g) hit.0 hit.1)))
-      | inr u ↦
-          let hit = among_map (gpu_of g) (left_on (λ n. n.gpus) more g) unit u in
-          among_right (map (core_of g) (left_on (λ n. n.cores) few g)) (map (gpu_of g) (left_on (λ n. n.gpus) few g)) unit (subst (λ u. Among u (map (gpu_of g) (left_on (λ n. n.gpus) few g))) hit.2 (among_mapped (gpu_of g) (left_on (λ n. n.gpus) few g) hit.0 (fewer_units (λ n. n.gpus) few more g (kept (λ n. n.gpus) g) hit.0 hit.1)))
-    ]
+    kept : (gpu : Bool) (host : List ℕ) (id : ℕ) → has_unit (kind gpu) few host id ≡ true → has_unit (kind gpu) more host id ≡ true
+    kept gpu host id t =
+        let hit = any_from (λ n. bytes_eq n.host host && has (kind gpu n) id) few t in
+        any_at (λ n. bytes_eq n.host host && has (kind gpu n) id) more hit.0 (sub hit.0 hit.1) hit.2
 
 -- without any one of the jobs the rest leaves room
 pub minimal : (spec : JobSpec) (grant : List Node) (live : List Hold) (ids : List ℕ) (hold : Hold) → AreBlockers spec grant live ids → Contains live hold → Contains ids hold.id → CanFit spec grant (free_of grant (filter (λ h. has ids h.id && not (eqb h.id hold.id)) live))

@@ -1,57 +1,22 @@
-use Rattle.std.proofs.Common.{◌+◌, ◌++◌, drop, map, ap, ◌∙◌, arith}
-use Rattle.graph_match.specs.Places.{node_of}
-use Rattle.graph_match.specs.Rooms.{AreRooms}
-use Rattle.graph_match.proofs.Counting.{room_with}
-use Rattle.graph_match.proofs.Freeing.{add_more, added, old_at, room_within}
-use Rattle.graph_match.proofs.Turns.{IsRead, node_there, places_rise, read_sets}
-use Rattle.graph_match.proofs.graph.add.Goals.{After-index-places-at}
+use Rattle.std.proofs.Common.{◌+◌, ◌++◌, drop}
+use Rattle.graph_match.proofs.Freeing.{apart_behind, rooms_behind}
+use Rattle.graph_match.proofs.Turns.{inside_at}
 use Rattle.graph_match.proofs.graph.add.Goals as goal
 
--- what a turn reads, and the rooms at its start
-read : (c : After-index-places-at) → IsRead c.args.nodes.now c.args.places.now c.loop-node.node-index c.node-item.result c.place_of-at.result c.index-places-at.result
-read c = record {
-  grant = c.requires.grant;
-  inside = c.requires.nodes.inside;
-  within = c.loop-node-test.true;
-  node_is = c.node-item.is;
-  there = c.place_of-at.ensures.within;
-  place_is = c.index-places-at.is;
-  rank = ap (λ x. x.rank) c.index-places-at.is ∙ c.place_of-at.ensures.rank c.index-places-at.result;
-}
+pub exchange-sum-requires-clause-inside : goal.exchange-sum-requires-clause-inside
+exchange-sum-requires-clause-inside c = inside_at c.args.places.now c.args.nodes.now c.loop-node.node-index c.node-item.result c.requires.nodes.inside c.loop-node-test.true c.node-item.is
 
-rooms : (c : After-index-places-at) → AreRooms c.args.spec.now (map node_of c.args.places.now) (drop c.loop-node.node-index c.args.nodes.now ++ c.requires.taken.0) c.loop-node.rooms c.loop-node.sum
-rooms c = c.loop-node.invariant c.requires.taken.0 c.requires.taken.1 c.requires.taken.2
-
-pub place_of-at-requires-clause-rising : goal.place_of-at-requires-clause-rising
-place_of-at-requires-clause-rising c = places_rise c.args.places.now c.requires.grant
-
-pub place_of-at-requires-clause-there : goal.place_of-at-requires-clause-there
-place_of-at-requires-clause-there c = node_there c.args.nodes.now c.args.places.now c.loop-node.node-index c.node-item.result c.requires.nodes.inside c.loop-node-test.true c.node-item.is
-
-pub moved-sum-requires-clause-sets : goal.moved-sum-requires-clause-sets
-moved-sum-requires-clause-sets c = read_sets (read (goal.at.moved-sum-requires-clause-sets c).After-index-places-at)
-
-pub moved-sum-requires-clause-old : goal.moved-sum-requires-clause-old
-moved-sum-requires-clause-old c = let s = (goal.at.moved-sum-requires-clause-old c).After-index-places-at in (room_within (read s) (rooms s)).0
-
-pub moved-sum-requires-clause-sum : goal.moved-sum-requires-clause-sum
-moved-sum-requires-clause-sum c = let s = (goal.at.moved-sum-requires-clause-sum c).After-index-places-at in (room_within (read s) (rooms s)).1
-
-pub plus-new-requires-clause-cores : goal.plus-new-requires-clause-cores
-plus-new-requires-clause-cores c =
-    let s = (goal.at.plus-new-requires-clause-cores c).After-index-places-at in
-    let fit = added (read s) c.requires.nodes c.count-more.ensures.sets c.requires.taken.0 c.requires.taken.1 (rooms s) in
-    omega (arith, fit.1, ap (λ x. x.cores) c.count-more.ensures.count)
-
-pub plus-new-requires-clause-gpus : goal.plus-new-requires-clause-gpus
-plus-new-requires-clause-gpus c =
-    let s = (goal.at.plus-new-requires-clause-gpus c).After-index-places-at in
-    let fit = added (read s) c.requires.nodes c.count-more.ensures.sets c.requires.taken.0 c.requires.taken.1 (rooms s) in
-    omega (arith, fit.2, ap (λ x. x.gpus) c.count-more.ensures.count)
+pub exchange-sum-requires-clause-taken : goal.exchange-sum-requires-clause-taken
+exchange-sum-requires-clause-taken c =
+    let held = c.requires.taken in
+    let within = c.loop-node-test.true in (
+      drop (c.loop-node.node-index + 1) c.args.nodes.now ++ held.0,
+      apart_behind c.requires.nodes within c.node-item.is held.0 held.1,
+      rooms_behind c.requires.nodes within c.node-item.is held.0 (c.loop-node.invariant held.0 held.1 held.2),
+    )
 
 pub loop-node-preserved : goal.loop-node-preserved
 loop-node-preserved c = λ others apart start.
-    let old = old_at c.loop-node.rooms c.place_of-at.result in
-    let s = (goal.at.loop-node-preserved c).After-index-places-at in
-    add_more (read s) c.requires.nodes c.count-more.ensures.sets others apart (c.loop-node.invariant others apart start)
-    c.plus-new.result c.moved-sum.result (c.plus-new.ensures ∙ ap (λ x. room_with (old.cores + x.cores) (old.gpus + x.gpus)) c.count-more.ensures.count) c.moved-sum.ensures
+    let within = c.loop-node-test.true in
+    c.exchange-sum.ensures (drop (c.loop-node.node-index + 1) c.args.nodes.now ++ others) (apart_behind c.requires.nodes within c.node-item.is others apart)
+    (rooms_behind c.requires.nodes within c.node-item.is others (c.loop-node.invariant others apart start))
