@@ -9,7 +9,8 @@ const DRAWN: [Case; 8] = [
         words: &["gen", "601", "40"],
         input: "not read",
         status: 0,
-        output: "NotFound 4\nadvanced 3\ncommitted 12\nstaged 20\nvalue 1\nlandings 12\nroot sha1-1eab16bf0466b49e07e2c812ffffcfe6d0044dd1\n",
+        output: "NotFound 4\nadvanced 3\ncommitted 12\nstaged 20\nvalue 1\nlandings 12\n\
+            root sha1-1eab16bf0466b49e07e2c812ffffcfe6d0044dd1\n",
         notice: "done",
     },
     Case {

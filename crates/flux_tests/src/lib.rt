@@ -6,8 +6,12 @@ mod children;
 #[cfg(test)]
 mod drawn;
 #[cfg(test)]
+mod jobs;
+#[cfg(test)]
 mod orders;
 #[cfg(test)]
 mod priorities;
 #[cfg(test)]
 mod runs;
+#[cfg(test)]
+mod tools;

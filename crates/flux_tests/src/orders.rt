@@ -19,28 +19,44 @@ const STORIES: [Story; 6] = [
     },
     // and a fence behind it
     Story {
-        input: "actor a 1\nactor b 6\na put k hello\na commit\na tell b\nb wait 1\nb get k\nb put l y\nb fence f 2\na put m z\na fence f 2\n",
-        answers: "staged\ncommitted 1\ntold\nreached 1\nvalue 1 hello\nstaged\nfenced 2\nstaged\nfenced 2\n",
+        input: "actor a 1\nactor b 6\na put k hello\na commit\na tell b\nb wait 1\nb get k\n\
+            b put l y\nb fence f 2\na put m z\na fence f 2\n",
+        answers: "staged\ncommitted 1\ntold\nreached 1\nvalue 1 hello\nstaged\nfenced 2\nstaged\n\
+            fenced 2\n",
     },
     // a tell is of every namespace
     Story {
-        input: "actor a 1\nactor b 6\na ns-create n\na ns-use n\na put k x\na commit\na ns-use primary\na tell b\na fence f 2\nb fence f 2\nb ns-use n\nb get k\n",
-        answers: "created\nusing\nstaged\ncommitted 1\nusing\ntold\nfenced 1\nfenced 1\nusing\nvalue 1 x\n",
+        input: "actor a 1\nactor b 6\na ns-create n\na ns-use n\na put k x\na commit\n\
+            a ns-use primary\na tell b\na fence f 2\nb fence f 2\nb ns-use n\nb get k\n",
+        answers: "created\nusing\nstaged\ncommitted 1\nusing\ntold\nfenced 1\nfenced 1\nusing\n\
+            value 1 x\n",
     },
     // what can't be finished in any order is told so
     Story {
-        input: "actor a 0\nactor b 5\nb wait 7\nb get k\na ns-remove primary\na fence f 1\na put d.k v\na commit\na ls d\n",
-        answers: "Unfinished 2/7\nNotReached\nIsPrimary\nfenced 1\nstaged\ncommitted 2\nnames 2 k\n",
+        input: "actor a 0\nactor b 5\nb wait 7\nb get k\na ns-remove primary\na fence f 1\n\
+            a put d.k v\na commit\na ls d\n",
+        answers: "Unfinished 2/7\nNotReached\nIsPrimary\nfenced 1\nstaged\ncommitted 2\n\
+            names 2 k\n",
     },
     // a flushed content is found
     Story {
-        input: "actor a 5\nactor b 6\na content-store tea at four\na content-flush\na put k x\na commit\nb wait 1\nb content-load sha1-a7117ff95e0a1400af34355bd52dad801b2286ce\na content-drop\na content-load sha1-a7117ff95e0a1400af34355bd52dad801b2286ce\n",
-        answers: "stored sha1-a7117ff95e0a1400af34355bd52dad801b2286ce\nflushed\nstaged\ncommitted 1\nreached 1\nblob tea at four\ndropped\nblob tea at four\n",
+        input: "actor a 5\nactor b 6\na content-store tea at four\na content-flush\na put k x\n\
+            a commit\nb wait 1\nb content-load sha1-a7117ff95e0a1400af34355bd52dad801b2286ce\n\
+            a content-drop\na content-load sha1-a7117ff95e0a1400af34355bd52dad801b2286ce\n",
+        answers: "stored sha1-a7117ff95e0a1400af34355bd52dad801b2286ce\nflushed\nstaged\n\
+            committed 1\nreached 1\nblob tea at four\ndropped\nblob tea at four\n",
     },
     // a job ends before time goes past it
     Story {
-        input: "actor a 1\nactor b 6\na submit j {\"resources\":[{\"type\":\"slot\",\"count\":1,\"with\":[{\"type\":\"core\",\"count\":1}],\"label\":\"task\"}],\"tasks\":[{\"command\":[\"sleep\",\"2\"],\"slot\":\"task\",\"count\":{\"per_slot\":1}}],\"version\":1}\na advance 3\na result j\na info j R\nb content-store tea at four\n",
-        answers: "submitted fJf\nadvanced 3\nended 0\ninfo 10 {\"execution\":{\"R_lite\":[{\"children\":{\"core\":\"0\"},\"rank\":\"0\"}],\"expiration\":0,\"nodelist\":[\"node0\"],\"starttime\":0},\"version\":1}\nstored sha1-a7117ff95e0a1400af34355bd52dad801b2286ce\n",
+        input: "actor a 1\nactor b 6\na submit j {\"resources\":[{\"type\":\"slot\",\"count\":1,\
+            \"with\":[{\"type\":\"core\",\"count\":1}],\"label\":\"task\"}],\
+            \"tasks\":[{\"command\":[\"sleep\",\"2\"],\"slot\":\"task\",\
+            \"count\":{\"per_slot\":1}}],\"version\":1}\na advance 3\na result j\na info j R\n\
+            b content-store tea at four\n",
+        answers: "submitted fJf\nadvanced 3\nended 0\n\
+            info 10 {\"execution\":{\"R_lite\":[{\"children\":{\"core\":\"0\"},\"rank\":\"0\"}],\
+            \"expiration\":0,\"nodelist\":[\"node0\"],\"starttime\":0},\"version\":1}\n\
+            stored sha1-a7117ff95e0a1400af34355bd52dad801b2286ce\n",
     },
 ];
 

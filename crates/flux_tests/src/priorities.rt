@@ -5,8 +5,18 @@ use std::test::Fail;
 use tap::Weights;
 
 /// A job of four cores runs; behind it wait one of a core and, later, one of two.
-const THREE_JOBS: &str =
-    "actor a 0\na submit p {\"resources\":[{\"type\":\"slot\",\"count\":4,\"with\":[{\"type\":\"core\",\"count\":1}],\"label\":\"task\"}],\"tasks\":[{\"command\":[\"sleep\",\"100\"],\"slot\":\"task\",\"count\":{\"per_slot\":1}}],\"attributes\":{\"system\":{\"duration\":0}},\"version\":1}\na submit q {\"resources\":[{\"type\":\"slot\",\"count\":1,\"with\":[{\"type\":\"core\",\"count\":1}],\"label\":\"task\"}],\"tasks\":[{\"command\":[\"sleep\",\"10\"],\"slot\":\"task\",\"count\":{\"per_slot\":1}}],\"attributes\":{\"system\":{\"duration\":10}},\"version\":1}\na submit r {\"resources\":[{\"type\":\"slot\",\"count\":2,\"with\":[{\"type\":\"core\",\"count\":1}],\"label\":\"task\"}],\"tasks\":[{\"command\":[\"sleep\",\"100\"],\"slot\":\"task\",\"count\":{\"per_slot\":1}}],\"attributes\":{\"system\":{\"duration\":0}},\"version\":1}\na why q\na why r\n";
+const THREE_JOBS: &str = "actor a 0\na submit p {\"resources\":[{\"type\":\"slot\",\"count\":4,\
+        \"with\":[{\"type\":\"core\",\"count\":1}],\"label\":\"task\"}],\
+        \"tasks\":[{\"command\":[\"sleep\",\"100\"],\"slot\":\"task\",\"count\":{\"per_slot\":1}}],\
+        \"attributes\":{\"system\":{\"duration\":0}},\"version\":1}\n\
+        a submit q {\"resources\":[{\"type\":\"slot\",\"count\":1,\"with\":[{\"type\":\"core\",\
+        \"count\":1}],\"label\":\"task\"}],\"tasks\":[{\"command\":[\"sleep\",\"10\"],\
+        \"slot\":\"task\",\"count\":{\"per_slot\":1}}],\
+        \"attributes\":{\"system\":{\"duration\":10}},\"version\":1}\n\
+        a submit r {\"resources\":[{\"type\":\"slot\",\"count\":2,\"with\":[{\"type\":\"core\",\
+        \"count\":1}],\"label\":\"task\"}],\"tasks\":[{\"command\":[\"sleep\",\"100\"],\
+        \"slot\":\"task\",\"count\":{\"per_slot\":1}}],\
+        \"attributes\":{\"system\":{\"duration\":0}},\"version\":1}\na why q\na why r\n";
 
 /// Weights, and why the two jobs wait where they are these.
 struct Order {

@@ -35,7 +35,8 @@ const RUNS: [Case; 54] = [
     },
     Case {
         words: &["run"],
-        input: "actor a 0\nactor b 1\na put k.l x\na fence f 1\nb put k.l.m y\nb fence f 2\na put job.x y\na fence f 2\n",
+        input: "actor a 0\nactor b 1\na put k.l x\na fence f 1\nb put k.l.m y\nb fence f 2\n\
+            a put job.x y\na fence f 2\n",
         status: 0,
         output: "staged\nfenced 1\nstaged\nrefused 2 Reserved\nstaged\nrefused 2 Reserved\n",
         notice: "done",
@@ -51,7 +52,9 @@ const RUNS: [Case; 54] = [
         words: &["run", "--size", "1", "--journal"],
         input: "actor a 0\na put k hello\na commit\na get k\n",
         status: 0,
-        output: "staged\ncommitted 1\nvalue 1 hello\n--\nissued 0 0\nreplied 0 0 - staged\nissued 0 1\nlanded 0 primary 1 0.1\nheard 0 0 primary 1\nreplied 0 1 1 committed 1\nissued 0 2\nreplied 0 2 1 value 1 hello\nclosed\n",
+        output: "staged\ncommitted 1\nvalue 1 hello\n--\nissued 0 0\nreplied 0 0 - staged\n\
+            issued 0 1\nlanded 0 primary 1 0.1\nheard 0 0 primary 1\nreplied 0 1 1 committed 1\n\
+            issued 0 2\nreplied 0 2 1 value 1 hello\nclosed\n",
         notice: "done",
     },
     Case {
@@ -72,28 +75,37 @@ const RUNS: [Case; 54] = [
         words: &["run", "--size", "1", "--journal"],
         input: "actor a 0\nactor b 0\na tell b\nb tell b\n",
         status: 0,
-        output: "told\ntold\n--\nissued 0 0\ntold 0 1\nreplied 0 0 - told\nissued 1 0\ntold 1 1\nreplied 1 0 - told\nclosed\n",
+        output: "told\ntold\n--\nissued 0 0\ntold 0 1\nreplied 0 0 - told\nissued 1 0\ntold 1 1\n\
+            replied 1 0 - told\nclosed\n",
         notice: "done",
     },
     Case {
         words: &["run"],
-        input: "actor a 0\na ns-create n\na ns-use n\na get k\na put k v\na commit\na ns-remove n\na get k\na ns-create n\na ns-remove primary\n",
+        input: "actor a 0\na ns-create n\na ns-use n\na get k\na put k v\na commit\na ns-remove n\n\
+            a get k\na ns-create n\na ns-remove primary\n",
         status: 0,
-        output: "created\nusing\nNotFound 0\nstaged\ncommitted 1\nremoved\nNoNamespace\nExists\nIsPrimary\n",
+        output: "created\nusing\nNotFound 0\nstaged\ncommitted 1\nremoved\nNoNamespace\nExists\n\
+            IsPrimary\n",
         notice: "done",
     },
     Case {
         words: &["run"],
-        input: "actor a 0\nactor b 1\nactor c 3\na ns-create n\na ns-use n\na fence f 2\nb fence f 2\nc ns-use n\nc wait 1\n",
+        input: "actor a 0\nactor b 1\nactor c 3\na ns-create n\na ns-use n\na fence f 2\n\
+            b fence f 2\nc ns-use n\nc wait 1\n",
         status: 0,
         output: "created\nusing\nUnfinished 1/2\nUnfinished 1/2\nusing\nUnfinished 0/1\n",
         notice: "done",
     },
     Case {
         words: &["run", "--size=1", "--journal"],
-        input: "actor a 0\na ns-create n\na put job.x y\na ns-use n\na commit\na ns-remove n\na commit\n",
+        input: "actor a 0\na ns-create n\na put job.x y\na ns-use n\na commit\na ns-remove n\n\
+            a commit\n",
         status: 0,
-        output: "created\nstaged\nusing\ncommitted 1\nremoved\nNoNamespace\n--\nissued 0 0\nlanded 0 n 0 0.0\nheard 0 0 n 0\nreplied 0 0 0 created\nissued 0 1\nreplied 0 1 - staged\nissued 0 2\nreplied 0 2 - using\nissued 0 3\nlanded 0 n 1 0.3\nheard 0 0 n 1\nreplied 0 3 1 committed 1\nissued 0 4\nlanded 0 n 2 0.4\nheard 0 0 n 2\nreplied 0 4 2 removed\nissued 0 5\nreplied 0 5 - NoNamespace\nclosed\n",
+        output: "created\nstaged\nusing\ncommitted 1\nremoved\nNoNamespace\n--\nissued 0 0\n\
+            landed 0 n 0 0.0\nheard 0 0 n 0\nreplied 0 0 0 created\nissued 0 1\n\
+            replied 0 1 - staged\nissued 0 2\nreplied 0 2 - using\nissued 0 3\nlanded 0 n 1 0.3\n\
+            heard 0 0 n 1\nreplied 0 3 1 committed 1\nissued 0 4\nlanded 0 n 2 0.4\nheard 0 0 n 2\n\
+            replied 0 4 2 removed\nissued 0 5\nreplied 0 5 - NoNamespace\nclosed\n",
         notice: "done",
     },
     Case {
@@ -238,21 +250,25 @@ const RUNS: [Case; 54] = [
     },
     Case {
         words: &["run"],
-        input: "actor a 0\na symlink x job\na append x.0000.0000.0000.0000.eventlog evil\na commit\na get x\n",
+        input: "actor a 0\na symlink x job\na append x.0000.0000.0000.0000.eventlog evil\n\
+            a commit\na get x\n",
         status: 0,
         output: "staged\nstaged\nrefused 2 Reserved\nNotFound 0\n",
         notice: "done",
     },
     Case {
         words: &["run"],
-        input: "actor a 2\na mkdir d\na symlink l d\na put l.k 1\na append l.k 2\na commit\na ls .\na get d.k\na readlink l\na readlink d\na ls d.k\n",
+        input: "actor a 2\na mkdir d\na symlink l d\na put l.k 1\na append l.k 2\na commit\n\
+            a ls .\na get d.k\na readlink l\na readlink d\na ls d.k\n",
         status: 0,
-        output: "staged\nstaged\nstaged\nstaged\ncommitted 1\nnames 1 d. job. l@ resource.\nvalue 1 12\ntarget 1 d\nNotLink 1\nNotDir 1\n",
+        output: "staged\nstaged\nstaged\nstaged\ncommitted 1\nnames 1 d. job. l@ resource.\n\
+            value 1 12\ntarget 1 d\nNotLink 1\nNotDir 1\n",
         notice: "done",
     },
     Case {
         words: &["run"],
-        input: "actor a 0\na symlink here there\na symlink there here\na append d x\na append d.k x\na append d x\na commit\na get here\n",
+        input: "actor a 0\na symlink here there\na symlink there here\na append d x\n\
+            a append d.k x\na append d x\na commit\na get here\n",
         status: 0,
         output: "staged\nstaged\nstaged\nstaged\nstaged\nrefused 5 IsDir\nNotFound 0\n",
         notice: "done",
@@ -266,14 +282,16 @@ const RUNS: [Case; 54] = [
     },
     Case {
         words: &["run"],
-        input: "actor a 0\na put a.b 1\na put a.b.c 2\na commit\na get a.b\na get a.b.c\na get a.b.c.d\n",
+        input: "actor a 0\na put a.b 1\na put a.b.c 2\na commit\na get a.b\na get a.b.c\n\
+            a get a.b.c.d\n",
         status: 0,
         output: "staged\nstaged\ncommitted 1\nIsDir 1\nvalue 1 2\nNotDir 1\n",
         notice: "done",
     },
     Case {
         words: &["run"],
-        input: "actor a 0\na put .a..b. x\na put . x\na commit\na get a.b\na put .a..b. x\na commit\na get a.b\n",
+        input: "actor a 0\na put .a..b. x\na put . x\na commit\na get a.b\na put .a..b. x\n\
+            a commit\na get a.b\n",
         status: 0,
         output: "staged\nstaged\nrefused 2 RootOp\nNotFound 0\nstaged\ncommitted 1\nvalue 1 x\n",
         notice: "done",
@@ -289,35 +307,47 @@ const RUNS: [Case; 54] = [
         words: &["run", "--size=1"],
         input: "actor a 0\na get resource.R\n",
         status: 0,
-        output: "value 0 {\"execution\":{\"R_lite\":[{\"children\":{\"core\":\"0-3\"},\"rank\":\"0\"}],\"expiration\":0,\"nodelist\":[\"node0\"],\"starttime\":0},\"version\":1}\n",
+        output: "value 0 {\"execution\":{\"R_lite\":[{\"children\":{\"core\":\"0-3\"},\
+            \"rank\":\"0\"}],\"expiration\":0,\"nodelist\":[\"node0\"],\"starttime\":0},\
+            \"version\":1}\n",
         notice: "done",
     },
     Case {
         words: &["run", "--size=2"],
         input: "actor a 0\na get resource.R\n",
         status: 0,
-        output: "value 0 {\"execution\":{\"R_lite\":[{\"children\":{\"core\":\"0-3\"},\"rank\":\"0-1\"}],\"expiration\":0,\"nodelist\":[\"node[0-1]\"],\"starttime\":0},\"version\":1}\n",
+        output: "value 0 {\"execution\":{\"R_lite\":[{\"children\":{\"core\":\"0-3\"},\
+            \"rank\":\"0-1\"}],\"expiration\":0,\"nodelist\":[\"node[0-1]\"],\"starttime\":0},\
+            \"version\":1}\n",
         notice: "done",
     },
     Case {
         words: &["run"],
         input: "actor a 0\na get resource.R\n",
         status: 0,
-        output: "value 0 {\"execution\":{\"R_lite\":[{\"children\":{\"core\":\"0-3\"},\"rank\":\"0-3\"}],\"expiration\":0,\"nodelist\":[\"node[0-3]\"],\"starttime\":0},\"version\":1}\n",
+        output: "value 0 {\"execution\":{\"R_lite\":[{\"children\":{\"core\":\"0-3\"},\
+            \"rank\":\"0-3\"}],\"expiration\":0,\"nodelist\":[\"node[0-3]\"],\"starttime\":0},\
+            \"version\":1}\n",
         notice: "done",
     },
     Case {
         words: &["run", "--size=32"],
         input: "actor a 0\na get resource.R\n",
         status: 0,
-        output: "value 0 {\"execution\":{\"R_lite\":[{\"children\":{\"core\":\"0-3\"},\"rank\":\"0-31\"}],\"expiration\":0,\"nodelist\":[\"node[0-31]\"],\"starttime\":0},\"version\":1}\n",
+        output: "value 0 {\"execution\":{\"R_lite\":[{\"children\":{\"core\":\"0-3\"},\
+            \"rank\":\"0-31\"}],\"expiration\":0,\"nodelist\":[\"node[0-31]\"],\"starttime\":0},\
+            \"version\":1}\n",
         notice: "done",
     },
     Case {
         words: &["run"],
-        input: "grant {\"version\": 1, \"execution\": {\"R_lite\": [{\"rank\": \"0-1\", \"children\": {\"core\": \"0-3\"}}], \"starttime\": 0.0, \"expiration\": 0.0, \"nodelist\": [\"node[0-1]\"]}}\nactor a 0\na get resource.R\n",
+        input: "grant {\"version\": 1, \"execution\": {\"R_lite\": [{\"rank\": \"0-1\", \
+            \"children\": {\"core\": \"0-3\"}}], \"starttime\": 0.0, \"expiration\": 0.0, \
+            \"nodelist\": [\"node[0-1]\"]}}\nactor a 0\na get resource.R\n",
         status: 0,
-        output: "value 0 {\"execution\":{\"R_lite\":[{\"children\":{\"core\":\"0-3\"},\"rank\":\"0-1\"}],\"expiration\":0,\"nodelist\":[\"node[0-1]\"],\"starttime\":0},\"version\":1}\n",
+        output: "value 0 {\"execution\":{\"R_lite\":[{\"children\":{\"core\":\"0-3\"},\
+            \"rank\":\"0-1\"}],\"expiration\":0,\"nodelist\":[\"node[0-1]\"],\"starttime\":0},\
+            \"version\":1}\n",
         notice: "done",
     },
     Case {
@@ -378,16 +408,26 @@ const RUNS: [Case; 54] = [
     },
     Case {
         words: &["run"],
-        input: "actor a 3\na content-store abc\na content-store\na content-load sha1-f1d2d2f924e986ac86fdf7b36c94bcdf32beec15\na content-flush\na content-drop\na content-load sha1-a9993e364706816aba3e25717850c26c9cd0d89d\n",
+        input: "actor a 3\na content-store abc\na content-store\n\
+            a content-load sha1-f1d2d2f924e986ac86fdf7b36c94bcdf32beec15\na content-flush\n\
+            a content-drop\na content-load sha1-a9993e364706816aba3e25717850c26c9cd0d89d\n",
         status: 0,
-        output: "stored sha1-a9993e364706816aba3e25717850c26c9cd0d89d\nstored sha1-da39a3ee5e6b4b0d3255bfef95601890afd80709\nNoBlob\nflushed\ndropped\nblob abc\n",
+        output: "stored sha1-a9993e364706816aba3e25717850c26c9cd0d89d\n\
+            stored sha1-da39a3ee5e6b4b0d3255bfef95601890afd80709\nNoBlob\nflushed\ndropped\n\
+            blob abc\n",
         notice: "done",
     },
     Case {
         words: &["run", "--size=5", "--fanout=1", "--hash=sha256"],
-        input: "actor a 4\nactor b 2\nb content-load sha256-ba7816bf8f01cfea414140de5dae2223b00361a396177a9cb410ff61f20015ad\na content-store abc\nb content-load sha256-ba7816bf8f01cfea414140de5dae2223b00361a396177a9cb410ff61f20015ad\nb content-load sha1-a9993e364706816aba3e25717850c26c9cd0d89d\n",
+        input: "actor a 4\nactor b 2\nb content-load \
+            sha256-ba7816bf8f01cfea414140de5dae2223b00361a396177a9cb410ff61f20015ad\n\
+            a content-store abc\nb content-load \
+            sha256-ba7816bf8f01cfea414140de5dae2223b00361a396177a9cb410ff61f20015ad\n\
+            b content-load sha1-a9993e364706816aba3e25717850c26c9cd0d89d\n",
         status: 0,
-        output: "NoBlob\nstored sha256-ba7816bf8f01cfea414140de5dae2223b00361a396177a9cb410ff61f20015ad\nblob abc\nNoBlob\n",
+        output: "NoBlob\nstored \
+            sha256-ba7816bf8f01cfea414140de5dae2223b00361a396177a9cb410ff61f20015ad\nblob abc\n\
+            NoBlob\n",
         notice: "done",
     },
     Case {
@@ -396,162 +436,6 @@ const RUNS: [Case; 54] = [
         status: 1,
         output: "",
         notice: "line 2: BadCommand",
-    },
-];
-
-const JOBS: [Case; 8] = [
-    Case {
-        words: &["run", "--size", "1"],
-        input: "actor a 0\na submit j {\"resources\":[{\"type\":\"slot\",\"count\":1,\"with\":[{\"type\":\"core\",\"count\":1}],\"label\":\"task\"}],\"tasks\":[{\"command\":[\"sleep\",\"10\"],\"slot\":\"task\",\"count\":{\"per_slot\":1}}],\"attributes\":{\"system\":{\"duration\":3600.0,\"cwd\":\"/home/u\",\"environment\":{\"LANG\":\"C\"},\"shell\":{\"options\":{\"rlimit\":{\"nofile\":1024}}}}},\"version\":1}\na advance 10\na state j\na info j eventlog\na info j R\n",
-        status: 0,
-        output: "submitted f1\nadvanced 10\nstate 10 INACTIVE\ninfo 10 {\"context\":{\"flags\":0,\"urgency\":16,\"userid\":0,\"version\":1},\"name\":\"submit\",\"timestamp\":0}\\n{\"name\":\"validate\",\"timestamp\":0}\\n{\"name\":\"depend\",\"timestamp\":0}\\n{\"context\":{\"priority\":16},\"name\":\"priority\",\"timestamp\":0}\\n{\"name\":\"alloc\",\"timestamp\":0}\\n{\"name\":\"start\",\"timestamp\":0}\\n{\"context\":{\"status\":0},\"name\":\"finish\",\"timestamp\":10}\\n{\"context\":{\"final\":true,\"ranks\":\"0\"},\"name\":\"release\",\"timestamp\":10}\\n{\"name\":\"free\",\"timestamp\":10}\\n{\"name\":\"clean\",\"timestamp\":10}\\n\ninfo 10 {\"execution\":{\"R_lite\":[{\"children\":{\"core\":\"0\"},\"rank\":\"0\"}],\"expiration\":3600,\"nodelist\":[\"node0\"],\"starttime\":0},\"version\":1}\n",
-        notice: "done",
-    },
-    Case {
-        words: &["run", "--size", "2"],
-        input: "actor a 0\na submit p {\"resources\":[{\"type\":\"slot\",\"count\":4,\"with\":[{\"type\":\"core\",\"count\":1}],\"label\":\"task\"}],\"tasks\":[{\"command\":[\"sleep\",\"100\"],\"slot\":\"task\",\"count\":{\"per_slot\":1}}],\"attributes\":{\"system\":{\"duration\":0}},\"version\":1}\na submit q {\"resources\":[{\"type\":\"slot\",\"count\":2,\"with\":[{\"type\":\"core\",\"count\":1}],\"label\":\"task\"}],\"tasks\":[{\"command\":[\"sleep\",\"100\"],\"slot\":\"task\",\"count\":{\"per_slot\":1}}],\"attributes\":{\"system\":{\"duration\":0}},\"version\":1}\na submit r {\"resources\":[{\"type\":\"slot\",\"count\":2,\"with\":[{\"type\":\"core\",\"count\":1}],\"label\":\"task\"}],\"tasks\":[{\"command\":[\"sleep\",\"100\"],\"slot\":\"task\",\"count\":{\"per_slot\":1}}],\"attributes\":{\"system\":{\"duration\":0}},\"version\":1}\na submit s {\"resources\":[{\"type\":\"slot\",\"count\":4,\"with\":[{\"type\":\"core\",\"count\":1}],\"label\":\"task\"}],\"tasks\":[{\"command\":[\"sleep\",\"100\"],\"slot\":\"task\",\"count\":{\"per_slot\":1}}],\"attributes\":{\"system\":{\"duration\":0}},\"version\":1}\na why s\na submit t {\"resources\":[{\"type\":\"slot\",\"count\":1,\"with\":[{\"type\":\"core\",\"count\":5}],\"label\":\"task\"}],\"tasks\":[{\"command\":[\"sleep\",\"100\"],\"slot\":\"task\",\"count\":{\"per_slot\":1}}],\"attributes\":{\"system\":{\"duration\":0}},\"version\":1}\na state t\n",
-        status: 0,
-        output: "submitted f1\nsubmitted f2\nsubmitted f3\nsubmitted f4\nwhy 22 Busy f1 f3\nsubmitted f5\nstate 28 INACTIVE\n",
-        notice: "done",
-    },
-    Case {
-        words: &["run", "--size", "1"],
-        input: "actor a 0\na submit j {\"resources\":[{\"type\":\"slot\",\"count\":1,\"with\":[{\"type\":\"core\",\"count\":1}],\"label\":\"task\"}],\"tasks\":[{\"command\":[\"sleep\",\"10\"],\"slot\":\"task\",\"count\":{\"per_slot\":1}}],\"attributes\":{\"system\":{\"duration\":10}},\"version\":1}\na submit k {\"resources\":[{\"type\":\"slot\",\"count\":1,\"with\":[{\"type\":\"core\",\"count\":1}],\"label\":\"task\"}],\"tasks\":[{\"command\":[\"sleep\",\"10\"],\"slot\":\"task\",\"count\":{\"per_slot\":1}}],\"attributes\":{\"system\":{\"duration\":9}},\"version\":1}\na advance 20\na result j\na result k\n",
-        status: 0,
-        output: "submitted f1\nsubmitted f2\nadvanced 20\nended 0\nended 15\n",
-        notice: "done",
-    },
-    Case {
-        words: &["run", "--size", "1"],
-        input: "actor a 0\na submit p {\"resources\":[{\"type\":\"slot\",\"count\":1,\"with\":[{\"type\":\"core\",\"count\":1}],\"label\":\"task\"}],\"tasks\":[{\"command\":[\"false\"],\"slot\":\"task\",\"count\":{\"per_slot\":1}}],\"attributes\":{\"system\":{\"duration\":0}},\"version\":1}\na submit q dep=afterok:p {\"resources\":[{\"type\":\"slot\",\"count\":1,\"with\":[{\"type\":\"core\",\"count\":1}],\"label\":\"task\"}],\"tasks\":[{\"command\":[\"true\"],\"slot\":\"task\",\"count\":{\"per_slot\":1}}],\"attributes\":{\"system\":{\"duration\":0}},\"version\":1}\na result p\na result q\na submit r dep=after:z {\"resources\":[{\"type\":\"slot\",\"count\":1,\"with\":[{\"type\":\"core\",\"count\":1}],\"label\":\"task\"}],\"tasks\":[{\"command\":[\"true\"],\"slot\":\"task\",\"count\":{\"per_slot\":1}}],\"attributes\":{\"system\":{\"duration\":0}},\"version\":1}\n",
-        status: 0,
-        output: "submitted f1\nsubmitted f2\nended 256\nended -\nNoJob\n",
-        notice: "done",
-    },
-    Case {
-        words: &["run", "--size", "1"],
-        input: "actor a 0\na submit h urgency=0 {\"resources\":[{\"type\":\"slot\",\"count\":1,\"with\":[{\"type\":\"core\",\"count\":1}],\"label\":\"task\"}],\"tasks\":[{\"command\":[\"true\"],\"slot\":\"task\",\"count\":{\"per_slot\":1}}],\"attributes\":{\"system\":{\"duration\":0}},\"version\":1}\na why h\na urgency h 16\na state h\na cancel h\n",
-        status: 0,
-        output: "submitted f1\nwhy 4 Held\nraised\nstate 12 INACTIVE\nEnded\n",
-        notice: "done",
-    },
-    Case {
-        words: &["run", "--size", "1"],
-        input: "actor a 0\na submit j {\"resources\":[{\"type\":\"slot\",\"count\":1,\"with\":[{\"type\":\"core\",\"count\":1}],\"label\":\"task\"}],\"tasks\":[{\"command\":[\"sleep\",\"10\"],\"slot\":\"task\",\"count\":{\"per_slot\":1}}],\"attributes\":{\"system\":{\"duration\":0.5,\"cwd\":\"/home/u\",\"environment\":{\"LANG\":\"C\"},\"shell\":{\"options\":{\"rlimit\":{\"nofile\":1024}}}}},\"version\":1}\na state j\n",
-        status: 0,
-        output: "BadSpec 1\nNoJob\n",
-        notice: "done",
-    },
-    Case {
-        words: &["run"],
-        input: "actor a 0\nactor b 1\na submit i {\"resources\":[{\"type\":\"slot\",\"count\":1,\"with\":[{\"type\":\"core\",\"count\":1}],\"label\":\"task\"}],\"tasks\":[{\"command\":[\"true\"],\"slot\":\"task\",\"count\":{\"per_slot\":1}}],\"attributes\":{\"system\":{\"duration\":0}},\"version\":1}\nb submit j {\"resources\":[{\"type\":\"slot\",\"count\":1,\"with\":[{\"type\":\"core\",\"count\":1}],\"label\":\"task\"}],\"tasks\":[{\"command\":[\"true\"],\"slot\":\"task\",\"count\":{\"per_slot\":1}}],\"attributes\":{\"system\":{\"duration\":0}},\"version\":1}\n",
-        status: 0,
-        output: "submitted f1\nsubmitted fJf\n",
-        notice: "done",
-    },
-    Case {
-        words: &["run"],
-        input: "actor a 0\na advance 1000000001\n",
-        status: 1,
-        output: "",
-        notice: "line 2: Limit",
-    },
-];
-
-const TOOLS: [Case; 13] = [
-    Case {
-        words: &["idset", "1", "2"],
-        input: "",
-        status: 2,
-        output: "",
-        notice: "usage: flux_cli run|gen|idset|hostlist|fluid|R|replay",
-    },
-    Case {
-        words: &[
-            "idset", "1", "2", "3", "4", "5", "6", "7", "8", "9", "10", "11", "12", "13", "14",
-            "15", "16",
-        ],
-        input: "",
-        status: 2,
-        output: "",
-        notice: "usage: flux_cli run|gen|idset|hostlist|fluid|R|replay",
-    },
-    Case {
-        words: &["idset", "[7,1-3,2]"],
-        input: "not read",
-        status: 0,
-        output: "1-3,7\n",
-        notice: "done",
-    },
-    Case {
-        words: &["idset", ""],
-        input: "",
-        status: 0,
-        output: "\n",
-        notice: "done",
-    },
-    Case {
-        words: &["idset", "5-1"],
-        input: "",
-        status: 1,
-        output: "",
-        notice: "Backwards at 0",
-    },
-    Case {
-        words: &["hostlist", "n9,n10"],
-        input: "",
-        status: 0,
-        output: "n[9-10]\n",
-        notice: "done",
-    },
-    Case {
-        words: &["hostlist", "n[1-2]b"],
-        input: "",
-        status: 1,
-        output: "",
-        notice: "BadText at 6",
-    },
-    Case {
-        words: &["fluid", "\u{192}NH"],
-        input: "",
-        status: 0,
-        output: "fNH 0000.0000.0000.04d2 1234\n",
-        notice: "done",
-    },
-    Case {
-        words: &["fluid", "18446744073709551616"],
-        input: "",
-        status: 1,
-        output: "",
-        notice: "TooLarge",
-    },
-    Case {
-        words: &["R"],
-        input: "{\"version\": 1, \"execution\": {\"R_lite\": [{\"rank\": \"0-1\", \"children\": {\"core\": \"0-3\"}}], \"starttime\": 0.0, \"expiration\": 0.0, \"nodelist\": [\"node[0-1]\"]}}",
-        status: 0,
-        output: "{\"execution\":{\"R_lite\":[{\"children\":{\"core\":\"0-3\"},\"rank\":\"0-1\"}],\"expiration\":0,\"nodelist\":[\"node[0-1]\"],\"starttime\":0},\"version\":1}\n",
-        notice: "done",
-    },
-    Case {
-        words: &["R"],
-        input: "{\"version\":2}",
-        status: 1,
-        output: "",
-        notice: "BadVersion",
-    },
-    Case {
-        words: &["replay"],
-        input: "{\"context\":{\"flags\":0,\"urgency\":16,\"userid\":0,\"version\":1},\"name\":\"submit\",\"timestamp\":0}\n{\"name\":\"validate\",\"timestamp\":0}\n",
-        status: 0,
-        output: "DEPEND\n",
-        notice: "done",
-    },
-    Case {
-        words: &["replay"],
-        input: "{\"name\":\"validate\",\"timestamp\":0}\n",
-        status: 1,
-        output: "",
-        notice: "NotAllowed",
     },
 ];
 
@@ -596,16 +480,6 @@ pub(crate) fn compare(rt: &impl Abort, alloc: Global, cases: &[Case]) -> Result<
 #[test]
 fn runs_and_refusals(rt: HostRuntime) -> Result<(), Fail> {
     compare(&rt, rt.alloc(), &RUNS)
-}
-
-#[test]
-fn jobs_and_time(rt: HostRuntime) -> Result<(), Fail> {
-    compare(&rt, rt.alloc(), &JOBS)
-}
-
-#[test]
-fn tools_and_refusals(rt: HostRuntime) -> Result<(), Fail> {
-    compare(&rt, rt.alloc(), &TOOLS)
 }
 
 #[test]
