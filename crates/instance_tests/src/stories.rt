@@ -22,8 +22,10 @@ const SETTING: Setting = Setting {
     hash: Hash::Sha1,
 };
 
-const GRANT: &str = r#"{"version":1,"execution":{"R_lite":[{"rank":"0","children":{"core":"0-3"}}]\
-        ,"starttime":0,"expiration":0,"nodelist":["node0"]}}"#;
+const GRANT: &str = concat!(
+    r#"{"version":1,"execution":{"R_lite":[{"rank":"0","children":{"core":"0-3"}}],"#,
+    r#""starttime":0,"expiration":0,"nodelist":["node0"]}}"#
+);
 
 /// Who acts, or none where the service does all that it can; and what happens.
 type Part = (Option<u32>, &'static str);

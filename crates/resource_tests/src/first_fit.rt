@@ -340,9 +340,10 @@ fn two_hundred_and_fifty_six_jobs_hold_units_at_once(rt: HostRuntime) -> Result<
 }
 
 /// A grant of 1,024 hosts with 4 cores each.
-const LARGE: &str =
-    r#"{"version":1,"execution":{"R_lite":[{"rank":"0-1023","children":{"core":"0-3"}}]\
-        ,"starttime":0,"expiration":0,"nodelist":["node[0-1023]"]}}"#;
+const LARGE: &str = concat!(
+    r#"{"version":1,"execution":{"R_lite":[{"rank":"0-1023","children":{"core":"0-3"}}],"#,
+    r#""starttime":0,"expiration":0,"nodelist":["node[0-1023]"]}}"#
+);
 
 /// Lets a job hold what a graph has for it.
 fn run(

@@ -94,8 +94,8 @@ const TEXTS: [&str; 7] = [
     r#"{"data":{"target":"a.b"},"type":"symlink","ver":1}"#,
     r#"{"data":{},"type":"dir","ver":1}"#,
     concat!(
-        r#"{"data":{"a":{"data":{"k\"":{"dat\
-            a":"eA==","type":"val","ver":1}},"type":"dir","ver":1},"#,
+        r#"{"data":{"a":{"data":{"k\"":{"data":"eA==","type":"val","ver":1}},"#,
+        r#""type":"dir","ver":1},"#,
         r#""b":{"data":{"target":"."},"type":"symlink","ver":1}},"type":"dir","ver":1}"#
     ),
 ];
