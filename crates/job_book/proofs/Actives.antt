@@ -25,8 +25,8 @@ use Rattle.job_book.specs.Active.{AreActive, AreEntriesOf, IsEntryOf, active_of,
 use Rattle.job_book.specs.declared.active.Active.{Active}
 use Rattle.job_book.specs.Seconds.{is_bearing}
 use Rattle.job_book.specs.Waking.{is_about}
-use Rattle.job_book.proofs.Chosen.{chosen, none_due}
-use Rattle.job_book.proofs.Rest.{none_inactive}
+use Rattle.job_deeds.proofs.Chosen.{chosen, none_due}
+use Rattle.job_deeds.proofs.Rest.{none_inactive}
 
 -- ---- their places
 

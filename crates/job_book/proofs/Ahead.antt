@@ -21,7 +21,7 @@ use Rattle.manager_rules.specs.Times.{IsLeast, command_seconds, expiry_seconds, 
 use Rattle.job_book.specs.Contract.{BirthIn, IsFirstBirth, NoBirth}
 use Rattle.job_book.specs.Seconds.{IsSoonest, begins_child, is_bearing, is_parent, sooner_of}
 use Rattle.job_book.specs.Value.{BookValue}
-use Rattle.job_book.proofs.Places.{rise_among}
+use Rattle.job_deeds.proofs.Places.{rise_among}
 
 -- ---- seconds
 

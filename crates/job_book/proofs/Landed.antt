@@ -34,16 +34,16 @@ use Rattle.manager_rules.proofs.Soundness.{stays_in_time, stays_sound}
 use Rattle.job_book.specs.Active.{AreActive, AreEntriesOf, IsEntryOf, follow_with, is_active}
 use Rattle.job_book.specs.declared.active.Active.{Active}
 use Rattle.job_book.specs.Contract.{WasDue, after_event}
-use Rattle.job_book.specs.Kept.{IsBook, IsRanked, allotted}
-use Rattle.job_book.specs.Landing.{CanHold, CanLand, IsNext, IsTold, given_by, given_in, held_by, held_with, holding_with, job_with}
+use Rattle.job_book.specs.Kept.{IsBook, allotted}
+use Rattle.job_deeds.specs.Waiting.{IsRanked, rank_of, waits_with}
+use Rattle.job_deeds.specs.Landing.{CanHold, CanLand, IsNext, IsTold, given_by, given_in, held_by, held_with, holding_with, job_with}
 use Rattle.job_book.specs.Value.{BookValue, scene_of}
-use Rattle.job_book.specs.Waiting.{rank_of, waits_with}
-use Rattle.job_book.specs.declared.landing.Held.{Held}
-use Rattle.job_book.specs.declared.landing.Held.TheVariants.{AsBefore, Nothing, Given}
-use Rattle.job_book.specs.declared.landing.Next.{Next}
+use Rattle.job_deeds.specs.declared.landing.Held.{Held}
+use Rattle.job_deeds.specs.declared.landing.Held.TheVariants.{AsBefore, Nothing, Given}
+use Rattle.job_deeds.specs.declared.landing.Next.{Next}
 use Rattle.job_book.proofs.Actives.{active_after, due_active, entries_after}
 use Rattle.job_book.proofs.Queues.{job_among}
-use Rattle.job_book.proofs.Stepping.{after_ranked, done_is, each_after, holds_kept, holds_less, holds_more, not_held, set_is}
+use Rattle.job_deeds.proofs.Stepping.{after_ranked, done_is, each_after, holds_kept, holds_less, holds_more, not_held, set_is}
 
 -- an alloc alone gives resources
 gives : (deed : Deed) → (r_given deed ≡ None) ⊎ ((r : Resources) × (deed ≡ Takes r))

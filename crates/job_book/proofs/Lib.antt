@@ -1,16 +1,8 @@
 pub mod Actives
 pub mod Ahead
-pub mod Chosen
-pub mod Fitting
-pub mod Heads
 pub mod Held
 pub mod Landed
-pub mod Lists
-pub mod Places
 pub mod Queues
-pub mod Rest
-pub mod Stepping
 pub mod Submitted
 pub mod Trying
-pub mod Whys
 pub mod Wakes

@@ -10,11 +10,11 @@ use Rattle.manager_rules.specs.declared.due.Due.{Due}
 use Rattle.manager_rules.specs.Dependencies.{IsHead, job_at}
 use Rattle.manager_rules.specs.Jobs.{StoredJob, ids_of}
 use Rattle.manager_rules.specs.Posts.{event_done, with_event, with_job}
-use Rattle.job_book.specs.Waiting.{IsFirstOf, IsQueueOf, waits_with}
-use Rattle.job_book.proofs.Heads.{head_some}
-use Rattle.job_book.proofs.Lists.{none_of}
-use Rattle.job_book.proofs.Places.{rise_among}
-use Rattle.job_book.proofs.Whys.{found_job}
+use Rattle.job_deeds.specs.Waiting.{IsFirstOf, IsQueueOf, waits_with}
+use Rattle.job_deeds.proofs.Heads.{head_some}
+use Rattle.job_deeds.proofs.Lists.{none_of}
+use Rattle.job_deeds.proofs.Places.{rise_among}
+use Rattle.job_deeds.proofs.Whys.{found_job}
 
 -- ---- look-ups
 

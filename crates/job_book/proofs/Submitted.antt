@@ -14,9 +14,10 @@ use Rattle.manager_rules.specs.Posts.{with_job}
 use Rattle.manager_rules.specs.Sound.{HoldsInTime, hold_of, holds_of}
 use Rattle.manager_rules.proofs.Others.{new_jobs_sound}
 use Rattle.job_book.specs.Contract.{new_job, with_new}
-use Rattle.job_book.specs.Kept.{IsBook, IsRanked}
+use Rattle.job_book.specs.Kept.{IsBook}
+use Rattle.job_deeds.specs.Waiting.{IsRanked}
 use Rattle.job_book.specs.Value.{BookValue}
-use Rattle.job_book.proofs.Places.{each_with, inserted, not_among, rise_with}
+use Rattle.job_deeds.proofs.Places.{each_with, inserted, not_among, rise_with}
 
 pub added : (j : StoredJob) (at : ℕ) (jobs new : List StoredJob) → Each (λ k. k.id < j.id) (take at jobs) → Each (λ k. j.id ≤ k.id) (drop at jobs) → (Contains (ids_of jobs) j.id → ⊥) → new ≡ take at jobs ++ j ∷ drop at jobs → new ≡ with_job j jobs
 added j at jobs new b a none e = e ∙ inserted j at jobs b a (not_among j.id jobs none)

@@ -15,7 +15,7 @@ use Rattle.manager_rules.specs.Jobs.{StoredJob, distinct, ids_of, listed_in, sam
 use Rattle.manager_rules.specs.Scene.{IsAsked}
 use Rattle.job_book.specs.Contract.{IsDueIn, KnowsNeeds, WasDue}
 use Rattle.job_book.specs.Value.{BookValue}
-use Rattle.job_book.proofs.Whys.{found_job, no_job}
+use Rattle.job_deeds.proofs.Whys.{found_job, no_job}
 
 -- ---- submissions
 

@@ -15,8 +15,8 @@ use Rattle.manager_rules.specs.Due.{IsOver, MayCarry, status_at, status_now}
 use Rattle.manager_rules.specs.Jobs.{StoredJob}
 use Rattle.manager_rules.specs.Scene.{Scene, has_shut_child, is_child_of, is_shut}
 use Rattle.job_book.specs.Waking.{Sleeps, is_about}
-use Rattle.job_book.proofs.Chosen.{chosen}
-use Rattle.job_book.proofs.Rest.{none_running}
+use Rattle.job_deeds.proofs.Chosen.{chosen}
+use Rattle.job_deeds.proofs.Rest.{none_running}
 
 -- ---- nothing is asked of the job
 

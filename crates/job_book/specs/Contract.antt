@@ -22,6 +22,7 @@ use Rattle.manager_rules.specs.Sound.{IsSound}
 use Rattle.manager_rules.specs.Times.{IsBirthDue, seconds_of}
 use Rattle.manager_rules.specs.declared.asked.Asked.{Asked}
 use Rattle.manager_rules.specs.declared.due.Due.{Due}
+use Rattle.job_deeds.specs.Choices.{SaysAs}
 use Rattle.job_book.specs.Value.{BookValue, scene_of}
 
 -- ---- submissions
@@ -70,10 +71,6 @@ Gains old id spec event new =
     → new ≡ with_new old (new_job id spec needs userid urgency)
 
 -- ---- due events
-
--- the tap answers as the function does
-abbrev pub SaysAs : (Ask → ℕ → Type 0) → (Ask → ℕ) → Type 0
-SaysAs says answer = (ask : Ask) (n : ℕ) → says ask n → n ≡ answer ask
 
 -- the event is due, whatever function the tap answers as
 abbrev pub IsDueIn : BookValue → ℕ → List Asked → (Ask → ℕ → Type 0) → Due → Type 0

@@ -1,16 +1,11 @@
 -- What a book keeps besides: what makes each event of the table one that its job allows.
-use Rattle.std.specs.Prelude.{◌≡◌, IsSome}
+use Rattle.std.specs.Prelude.{◌≡◌}
 use Rattle.std.specs.List.{AllByRecursion as Each}
-use Rattle.job_states.specs.declared.job.State.TheVariants as state
 use Rattle.graph_match.specs.Allotment.{Allotment}
-use Rattle.manager_rules.specs.Jobs.{StoredJob}
 use Rattle.manager_rules.specs.Sound.{AreInTime, holds_of}
+use Rattle.job_deeds.specs.Waiting.{IsRanked}
 use Rattle.job_book.specs.Contract.{IsKept}
 use Rattle.job_book.specs.Value.{BookValue}
-
--- a job that waits for resources has a priority
-abbrev pub IsRanked : StoredJob → Type 0
-IsRanked j = j.job.state ≡ state.Sched → IsSome j.job.priority
 
 -- the grant with what live jobs hold of it
 abbrev pub allotted : BookValue → Allotment

@@ -7,9 +7,9 @@ ghost use Rattle.manager_rules.specs.Jobs.{StoredJob, ids_of};
 ghost use Rattle.manager_rules.specs.Posts.{with_job};
 ghost use Rattle.job_book.specs.Active.{AreActive, IsEntryOf, active_of, follow_with, ids_in, is_to_bear as is_to_bear_child, with_entry};
 
-use crate::row::{Row, place_in};
 use crate::seconds::{has_child, is_parent};
 use crate::waking::wake_of;
+use job_deeds::{Row, place_in};
 use manager_rules::Asked;
 
 /// What is kept of a job that isn't over, beside its row.

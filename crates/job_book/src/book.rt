@@ -1,5 +1,5 @@
 //! The book of an instance's jobs.
-ghost use Rattle.std.specs.Prelude.{◌≡◌, [], ℕ, All, Contains, IfNone, IfOk, IfSome, OnErr, OnOk, option_map};
+ghost use Rattle.std.specs.Prelude.{◌≡◌, [], All, Contains, IfNone, IfOk, IfSome, OnErr, OnOk, option_map};
 ghost use Rattle.std.specs.Option.{option_copied};
 ghost use Rattle.std.specs.Fn.{FnReturnsAt};
 ghost use Rattle.job_spec.specs.Sound.{IsSpec};
@@ -10,21 +10,17 @@ ghost use Rattle.manager_rules.specs.Jobs.{ids_of};
 ghost use Rattle.manager_rules.specs.Scene.{IsAsked};
 ghost use Rattle.manager_rules.specs.Times.{IsLeast};
 ghost use Rattle.manager_rules.specs.Whys.{IsWhy};
-ghost use Rattle.job_book.specs.Contract.{BeginsAsOne, Finds, Gains, IsFirstBirth, IsKept, IsNewJob};
-ghost use Rattle.job_book.specs.Contract.{KnowsNeeds, NoBirth, WasDue, after_event, r_at, seconds_left};
+ghost use Rattle.job_book.specs.Contract.{BeginsAsOne, Finds, Gains, IsFirstBirth, IsKept, IsNewJob, KnowsNeeds, NoBirth, WasDue, after_event, r_at, seconds_left};
 
-use crate::action::due;
 use crate::active::{Active, enter, entry_of, first_bearing, follow, place_of_active};
-use crate::decisions::{Desk, choice};
-use crate::dependencies::is_over;
-use crate::landing::{change_at, hold, next_of};
-use crate::reasons::reason;
-use crate::row::{Row, find, place_in, place_of};
 use crate::seconds::next_of_rows;
-use crate::waiting::rank;
 use crate::waking::sleeps;
 use event_log::Event;
 use graph_match::Graph;
+use job_deeds::{
+    Desk, Row, change_at, choice, due, find, hold, is_over, next_of, place_in, place_of, rank,
+    reason,
+};
 use job_queue::Queue;
 use job_spec::JobSpec;
 use job_states::{Job, ReplayFault, begin};
@@ -57,7 +53,7 @@ impl Model for Book {
 
     ghost use Rattle.job_book.specs.Active.{AreActive, AreEntriesOf};
     ghost use Rattle.job_book.specs.Kept.{IsBook};
-    ghost use Rattle.job_book.specs.Waiting.{IsQueueOf};
+    ghost use Rattle.job_deeds.specs.Waiting.{IsQueueOf};
 
     ghost view = { λ b. record { grant = b.grant; jobs = b.rows.items } };
 

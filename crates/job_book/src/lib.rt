@@ -2,19 +2,9 @@
 //! RFC 16, 21, 26 and 27).
 #![tactic(auto)]
 
-mod action;
 mod active;
 pub mod book;
-mod commands;
-mod decisions;
-mod dependencies;
-mod landing;
-mod priorities;
-mod reasons;
-mod row;
 mod seconds;
-mod states;
-mod waiting;
 mod waking;
 
 pub use book::Book;

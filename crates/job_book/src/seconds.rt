@@ -10,7 +10,7 @@ ghost use Rattle.job_book.specs.Active.{AreActive};
 ghost use Rattle.job_book.specs.Seconds.{IsSoonest, begins_child as begins_child_at, is_parent as is_parent_at, sooner_of};
 
 use crate::active::{Active, place_of_active};
-use crate::row::Row;
+use job_deeds::Row;
 use job_spec::JobSpec;
 use job_states::State;
 use manager_rules::Asked;

@@ -1,10 +1,7 @@
 //! From when on something may be due for a job.
 ghost use Rattle.std.specs.Prelude.{◌≡◌, ◌<◌, ◌≤◌, ℕ, IfSome, IsTrue, Some, false, option_map};
 ghost use Rattle.std.specs.List.{list_any};
-ghost use Rattle.manager_rules.specs.Deeds.{Deed};
-ghost use Rattle.manager_rules.specs.Due.{MayDo};
 ghost use Rattle.manager_rules.specs.Jobs.{StoredJob};
-ghost use Rattle.manager_rules.specs.Scene.{Scene};
 ghost use Rattle.shells.specs.Endings.{ending_of};
 ghost use Rattle.shells.specs.declared.ends.Ending.TheVariants as ending;
 ghost use Rattle.job_book.specs.Waking.{Sleeps, is_about as is_about_job};

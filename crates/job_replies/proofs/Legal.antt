@@ -11,7 +11,7 @@ use Rattle.instance_rules.specs.Desks.{HasBegun, Names}
 use Rattle.instance_rules.specs.Log as rules
 use Rattle.instance_rules.specs.Log.{Instance, Log, before_issue, is_decided, issues_now, now_of, served, service_of}
 use Rattle.instance_rules.specs.Replies.{AsksForEvent, AtLanding, ComesLate, DoesNotWait, HasGrounds, IsCarriedOut, NamesNone, OfJob, TellsEnd, key_path, state_of}
-use Rattle.job_book.proofs.Whys.{found_job, no_job}
+use Rattle.job_deeds.proofs.Whys.{found_job, no_job}
 use Rattle.job_commands.specs.Agrees.{HasLanded, RowAgrees, StageAgrees}
 use Rattle.job_commands.specs.Asks.{key_of, named_of, told}
 use Rattle.job_commands.specs.Rows.{CommandsValue, job_at}

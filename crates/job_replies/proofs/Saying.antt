@@ -2,7 +2,7 @@
 use Rattle.std.proofs.Common.{◌≡◌, ℕ, List, Option, Some, None, refl, sym, subst}
 use Rattle.std.specs.Prelude.{option_and_then, option_map}
 use Rattle.answers.specs.declared.chronicle.Reply.{Reply}
-use Rattle.job_book.proofs.Whys.{found_job}
+use Rattle.job_deeds.proofs.Whys.{found_job}
 use Rattle.job_commands.specs.Rows.{Labels, job_at}
 use Rattle.job_commands.specs.declared.ask.JobAsk.{JobAsk}
 use Rattle.job_manager.specs.Value.{ManagerValue}

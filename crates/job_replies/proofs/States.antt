@@ -5,7 +5,7 @@ use Rattle.std.specs.List.Sorted.{IsStrictlyIncreasing}
 use Rattle.std.proofs.lemmas.List.{take_more}
 use Rattle.std.proofs.lemmas.List.Kept.{AllPairs-from_increasing}
 use Rattle.answers.specs.declared.chronicle.JobState.{JobState}
-use Rattle.job_book.proofs.Places.{each_before, found_at}
+use Rattle.job_deeds.proofs.Places.{each_before, found_at}
 use Rattle.job_states.specs.declared.job.Job.{Job}
 use Rattle.manager_rules.specs.Dependencies.{job_at}
 use Rattle.manager_rules.specs.Jobs.{StoredJob, ids_of}

@@ -8,7 +8,7 @@ use Rattle.std.proofs.lemmas.Bool.{and_from, and_parts, eq-eqb, false_from_ne_tr
 use Rattle.instance_rules.specs.Desks.{IsDeskOf}
 use Rattle.instance_rules.specs.Legal.{IsLegalMoment, OfDesk}
 use Rattle.instance_rules.specs.Log.{Born, Gone, Instance, Log, service_of}
-use Rattle.job_book.proofs.Whys.{found_job}
+use Rattle.job_deeds.proofs.Whys.{found_job}
 use Rattle.job_book.specs.Contract.{BirthIn, IsFirstBirth as IsFirstIn, IsKept, NoBirth as NoneIn, r_at}
 use Rattle.job_clock.proofs.Standing.{jobs_same, of_desk}
 use Rattle.job_clock.specs.Standing.{StandsWith}

@@ -9,7 +9,8 @@ use Rattle.fl_digest.specs.declared.Hash.TheVariants.{Sha1}
 use Rattle.instance_rules.specs.Legal.{IsLegalMoment}
 use Rattle.instance_rules.specs.Log.{Instance, Log, Moment, Served, service_of}
 use Rattle.instance_rules.specs.Replies.{IsLegalReply}
-use Rattle.job_book.specs.Contract.{Finds, SaysAs}
+use Rattle.job_book.specs.Contract.{Finds}
+use Rattle.job_deeds.specs.Choices.{SaysAs}
 use Rattle.job_book.specs.Value.{BookValue, scene_of}
 use Rattle.job_clock.proofs.Times.{begins_in_time}
 use Rattle.job_clock.specs.Targets.{AreInTime, targets_of}

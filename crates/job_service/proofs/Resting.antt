@@ -4,7 +4,7 @@ use Rattle.std.specs.Prelude.{All, is_some, nat_lt, option_and_then, option_map}
 use Rattle.std.proofs.lemmas.Bool.{false_from_ne_true, ltb-false}
 use Rattle.instance_rules.specs.Family.{IsLeftResult, Living}
 use Rattle.instance_rules.specs.Log.{Instance, IsOpen, Log, service_of}
-use Rattle.job_book.proofs.Whys.{found_job}
+use Rattle.job_deeds.proofs.Whys.{found_job}
 use Rattle.job_clock.proofs.Standing.{at_living}
 use Rattle.job_clock.specs.Standing.{IsLiving}
 use Rattle.job_clock.specs.Targets.{targets_of}

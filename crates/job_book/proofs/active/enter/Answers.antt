@@ -1,14 +1,14 @@
-use Rattle.std.proofs.Common.{◌≡◌, ℕ, ◌<◌, ◌≤◌, true, false, cond, ltb, drop, length, take, List, ap, ◌∙◌, sym, subst, arith, rules}
+use Rattle.std.proofs.Common.{◌≡◌, ℕ, ◌<◌, ◌≤◌, true, false, cond, ltb, List, ap, ◌∙◌, sym, subst, arith, rules}
 use Rattle.std.specs.Prelude.{◌⊎◌, All, Contains}
-use Rattle.std.specs.List.{AllByRecursion as Each, insert}
+use Rattle.std.specs.List.{insert}
 use Rattle.std.specs.List.Sorted.{IsPartitionPoint, IsStrictlyIncreasing}
 use Rattle.std.proofs.lemmas.Bool.{ltb-true, ltb-false}
 use Rattle.std.proofs.lemmas.List.Sorted.{IsPartitionPoint-from_clause, IsPartitionedBy-ltb}
 use Rattle.job_book.specs.Active.{ids_in}
 use Rattle.job_book.specs.declared.active.Active.{Active}
 use Rattle.job_book.proofs.Actives.{inserted_from, placed}
-use Rattle.job_book.proofs.Lists.{is_ok_then}
-use Rattle.job_book.proofs.Places.{each_after, each_before, rise_by}
+use Rattle.job_deeds.proofs.Lists.{is_ok_then}
+use Rattle.job_deeds.proofs.Places.{each_after, each_before, rise_by}
 use Rattle.job_book.proofs.active.enter.Goals as goal
 
 abbrev Parts : List Active → ℕ → ℕ → Type 0

@@ -7,7 +7,7 @@ use Rattle.std.proofs.lemmas.List.Sorted.{IsPartitionPoint-from_clause, IsPartit
 use Rattle.job_book.specs.Active.{ids_in}
 use Rattle.job_book.specs.declared.active.Active.{Active}
 use Rattle.job_book.proofs.Actives.{left_there, set_there}
-use Rattle.job_book.proofs.Places.{each_after, each_before, rise_by}
+use Rattle.job_deeds.proofs.Places.{each_after, each_before, rise_by}
 use Rattle.job_book.proofs.active.exchange.Goals.{After-partition_point-at, else-at-len-via-then-at-len+else-index-entry, else-at-len-via-else-at-len}
 use Rattle.job_book.proofs.active.exchange.Goals as goal
 

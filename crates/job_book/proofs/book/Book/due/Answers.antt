@@ -8,15 +8,15 @@ use Rattle.resource_set.specs.Units.{host_names}
 use Rattle.manager_rules.specs.Deeds.{Deed, due_of}
 use Rattle.manager_rules.specs.Due.{MayDo}
 use Rattle.manager_rules.specs.Jobs.{ids_of}
-use Rattle.job_book.specs.Actions.{deed_of}
+use Rattle.job_deeds.specs.Actions.{deed_of}
 use Rattle.job_book.specs.Active.{active_of}
-use Rattle.job_book.specs.Choices.{Chooses}
-use Rattle.job_book.specs.Waiting.{IsFirstOf}
+use Rattle.job_deeds.specs.Choices.{Chooses}
+use Rattle.job_deeds.specs.Waiting.{IsFirstOf}
 use Rattle.job_book.specs.Kept.{allotted}
 use Rattle.job_book.specs.Value.{scene_of}
 use Rattle.job_book.specs.Waking.{is_about}
 use Rattle.job_book.proofs.Actives.{active_length, none_active_due, sleeps_at}
-use Rattle.job_book.proofs.Lists.{each_next, each_past}
+use Rattle.job_deeds.proofs.Lists.{each_next, each_past}
 use Rattle.job_book.proofs.Queues.{first_of}
 use Rattle.job_book.proofs.book.Book.due.Goals as goal
 

@@ -5,7 +5,7 @@ use Rattle.tap.specs.declared.Ask.{Ask}
 use Rattle.manager_rules.specs.Deeds.{Deed}
 use Rattle.manager_rules.specs.Due.{MayDo}
 use Rattle.job_book.specs.Active.{active_of}
-use Rattle.job_book.specs.Contract.{SaysAs}
+use Rattle.job_deeds.specs.Choices.{SaysAs}
 use Rattle.job_book.specs.Value.{scene_of}
 use Rattle.job_book.proofs.book.Book.due.Given as goal
 

@@ -2,14 +2,14 @@ use Rattle.std.proofs.Common.{◌≡◌, ◌<◌, length, get_or, sym, ap, ◌�
 use Rattle.std.specs.Prelude.{is_some, option_map}
 use Rattle.std.proofs.lemmas.List.{get_or-set_same}
 use Rattle.job_book.specs.Active.{AreActive, AreEntriesOf, IsEntryOf, follow_with}
-use Rattle.job_book.specs.Landing.{job_with}
+use Rattle.job_deeds.specs.Landing.{job_with}
 use Rattle.job_book.specs.Contract.{WasDue, after_event}
 use Rattle.job_book.specs.Kept.{IsBook}
-use Rattle.job_book.specs.Waiting.{IsQueueOf, waits_with}
+use Rattle.job_deeds.specs.Waiting.{IsQueueOf, waits_with}
 use Rattle.job_book.proofs.Actives.{active_rise}
 use Rattle.job_book.proofs.Landed.{IsRead, read_active, read_after, read_entries, read_hold, read_job, read_jobs, read_land, read_rank}
 use Rattle.job_book.proofs.Queues.{queue_after}
-use Rattle.job_book.proofs.book.Book.landed.Goals.{After-index, After-next_of, After-change_at}
+use Rattle.job_book.proofs.book.Book.landed.Goals.{After-index}
 use Rattle.job_book.proofs.book.Book.landed.Goals as goal
 
 read : (c : After-index) → IsRead (record { grant = c.self.inside.grant; jobs = c.self.inside.rows.items }) c.self.inside.graph c.args.due.now c.place_in-at.result c.index.result.now

@@ -3,15 +3,14 @@ use Rattle.std.specs.Prelude.{◌⊎◌, All, Contains, option_map}
 use Rattle.std.specs.List.{insert}
 use Rattle.std.specs.List.{AllByRecursion as Each}
 use Rattle.std.specs.List.Sorted.{IsStrictlyIncreasing}
-use Rattle.manager_rules.specs.Jobs.{ids_of}
+use Rattle.manager_rules.specs.Jobs.{StoredJob, ids_of}
 use Rattle.job_book.specs.Active.{AreActive, AreEntriesOf, IsEntryOf, active_of, ids_in}
 use Rattle.job_book.specs.Contract.{new_job, with_new}
 use Rattle.job_book.specs.Kept.{IsBook}
-use Rattle.job_book.specs.Waiting.{IsQueueOf, waits_with}
-use Rattle.manager_rules.specs.Jobs.{StoredJob}
+use Rattle.job_deeds.specs.Waiting.{IsQueueOf, waits_with}
 use Rattle.job_book.proofs.Actives.{active_rise, active_with, entries_with}
-use Rattle.job_book.proofs.Lists.{is_ok_then}
-use Rattle.job_book.proofs.Places.{not_among}
+use Rattle.job_deeds.proofs.Lists.{is_ok_then}
+use Rattle.job_deeds.proofs.Places.{not_among}
 use Rattle.job_book.proofs.Queues.{none_there, queue_with}
 use Rattle.job_book.proofs.Submitted.{added, book_with}
 use Rattle.job_book.proofs.book.Book.submitted.Goals.{Else-is_err}

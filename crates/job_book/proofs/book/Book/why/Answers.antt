@@ -4,11 +4,10 @@ use Rattle.job_rules.proofs.Among.{contains_from}
 use Rattle.job_spec.specs.Sound.{IsSpec}
 use Rattle.manager_rules.specs.Dependencies.{job_at}
 use Rattle.manager_rules.specs.Whys.{IsSaidOf, IsWhy}
-use Rattle.job_book.specs.Kept.{IsRanked}
-use Rattle.job_book.specs.Waiting.{IsFirstOf}
+use Rattle.job_deeds.specs.Waiting.{IsFirstOf, IsRanked}
 use Rattle.job_book.proofs.Held.{each_found}
 use Rattle.job_book.proofs.Queues.{first_of}
-use Rattle.job_book.proofs.Whys.{found_job, no_job, said_ok}
+use Rattle.job_deeds.proofs.Whys.{found_job, no_job, said_ok}
 use Rattle.job_book.proofs.book.Book.why.Goals.{In-Some}
 use Rattle.job_book.proofs.book.Book.why.Goals as goal
 

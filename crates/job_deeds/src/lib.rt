@@ -1,0 +1,22 @@
+//! What is due for one job of an instance, and what a landed event makes of it (Flux RFC 16, 21, 26
+//! and 27).
+#![tactic(auto)]
+
+mod action;
+mod commands;
+mod decisions;
+mod dependencies;
+mod landing;
+mod priorities;
+mod reasons;
+mod row;
+mod states;
+mod waiting;
+
+pub use action::{Action, due};
+pub use decisions::{Desk, choice};
+pub use dependencies::is_over;
+pub use landing::{Held, Next, change_at, hold, next_of};
+pub use reasons::reason;
+pub use row::{Row, find, place_in, place_of};
+pub use waiting::rank;
