@@ -11,7 +11,7 @@ use Rattle.world.specs.declared.order.Schedule.{Schedule}
 use Rattle.world.specs.declared.order.Schedule.TheVariants as schedule
 use Rattle.hierarchy.specs.Headline.{ChildrenStayNested, IsTrueRun, JobsStaySoundInAll, LogsOnlyGrowInAll}
 use Rattle.hierarchy.specs.Stretches.{AreRunStretches}
-use Rattle.world.specs.Grant.{first_resources, grant_text}
+use Rattle.homes.specs.Grant.{first_resources, grant_text}
 use Rattle.flux.specs.declared.call.Run.{Run}
 use Rattle.flux.specs.Sides.{Side}
 use Rattle.tap.specs.declared.weights.Weights.{Weights}

@@ -1,7 +1,7 @@
 //! Workloads that a seed draws, and the summaries of their runs.
 ghost use Rattle.std.specs.Prelude.{◌≡◌, ◌≤◌, ℕ, List, true, false, map, string_bytes, All, IfErr, IfOk};
 ghost use Rattle.workload.specs.Laws.{HasOwnLabels, IsBuilt, IsWithin, KeepsTallies};
-ghost use Rattle.world.specs.Grant.{grant_text};
+ghost use Rattle.homes.specs.Grant.{grant_text};
 ghost use Rattle.hierarchy.specs.Headline.{ChildrenStayNested, IsTrueRun, JobsStaySoundInAll, LogsOnlyGrowInAll};
 ghost use Rattle.hierarchy.specs.Stretches.{AreRunStretches};
 ghost use Rattle.summaries.specs.Summary.{IsSummary};
@@ -14,6 +14,7 @@ use crate::playing::{Played, play};
 use fl_digest::Hash;
 use hierarchy::a_whole_run_is_legal_in_all;
 use hierarchy::grown::births_are_numbered;
+use homes::hosts_of_brokers;
 use kvs_core::CoreFault;
 use lists::Bytes;
 use resource_set::print;
@@ -30,7 +31,6 @@ use workload_reader::laws::{
     spelled_workloads_are_within,
 };
 use workload_reader::{LineFault, read};
-use world::hosts_of_brokers;
 
 /// What a workload is drawn from: a seed, and how many commands there are, 1 to 10,000.
 #[derive(Clone, Copy, Debug, PartialEq, Eq)]

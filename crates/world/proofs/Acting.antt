@@ -1,6 +1,6 @@
 -- What an actor does whose instance lives.
-use Rattle.std.proofs.Common.{◌≡◌, ◌∙◌, ℕ, ◌+◌, ◌-◌, ◌<◌, ◌≤◌, List, [], ◌∷◌, ◌++◌, Bool, true, false, Option, Some, None, cond, count_by, length, map, refl, sym, ap, subst, arith}
-use Rattle.std.specs.Prelude.{nat_lt, option_map, slice_get, slice_set}
+use Rattle.std.proofs.Common.{◌≡◌, ◌∙◌, ℕ, ◌+◌, ◌-◌, ◌≤◌, List, [], ◌∷◌, ◌++◌, Bool, true, false, Option, Some, None, cond, count_by, length, map, refl, sym, ap, subst, arith}
+use Rattle.std.specs.Prelude.{option_map, slice_get, slice_set}
 use Rattle.kvs_rules.specs.Log.{Log}
 use Rattle.answers.specs.Chronicle.{Setup, issues_of, replies_to, top}
 use Rattle.answers.specs.Services.{log_of}
@@ -18,14 +18,14 @@ use Rattle.instance.specs.Seats.{is_free, replied_of}
 use Rattle.instance.specs.Value.{InstanceValue}
 use Rattle.instance.specs.declared.seats.Seat.{Seat}
 use Rattle.world.specs.Advances.{Advances}
-use Rattle.world.specs.Homes.{ArePlaces, IsPlace}
+use Rattle.homes.specs.Homes.{ArePlaces, IsPlace}
 use Rattle.world.specs.Sound.{IsSound}
 use Rattle.world.specs.Value.{WorldValue}
-use Rattle.world.specs.declared.homes.Home.{Home}
-use Rattle.world.specs.declared.homes.Place.{Place}
+use Rattle.homes.specs.declared.homes.Home.{Home}
+use Rattle.homes.specs.declared.homes.Place.{Place}
 use Rattle.world.proofs.Left.{at_home}
-use Rattle.world.proofs.Making.{IsReplyIn, reply_stretch}
-use Rattle.world.proofs.Placing.{by_of, counts_joined, home_stays, place_replied, places_behind}
+use Rattle.homes.proofs.Making.{IsReplyIn, reply_stretch}
+use Rattle.homes.proofs.Placing.{by_of, counts_joined, home_stays, place_replied, places_behind}
 use Rattle.world.proofs.Running.{grown, home_agrees, home_born, home_lives}
 use Rattle.world.proofs.Serving.{homes_with, own_advances, own_sound}
 use Rattle.world.proofs.Stepping.{stepped}

@@ -1,16 +1,14 @@
 -- A child is born, and its parent is told: what that leaves of the world.
-use Rattle.std.proofs.Common.{◌≡◌, ◌∙◌, ℕ, ◌+◌, ◌≤◌, ◌<◌, ◌^◌, List, [], ◌∷◌, ◌++◌, Bool, true, false, Option, Some, None, get_or, length, refl, sym, ap, subst, arith}
+use Rattle.std.proofs.Common.{◌≡◌, ◌∙◌, ℕ, ◌+◌, ◌<◌, ◌^◌, List, [], ◌∷◌, ◌++◌, true, false, Option, Some, None, get_or, length, refl, sym, ap, arith}
 use Rattle.std.specs.Prelude.{slice_get, slice_set}
 use Rattle.std.proofs.lemmas.Bool.{eqb-true}
 use Rattle.std.proofs.lemmas.Option.{get_or_from_slice_get}
 use Rattle.workload.specs.Actors.{are_together}
 use Rattle.answers.specs.Chronicle.{top}
-use Rattle.answers.specs.Jobs.{second_of}
 use Rattle.answers.specs.declared.chronicle.Entry.{Entry}
-use Rattle.answers.specs.declared.chronicle.Entry.TheVariants as entry
 use Rattle.answers.specs.declared.steps.Step.{Step}
 use Rattle.answers.specs.declared.steps.Step.TheVariants as step
-use Rattle.hierarchy.specs.Births.{Birth, births, is_born, label_of, lives, numbers}
+use Rattle.hierarchy.specs.Births.{Birth, births, is_born, label_of, lives}
 use Rattle.hierarchy.specs.Families.{second_in}
 use Rattle.hierarchy.specs.Grows.{GrowsByBirth, born_by, born_to}
 use Rattle.hierarchy.specs.Legal.{IsLegalBirth}
@@ -25,16 +23,15 @@ use Rattle.instance.specs.Agrees.{AgreesOwn}
 use Rattle.instance.specs.Makes.{Bears, Follows}
 use Rattle.instance.specs.Value.{InstanceValue}
 use Rattle.world.specs.Advances.{Advances}
-use Rattle.world.specs.Homes.{AreHomes}
-use Rattle.world.specs.Inside.{AreSettled, IsChildHome}
+use Rattle.homes.specs.Homes.{AreHomes}
+use Rattle.homes.specs.Inside.{AreSettled, IsChildHome}
 use Rattle.world.specs.Sound.{IsSound}
 use Rattle.world.specs.Steps.{is_job}
 use Rattle.world.specs.Value.{WorldValue}
-use Rattle.world.specs.declared.homes.Home.{Home}
-use Rattle.world.specs.declared.homes.Place.{Place}
-use Rattle.world.proofs.Bearing.{birth_grows, homes_with, places_with, valid_with}
-use Rattle.world.proofs.Families.{home_lives}
-use Rattle.world.proofs.Standing.{item_at}
+use Rattle.homes.specs.declared.homes.Home.{Home}
+use Rattle.homes.specs.declared.homes.Place.{Place}
+use Rattle.homes.proofs.Bearing.{birth_grows, homes_with, places_with, valid_with}
+use Rattle.homes.proofs.Standing.{item_at}
 use Rattle.world.proofs.Stepping.{step_advances, step_sound, stepped}
 
 pub job_is : (job : ℕ) (o : Option ℕ) → is_job job o ≡ true → o ≡ Some job

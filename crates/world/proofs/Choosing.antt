@@ -6,7 +6,8 @@ use Rattle.std.proofs.lemmas.Option.{slice_get-get_or}
 use Rattle.kvs_core.specs.Walk.{nth}
 use Rattle.answers.specs.declared.steps.Step.{Step}
 use Rattle.answers.specs.declared.steps.Step.TheVariants as step
-use Rattle.world.specs.Order.{ListTurns, before_end, steps_of}
+use Rattle.homes.specs.Homes.{ListTurns}
+use Rattle.world.specs.Order.{before_end, steps_of}
 use Rattle.world.specs.Sound.{IsRunning}
 use Rattle.world.specs.Steps.{CanMake, can_make}
 use Rattle.world.specs.Value.{WorldValue}
@@ -15,7 +16,7 @@ use Rattle.world.specs.declared.run.drawing.Kind.TheVariants as kind
 use Rattle.world.proofs.Housing.{own_lines, seated}
 use Rattle.world.proofs.Numbering.{below, got, lengthy}
 use Rattle.world.proofs.Ordering.{over, possible}
-use Rattle.world.proofs.Standing.{same_item}
+use Rattle.homes.proofs.Standing.{same_item}
 
 -- the steps of instances, and those behind them, are all before the end
 pub both_parts : (v : WorldValue) → by_instances v ++ by_the_run v ≡ before_end v

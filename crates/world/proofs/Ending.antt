@@ -1,21 +1,19 @@
 -- A child goes with all within it, and its parent is told: what that leaves of the world.
-use Rattle.std.proofs.Common.{◌≡◌, ◌∙◌, ℕ, List, [], ◌∷◌, ◌++◌, ◌||◌, ◌&&◌, Bool, true, false, Option, Some, None, cond, get_or, length, refl, sym, ap, ap₂, subst}
+use Rattle.std.proofs.Common.{◌≡◌, ◌∙◌, ℕ, List, [], ◌∷◌, ◌++◌, ◌||◌, ◌&&◌, Bool, true, false, Option, Some, None, get_or, length, refl, sym, ap, ap₂, subst}
 use Rattle.std.specs.Prelude.{filter_map, not, slice_get, slice_set}
 use Rattle.std.specs.Option.{option_map_or}
 use Rattle.std.proofs.lemmas.Bool.{and_parts, not-true}
 use Rattle.std.proofs.lemmas.Option.{get_or_from_slice_get}
 use Rattle.answers.specs.Chronicle.{Setup, top}
-use Rattle.answers.specs.Legal.{IsLegalEntry}
 use Rattle.answers.specs.declared.chronicle.Entry.{Entry}
 use Rattle.answers.specs.declared.chronicle.Entry.TheVariants as entry
 use Rattle.answers.specs.declared.steps.Step.{Step}
 use Rattle.answers.specs.declared.steps.Step.TheVariants as step
-use Rattle.hierarchy.specs.Births.{Birth, birth_of, is_gone, lives}
+use Rattle.hierarchy.specs.Births.{Birth, birth_of, lives}
 use Rattle.hierarchy.specs.Families.{family_of, living_in}
 use Rattle.hierarchy.specs.Inside.{GoesWithAll, ends_within, marked_below}
 use Rattle.hierarchy.specs.Legal.{IsLegalRun}
 use Rattle.hierarchy.specs.Own.{own_of, setup_in}
-use Rattle.hierarchy.specs.Stretches.{IsRunStretch}
 use Rattle.hierarchy.proofs.Inside.{goes_with_all}
 use Rattle.hierarchy.proofs.Nested.{parent_lives}
 use Rattle.hierarchy.proofs.Numbering.{number_of}
@@ -27,17 +25,18 @@ use Rattle.instance.specs.Makes.{Follows, LetsGo}
 use Rattle.instance.specs.Value.{InstanceValue}
 use Rattle.instance_rules.specs.Family.{IsEndOf}
 use Rattle.world.specs.Advances.{Advances}
-use Rattle.world.specs.Homes.{AreHomes}
-use Rattle.world.specs.Inside.{AreInside, HaveGone, end_at}
+use Rattle.homes.specs.Homes.{AreHomes}
+use Rattle.homes.specs.Inside.{AreInside, HaveGone, end_at}
 use Rattle.world.specs.Sound.{IsSound}
-use Rattle.world.specs.Steps.{can_make, may_go}
+use Rattle.homes.specs.Times.{may_go}
+use Rattle.world.specs.Steps.{can_make}
 use Rattle.world.specs.Value.{WorldValue}
-use Rattle.world.specs.declared.homes.Home.{Home}
-use Rattle.world.specs.declared.homes.Origin.{Origin}
-use Rattle.world.proofs.Families.{born_as, home_lives, origin_by, says_here, valid_kept}
-use Rattle.world.proofs.Leaving.{ends_are_silent, ends_issue_nothing, ends_told, homes_left}
-use Rattle.world.proofs.Marking.{mark_at}
-use Rattle.world.proofs.Placing.{places_stay}
+use Rattle.homes.specs.declared.homes.Home.{Home}
+use Rattle.homes.specs.declared.homes.Origin.{Origin}
+use Rattle.homes.proofs.Families.{born_as, home_lives, origin_by, says_here, valid_kept}
+use Rattle.homes.proofs.Leaving.{ends_are_silent, ends_issue_nothing, ends_told, homes_left}
+use Rattle.homes.proofs.Marking.{mark_at}
+use Rattle.homes.proofs.Placing.{places_stay}
 use Rattle.world.proofs.Stepping.{step_advances, step_sound, stepped}
 
 -- ---- who may go

@@ -1,46 +1,22 @@
 -- Where the actor and the instance of a step stand.
-use Rattle.std.proofs.Common.{◌≡◌, ◌∙◌, ◌+◌, ◌<◌, ◌&&◌, ℕ, zero, suc, List, [], ◌∷◌, Bool, true, false, Option, Some, None, cond, get_or, is_some, length, not, refl, sym, ap, ap₂, arith}
+use Rattle.std.proofs.Common.{◌≡◌, ◌∙◌, ◌+◌, ◌<◌, ◌&&◌, ℕ, zero, suc, List, Bool, true, false, Option, Some, None, cond, get_or, is_some, length, not, refl, sym, ap, ap₂, arith}
 use Rattle.std.specs.Prelude.{find, nat_lt, option_and_then, slice_get}
 use Rattle.std.specs.List.{range_with_len}
 use Rattle.std.specs.Option.{option_map_or}
 use Rattle.std.proofs.lemmas.Bool.{and_parts, ltb-true}
-use Rattle.std.proofs.lemmas.Option.{get_or_from_slice_get, slice_get-get_or, slice_get_within}
+use Rattle.std.proofs.lemmas.Option.{get_or_from_slice_get, slice_get_within}
 use Rattle.instance.specs.Steps.{can_answer as instance_can_answer}
 use Rattle.world.specs.Acting.{IsGoneAt, IsPlacedIn}
 use Rattle.hierarchy.specs.Births.{is_at, label_of, numbers}
 use Rattle.hierarchy.proofs.Numbering.{numbers_are}
-use Rattle.world.specs.Homes.{home_in, if_living, living_at}
+use Rattle.homes.specs.Homes.{home_in}
 use Rattle.world.specs.Sound.{IsSound}
-use Rattle.world.specs.Steps.{at_home, can_answer, can_issue}
+use Rattle.homes.specs.Times.{at_home}
+use Rattle.world.specs.Steps.{can_answer, can_issue}
 use Rattle.world.specs.Value.{WorldValue}
-use Rattle.world.specs.declared.homes.Home.{Home}
-use Rattle.world.specs.declared.homes.Place.{Place}
-
--- what an option says that is true
-pub record IsFoundIn {X : Type 0} (o : Option X) (says : X → Bool) : Type 0 where
-  pub it : X
-  pub is : o ≡ Some it
-  pub so : says it ≡ true
-
-pub option_found : {X : Type 0} (o : Option X) (says : X → Bool) → option_map_or says o false ≡ true → IsFoundIn o says
-option_found None says e = cc
-option_found (Some x) says e = record { it = x; is = refl; so = e }
-
--- what is read at a place of a list is what stands there
-pub item_read : {X : Type 0} (xs : List X) (i : ℕ) (one x : X) → slice_get xs i ≡ Some one → x ≡ get_or xs i x → slice_get xs i ≡ Some x
-item_read xs i one x at read = at ∙ ap Some (sym (read ∙ get_or_from_slice_get xs i one x at))
-
--- whichever is named for a place past the end
-pub same_at : {X : Type 0} (xs : List X) (i : ℕ) (d e : X) → i < length xs → get_or xs i d ≡ get_or xs i e
-same_at {X = X} xs i d e below = of (get_or xs i d) (get_or xs i e) (sym (slice_get-get_or xs i d below) ∙ slice_get-get_or xs i e below)
-  where
-    of : (x y : X) → Some x ≡ Some y → x ≡ y
-    of x y same = cc
-
--- an instance that lives
-pub some_says : {X : Type 0} (o : Option X) → is_some o ≡ true → option_map_or (λ _. true) o false ≡ true
-some_says None e = e
-some_says (Some x) e = e
+use Rattle.homes.specs.declared.homes.Home.{Home}
+use Rattle.homes.specs.declared.homes.Place.{Place}
+use Rattle.homes.proofs.Finding.{option_found, item_read}
 
 -- ---- places
 
@@ -63,9 +39,6 @@ placed_within places actor number e = by (slice_get places actor) refl e
     by : (o : Option Place) → slice_get places actor ≡ o → option_and_then (λ (q : Place). q.home) o ≡ Some number → actor < length places
     by None at e = cc
     by (Some q) at e = slice_get_within places actor q at
-
-pub same_read : (places : List Place) (actor : ℕ) (p q : Place) → slice_get places actor ≡ Some p → slice_get places actor ≡ Some q → p ≡ q
-same_read places actor p q one other = cc
 
 pub placed_in : (places : List Place) (actor number : ℕ) (p : Place) → slice_get places actor ≡ Some p → p.home ≡ Some number → IsPlacedIn places actor number
 placed_in places actor number p here home = ap (option_and_then (λ (q : Place). q.home)) here ∙ home
@@ -94,12 +67,6 @@ home_below v sound runs actor i p standing home =
     let below = found_below test 0 (length (numbers v.chronicle)) i (ap (find test) (sym (numbers_are v.set v.chronicle sound.legal)) ∙ found) in
     let all = on.homes.all in
     omega arith
-
-pub home_read : (homes : List Home) (i : ℕ) (h : Home) → i < length homes → h ≡ get_or homes i h → slice_get homes i ≡ Some h
-home_read homes i h below read = slice_get-get_or homes i h below ∙ ap Some (sym read)
-
-pub is_living : (homes : List Home) (i : ℕ) (h : Home) → slice_get homes i ≡ Some h → h.gone ≡ false → is_some (living_at homes i) ≡ true
-is_living homes i h here living = ap (λ o. is_some (option_and_then if_living o)) here ∙ ap (λ b. is_some (cond b None (Some h))) living
 
 pub is_gone_at : (homes : List Home) (i : ℕ) (h : Home) → slice_get homes i ≡ Some h → h.gone ≡ true → IsGoneAt homes i
 is_gone_at homes i h here gone = ap (λ o. option_map_or (λ (x : Home). x.gone) o false) here ∙ gone

@@ -25,15 +25,15 @@ use Rattle.kvs_rules.specs.Log.{Log}
 use Rattle.services.specs.Value.{ServicesValue}
 use Rattle.kvs_txn.specs.declared.txn.By.{By}
 use Rattle.workload.specs.declared.work.Line.{Line}
-use Rattle.world.specs.Homes.{AreReady, home_in, living_at}
+use Rattle.homes.specs.Homes.{AreReady, home_in, living_at}
 use Rattle.world.specs.Sound.{IsRunning}
 use Rattle.world.specs.Value.{WorldValue}
 use Rattle.world.specs.View.{IsSoundInside, value_of}
 use Rattle.world.specs.declared.run.World.TheInside.{Inside}
-use Rattle.world.specs.declared.homes.Home.{Home}
-use Rattle.world.specs.declared.homes.Origin.{Origin}
-use Rattle.world.specs.declared.homes.Place.{Place}
-use Rattle.world.proofs.Members.{from_start, item_at}
+use Rattle.homes.specs.declared.homes.Home.{Home}
+use Rattle.homes.specs.declared.homes.Origin.{Origin}
+use Rattle.homes.specs.declared.homes.Place.{Place}
+use Rattle.homes.proofs.Members.{from_start, item_at}
 use Rattle.world.proofs.Ordering.{AreOwnLines, AreSeated, living_is, says_some}
 
 -- ---- the one number that passes

@@ -1,22 +1,20 @@
 -- What an actor does whose instance has gone.
-use Rattle.std.proofs.Common.{◌≡◌, ◌∙◌, ℕ, ◌+◌, ◌-◌, ◌<◌, ◌≤◌, ◌==◌, ◌&&◌, ◌||◌, inl, inr, List, [], ◌∷◌, ◌++◌, Bool, true, false, Option, Some, None, cond, count_by, length, refl, sym, ap, ap₂, subst, arith}
-use Rattle.std.specs.Prelude.{find, is_some, nat_lt, slice_get, slice_index_or, slice_set}
+use Rattle.std.proofs.Common.{◌≡◌, ◌∙◌, ℕ, ◌+◌, ◌-◌, ◌<◌, ◌≤◌, ◌==◌, ◌&&◌, ◌||◌, inl, inr, List, [], ◌∷◌, ◌++◌, Bool, true, false, Some, None, cond, count_by, length, refl, sym, ap, ap₂, subst, arith}
+use Rattle.std.specs.Prelude.{find, is_some, nat_lt, slice_get, slice_set}
 use Rattle.std.specs.List.{list_any}
 use Rattle.std.proofs.lemmas.Bool.{cases_lt, eq-eqb, eqb-true, le-ltb, lt-ltb, ne_eqb}
 use Rattle.std.proofs.lemmas.Bool.Decides.{nat_tests}
 use Rattle.std.proofs.lemmas.List.Folds.{list_any-append}
 use Rattle.kvs_rules.proofs.Sequences.{each_along}
-use Rattle.kvs_rules.specs.Sequence.{EachAfter}
 use Rattle.workload.specs.declared.work.Line.{Line}
-use Rattle.answers.specs.Chronicle.{IsOpenCommand, Setup, is_issued, is_replied, issues, issues_of, replies_to}
-use Rattle.answers.specs.Commands.{command_at}
+use Rattle.answers.specs.Chronicle.{IsOpenCommand, Setup, is_issued, issues, issues_of, replies_to}
 use Rattle.answers.specs.Legal.{IsLegalIssue}
 use Rattle.answers.specs.declared.chronicle.Entry.{Entry}
 use Rattle.answers.specs.declared.chronicle.Entry.TheVariants as entry
 use Rattle.answers.specs.declared.chronicle.Reply.TheVariants as reply
 use Rattle.answers.specs.declared.steps.Step.{Step}
 use Rattle.answers.specs.declared.steps.Step.TheVariants as step
-use Rattle.hierarchy.specs.Births.{has_lost_home, is_at, is_gone, label_of, numbers}
+use Rattle.hierarchy.specs.Births.{has_lost_home, is_at, label_of, numbers}
 use Rattle.hierarchy.specs.Grows.{GrowsByLost}
 use Rattle.hierarchy.specs.Legal.{HasRunRest, IsLegalRun, IsLegalRunEntry, RunRestsAtIssue}
 use Rattle.hierarchy.specs.Stretches.{IsRunStretch}
@@ -24,16 +22,16 @@ use Rattle.hierarchy.proofs.Growth.{issue_grown, reply_grown}
 use Rattle.hierarchy.proofs.Homes.{lost_so}
 use Rattle.instance.specs.Steps.{IsIssue}
 use Rattle.world.specs.Advances.{Advances}
-use Rattle.world.specs.Homes.{ArePlaces, IsNextLine, IsPlace, answered, home_in}
+use Rattle.homes.specs.Homes.{IsNextLine, IsPlace, answered, home_in}
 use Rattle.world.specs.Sound.{IsSound}
 use Rattle.world.specs.Value.{WorldValue}
-use Rattle.world.specs.declared.homes.Home.{Home}
-use Rattle.world.specs.declared.homes.Place.{Place}
-use Rattle.world.proofs.Lining.{next_command}
-use Rattle.world.proofs.Placing.{AreSilent, by_of, counts_joined, home_stays, place_issued, place_replied, places_behind}
+use Rattle.homes.specs.declared.homes.Home.{Home}
+use Rattle.homes.specs.declared.homes.Place.{Place}
+use Rattle.homes.proofs.Lining.{next_command}
+use Rattle.homes.proofs.Placing.{AreSilent, by_of, counts_joined, home_stays, place_issued, place_replied, places_behind}
 use Rattle.world.proofs.Running.{home_born, home_is, known}
-use Rattle.world.proofs.Seating.{any_counted, none_counted}
-use Rattle.world.proofs.Standing.{homes_stay}
+use Rattle.homes.proofs.Seating.{any_counted, none_counted}
+use Rattle.homes.proofs.Standing.{homes_stay}
 use Rattle.world.proofs.Stepping.{step_advances, step_sound, stepped, valid_so}
 
 -- ---- the commands that are issued

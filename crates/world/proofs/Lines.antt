@@ -14,7 +14,7 @@ use Rattle.world.specs.Order.{is_next, issue_at, issues}
 use Rattle.world.specs.Steps.{can_issue}
 use Rattle.world.specs.Value.{WorldValue}
 use Rattle.world.specs.Walks.{next_at}
-use Rattle.world.specs.declared.homes.Place.{Place}
+use Rattle.homes.specs.declared.homes.Place.{Place}
 use Rattle.world.proofs.Numbering.{mapped, unmapped}
 use Rattle.world.proofs.Ordering.{AreOwnLines}
 

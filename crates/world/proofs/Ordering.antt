@@ -19,16 +19,17 @@ use Rattle.instance.specs.Order.{answers}
 use Rattle.instance.specs.Seats.{has_come, last_command}
 use Rattle.instance.specs.Steps.{can_answer as instance_can_answer, can_post}
 use Rattle.instance.specs.declared.seats.Seat.{Seat}
-use Rattle.world.specs.Homes.{if_living, living_at}
-use Rattle.world.specs.Order.{ListTurns, before_end, is_next, issue_at, issues, left_in, only_if, steps_at, steps_in, steps_left, steps_of, waits_in}
-use Rattle.world.specs.Steps.{IsOver, at_home, can_answer, can_issue, can_make, can_tick, is_job, may_go, of_home}
+use Rattle.homes.specs.Homes.{ListTurns, if_living, living_at}
+use Rattle.world.specs.Order.{before_end, is_next, issue_at, issues, left_in, only_if, steps_at, steps_in, steps_left, steps_of, waits_in}
+use Rattle.homes.specs.Times.{at_home, may_go}
+use Rattle.world.specs.Steps.{IsOver, can_answer, can_issue, can_make, can_tick, is_job, of_home}
 use Rattle.world.specs.Value.{WorldValue}
-use Rattle.world.specs.declared.homes.Home.{Home}
-use Rattle.world.specs.declared.homes.Origin.{Origin}
-use Rattle.world.specs.declared.homes.Place.{Place}
+use Rattle.homes.specs.declared.homes.Home.{Home}
+use Rattle.homes.specs.declared.homes.Origin.{Origin}
+use Rattle.homes.specs.declared.homes.Place.{Place}
 use Rattle.world.specs.declared.run.drawing.Kind.{Kind}
 use Rattle.world.specs.declared.run.drawing.Kind.TheVariants as kind
-use Rattle.world.proofs.Members.{first, split, from_filter, from_filter_map, from_flat_map, from_map, from_enumerated, in_enumerated, in_filter, in_filter_map, in_flat_map, in_map, in_range, item_at, nobody, some}
+use Rattle.homes.proofs.Members.{first, split, from_filter, from_filter_map, from_flat_map, from_map, from_enumerated, in_enumerated, in_filter, in_filter_map, in_flat_map, in_map, in_range, item_at, nobody, some}
 
 -- ---- tests
 

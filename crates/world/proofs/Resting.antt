@@ -26,20 +26,21 @@ use Rattle.job_rules.proofs.Among.{Among, among_append, among_from, among_kept, 
 use Rattle.kvs_core.specs.Walk.{nth}
 use Rattle.manager_rules.specs.Times.{IsEndDue}
 use Rattle.services.specs.Order.{possible}
-use Rattle.world.specs.Order.{ListTurns, left_in, only_if, steps_at, steps_in, steps_left, steps_of}
+use Rattle.homes.specs.Homes.{ListTurns}
+use Rattle.world.specs.Order.{left_in, only_if, steps_at, steps_in, steps_left, steps_of}
 use Rattle.world.specs.Sound.{IsSound}
-use Rattle.world.specs.Steps.{may_go}
-use Rattle.world.specs.Tells.{EachLiving, TellsEndIn, TellsRest}
+use Rattle.homes.specs.Times.{may_go}
+use Rattle.homes.specs.Tells.{EachLiving, TellsEndIn, TellsRest}
 use Rattle.world.specs.Value.{WorldValue}
 use Rattle.world.specs.Walks.{by_instances, kinds}
-use Rattle.world.specs.declared.homes.Home.{Home}
-use Rattle.world.specs.declared.homes.Origin.{Origin}
+use Rattle.homes.specs.declared.homes.Home.{Home}
+use Rattle.homes.specs.declared.homes.Origin.{Origin}
 use Rattle.world.specs.declared.run.drawing.Kind.{Kind}
 use Rattle.world.specs.declared.run.drawing.Kind.TheVariants as kind
-use Rattle.world.proofs.Members.{in_enumerated, in_range}
+use Rattle.homes.proofs.Members.{in_enumerated, in_range}
 use Rattle.world.proofs.Ordering.{says_some}
 use Rattle.world.proofs.Running.{home_agrees}
-use Rattle.world.proofs.Standing.{item_at}
+use Rattle.homes.proofs.Standing.{item_at}
 
 -- ---- lists
 

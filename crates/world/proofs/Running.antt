@@ -1,13 +1,13 @@
 -- What one instance makes by itself leaves the world running.
-use Rattle.std.proofs.Common.{◌≡◌, ◌∙◌, ℕ, ◌<◌, List, [], ◌∷◌, ◌++◌, Bool, true, false, ◌&&◌, ◌||◌, is_some, map, length, refl, sym, ap, subst}
+use Rattle.std.proofs.Common.{◌≡◌, ◌∙◌, ℕ, ◌<◌, List, ◌++◌, Bool, true, false, ◌&&◌, ◌||◌, is_some, map, length, refl, sym, ap, subst}
 use Rattle.std.specs.Prelude.{Some, slice_get, slice_set}
-use Rattle.std.specs.List.{AllByRecursion as Each, list_any}
+use Rattle.std.specs.List.{AllByRecursion as Each}
 use Rattle.std.proofs.lemmas.Option.{slice_get_within}
 use Rattle.answers.specs.Whole.{IsEarlierEntry}
 use Rattle.answers.specs.declared.chronicle.Entry.{Entry}
 use Rattle.answers.specs.declared.steps.Step.{Step}
 use Rattle.hierarchy.specs.Births.{birth_of, is_born, label_of, lives, numbers}
-use Rattle.hierarchy.specs.Families.{living_in, shuts_down}
+use Rattle.hierarchy.specs.Families.{living_in}
 use Rattle.hierarchy.specs.Growing.{IsMadeIn, IssuesNothing}
 use Rattle.hierarchy.specs.Grows.{GrowsByOwn}
 use Rattle.hierarchy.specs.Own.{own_of, setup_in}
@@ -18,13 +18,13 @@ use Rattle.hierarchy.proofs.Owning.{is_alive}
 use Rattle.instance.specs.Agrees.{AgreesOwn}
 use Rattle.instance.specs.Makes.{Follows}
 use Rattle.instance.specs.Value.{InstanceValue}
-use Rattle.world.specs.Homes.{AreHomes, ArePlaces, IsHome}
+use Rattle.homes.specs.Homes.{AreHomes, ArePlaces, IsHome}
 use Rattle.world.specs.Sound.{IsRunning, IsSound}
 use Rattle.world.specs.Value.{WorldValue}
-use Rattle.world.specs.declared.homes.Home.{Home}
-use Rattle.world.specs.declared.homes.Place.{Place}
-use Rattle.world.proofs.Making.{each_apart, unshut}
-use Rattle.world.proofs.Standing.{grown_home, homes_behind}
+use Rattle.homes.specs.declared.homes.Home.{Home}
+use Rattle.homes.specs.declared.homes.Place.{Place}
+use Rattle.homes.proofs.Making.{each_apart, unshut}
+use Rattle.homes.proofs.Standing.{grown_home, homes_behind}
 use Rattle.world.proofs.Stepping.{stepped}
 
 nothing_more : (a b : Bool) → (a || (b && false)) ≡ a

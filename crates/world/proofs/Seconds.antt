@@ -6,7 +6,8 @@ use Rattle.std.proofs.lemmas.Bool.{lt-ltb}
 use Rattle.job_book.specs.Seconds.{IsSoonest}
 use Rattle.job_rules.proofs.Among.{Among, among_from, among_left}
 use Rattle.manager_rules.specs.Times.{IsLeast}
-use Rattle.world.specs.Steps.{all_ends, all_targets, can_tick, has_due, is_left, keeps_time, may_go}
+use Rattle.homes.specs.Times.{all_ends, all_targets, has_due, is_left, may_go}
+use Rattle.world.specs.Steps.{can_tick, keeps_time}
 use Rattle.world.specs.Value.{WorldValue}
 
 pub if_least : (xs : List ℕ) (o : Option ℕ) → IsSoonest xs o → IfSome o (λ second. IsLeast xs second)

@@ -1,28 +1,26 @@
 -- What one instance makes leaves the world sound.
-use Rattle.std.proofs.Common.{◌≡◌, ◌∙◌, ℕ, List, [], ◌∷◌, ◌++◌, Bool, true, false, ◌||◌, Option, Some, None, map, length, refl, sym, ap, subst, true≢false}
-use Rattle.std.specs.Prelude.{◌==◌, is_some, slice_get, slice_set}
+use Rattle.std.proofs.Common.{◌≡◌, ◌∙◌, ℕ, List, [], ◌∷◌, ◌++◌, true, false, ◌||◌, None, length, refl, sym, ap, subst, true≢false}
+use Rattle.std.specs.Prelude.{◌==◌, is_some}
 use Rattle.std.specs.Option.{option_map_or}
 use Rattle.kvs_rules.specs.Sequence.{EachAfter}
 use Rattle.kvs_rules.proofs.Sequences.{each_joined}
 use Rattle.answers.specs.Chronicle.{Setup, top}
 use Rattle.answers.specs.Jobs.{instance_of}
 use Rattle.answers.specs.declared.chronicle.Entry.{Entry}
-use Rattle.answers.specs.declared.chronicle.Entry.TheVariants as entry
 use Rattle.answers.specs.declared.steps.Step.{Step}
-use Rattle.hierarchy.specs.Births.{birth_of, is_born, lives, numbers}
-use Rattle.hierarchy.specs.Growing.{GoesOn}
-use Rattle.hierarchy.specs.Grows.{GrowsByOwn, GrowsOwn, LivesSo, StaysAs}
-use Rattle.hierarchy.specs.Legal.{HasRunRest, IsLegalRun, IsLegalRunEntry, IsSettledRun, RunRestsAtIssue}
-use Rattle.hierarchy.specs.Own.{child_setup, own_of, setup_in, work_for}
-use Rattle.hierarchy.specs.Stretches.{AreRunStretches, IsRunStretch, entered_in}
+use Rattle.hierarchy.specs.Births.{birth_of, is_born}
+use Rattle.hierarchy.specs.Grows.{LivesSo}
+use Rattle.hierarchy.specs.Legal.{HasRunRest, IsLegalRunEntry, IsSettledRun, RunRestsAtIssue}
+use Rattle.hierarchy.specs.Own.{child_setup, work_for}
+use Rattle.hierarchy.specs.Stretches.{AreRunStretches, IsRunStretch}
 use Rattle.instance.specs.Steps.{IsIssue}
 use Rattle.instance_rules.specs.Log.{IsInstance}
 use Rattle.world.specs.Advances.{Advances}
-use Rattle.world.specs.Homes.{AreHomes, ArePlaces, IsHome}
-use Rattle.world.specs.Sound.{AreValid, IsRunning, IsSound}
+use Rattle.homes.specs.Homes.{AreValid}
+use Rattle.world.specs.Sound.{IsRunning, IsSound}
 use Rattle.world.specs.Value.{WorldValue}
-use Rattle.world.specs.declared.homes.Home.{Home}
-use Rattle.world.specs.declared.homes.Place.{Place}
+use Rattle.homes.specs.declared.homes.Home.{Home}
+use Rattle.homes.specs.declared.homes.Place.{Place}
 use Rattle.world.proofs.Stretching.{stretches_on}
 
 -- ---- what was given stays valid

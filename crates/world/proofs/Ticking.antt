@@ -35,19 +35,20 @@ use Rattle.instance_rules.specs.Family.{EndsIn, HasTarget, IsAhead, IsTarget, Li
 use Rattle.job_rules.proofs.Among.{Among, all_at, all_from, among_append, among_filter, among_from, among_left, among_right, any_at, contains_from}
 use Rattle.manager_rules.specs.Times.{IsLeast, seconds_ahead, seconds_of}
 use Rattle.world.specs.Advances.{Advances}
-use Rattle.world.specs.Homes.{AreHomes, ArePlaces, IsHome, answered}
+use Rattle.homes.specs.Homes.{AreHomes, ArePlaces, IsHome, answered}
 use Rattle.world.specs.Sound.{IsSound}
-use Rattle.world.specs.Steps.{all_ends, all_targets, can_tick, has_due, is_left, keeps_time, may_go, of_living}
-use Rattle.world.specs.Tells.{EachLiving, HasPassedTo, HavePassedTo, MayPassTo, TellAll}
+use Rattle.homes.specs.Times.{all_ends, all_targets, has_due, is_left, may_go, of_living}
+use Rattle.world.specs.Steps.{can_tick, keeps_time}
+use Rattle.homes.specs.Tells.{EachLiving, HasPassedTo, HavePassedTo, MayPassTo, TellAll}
 use Rattle.world.specs.Value.{WorldValue}
-use Rattle.world.specs.declared.homes.Home.{Home}
-use Rattle.world.specs.declared.homes.Place.{Place}
+use Rattle.homes.specs.declared.homes.Home.{Home}
+use Rattle.homes.specs.declared.homes.Place.{Place}
 use Rattle.world.proofs.Housing.{home_is}
-use Rattle.world.proofs.Placing.{all_silent, counts_joined, places_stay}
+use Rattle.homes.proofs.Placing.{all_silent, counts_joined, places_stay}
 use Rattle.world.proofs.Resting.{among_flat, flat_among, living_home, no_end}
-use Rattle.world.proofs.Seating.{any_counted}
+use Rattle.homes.proofs.Seating.{any_counted}
 use Rattle.world.proofs.Running.{home_agrees, home_lives, known}
-use Rattle.world.proofs.Standing.{grown_home, homes_told, item_at, stays_home}
+use Rattle.homes.proofs.Standing.{grown_home, homes_told, item_at, stays_home}
 use Rattle.world.proofs.Stepping.{step_advances, step_sound, stepped, valid_so}
 
 -- ---- lists

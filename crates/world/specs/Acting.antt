@@ -1,8 +1,8 @@
 -- Where the actor stands whose step is made.
 use Rattle.std.specs.Prelude.{◌≡◌, ℕ, List, true, false, Some, option_and_then, slice_get}
 use Rattle.std.specs.Option.{option_map_or}
-use Rattle.world.specs.declared.homes.Home.{Home}
-use Rattle.world.specs.declared.homes.Place.{Place}
+use Rattle.homes.specs.declared.homes.Home.{Home}
+use Rattle.homes.specs.declared.homes.Place.{Place}
 
 -- the place of an actor is in the instance of this number
 abbrev pub IsPlacedIn : List Place → ℕ → ℕ → Type 0

@@ -1,19 +1,18 @@
 -- The steps that a world can make, in the order in which it makes them.
-use Rattle.std.specs.Prelude.{◌≡◌, ◌==◌, ◌&&◌, ℕ, List, [], ◌∷◌, ◌++◌, Bool, false, Option, Some, None, filter_map, flat_map, length, map, option_and_then, option_map, slice_get, if◌then◌else◌}
+use Rattle.std.specs.Prelude.{◌==◌, ◌&&◌, ℕ, List, [], ◌∷◌, ◌++◌, Bool, false, Option, Some, None, filter_map, flat_map, length, map, option_and_then, option_map, slice_get, if◌then◌else◌}
 use Rattle.std.specs.List.{cons_option, enumerate_from, filter, range_with_len}
 use Rattle.std.specs.Option.{option_map_or}
-use Rattle.kvs_rules.specs.declared.events.KvsStep.{KvsStep}
 use Rattle.services.specs.Order.{possible}
-use Rattle.services.specs.Steps.{can_step}
 use Rattle.answers.specs.declared.steps.Step.{Step}
 use Rattle.answers.specs.declared.steps.Step.TheVariants as step
 use Rattle.instance.specs.Family.{bearing}
 use Rattle.instance.specs.Order.{answers}
 use Rattle.instance.specs.Steps.{can_post}
-use Rattle.world.specs.Steps.{can_issue, can_tick, may_go}
+use Rattle.homes.specs.Times.{may_go}
+use Rattle.world.specs.Steps.{can_issue, can_tick}
 use Rattle.world.specs.Value.{WorldValue}
-use Rattle.world.specs.declared.homes.Home.{Home}
-use Rattle.world.specs.declared.homes.Place.{Place}
+use Rattle.homes.specs.declared.homes.Home.{Home}
+use Rattle.homes.specs.declared.homes.Place.{Place}
 use Rattle.world.specs.declared.run.drawing.Kind.{Kind}
 use Rattle.world.specs.declared.run.drawing.Kind.TheVariants as kind
 
@@ -39,11 +38,6 @@ steps_in v kind.Reply i h = map step.Answer (answers h.instance)
 steps_in v kind.Post i h = only_if (can_post h.instance) (step.Post i)
 steps_in v kind.Birth i h = cons_option (option_map (step.Birth i) (bearing h.instance)) []
 steps_in v kind.End i h = only_if (may_go v.homes h) (step.End i)
-
--- the services of each instance list a step where they can make one
-abbrev pub ListTurns : List Home → Type 0
-ListTurns homes = (i : ℕ) (h : Home) → slice_get homes i ≡ Some h
-    → possible h.instance.services ≡ [] → (s : KvsStep) → can_step h.instance.services s ≡ false
 
 -- those that are left where it has gone: its actors are told
 abbrev pub steps_left : WorldValue → Kind → ℕ → List Step

@@ -6,7 +6,7 @@ use Rattle.answers.specs.declared.steps.Step.TheVariants as step
 use Rattle.world.specs.Order.{issues, only_if, steps_of}
 use Rattle.world.specs.Steps.{can_tick}
 use Rattle.world.specs.Value.{WorldValue}
-use Rattle.world.specs.declared.homes.Place.{Place}
+use Rattle.homes.specs.declared.homes.Place.{Place}
 use Rattle.world.specs.declared.run.drawing.Kind.{Kind}
 use Rattle.world.specs.declared.run.drawing.Kind.TheVariants as kind
 

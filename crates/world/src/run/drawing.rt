@@ -5,16 +5,15 @@ ghost use Rattle.std.specs.Option.{option_map_or};
 ghost use Rattle.hierarchy.specs.Legal.{HasRunRest};
 ghost use Rattle.instance.specs.Steps.{IsIssue};
 ghost use Rattle.kvs_core.specs.Walk.{nth};
-ghost use Rattle.world.specs.Homes.{living_at};
+ghost use Rattle.homes.specs.Homes.{living_at};
 ghost use Rattle.world.specs.Order.{before_end, issues, left_in, possible_steps, steps_at, steps_in, steps_of};
 ghost use Rattle.world.specs.Steps.{CanMake, can_issue};
 ghost use Rattle.world.specs.Walks.{by_instances, by_the_run, next_at};
-ghost use Rattle.world.specs.declared.homes.Home.{Home as HomeValue};
+ghost use Rattle.homes.specs.declared.homes.Home.{Home as HomeValue};
 
 use super::World;
-use super::time::rest;
-use crate::homes::{Home, Place, turns_are_listed};
 use answers::Step;
+use homes::{Home, Place, rest, turns_are_listed};
 
 /// The kinds of steps that instances have, in their fixed order.
 #[derive(Clone, Copy, Debug, PartialEq, Eq)]

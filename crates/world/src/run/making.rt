@@ -4,13 +4,12 @@ ghost use Rattle.hierarchy.specs.Families.{is_shutdown};
 ghost use Rattle.instance.specs.Steps.{can_answer as instance_can_answer};
 ghost use Rattle.world.specs.Acting.{IsGoneAt, IsPlacedIn};
 ghost use Rattle.world.specs.Advances.{Advances};
-ghost use Rattle.world.specs.Homes.{IsNextLine, living_at};
+ghost use Rattle.homes.specs.Homes.{IsNextLine, living_at};
 ghost use Rattle.world.specs.Steps.{CanMake, can_answer, can_issue, of_home};
 
 use super::{World, keep};
-use crate::entered::enter;
-use crate::homes::{Place, next_line};
 use answers::{Entry, Reply, Step};
+use homes::{Place, enter, next_line};
 use instance::CoreFault;
 use kvs_rules::KvsStep;
 use std::alloc::AllocError;

@@ -9,13 +9,13 @@ use Rattle.hierarchy.specs.Families.{second_in}
 use Rattle.hierarchy.specs.Own.{own_of, setup_in}
 use Rattle.instance.specs.Family.{bearing}
 use Rattle.world.specs.Advances.{Advances}
-use Rattle.world.specs.Inside.{AreSettled, IsChildHome}
+use Rattle.homes.specs.Inside.{AreSettled, IsChildHome}
 use Rattle.world.specs.Sound.{IsSound}
 use Rattle.world.specs.Steps.{can_make, is_job}
 use Rattle.world.specs.View.{value_of}
 use Rattle.world.proofs.Advancing.{advances_at}
 use Rattle.world.proofs.Birth.{birth_advances, birth_sound, early_now, few_places, home_agrees, job_is, next_number, top_is}
-use Rattle.world.proofs.Families.{home_lives, says_here}
+use Rattle.homes.proofs.Families.{home_lives, says_here}
 use Rattle.world.proofs.Stepping.{stepped}
 use Rattle.world.proofs.run.World.bear.Goals as goal
 

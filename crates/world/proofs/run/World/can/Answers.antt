@@ -1,8 +1,8 @@
-use Rattle.std.proofs.Common.{◌≡◌, ◌∙◌, false, ap, sym, subst}
-use Rattle.std.specs.Prelude.{IsTrue, Some, ◌↔◌}
+use Rattle.std.proofs.Common.{◌∙◌, false, ap, sym, subst}
+use Rattle.std.specs.Prelude.{IsTrue, ◌↔◌}
 use Rattle.kvs_core.specs.Walk.{nth}
-use Rattle.world.specs.Homes.{AreReady, living_at}
-use Rattle.world.specs.Order.{ListTurns, before_end}
+use Rattle.homes.specs.Homes.{AreReady, ListTurns, living_at}
+use Rattle.world.specs.Order.{before_end}
 use Rattle.world.specs.Steps.{CanMake}
 use Rattle.world.specs.View.{value_of}
 use Rattle.world.proofs.Housing.{all_ready, living_ready, own_lines, runs_in, seated}

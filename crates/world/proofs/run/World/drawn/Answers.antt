@@ -2,8 +2,8 @@ use Rattle.std.proofs.Common.{◌≡◌, ◌∙◌, ◌%◌, ◌<◌, [], ap, sy
 use Rattle.std.specs.Prelude.{min}
 use Rattle.std.proofs.lemmas.List.{nil_from_length}
 use Rattle.answers.specs.declared.steps.Step.TheVariants as step
-use Rattle.world.specs.Homes.{AreReady}
-use Rattle.world.specs.Order.{ListTurns, before_end}
+use Rattle.homes.specs.Homes.{AreReady, ListTurns}
+use Rattle.world.specs.Order.{before_end}
 use Rattle.world.specs.Steps.{CanMake}
 use Rattle.world.specs.View.{value_of}
 use Rattle.world.proofs.Choosing.{closes}

@@ -1,18 +1,18 @@
-use Rattle.std.proofs.Common.{◌≡◌, ◌∙◌, ◌<◌, ◌^◌, ◌++◌, ◌||◌, false, true, ap, arith, get_or, length, subst, sym}
+use Rattle.std.proofs.Common.{◌≡◌, ◌∙◌, ◌<◌, ◌^◌, ◌++◌, false, true, ap, arith, get_or, length, subst, sym}
 use Rattle.std.specs.Prelude.{filter_map, slice_set}
 use Rattle.std.proofs.lemmas.List.{with_items_is}
 use Rattle.answers.specs.declared.steps.Step.TheVariants as step
 use Rattle.hierarchy.specs.Inside.{marked_below}
 use Rattle.instance.specs.Family.{may_end}
 use Rattle.world.specs.Advances.{Advances}
-use Rattle.world.specs.Inside.{AreInside, AreRising, HaveGone, end_at}
+use Rattle.homes.specs.Inside.{AreInside, AreRising, HaveGone, end_at}
 use Rattle.world.specs.Sound.{IsSound}
 use Rattle.world.specs.Steps.{can_make}
 use Rattle.world.specs.View.{value_of}
 use Rattle.world.proofs.Advancing.{advances_at}
 use Rattle.world.proofs.Ending.{ends_advance, ends_sound, leaves, parent_read}
-use Rattle.world.proofs.Families.{rising}
-use Rattle.world.proofs.Marking.{mark_at}
+use Rattle.homes.proofs.Families.{rising}
+use Rattle.homes.proofs.Marking.{mark_at}
 use Rattle.world.proofs.Stepping.{stepped}
 use Rattle.world.proofs.run.World.end.Goals as goal
 

@@ -1,19 +1,20 @@
-use Rattle.std.proofs.Common.{◌≡◌, ◌∙◌, ◌+◌, ◌<◌, false, is_some, length, true, ap, arith, subst, sym}
+use Rattle.std.proofs.Common.{◌≡◌, ◌∙◌, ◌+◌, ◌<◌, is_some, length, true, ap, arith, subst, sym}
 use Rattle.std.specs.Prelude.{option_and_then, slice_get, slice_index_or}
 use Rattle.workload.specs.declared.work.Line.{Line}
 use Rattle.instance.specs.Agrees.{AreLinesOf}
 use Rattle.answers.specs.declared.steps.Step.TheVariants as step
 use Rattle.instance.specs.Makes.{MakesOf}
 use Rattle.instance.specs.Steps.{can_issue as instance_can_issue}
-use Rattle.world.specs.Homes.{IsNextLine, living_at}
+use Rattle.homes.specs.Homes.{IsNextLine, living_at}
 use Rattle.world.specs.Steps.{can_issue}
 use Rattle.world.specs.View.{value_of}
-use Rattle.world.specs.declared.homes.Home.{Home}
+use Rattle.homes.specs.declared.homes.Home.{Home}
 use Rattle.world.proofs.Advancing.{advances_at}
-use Rattle.world.proofs.Finding.{IsStanding, free_there, more_there, placed_at, placed_within, same_at, some_says}
+use Rattle.homes.proofs.Finding.{same_at, some_says}
+use Rattle.world.proofs.Finding.{free_there, more_there, placed_at, placed_within}
 use Rattle.world.proofs.Issuing.{can_issue_it, issue_advances, issue_sound, lines_of_it}
 use Rattle.world.proofs.Running.{home_is}
-use Rattle.world.proofs.Serving.{IsFound, living_found}
+use Rattle.world.proofs.Serving.{living_found}
 use Rattle.world.proofs.run.World.issue_in.Goals as goal
 
 pub issue-requires-clause-ready : goal.issue-requires-clause-ready

@@ -1,13 +1,14 @@
-use Rattle.std.proofs.Common.{◌≡◌, ◌∙◌, ◌+◌, ◌<◌, false, length, true, ap, arith, subst, sym}
+use Rattle.std.proofs.Common.{◌∙◌, ◌+◌, ◌<◌, false, length, ap, arith, subst, sym}
 use Rattle.std.specs.Prelude.{option_and_then, slice_get}
 use Rattle.std.specs.Option.{option_map_or}
-use Rattle.world.specs.Homes.{IsNextLine}
+use Rattle.homes.specs.Homes.{IsNextLine}
 use Rattle.world.specs.Steps.{can_issue}
 use Rattle.world.specs.View.{value_of}
 use Rattle.world.proofs.Advancing.{advances_at}
-use Rattle.world.proofs.Finding.{IsFoundIn, IsStanding, free_there, more_there, option_found, placed_at, placed_within}
+use Rattle.homes.proofs.Finding.{option_found}
+use Rattle.world.proofs.Finding.{free_there, more_there, placed_at, placed_within}
 use Rattle.world.proofs.Left.{issue_left_advances, issue_left_sound}
-use Rattle.world.proofs.Standing.{item_at}
+use Rattle.homes.proofs.Standing.{item_at}
 use Rattle.world.proofs.run.World.issue_left.Goals as goal
 
 pub issued_from-requires-clause-next : goal.issued_from-requires-clause-next

@@ -1,5 +1,5 @@
 use Rattle.std.proofs.Common.{◌∙◌, ap, sym, subst}
-use Rattle.world.specs.Homes.{AreReady}
+use Rattle.homes.specs.Homes.{AreReady}
 use Rattle.world.specs.View.{value_of}
 use Rattle.world.proofs.Housing.{all_ready}
 use Rattle.world.proofs.run.World.may_go.Goals as goal

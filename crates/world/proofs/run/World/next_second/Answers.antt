@@ -2,9 +2,10 @@ use Rattle.std.proofs.Common.{◌≡◌, ◌∙◌, ◌++◌, false, ap, sym, su
 use Rattle.std.specs.Prelude.{IfSome}
 use Rattle.std.specs.List.{list_any}
 use Rattle.manager_rules.specs.Times.{IsLeast}
-use Rattle.world.specs.Homes.{AreReady}
-use Rattle.world.specs.Steps.{all_ends, all_targets, can_tick, is_left}
-use Rattle.world.specs.Tells.{TellAll}
+use Rattle.homes.specs.Homes.{AreReady}
+use Rattle.homes.specs.Times.{all_ends, all_targets, is_left}
+use Rattle.world.specs.Steps.{can_tick}
+use Rattle.homes.specs.Tells.{TellAll}
 use Rattle.world.specs.View.{value_of}
 use Rattle.world.proofs.Housing.{all_ready}
 use Rattle.world.proofs.Seconds.{can_so, if_least, if_some}

@@ -5,11 +5,11 @@ use Rattle.answers.specs.declared.steps.Step.TheVariants as step
 use Rattle.world.specs.Order.{left_in, steps_at, steps_in, steps_left}
 use Rattle.world.specs.Value.{WorldValue}
 use Rattle.world.specs.View.{value_of}
-use Rattle.world.specs.declared.homes.Home.{Home}
+use Rattle.homes.specs.declared.homes.Home.{Home}
 use Rattle.world.specs.declared.run.drawing.Kind.{Kind}
 use Rattle.world.specs.declared.run.drawing.Kind.TheVariants as kind
 use Rattle.world.proofs.Housing.{all_ready}
-use Rattle.world.proofs.Walking.{item_here, item_is}
+use Rattle.homes.proofs.Walking.{item_here, item_is}
 use Rattle.world.proofs.run.World.nth_at.Goals.{After-index-home}
 use Rattle.world.proofs.run.World.nth_at.Goals as goal
 

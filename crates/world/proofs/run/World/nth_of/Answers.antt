@@ -2,8 +2,8 @@ use Rattle.std.proofs.Common.{◌∙◌, ◌<◌, ap, arith, length, sym}
 use Rattle.std.specs.List.{enumerate_from}
 use Rattle.std.proofs.lemmas.List.FromFn.{length-enumerate_from}
 use Rattle.world.specs.Order.{steps_at}
-use Rattle.world.proofs.Standing.{item_at}
-use Rattle.world.proofs.Walking.{enumerated, walk_end, walk_here, walk_more}
+use Rattle.homes.proofs.Standing.{item_at}
+use Rattle.homes.proofs.Walking.{enumerated, walk_end, walk_here, walk_more}
 use Rattle.world.proofs.run.World.nth_of.Goals as goal
 
 pub returns-in-Ok : goal.returns-in-Ok

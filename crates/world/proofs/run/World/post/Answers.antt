@@ -1,11 +1,11 @@
-use Rattle.std.proofs.Common.{◌≡◌, ◌∙◌, true, ap}
+use Rattle.std.proofs.Common.{◌∙◌, ap}
 use Rattle.instance.specs.Steps.{can_post}
 use Rattle.world.specs.Steps.{of_home}
 use Rattle.world.specs.View.{value_of}
-use Rattle.world.specs.declared.homes.Home.{Home}
+use Rattle.homes.specs.declared.homes.Home.{Home}
 use Rattle.world.proofs.Advancing.{advances_at}
 use Rattle.world.proofs.Running.{home_is}
-use Rattle.world.proofs.Serving.{IsFound, living_found, post_advances, post_sound}
+use Rattle.world.proofs.Serving.{living_found, post_advances, post_sound}
 use Rattle.world.proofs.run.World.post.Goals as goal
 
 pub post-requires-clause-ready : goal.post-requires-clause-ready

@@ -1,15 +1,14 @@
-use Rattle.std.proofs.Common.{◌≡◌, ◌∙◌, ◌<◌, true, ap, arith}
+use Rattle.std.proofs.Common.{◌∙◌, ap, arith}
 use Rattle.std.specs.Prelude.{option_and_then, slice_get}
-use Rattle.std.proofs.lemmas.Option.{slice_get_within}
 use Rattle.instance.specs.Steps.{can_answer}
 use Rattle.world.specs.Steps.{of_home}
 use Rattle.world.specs.View.{value_of}
-use Rattle.world.specs.declared.homes.Home.{Home}
+use Rattle.homes.specs.declared.homes.Home.{Home}
 use Rattle.world.proofs.Acting.{reply_advances, reply_sound}
 use Rattle.world.proofs.Advancing.{advances_at}
-use Rattle.world.proofs.Finding.{IsStanding, placed_at, placed_within}
+use Rattle.world.proofs.Finding.{placed_at, placed_within}
 use Rattle.world.proofs.Running.{home_is}
-use Rattle.world.proofs.Serving.{IsFound, living_found}
+use Rattle.world.proofs.Serving.{living_found}
 use Rattle.world.proofs.run.World.reply_in.Goals as goal
 
 pub answer-requires-clause-ready : goal.answer-requires-clause-ready

@@ -1,15 +1,14 @@
-use Rattle.std.proofs.Common.{◌≡◌, ◌∙◌, ◌<◌, ◌-◌, ◌++◌, ◌∷◌, [], None, false, true, ap, arith}
+use Rattle.std.proofs.Common.{◌∙◌, ◌-◌, ◌++◌, ◌∷◌, [], None, false, ap, arith}
 use Rattle.std.specs.Prelude.{option_and_then, slice_get}
 use Rattle.std.specs.Option.{option_map_or}
 use Rattle.answers.specs.declared.chronicle.Entry.TheVariants as entry
 use Rattle.answers.specs.declared.chronicle.Reply.TheVariants as reply
-use Rattle.world.specs.Acting.{IsGoneAt, IsPlacedIn}
 use Rattle.world.specs.Steps.{can_answer}
 use Rattle.world.specs.View.{value_of}
-use Rattle.world.specs.declared.homes.Home.{Home}
-use Rattle.world.specs.declared.homes.Place.{Place}
+use Rattle.homes.specs.declared.homes.Place.{Place}
 use Rattle.world.proofs.Advancing.{advances_at}
-use Rattle.world.proofs.Finding.{IsFoundIn, IsStanding, option_found, placed_at, placed_within, same_read, waits_left}
+use Rattle.homes.proofs.Finding.{option_found, same_read}
+use Rattle.world.proofs.Finding.{placed_at, placed_within, waits_left}
 use Rattle.world.proofs.Left.{has_some, tell_advances, tell_sound}
 use Rattle.world.proofs.run.World.tell_left.Goals as goal
 

@@ -3,10 +3,11 @@ use Rattle.std.proofs.lemmas.List.{with_items_is}
 use Rattle.answers.specs.declared.steps.Step.TheVariants as step
 use Rattle.manager_rules.specs.Times.{IsLeast}
 use Rattle.world.specs.Advances.{Advances}
-use Rattle.world.specs.Homes.{AreReady}
+use Rattle.homes.specs.Homes.{AreReady}
 use Rattle.world.specs.Sound.{IsSound}
-use Rattle.world.specs.Steps.{all_ends, all_targets, can_tick}
-use Rattle.world.specs.Tells.{EachLiving, HavePassedTo, MayPassTo, TellAll}
+use Rattle.homes.specs.Times.{all_ends, all_targets}
+use Rattle.world.specs.Steps.{can_tick}
+use Rattle.homes.specs.Tells.{EachLiving, HavePassedTo, MayPassTo, TellAll}
 use Rattle.world.specs.View.{value_of}
 use Rattle.world.proofs.Advancing.{advances_at}
 use Rattle.world.proofs.Housing.{all_ready}

@@ -6,7 +6,7 @@ use Rattle.kvs_core.specs.Walk.{nth}
 use Rattle.kvs_core.proofs.Walking.{peeled, ended, skipped, found, counted}
 use Rattle.answers.specs.declared.steps.Step.TheVariants as step
 use Rattle.world.specs.Order.{left_in, waits_in}
-use Rattle.world.specs.declared.homes.Place.{Place}
+use Rattle.homes.specs.declared.homes.Place.{Place}
 use Rattle.world.proofs.Numbering.{mapped, unmapped}
 use Rattle.world.proofs.run.drawing.nth_left.Goals as goal
 use Rattle.world.proofs.run.drawing.nth_left.Goals.{then-waits_in+else-left-eq0, else-waits_in}

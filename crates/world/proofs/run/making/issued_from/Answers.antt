@@ -1,5 +1,5 @@
-use Rattle.world.proofs.Lining.{next_line_on}
-use Rattle.world.proofs.Standing.{item_at}
+use Rattle.homes.proofs.Lining.{next_line_on}
+use Rattle.homes.proofs.Standing.{item_at}
 use Rattle.world.proofs.run.making.issued_from.Goals as goal
 
 pub returns-clause-next : goal.returns-clause-next

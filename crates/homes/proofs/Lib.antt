@@ -1,0 +1,16 @@
+pub mod Members
+pub mod Hosts
+pub mod Standing
+pub mod Finding
+pub mod Placing
+pub mod Lining
+pub mod Seating
+pub mod Beginning
+pub mod Making
+pub mod Walking
+pub mod Passing
+pub mod Telling
+pub mod Marking
+pub mod Families
+pub mod Leaving
+pub mod Bearing

@@ -1,7 +1,0 @@
-use Rattle.std.proofs.Common.{◌≡◌, false, take}
-use Rattle.std.specs.List.{list_any}
-use Rattle.world.specs.Steps.{is_left}
-use Rattle.world.proofs.run.time.are_left.Given as goal
-
-abbrev pub invariant-loop-place : goal.invariant-loop-place
-invariant-loop-place l = list_any (is_left l.homes) (take l.place-index l.places) ≡ false

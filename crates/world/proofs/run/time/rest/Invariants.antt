@@ -1,9 +1,0 @@
-use Rattle.world.specs.Tells.{TellsEndIn, TellsRest}
-use Rattle.world.proofs.Walking.{LivingBelow}
-use Rattle.world.proofs.run.time.rest.Given as goal
-
-abbrev pub invariant-loop-home : goal.invariant-loop-home
-invariant-loop-home l = record {
-  rest : LivingBelow TellsRest l.homes l.home-index;
-  goes : LivingBelow (TellsEndIn l.homes) l.homes l.home-index;
-}
