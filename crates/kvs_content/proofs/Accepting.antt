@@ -17,15 +17,15 @@ use Rattle.kvs_rules.specs.Answers.{IsLegalAfter}
 use Rattle.blob_store.specs.Blobs.{blob_at}
 use Rattle.kvs_content.specs.declared.offers.Offer.{Offer}
 use Rattle.kvs_content.specs.declared.wants.Want.{Want}
-use Rattle.kvs_content.specs.Messages.{AreSettled, waits_at}
+use Rattle.kvs_content.specs.Messages.{AreSettled, outcome, same_bytes, waits_at}
 use Rattle.kvs_content.specs.Sound.{ArePlaced, IsDirty}
 use Rattle.kvs_content.specs.Value.{ContentValue, node_at, size_of}
-use Rattle.kvs_content.specs.Agrees.{AgreesContent, Follows, IsBlob, IsKept, IsRefused, NodeAgrees, WantAgrees}
+use Rattle.kvs_content.specs.Agrees.{AgreesContent, Follows, IsBlob, IsKept, IsRefused, NodeAgrees, OfferStageAgrees, WantAgrees}
 use Rattle.kvs_content.specs.Node.{NodeValue, getting, with_cache}
 use Rattle.kvs_content.proofs.Agreeing.{after, each-map}
 use Rattle.kvs_content.proofs.Events.{coming, gets-legal, got-after, held-after}
 use Rattle.kvs_content.proofs.Following.{agrees-then, root-other}
-use Rattle.kvs_content.proofs.Getting.{settled-agrees, waits-of}
+use Rattle.kvs_content.proofs.Getting.{kept-agrees, settled-agrees, waits-of}
 use Rattle.kvs_content.proofs.Later.{blob-later, got-later, offer-later, refused-later, want-later}
 use Rattle.kvs_content.proofs.Lists.{equal-itself}
 
@@ -96,8 +96,8 @@ some-so o h = h
 
 module _ (v w : ContentValue) (set : Setting) (log : Log) (a : AgreesContent v set log) (broker : ℕ) (within : broker < size_of v) (r : BlobRef)
     (fanout : w.fanout ≡ v.fanout) (hash : w.hash ≡ v.hash) (store : w.store ≡ v.store) (wants : w.wants ≡ v.wants) where
-  module _ (placed : ArePlaced v) (nodes : w.nodes ≡ put v.nodes broker (with_cache (acknowledged r (node_at v broker).cache) (node_at v broker)))
-      (sent : AreSettled v.fanout broker r true v.offers w.offers) (below : 0 < broker) (source : has_got log (parent v.fanout broker) r ≡ true) where
+  module _ (placed : ArePlaced v) (bytes : List ℕ) (there : blob_at r v.store ≡ Some bytes) (nodes : w.nodes ≡ put v.nodes broker (with_cache (acknowledged r (node_at v broker).cache) (node_at v broker)))
+      (sent : AreSettled v.fanout broker r (Some bytes) v.offers w.offers) (below : 0 < broker) (source : has_got log (parent v.fanout broker) r ≡ true) where
     abbrev does : Bool
     does = is_some (dirty_at r (node_at v broker).cache)
 
@@ -125,13 +125,22 @@ module _ (v w : ContentValue) (set : Setting) (log : Log) (a : AgreesContent v s
         let dirty : IsDirty v broker r = subst (λ y. IsDirty v broker y) there.named (subst (λ b. IsDirty v b (get_or v.offers k d).reference) there.up ((placed.offers k d l).waits there.waits)) in
         ap (λ b. has_got log-after b r) there.up ∙ got-here dirty
 
+    -- what waited is told whether its bytes are the content's
+    told-waiting : (k : ℕ) (d : Offer) → k < length v.offers → waits_at v.fanout broker r (get_or v.offers k d) ≡ true → OfferStageAgrees set log-after v.fanout (get_or v.offers k d).child r (outcome (same_bytes bytes (get_or v.offers k d).bytes))
+    told-waiting k d l e =
+        kept-agrees set log-after v.fanout (get_or v.offers k d).child r bytes (get_or v.offers k d).bytes
+        (blob-later log (map Happened (coming broker r does [])) set r bytes (a.store r bytes there))
+        (blob-later log (map Happened (coming broker r does [])) set r (get_or v.offers k d).bytes
+        (subst (λ x. IsBlob set log x (get_or v.offers k d).bytes) (waits-of v.fanout broker r (get_or v.offers k d) e).named (a.offers k d l).0))
+        (told k d l e) (root-same r ∙ ap is_some (ap (blob_at r) store ∙ there))
+
     agrees : AgreesContent w set log-after
     agrees = agrees-then v w set log a broker r does [] _ within nodes fanout hash (λ e. inr source)
         (node-accepted set log broker r (node_at v broker) (a.nodes broker within))
         root-same
         (λ x bytes e. blob-later log (map Happened (coming broker r does [])) set x bytes (a.store x bytes (ap (blob_at x) (sym store) ∙ e)))
-        (settled-agrees set log-after v.fanout broker r true v.offers w.offers sent told
-        (λ k d l. offer-later log (map Happened (coming broker r does [])) set v.fanout _ _ _ (a.offers k d l)))
+        (settled-agrees set log-after v.fanout broker r (Some bytes) v.offers w.offers sent told-waiting
+        (λ k d l. offer-later log (map Happened (coming broker r does [])) set v.fanout _ _ _ _ (a.offers k d l)))
         (subst (λ ws. (k : ℕ) (d : Want) → k < length ws → WantAgrees set log-after v.fanout (get_or ws k d)) (sym wants)
         (λ k d l. want-later log (map Happened (coming broker r does [])) set v.fanout _ (a.wants k d l)))
 

@@ -93,77 +93,78 @@ bytes-of o = option_map (λ held. held.bytes) o
 abbrev pub fresh : BlobRef → NodeValue → Bool
 fresh r node = not (is_some (clean_at r node.cache))
 
-module _ (set : Setting) (log : Log) (broker : ℕ) (r : BlobRef) (bytes : List ℕ) (old new : NodeValue) (events : List KvsEvent) (h : IsGetting broker r bytes old new events)
-    (agrees : NodeAgrees set log broker old) (blob : IsBlob set log r bytes) where
-  -- the broker that got a content holds it, and not what it dropped
-  pub node-got : NodeAgrees set (after log broker r (fresh r old) h.gone) broker new
-  node-got = record {
-    held = held;
-    clean = λ x found e. blob-later log (map Happened (coming broker r (fresh r old) h.gone)) set x found (clean x found e);
-    dirty = subst (Each (λ e. IsBlob set (after log broker r (fresh r old) h.gone) e.0 e.1)) (sym h.dirty)
-        (all-remove (λ e. IsBlob set (after log broker r (fresh r old) h.gone) e.0 e.1) (same_reference r) old.cache.dirty
-        (each-map (λ e. IsBlob set log e.0 e.1) (λ e. IsBlob set (after log broker r (fresh r old) h.gone) e.0 e.1) (λ e b. blob-later log (map Happened (coming broker r (fresh r old) h.gone)) set e.0 e.1 b) old.cache.dirty agrees.dirty));
-    refused = subst (Each (IsRefused set (after log broker r (fresh r old) h.gone))) (sym h.refused)
-        (each-map (IsRefused set log) (IsRefused set (after log broker r (fresh r old) h.gone)) (λ x b. refused-later log (map Happened (coming broker r (fresh r old) h.gone)) set x b) old.refused agrees.refused);
-    unpinned = λ x kept e. free x kept (list_any (same_reference x) h.gone) (same_reference x r) refl refl (sym (h.rest.left x) ∙ e);
-  } where
-    -- a look-up among the clean contents now
-    found-now : (x : BlobRef) → clean_at x new.cache ≡ option_map (λ held. held.bytes) (cond (list_any (same_reference x) h.gone) None (lookup (same_reference x) (filled r bytes old.cache.clean)))
-    found-now x = ap (option_map (λ held. held.bytes)) (h.rest.left x)
+module _ (broker : ℕ) (r : BlobRef) (bytes : List ℕ) (old new : NodeValue) (events : List KvsEvent) (h : IsGetting broker r bytes old new events) where
+  -- a look-up among the clean contents now
+  found-now : (x : BlobRef) → clean_at x new.cache ≡ option_map (λ held. held.bytes) (cond (list_any (same_reference x) h.gone) None (lookup (same_reference x) (filled r bytes old.cache.clean)))
+  found-now x = ap (option_map (λ held. held.bytes)) (h.rest.left x)
 
-    filled-is : (x : BlobRef) (s : Bool) → same_reference x r ≡ s → option_map (λ held. held.bytes) (lookup (same_reference x) (filled r bytes old.cache.clean)) ≡ cond s (Some (unwrap_or (lookup (same_reference r) old.cache.clean) (unpinned bytes)).bytes) (clean_at x old.cache)
-    filled-is x true s = ap (λ b. option_map (λ (held : Held). held.bytes) (cond b (Some (unwrap_or (lookup (same_reference r) old.cache.clean) (unpinned bytes))) (lookup (same_reference x) (remove_entry (same_reference r) old.cache.clean)))) s
-    filled-is x false s =
-        ap (λ b. option_map (λ (held : Held). held.bytes) (cond b (Some (unwrap_or (lookup (same_reference r) old.cache.clean) (unpinned bytes))) (lookup (same_reference x) (remove_entry (same_reference r) old.cache.clean)))) s
-        ∙ ap (option_map (λ (held : Held). held.bytes)) (lookup-other x r s old.cache.clean)
+  filled-is : (x : BlobRef) (s : Bool) → same_reference x r ≡ s → option_map (λ held. held.bytes) (lookup (same_reference x) (filled r bytes old.cache.clean)) ≡ cond s (Some (unwrap_or (lookup (same_reference r) old.cache.clean) (unpinned bytes)).bytes) (clean_at x old.cache)
+  filled-is x true s = ap (λ b. option_map (λ (held : Held). held.bytes) (cond b (Some (unwrap_or (lookup (same_reference r) old.cache.clean) (unpinned bytes))) (lookup (same_reference x) (remove_entry (same_reference r) old.cache.clean)))) s
+  filled-is x false s =
+      ap (λ b. option_map (λ (held : Held). held.bytes) (cond b (Some (unwrap_or (lookup (same_reference r) old.cache.clean) (unpinned bytes))) (lookup (same_reference x) (remove_entry (same_reference r) old.cache.clean)))) s
+      ∙ ap (option_map (λ (held : Held). held.bytes)) (lookup-other x r s old.cache.clean)
 
-    -- the same look-up, where it is known whether the reference went
-    found-at : (x : BlobRef) (n : Bool) → list_any (same_reference x) h.gone ≡ n → option_map (λ held. held.bytes) (cond (list_any (same_reference x) h.gone) None (lookup (same_reference x) (filled r bytes old.cache.clean)))
-        ≡ option_map (λ held. held.bytes) (cond n None (lookup (same_reference x) (filled r bytes old.cache.clean)))
-    found-at x n e = ap (λ m. option_map (λ (held : Held). held.bytes) (cond m None (lookup (same_reference x) (filled r bytes old.cache.clean)))) e
+  -- the same look-up, where it is known whether the reference went
+  found-at : (x : BlobRef) (n : Bool) → list_any (same_reference x) h.gone ≡ n → option_map (λ held. held.bytes) (cond (list_any (same_reference x) h.gone) None (lookup (same_reference x) (filled r bytes old.cache.clean)))
+      ≡ option_map (λ held. held.bytes) (cond n None (lookup (same_reference x) (filled r bytes old.cache.clean)))
+  found-at x n e = ap (λ m. option_map (λ (held : Held). held.bytes) (cond m None (lookup (same_reference x) (filled r bytes old.cache.clean)))) e
 
-    lhs-at : (x : BlobRef) (n s : Bool) → list_any (same_reference x) h.gone ≡ n → same_reference x r ≡ s
-        → cond ((broker == broker) && list_any (same_reference x) h.gone) false ((fresh r old && ((broker == broker) && same_reference x r)) || holds log broker x)
-        ≡ cond ((broker == broker) && n) false ((fresh r old && ((broker == broker) && s)) || holds log broker x)
-    lhs-at x n s e f =
-        ap (λ m. cond ((broker == broker) && m) false ((fresh r old && ((broker == broker) && same_reference x r)) || holds log broker x)) e
-        ∙ ap (λ q. cond ((broker == broker) && n) false ((fresh r old && ((broker == broker) && q)) || holds log broker x)) f
+  -- what is clean then was so, or is the content
+  pub got-clean : (P : BlobRef → List ℕ → Type 0) → P r bytes → ((x : BlobRef) (found : List ℕ) → clean_at x old.cache ≡ Some found → P x found) → (x : BlobRef) (found : List ℕ) → clean_at x new.cache ≡ Some found → P x found
+  got-clean P here there x found e = by (list_any (same_reference x) h.gone) (same_reference x r) refl refl (sym (found-now x) ∙ e)
+    where
+      own : (o : Option Held) → lookup (same_reference r) old.cache.clean ≡ o → Some (unwrap_or o (unpinned bytes)).bytes ≡ Some found → P r found
+      own None g same = subst (P r) (let same₁ : bytes ≡ found = cc in same₁) here
+      own (Some kept) g same = there r found (ap (option_map (λ (held : Held). held.bytes)) g ∙ same)
 
-    held : (x : BlobRef) → holds (after log broker r (fresh r old) h.gone) broker x ≡ is_some (clean_at x new.cache)
-    held x = held-after log broker r (fresh r old) h.gone broker x ∙ by (list_any (same_reference x) h.gone) (same_reference x r) refl refl ∙ ap is_some (sym (found-now x))
-      where
-        by : (n s : Bool) → list_any (same_reference x) h.gone ≡ n → same_reference x r ≡ s
-            → cond ((broker == broker) && list_any (same_reference x) h.gone) false ((fresh r old && ((broker == broker) && same_reference x r)) || holds log broker x)
-            ≡ is_some (option_map (λ held. held.bytes) (cond (list_any (same_reference x) h.gone) None (lookup (same_reference x) (filled r bytes old.cache.clean))))
-        by true s n e = lhs-at x true s n e ∙ gone-held (broker == broker) (fresh r old) s (holds log broker x) (equal-itself broker) ∙ sym (ap is_some (found-at x true n))
-        by false true n e =
-            lhs-at x false true n e
-            ∙ here-held (broker == broker) (fresh r old) (holds log broker x) (equal-itself broker) (ap (λ y. not (is_some (clean_at y old.cache))) (sym (same_true x r e)) ∙ ap not (sym (agrees.held x)))
-            ∙ sym (ap is_some (found-at x false n ∙ filled-is x true e))
-        by false false n e =
-            lhs-at x false false n e ∙ stays-held (broker == broker) (fresh r old) (holds log broker x) ∙ agrees.held x
-            ∙ sym (ap is_some (found-at x false n ∙ filled-is x false e))
+      by : (n s : Bool) → list_any (same_reference x) h.gone ≡ n → same_reference x r ≡ s
+          → option_map (λ held. held.bytes) (cond (list_any (same_reference x) h.gone) None (lookup (same_reference x) (filled r bytes old.cache.clean))) ≡ Some found → P x found
+      by true s n t g = let bad : None ≡ Some found = sym (found-at x true n) ∙ g in absurd (let no : ⊥ = cc in no)
+      by false true n t g =
+          subst (λ y. P y found) (sym (same_true x r t)) (own (lookup (same_reference r) old.cache.clean) refl (sym (found-at x false n ∙ filled-is x true t) ∙ g))
+      by false false n t g = there x found (sym (found-at x false n ∙ filled-is x false t) ∙ g)
 
-    free : (x : BlobRef) (kept : Held) (n s : Bool) → list_any (same_reference x) h.gone ≡ n → same_reference x r ≡ s
-        → cond (list_any (same_reference x) h.gone) None (lookup (same_reference x) (filled r bytes old.cache.clean)) ≡ Some kept → is_pinned kept ≡ false
-    free x kept true s n t e = let bad : None ≡ Some kept = rw n at e in absurd (let no : ⊥ = cc in no)
-    free x kept false true n t e = own (lookup (same_reference r) old.cache.clean) refl (let found : Some (unwrap_or (lookup (same_reference r) old.cache.clean) (unpinned bytes)) ≡ Some kept = rw t at (rw n at e) in found)
-      where
-        own : (o : Option Held) → lookup (same_reference r) old.cache.clean ≡ o → Some (unwrap_or (lookup (same_reference r) old.cache.clean) (unpinned bytes)) ≡ Some kept → is_pinned kept ≡ false
-        own None g same = let same₁ : unpinned bytes ≡ kept = let found : Some (unpinned bytes) ≡ Some kept = rw g at same in cc in ap is_pinned (sym same₁)
-        own (Some before) g same = let same₁ : before ≡ kept = let found : Some before ≡ Some kept = rw g at same in cc in ap is_pinned (sym same₁) ∙ agrees.unpinned r before g
-    free x kept false false n t e = agrees.unpinned x kept (sym (lookup-other x r t old.cache.clean) ∙ (let found : lookup (same_reference x) (remove_entry (same_reference r) old.cache.clean) ≡ Some kept = rw t at (rw n at e) in found))
+  module _ (set : Setting) (log : Log) (agrees : NodeAgrees set log broker old) (blob : IsBlob set log r bytes) where
+    -- the broker that got a content holds it, and not what it dropped
+    pub node-got : NodeAgrees set (after log broker r (fresh r old) h.gone) broker new
+    node-got = record {
+      held = held;
+      clean = λ x found e. blob-later log (map Happened (coming broker r (fresh r old) h.gone)) set x found (got-clean (IsBlob set log) blob agrees.clean x found e);
+      dirty = subst (Each (λ e. IsBlob set (after log broker r (fresh r old) h.gone) e.0 e.1)) (sym h.dirty)
+          (all-remove (λ e. IsBlob set (after log broker r (fresh r old) h.gone) e.0 e.1) (same_reference r) old.cache.dirty
+          (each-map (λ e. IsBlob set log e.0 e.1) (λ e. IsBlob set (after log broker r (fresh r old) h.gone) e.0 e.1) (λ e b. blob-later log (map Happened (coming broker r (fresh r old) h.gone)) set e.0 e.1 b) old.cache.dirty agrees.dirty));
+      refused = subst (Each (IsRefused set (after log broker r (fresh r old) h.gone))) (sym h.refused)
+          (each-map (IsRefused set log) (IsRefused set (after log broker r (fresh r old) h.gone)) (λ x b. refused-later log (map Happened (coming broker r (fresh r old) h.gone)) set x b) old.refused agrees.refused);
+      unpinned = λ x kept e. free x kept (list_any (same_reference x) h.gone) (same_reference x r) refl refl (sym (h.rest.left x) ∙ e);
+    } where
+      lhs-at : (x : BlobRef) (n s : Bool) → list_any (same_reference x) h.gone ≡ n → same_reference x r ≡ s
+          → cond ((broker == broker) && list_any (same_reference x) h.gone) false ((fresh r old && ((broker == broker) && same_reference x r)) || holds log broker x)
+          ≡ cond ((broker == broker) && n) false ((fresh r old && ((broker == broker) && s)) || holds log broker x)
+      lhs-at x n s e f =
+          ap (λ m. cond ((broker == broker) && m) false ((fresh r old && ((broker == broker) && same_reference x r)) || holds log broker x)) e
+          ∙ ap (λ q. cond ((broker == broker) && n) false ((fresh r old && ((broker == broker) && q)) || holds log broker x)) f
 
-    clean : (x : BlobRef) (found : List ℕ) → clean_at x new.cache ≡ Some found → IsBlob set log x found
-    clean x found e = by (list_any (same_reference x) h.gone) (same_reference x r) refl refl (sym (found-now x) ∙ e)
-      where
-        own : (o : Option Held) → lookup (same_reference r) old.cache.clean ≡ o → Some (unwrap_or o (unpinned bytes)).bytes ≡ Some found → IsBlob set log r found
-        own None g same = subst (IsBlob set log r) (let same₁ : bytes ≡ found = cc in same₁) blob
-        own (Some kept) g same = agrees.clean r found (ap (option_map (λ (held : Held). held.bytes)) g ∙ same)
+      held : (x : BlobRef) → holds (after log broker r (fresh r old) h.gone) broker x ≡ is_some (clean_at x new.cache)
+      held x = held-after log broker r (fresh r old) h.gone broker x ∙ by (list_any (same_reference x) h.gone) (same_reference x r) refl refl ∙ ap is_some (sym (found-now x))
+        where
+          by : (n s : Bool) → list_any (same_reference x) h.gone ≡ n → same_reference x r ≡ s
+              → cond ((broker == broker) && list_any (same_reference x) h.gone) false ((fresh r old && ((broker == broker) && same_reference x r)) || holds log broker x)
+              ≡ is_some (option_map (λ held. held.bytes) (cond (list_any (same_reference x) h.gone) None (lookup (same_reference x) (filled r bytes old.cache.clean))))
+          by true s n e = lhs-at x true s n e ∙ gone-held (broker == broker) (fresh r old) s (holds log broker x) (equal-itself broker) ∙ sym (ap is_some (found-at x true n))
+          by false true n e =
+              lhs-at x false true n e
+              ∙ here-held (broker == broker) (fresh r old) (holds log broker x) (equal-itself broker) (ap (λ y. not (is_some (clean_at y old.cache))) (sym (same_true x r e)) ∙ ap not (sym (agrees.held x)))
+              ∙ sym (ap is_some (found-at x false n ∙ filled-is x true e))
+          by false false n e =
+              lhs-at x false false n e ∙ stays-held (broker == broker) (fresh r old) (holds log broker x) ∙ agrees.held x
+              ∙ sym (ap is_some (found-at x false n ∙ filled-is x false e))
 
-        by : (n s : Bool) → list_any (same_reference x) h.gone ≡ n → same_reference x r ≡ s
-            → option_map (λ held. held.bytes) (cond (list_any (same_reference x) h.gone) None (lookup (same_reference x) (filled r bytes old.cache.clean))) ≡ Some found → IsBlob set log x found
-        by true s n t g = let bad : None ≡ Some found = sym (found-at x true n) ∙ g in absurd (let no : ⊥ = cc in no)
-        by false true n t g =
-            subst (λ y. IsBlob set log y found) (sym (same_true x r t)) (own (lookup (same_reference r) old.cache.clean) refl (sym (found-at x false n ∙ filled-is x true t) ∙ g))
-        by false false n t g = agrees.clean x found (sym (found-at x false n ∙ filled-is x false t) ∙ g)
+      free : (x : BlobRef) (kept : Held) (n s : Bool) → list_any (same_reference x) h.gone ≡ n → same_reference x r ≡ s
+          → cond (list_any (same_reference x) h.gone) None (lookup (same_reference x) (filled r bytes old.cache.clean)) ≡ Some kept → is_pinned kept ≡ false
+      free x kept true s n t e = let bad : None ≡ Some kept = rw n at e in absurd (let no : ⊥ = cc in no)
+      free x kept false true n t e = own (lookup (same_reference r) old.cache.clean) refl (let found : Some (unwrap_or (lookup (same_reference r) old.cache.clean) (unpinned bytes)) ≡ Some kept = rw t at (rw n at e) in found)
+        where
+          own : (o : Option Held) → lookup (same_reference r) old.cache.clean ≡ o → Some (unwrap_or (lookup (same_reference r) old.cache.clean) (unpinned bytes)) ≡ Some kept → is_pinned kept ≡ false
+          own None g same = let same₁ : unpinned bytes ≡ kept = let found : Some (unpinned bytes) ≡ Some kept = rw g at same in cc in ap is_pinned (sym same₁)
+          own (Some before) g same = let same₁ : before ≡ kept = let found : Some before ≡ Some kept = rw g at same in cc in ap is_pinned (sym same₁) ∙ agrees.unpinned r before g
+      free x kept false false n t e = agrees.unpinned x kept (sym (lookup-other x r t old.cache.clean) ∙ (let found : lookup (same_reference x) (remove_entry (same_reference r) old.cache.clean) ≡ Some kept = rw t at (rw n at e) in found))

@@ -1,9 +1,9 @@
 -- With no contents all is sound, and stands where the empty log leaves it.
-use Rattle.std.proofs.Common.{◌≡◌, ℕ, zero, suc, ◌<◌, List, [], ◌∷◌, ◌++◌, length, get_or, Some, None, IsSome, refl, sym, ap, ◌∙◌, subst, arith, true≢false}
+use Rattle.std.proofs.Common.{◌≡◌, ℕ, zero, suc, ◌<◌, List, [], ◌∷◌, ◌++◌, length, get_or, Some, None, refl, sym, ap, ◌∙◌, subst, arith, true≢false}
 use Rattle.std.specs.Prelude.{is_some}
 use Rattle.std.specs.List.{AllByRecursion as Each}
 use Rattle.blob_store.specs.Blobs.{blob_at}
-use Rattle.cache_node.specs.Cache.{dirty_at}
+use Rattle.cache_node.specs.Cache.{clean_at, dirty_at}
 use Rattle.cache_node.specs.Order.{Names}
 use Rattle.kvs_rules.specs.Namespaces.{Setting}
 use Rattle.kvs_content.specs.Agrees.{AgreesContent, NodeAgrees}
@@ -29,10 +29,11 @@ module _ (v : ContentValue) (store : v.store ≡ []) (offers : v.offers ≡ []) 
       some = some;
       root = ap (λ n. n.cache.dirty) (nodes 0);
       store = subst (Each (λ e. Names e.0 e.1)) (sym store) tt;
+      same = λ b x found l e. absurd (let none : None ≡ Some found = ap (λ n. clean_at x n.cache) (sym (nodes b)) ∙ e in let no : ⊥ = cc in no);
       offers = λ k d l. absurd (none-below v.offers k offers l);
       wants = λ k d l. absurd (none-below v.wants k wants l);
     };
-    carried = λ b x l d. absurd (true≢false (sym (subst (λ n. IsSome (dirty_at x n.cache)) (nodes b) d)));
+    carried = λ b x bytes l d. absurd (let none : None ≡ Some bytes = ap (λ n. dirty_at x n.cache) (sym (nodes b)) ∙ d in let no : ⊥ = cc in no);
   }
 
   pub empty-agrees : (set : Setting) → set.size ≡ size_of v → set.fanout ≡ v.fanout → set.hash ≡ v.hash → AgreesContent v set []

@@ -23,7 +23,7 @@ pub read-at : {X : Type 0} (xs : List X) (i : ℕ) (x : X) → i < length xs →
 read-at xs i x within read d = sym (read ∙ get_or_default xs i x d within)
 
 module _ (v : ContentValue) (s : IsSoundContent v) (i : ℕ) (within : i < length v.offers) (o : Offer) (read : o ≡ get_or v.offers i o) where
-  pub offer-but : IsSoundBut o.child o.reference (with-offers v (remove v.offers i))
+  pub offer-but : IsSoundBut o.child o.reference o.bytes (with-offers v (remove v.offers i))
   offer-but = taken-sound v s i o (read-at v.offers i o within read)
 
   pub offer-there : IsOfferPlaced v o
@@ -32,8 +32,8 @@ module _ (v : ContentValue) (s : IsSoundContent v) (i : ℕ) (within : i < lengt
   pub offer-left-out : sum_by offers_left (remove v.offers i) + offers_left o ≡ sum_by offers_left v.offers
   offer-left-out = ap (λ x. sum_by offers_left (remove v.offers i) + offers_left x) read ∙ sum_by-remove offers_left v.offers i o within
 
-  pub offer-agrees : (set : Setting) (log : Log) → AgreesContent v set log → OfferAgrees set log v.fanout o.child o.reference o.stage
-  offer-agrees set log a = subst (λ (x : Offer). OfferAgrees set log v.fanout x.child x.reference x.stage) (sym read) (a.offers i o within)
+  pub offer-agrees : (set : Setting) (log : Log) → AgreesContent v set log → OfferAgrees set log v.fanout o.child o.reference o.bytes o.stage
+  offer-agrees set log a = subst (λ (x : Offer). OfferAgrees set log v.fanout x.child x.reference x.bytes x.stage) (sym read) (a.offers i o within)
 
 module _ (v : ContentValue) (s : IsSoundContent v) (i : ℕ) (within : i < length v.wants) (w : Want) (read : w ≡ get_or v.wants i w) where
   pub want-there : IsWantPlaced v w

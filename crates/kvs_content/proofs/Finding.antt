@@ -19,7 +19,7 @@ use Rattle.kvs_rules.specs.Answers.{IsStoredAt}
 use Rattle.kvs_content.specs.declared.wants.Gift.{Gift}
 use Rattle.kvs_content.specs.declared.wants.WantStage.TheVariants as wanted
 use Rattle.kvs_content.specs.Agrees.{AgreesContent, GiftAgrees, IsBlob, IsFound, IsKept, IsLoad, IsLoading, IsMissing, MayTell, WantAgrees}
-use Rattle.kvs_content.specs.Sound.{IsDirty}
+use Rattle.kvs_content.specs.Sound.{ArePlaced, IsDirty, IsGiftSame}
 use Rattle.kvs_content.specs.Value.{ContentValue, node_at, size_of}
 use Rattle.kvs_content.proofs.Accepting.{dirty-blob}
 use Rattle.kvs_content.proofs.Later.{before-same, blob-later, got-later, held-got, loading-later}
@@ -77,6 +77,14 @@ clean-or-dirty cache r h = by (clean_at r cache) refl
     by : (o : Option (List ℕ)) → clean_at r cache ≡ o → IsSome (clean_at r cache) ⊎ IsSome (dirty_at r cache)
     by (Some bytes) e = inl (ap is_some e)
     by None e = inr (sym (ap (λ p. is_some (option_map_or (λ bytes. Some bytes) p (dirty_at r cache))) e) ∙ h)
+
+-- what a broker gives as clean, rank 0's store has
+pub has-same : (v : ContentValue) → ArePlaced v → (broker : ℕ) → broker < size_of v → (r : BlobRef) (gift : Gift) → any_at r (node_at v broker).cache ≡ Some gift.bytes → gift.clean ≡ is_some (clean_at r (node_at v broker).cache) → IsGiftSame v.store r (Some gift)
+has-same v p broker l r gift found clean told = by (clean_at r (node_at v broker).cache) refl
+  where
+    by : (o : Option (List ℕ)) → clean_at r (node_at v broker).cache ≡ o → blob_at r v.store ≡ Some gift.bytes
+    by (Some bytes) e = p.same broker r bytes l e ∙ sym (ap (λ o. option_map_or (λ (b : List ℕ). Some b) o (dirty_at r (node_at v broker).cache)) e) ∙ found
+    by None e = absurd (true≢false (sym told ∙ clean ∙ ap is_some e))
 
 module _ (v : ContentValue) (set : Setting) (log : Log) (a : AgreesContent v set log) where
   pub root-missing : (r : BlobRef) → blob_at r v.store ≡ None → has_got log 0 r ≡ false

@@ -40,7 +40,7 @@ pub agrees-then : (v w : ContentValue) (set : Setting) (log : Log) → AgreesCon
     → NodeAgrees set (after log broker r does gone) broker new
     → ((x : BlobRef) → has_got (after log broker r does gone) 0 x ≡ is_some (blob_at x w.store))
     → ((x : BlobRef) (bytes : List ℕ) → blob_at x w.store ≡ Some bytes → IsBlob set (after log broker r does gone) x bytes)
-    → ((k : ℕ) (d : Offer) → k < length w.offers → OfferAgrees set (after log broker r does gone) v.fanout (get_or w.offers k d).child (get_or w.offers k d).reference (get_or w.offers k d).stage)
+    → ((k : ℕ) (d : Offer) → k < length w.offers → OfferAgrees set (after log broker r does gone) v.fanout (get_or w.offers k d).child (get_or w.offers k d).reference (get_or w.offers k d).bytes (get_or w.offers k d).stage)
     → ((k : ℕ) (d : Want) → k < length w.wants → WantAgrees set (after log broker r does gone) v.fanout (get_or w.wants k d))
     → AgreesContent w set (after log broker r does gone)
 agrees-then v w set log a broker r does gone new within nodes fanout hash may here root store offers wants = record {
@@ -53,7 +53,7 @@ agrees-then v w set log a broker r does gone new within nodes fanout hash may he
   store = store;
   nodes = λ b l. subst (λ ns. NodeAgrees set (after log broker r does gone) b (get_or ns b empty_node)) (sym nodes)
       (nodes-then set log broker r does gone v.nodes empty_node new within (λ c m. a.nodes c m) here b (subst (λ ns. b < length ns) nodes l));
-  offers = λ k d l. subst (λ f. OfferAgrees set (after log broker r does gone) f (get_or w.offers k d).child (get_or w.offers k d).reference (get_or w.offers k d).stage) (sym fanout) (offers k d l);
+  offers = λ k d l. subst (λ f. OfferAgrees set (after log broker r does gone) f (get_or w.offers k d).child (get_or w.offers k d).reference (get_or w.offers k d).bytes (get_or w.offers k d).stage) (sym fanout) (offers k d l);
   wants = λ k d l. subst (λ f. WantAgrees set (after log broker r does gone) f (get_or w.wants k d)) (sym fanout) (wants k d l);
 } where
   up : (c : ℕ) (x : BlobRef) → 0 < c → c < size_of v → (has_got log c x ≡ true) ⊎ (gets broker r does c x ≡ true) → has_got (after log broker r does gone) (parent v.fanout c) x ≡ true
@@ -114,6 +114,14 @@ told-in broker (g ∷ gs) x h = by (λ f. told-in broker gs x f) (same_reference
         → Contains (dropping broker (g ∷ gs)) (event.Dropped broker x)
     by rest true e f = (0, omega arith, ap (event.Dropped broker) (sym (same_true x g e)))
     by rest false e f = let there = rest f in (suc there.0, omega (arith, there.1), there.2)
+
+-- what is clean once a broker dropped contents was so before
+pub dropped-clean : (broker : ℕ) (old new : NodeValue) (events : List KvsEvent) → IsDropping broker old new events → (x : BlobRef) (found : List ℕ) → clean_at x new.cache ≡ Some found → clean_at x old.cache ≡ Some found
+dropped-clean broker old new events h x found e = by (list_any (same_reference x) h.gone) refl (sym (ap (option_map (λ (held : Held). held.bytes)) (h.rest.left x)) ∙ e)
+  where
+    by : (n : Bool) → list_any (same_reference x) h.gone ≡ n → option_map (λ (held : Held). held.bytes) (cond (list_any (same_reference x) h.gone) None (lookup (same_reference x) old.cache.clean)) ≡ Some found → clean_at x old.cache ≡ Some found
+    by true n g = let bad : None ≡ Some found = sym (ap (λ m. option_map (λ (held : Held). held.bytes) (cond m None (lookup (same_reference x) old.cache.clean))) n) ∙ g in absurd (let no : ⊥ = cc in no)
+    by false n g = sym (ap (λ m. option_map (λ (held : Held). held.bytes) (cond m None (lookup (same_reference x) old.cache.clean))) n) ∙ g
 
 module _ (v : ContentValue) (set : Setting) (log : Log) (a : AgreesContent v set log) (broker : ℕ) (within : broker < size_of v) (new : NodeValue) (events : List KvsEvent) (h : IsDropping broker (node_at v broker) new events) where
   some-held : (x : BlobRef) → IsSome (lookup (same_reference x) (node_at v broker).cache.clean) → holds log broker x ≡ true
@@ -199,7 +207,7 @@ module _ (v : ContentValue) (set : Setting) (log : Log) (a : AgreesContent v set
         (agrees-then v (record v { nodes = put v.nodes broker new }) set log a broker any-reference false h.gone new within refl refl refl (λ e. absurd (true≢false (sym e))) (here any-reference)
         (λ x. got-after log broker any-reference false h.gone 0 x ∙ or-nothing (has_got log 0 x) ∙ a.root x)
         (λ x bytes e. blob-later log (map Happened (coming broker any-reference false h.gone)) set x bytes (a.store x bytes e))
-        (λ k d l. offer-later log (map Happened (coming broker any-reference false h.gone)) set v.fanout _ _ _ (a.offers k d l))
+        (λ k d l. offer-later log (map Happened (coming broker any-reference false h.gone)) set v.fanout _ _ _ _ (a.offers k d l))
         (λ k d l. want-later log (map Happened (coming broker any-reference false h.gone)) set v.fanout _ (a.wants k d l)));
     kept = λ b x l k. elim k [
       | inl d ↦ inl (kept-dirty b x d)

@@ -1,5 +1,5 @@
 -- A broker's node changes, and its dirty contents stay.
-use Rattle.std.proofs.Common.{◌≡◌, ℕ, ◌<◌, inl, inr, List, length, IsSome, sym, ap, ◌∙◌, subst, get_or, set as put}
+use Rattle.std.proofs.Common.{◌≡◌, ℕ, ◌<◌, inl, inr, List, length, Some, IsSome, sym, ap, ◌∙◌, subst, get_or, set as put}
 use Rattle.std.specs.Prelude.{is_some}
 use Rattle.std.specs.List.{AllByRecursion as Each}
 use Rattle.std.specs.Map.{lookup}
@@ -52,31 +52,33 @@ module _ (v : ContentValue) (broker : ℕ) (within : broker < size_of v) (new : 
   pub dirty-now : (b : ℕ) (x : BlobRef) → IsDirty v b x → IsDirty changed b x
   dirty-now b x d = subst (λ es. IsSome (lookup (same_reference x) es)) (sym (dirty-same b)) d
 
-  pub dirty-then : (b : ℕ) (x : BlobRef) → IsDirty changed b x → IsDirty v b x
-  dirty-then b x d = subst (λ es. IsSome (lookup (same_reference x) es)) (dirty-same b) d
-
   size-same : size_of changed ≡ size_of v
   size-same = length-set v.nodes broker new
 
-  pub kept-placed : ArePlaced v → ArePlaced changed
-  kept-placed p = record {
+  pub kept-placed : ((x : BlobRef) (found : List ℕ) → clean_at x new.cache ≡ Some found → clean_at x (node_at v broker).cache ≡ Some found) → ArePlaced v → ArePlaced changed
+  kept-placed clean p = record {
     fanout = p.fanout;
     some = subst (λ n. 0 < n) (sym size-same) p.some;
     root = dirty-same 0 ∙ p.root;
     store = p.store;
+    same = λ b x found l e. elim (cases_eq b broker) [
+      | inl q ↦ p.same broker x found within (clean x found (ap (λ n. clean_at x n.cache) (sym (get_or-set_same v.nodes broker new empty_node within)) ∙ ap (λ k. clean_at x (node_at changed k).cache) (sym q) ∙ e))
+      | inr ne ↦ p.same b x found (subst (λ n. b < n) size-same l) (ap (λ n. clean_at x n.cache) (sym (get_or-set_other v.nodes broker b new empty_node ne)) ∙ e)
+    ];
     offers = λ k d l. let o = p.offers k d l in record {
       below = o.below;
       within = subst (λ n. (get_or v.offers k d).child < n) (sym size-same) o.within;
       waits = λ h. dirty-now (parent v.fanout (get_or v.offers k d).child) (get_or v.offers k d).reference (o.waits h);
       named = o.named;
+      same = o.same;
     };
-    wants = λ k d l. let o = p.wants k d l in record { below = o.below; within = subst (λ n. (get_or v.wants k d).broker < n) (sym size-same) o.within; way = o.way; named = o.named };
+    wants = λ k d l. let o = p.wants k d l in record { below = o.below; within = subst (λ n. (get_or v.wants k d).broker < n) (sym size-same) o.within; way = o.way; named = o.named; same = o.same };
   }
 
-  pub kept-sound : IsSoundContent v → IsSoundContent changed
-  kept-sound s = record {
-    placed = kept-placed s.placed;
-    carried = λ b x l d. s.carried b x (subst (λ n. b < n) size-same l) (dirty-then b x d);
+  pub kept-sound : ((x : BlobRef) (found : List ℕ) → clean_at x new.cache ≡ Some found → clean_at x (node_at v broker).cache ≡ Some found) → IsSoundContent v → IsSoundContent changed
+  kept-sound clean s = record {
+    placed = kept-placed clean s.placed;
+    carried = λ b x bytes l d. s.carried b x bytes (subst (λ n. b < n) size-same l) (ap (lookup (same_reference x)) (sym (dirty-same b)) ∙ d);
   }
 
 -- a flush leaves the cache

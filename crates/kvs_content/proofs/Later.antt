@@ -17,7 +17,7 @@ use Rattle.kvs_content.specs.declared.wants.WantStage.TheVariants as wanted
 use Rattle.kvs_content.specs.declared.offers.OfferStage.{OfferStage}
 use Rattle.kvs_content.specs.declared.offers.OfferStage.TheVariants as offered
 use Rattle.kvs_content.proofs.Lists.{either-left}
-use Rattle.kvs_content.specs.Agrees.{IsBlob, IsRefused, IsMissing, GiftAgrees, IsLoading, OfferAgrees, WantAgrees, WantStageAgrees}
+use Rattle.kvs_content.specs.Agrees.{IsBlob, IsRefused, IsMissing, GiftAgrees, IsLoading, OfferAgrees, OfferStageAgrees, WantAgrees, WantStageAgrees}
 
 -- what passed is still among the moments
 any-later : (p : Moment → Bool) (log more : Log) → list_any p log ≡ true → list_any p (log ++ more) ≡ true
@@ -61,11 +61,14 @@ module _ (log more : Log) where
     missing-later by request r h m =
         subst (λ past. (has_got past 0 r ≡ false) × (IsStoredAt set past request.broker r → ⊥)) (sym (before-same by h)) m
 
-    pub offer-later : (fanout child : ℕ) (r : BlobRef) (stage : OfferStage) → OfferAgrees set log fanout child r stage → OfferAgrees set (log ++ more) fanout child r stage
-    offer-later fanout child r (offered.Rising bytes) h = blob-later r bytes h
-    offer-later fanout child r offered.Waiting h = tt
-    offer-later fanout child r offered.Accepted h = got-later _ r h
-    offer-later fanout child r offered.Refused h = refused-later r h
+    offer-stage-later : (fanout child : ℕ) (r : BlobRef) (stage : OfferStage) → OfferStageAgrees set log fanout child r stage → OfferStageAgrees set (log ++ more) fanout child r stage
+    offer-stage-later fanout child r offered.Rising h = tt
+    offer-stage-later fanout child r offered.Waiting h = tt
+    offer-stage-later fanout child r offered.Accepted h = got-later _ r h
+    offer-stage-later fanout child r offered.Refused h = refused-later r h
+
+    pub offer-later : (fanout child : ℕ) (r : BlobRef) (bytes : List ℕ) (stage : OfferStage) → OfferAgrees set log fanout child r bytes stage → OfferAgrees set (log ++ more) fanout child r bytes stage
+    offer-later fanout child r bytes stage h = (blob-later r bytes h.0, offer-stage-later fanout child r stage h.1)
 
     pub gift-later : (fanout child : ℕ) (by : By) (request : Request) (r : BlobRef) (gift : Option Gift) → is_asked by log ≡ true
         → GiftAgrees set log fanout child by request r gift → GiftAgrees set (log ++ more) fanout child by request r gift

@@ -33,7 +33,7 @@ module _ (fanout size from to child : ℕ) where
       (let small : from < size = omega (arith, above, le, low) in small, inr (subst (λ n. 0 < n) there some, subst (λ n. n < size) there low, sym (above ∙ ap (parent fanout) there)))
 
   offer-joined : 0 < child → child < size → (st : OfferStage) → is_offered_so fanout from to child st ≡ true → IsJoined fanout size from to
-  offer-joined some low (offered.Rising bytes) h = rising low h
+  offer-joined some low offered.Rising h = rising low h
   offer-joined some low offered.Waiting h = absurd (true≢false (sym h))
   offer-joined some low offered.Accepted h = falling some low h
   offer-joined some low offered.Refused h = falling some low h

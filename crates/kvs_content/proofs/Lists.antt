@@ -3,7 +3,9 @@ use Rattle.std.proofs.Common.{◌≡◌, ℕ, zero, suc, ◌<◌, List, [], ◌�
 use Rattle.std.specs.Borrow.{Bor}
 use Rattle.std.specs.Prelude.{Option, Some, None, IsTrue, ◌↔◌, ◌≢◌, is_some, option_copied}
 use Rattle.std.specs.List.{AllByRecursion as Each, list_any}
+use Rattle.std.specs.Cmp.Lexicographic.{other_text, same_text}
 use Rattle.std.proofs.lemmas.Bool.Decides.{nat_tests}
+use Rattle.kvs_content.specs.Messages.{same_bytes}
 
 -- a place at which an element passes
 pub record PassesAt {X : Type 0} (p : X → Bool) (xs : List X) : Type 0 where
@@ -51,6 +53,20 @@ each-push P (y ∷ ys) x all here = (all.0, each-push P ys x all.1 here)
 
 pub equal-itself : (x : ℕ) → (x == x) ≡ true
 equal-itself x = grind (arith, nat_tests)
+
+-- what a test of two contents tells
+pub bytes-same : (xs ys : List ℕ) → same_bytes xs ys ≡ true → xs ≡ ys
+bytes-same xs ys e = same_text xs ys (sym e)
+
+pub other-bytes : (xs ys : List ℕ) → same_bytes xs ys ≡ false → xs ≢ ys
+other-bytes xs ys e = other_text xs ys (sym e)
+
+pub bytes-themselves : (xs : List ℕ) → same_bytes xs xs ≡ true
+bytes-themselves xs = by (same_bytes xs xs) refl
+  where
+    by : (b : Bool) → same_bytes xs xs ≡ b → same_bytes xs xs ≡ true
+    by true e = e
+    by false e = absurd (other-bytes xs xs e refl)
 
 -- what is lent is there where what it is lent of is
 pub some-copied : {X : Type 0} (o : Option (Bor X)) → is_some (option_copied o) ≡ is_some o

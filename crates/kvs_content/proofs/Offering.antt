@@ -6,7 +6,7 @@ use Rattle.std.proofs.lemmas.Bool.{cases_eq}
 use Rattle.std.proofs.lemmas.List.{length-set, get_or-set_same, get_or-set_other}
 use Rattle.fl_digest.specs.declared.BlobRef.{BlobRef}
 use Rattle.fl_digest.specs.Reference.{same_reference}
-use Rattle.cache_node.specs.Cache.{Cache, any_at, dirty_at, stored}
+use Rattle.cache_node.specs.Cache.{Cache, any_at, clean_at, dirty_at, stored}
 use Rattle.cache_node.specs.Order.{Names}
 use Rattle.cache_node.proofs.Same.{same_refl, same_true}
 use Rattle.kvs_rules.specs.Log.{Log}
@@ -29,11 +29,11 @@ with-dirty r bytes cache = record { dirty = (r, bytes) ∷ cache.dirty; clean = 
 abbrev pub with-offered : ContentValue → ℕ → BlobRef → List ℕ → List ℕ → ContentValue
 with-offered v broker r bytes sent = record v {
   nodes = put v.nodes broker (with_cache (with-dirty r bytes (node_at v broker).cache) (node_at v broker));
-  offers = v.offers ++ (record { child = broker; reference = r; stage = offered.Rising sent }) ∷ [];
+  offers = v.offers ++ (record { child = broker; reference = r; bytes = sent; stage = offered.Rising }) ∷ [];
 }
 
 pub offered-then : {u v : ContentValue} (e : u ≡ v) (broker : ℕ) (r : BlobRef) (bytes sent : List ℕ) (node new : NodeValue) → node ≡ node_at u broker → any_at r node.cache ≡ None → new ≡ with_cache (stored r bytes node.cache) node
-    → (offers : List Offer) → offers ≡ u.offers ++ (record { child = broker; reference = r; stage = offered.Rising sent }) ∷ []
+    → (offers : List Offer) → offers ≡ u.offers ++ (record { child = broker; reference = r; bytes = sent; stage = offered.Rising }) ∷ []
     → ◌≡◌ {A = ContentValue} (record u { nodes = put u.nodes broker new; offers = offers }) (with-offered v broker r bytes sent)
 offered-then {u} {v} e broker r bytes sent node new read none is offers pushed =
     ap (λ (n : NodeValue). record u { nodes = put u.nodes broker n; offers = offers })
@@ -43,7 +43,7 @@ offered-then {u} {v} e broker r bytes sent node new read none is offers pushed =
 
 module _ (v : ContentValue) (broker : ℕ) (within : broker < size_of v) (r : BlobRef) (bytes sent : List ℕ) where
   abbrev pub own : Offer
-  own = record { child = broker; reference = r; stage = offered.Rising sent }
+  own = record { child = broker; reference = r; bytes = sent; stage = offered.Rising }
 
   abbrev pub node-dirty : NodeValue
   node-dirty = with_cache (with-dirty r bytes (node_at v broker).cache) (node_at v broker)
@@ -73,15 +73,24 @@ module _ (v : ContentValue) (broker : ℕ) (within : broker < size_of v) (r : Bl
   ]
 
   -- and nothing else is
-  dirty-was : (b : ℕ) (x : BlobRef) → IsDirty offering b x → ((b ≡ broker) × (x ≡ r)) ⊎ IsDirty v b x
-  dirty-was b x d = elim (cases_eq b broker) [
-    | inl e ↦ by (same_reference x r) refl e (subst (λ n. IsSome (dirty_at x n.cache)) node-here (subst (λ k. IsDirty offering k x) e d))
-    | inr ne ↦ inr (subst (λ n. IsSome (dirty_at x n.cache)) (node-there b ne) d)
+  dirty-was : (b : ℕ) (x : BlobRef) (found : List ℕ) → dirty_at x (node_at offering b).cache ≡ Some found → ((b ≡ broker) × (x ≡ r) × (found ≡ bytes)) ⊎ (dirty_at x (node_at v b).cache ≡ Some found)
+  dirty-was b x found d = elim (cases_eq b broker) [
+    | inl e ↦ by (same_reference x r) refl e (ap (λ n. dirty_at x n.cache) (sym node-here) ∙ ap (λ k. dirty_at x (node_at offering k).cache) (sym e) ∙ d)
+    | inr ne ↦ inr (ap (λ n. dirty_at x n.cache) (sym (node-there b ne)) ∙ d)
   ]
     where
-      by : (s : Bool) → same_reference x r ≡ s → b ≡ broker → IsSome (dirty_at x node-dirty.cache) → ((b ≡ broker) × (x ≡ r)) ⊎ IsDirty v b x
-      by true s e h = inl (e, same_true x r s)
-      by false s e h = inr (subst (λ k. IsDirty v k x) (sym e) (rw s at h))
+      at : (s : Bool) → same_reference x r ≡ s → b ≡ broker → cond s (Some bytes) (dirty_at x (node_at v broker).cache) ≡ Some found → ((b ≡ broker) × (x ≡ r) × (found ≡ bytes)) ⊎ (dirty_at x (node_at v b).cache ≡ Some found)
+      at true s e h = inl (e, same_true x r s, (let same : found ≡ bytes = cc in same))
+      at false s e h = inr (ap (λ k. dirty_at x (node_at v k).cache) e ∙ h)
+
+      by : (s : Bool) → same_reference x r ≡ s → b ≡ broker → dirty_at x node-dirty.cache ≡ Some found → ((b ≡ broker) × (x ≡ r) × (found ≡ bytes)) ⊎ (dirty_at x (node_at v b).cache ≡ Some found)
+      by s t e h = at s t e (sym (ap (λ u. cond u (Some bytes) (dirty_at x (node_at v broker).cache)) t) ∙ h)
+
+  clean-same : (b : ℕ) (x : BlobRef) → clean_at x (node_at offering b).cache ≡ clean_at x (node_at v b).cache
+  clean-same b x = elim (cases_eq b broker) [
+    | inl e ↦ ap (λ k. clean_at x (node_at offering k).cache) e ∙ ap (λ n. clean_at x n.cache) node-here ∙ ap (λ k. clean_at x (node_at v k).cache) (sym e)
+    | inr ne ↦ ap (λ n. clean_at x n.cache) (node-there b ne)
+  ]
 
   module _ (below : 0 < broker) (p : ArePlaced v) (named : Names r sent) where
     pub offering-placed : ArePlaced offering
@@ -90,8 +99,9 @@ module _ (v : ContentValue) (broker : ℕ) (within : broker < size_of v) (r : Bl
       some = subst (λ n. 0 < n) (sym size-same) p.some;
       root = ap (λ n. n.cache.dirty) (node-there 0 (λ e. omega arith)) ∙ p.root;
       store = p.store;
+      same = λ b x found l e. p.same b x found (subst (λ n. b < n) size-same l) (sym (clean-same b x) ∙ e);
       offers = push-all (IsOfferPlaced offering) v.offers own (λ k d l. moved _ (p.offers k d l)) fresh;
-      wants = λ k d l. let w = p.wants k d l in record { below = w.below; within = subst (λ n. (get_or v.wants k d).broker < n) (sym size-same) w.within; way = w.way; named = w.named };
+      wants = λ k d l. let w = p.wants k d l in record { below = w.below; within = subst (λ n. (get_or v.wants k d).broker < n) (sym size-same) w.within; way = w.way; named = w.named; same = w.same };
     } where
       moved : (o : Offer) → IsOfferPlaced v o → IsOfferPlaced offering o
       moved o q = record {
@@ -99,18 +109,21 @@ module _ (v : ContentValue) (broker : ℕ) (within : broker < size_of v) (r : Bl
         within = subst (λ n. o.child < n) (sym size-same) q.within;
         waits = λ h. dirty-still (parent v.fanout o.child) o.reference (q.waits h);
         named = q.named;
+        same = q.same;
       }
 
       fresh : IsOfferPlaced offering own
-      fresh = record { below = below; within = subst (λ n. broker < n) (sym size-same) within; waits = λ h. absurd (true≢false (sym h)); named = named }
+      fresh = record { below = below; within = subst (λ n. broker < n) (sym size-same) within; waits = λ h. absurd (true≢false (sym h)); named = named; same = tt }
 
   -- what was offered is, and so is the content
-  pub offering-carried : (b : ℕ) (x : BlobRef) → IsCarried v b x → IsCarried offering b x
-  offering-carried b x carried d = by (dirty-was b x d)
+  pub offering-carried : sent ≡ bytes → (b : ℕ) (x : BlobRef) (found : List ℕ) → IsCarried v b x found → IsCarried offering b x found
+  offering-carried copied b x found carried d = by (dirty-was b x found d)
     where
-      by : ((b ≡ broker) × (x ≡ r)) ⊎ IsDirty v b x → list_any (is_offer_of b x) (v.offers ++ own ∷ []) ≡ true
-      by (inl same) = ap (λ k. list_any (is_offer_of k x) (v.offers ++ own ∷ [])) same.0 ∙ ap (λ y. list_any (is_offer_of broker y) (v.offers ++ own ∷ [])) same.1 ∙ push-own v.offers own
-      by (inr was) = push-any b x v.offers own (carried was)
+      by : ((b ≡ broker) × (x ≡ r) × (found ≡ bytes)) ⊎ (dirty_at x (node_at v b).cache ≡ Some found) → list_any (is_offer_of b x found) (v.offers ++ own ∷ []) ≡ true
+      by (inl same) =
+          ap (λ k. list_any (is_offer_of k x found) (v.offers ++ own ∷ [])) same.0 ∙ ap (λ y. list_any (is_offer_of broker y found) (v.offers ++ own ∷ [])) same.1
+          ∙ ap (λ bs. list_any (is_offer_of broker r bs) (v.offers ++ own ∷ [])) (same.2 ∙ sym copied) ∙ push-own v.offers own
+      by (inr was) = push-any b x found v.offers own (carried was)
 
   -- the content is dirty at the broker
   pub offering-dirty : IsDirty offering broker r
@@ -126,7 +139,7 @@ module _ (v : ContentValue) (broker : ℕ) (within : broker < size_of v) (r : Bl
       above = λ c x pos l. a.above c x pos (subst (λ n. c < n) size-same l);
       store = a.store;
       nodes = λ b l. node b (subst (λ n. b < n) size-same l);
-      offers = push-all (λ o. OfferAgrees set log v.fanout o.child o.reference o.stage) v.offers own a.offers blob-sent;
+      offers = push-all (λ o. OfferAgrees set log v.fanout o.child o.reference o.bytes o.stage) v.offers own a.offers (blob-sent, tt);
       wants = a.wants;
     } where
       here : NodeAgrees set log broker node-dirty

@@ -13,7 +13,7 @@ use Rattle.kvs_content.specs.declared.wants.WantStage.{WantStage}
 use Rattle.kvs_content.specs.declared.wants.WantStage.TheVariants as wanted
 use Rattle.kvs_content.specs.Agrees.{Follows, GiftAgrees, IsFound, IsFrom, MayTell, WantAgrees}
 use Rattle.kvs_content.specs.Messages.{IsAbove, falls_on, link_now, rises_on, want_left, want_of}
-use Rattle.kvs_content.specs.Sound.{IsWantNamed, IsWantPlaced}
+use Rattle.kvs_content.specs.Sound.{IsWantNamed, IsWantPlaced, IsWantSame}
 use Rattle.kvs_content.specs.Steps.{AreAlike}
 use Rattle.kvs_content.specs.Value.{ContentValue, size_of}
 use Rattle.kvs_content.proofs.Finding.{may-tell, missing-of}
@@ -72,18 +72,20 @@ handed-told set log more fanout by r broker at gift h =
 module _ (v u : ContentValue) (alike : AreAlike v u) (by : By) (r : BlobRef) (broker : ℕ) where
   -- a want that is asked on, or turned back, is at its place
   pub asked-placed : (child at : ℕ) → 0 < child → at ≡ parent v.fanout child → broker < size_of v → IsAbove v.fanout child broker
-      → (stage : WantStage) → (stage ≡ wanted.Rising → 0 < at) → IsWantNamed r stage → IsWantPlaced u (want_of by broker (link_now child at stage) r stage)
-  asked-placed child at below up within way wanted.Rising rises named = record {
+      → (stage : WantStage) → (stage ≡ wanted.Rising → 0 < at) → IsWantNamed r stage → IsWantSame u.store r stage → IsWantPlaced u (want_of by broker (link_now child at stage) r stage)
+  asked-placed child at below up within way wanted.Rising rises named same = record {
     below = rises refl;
     within = subst (λ n. broker < n) (sym alike.size) within;
     way = subst (λ f. IsAbove f at broker) (sym alike.fanout) (subst (λ k. IsAbove v.fanout k broker) (sym up) (climbed v.fanout child broker way));
     named = named;
+    same = same;
   }
-  asked-placed child at below up within way (wanted.Falling gift) rises named = record {
+  asked-placed child at below up within way (wanted.Falling gift) rises named same = record {
     below = below;
     within = subst (λ n. broker < n) (sym alike.size) within;
     way = subst (λ f. IsAbove f child broker) (sym alike.fanout) way;
     named = named;
+    same = same;
   }
 
   module _ (events : List KvsEvent) (set : Setting) (log : Log) (f : Follows v u events set log) where

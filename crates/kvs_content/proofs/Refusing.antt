@@ -1,5 +1,5 @@
 -- A broker hears that a content of its was refused, or notes it.
-use Rattle.std.proofs.Common.{◌≡◌, ℕ, ◌<◌, ◌⊎◌, inl, inr, [], ◌∷◌, ◌++◌, length, Bool, true, false, cond, sym, ap, ◌∙◌, subst, append-nil, get_or, set as put}
+use Rattle.std.proofs.Common.{◌≡◌, ℕ, ◌<◌, ◌⊎◌, inl, inr, [], ◌∷◌, ◌++◌, length, Bool, true, false, cond, None, sym, ap, ◌∙◌, subst, append-nil, get_or, set as put}
 use Rattle.std.specs.Prelude.{is_some}
 use Rattle.std.specs.List.{AllByRecursion as Each, list_any}
 use Rattle.std.proofs.lemmas.List.Folds.{list_any-append}
@@ -58,7 +58,7 @@ module _ (set : Setting) (log : Log) (broker : ℕ) (r : BlobRef) (node : NodeVa
 
 module _ (v w : ContentValue) (set : Setting) (log : Log) (a : AgreesContent v set log) (broker : ℕ) (within : broker < size_of v) (new : NodeValue) (here : NodeAgrees set log broker new)
     (fanout : w.fanout ≡ v.fanout) (hash : w.hash ≡ v.hash) (store : w.store ≡ v.store) (wants : w.wants ≡ v.wants) (nodes : w.nodes ≡ put v.nodes broker new)
-    (offers : (k : ℕ) (d : Offer) → k < length w.offers → OfferAgrees set log v.fanout (get_or w.offers k d).child (get_or w.offers k d).reference (get_or w.offers k d).stage) where
+    (offers : (k : ℕ) (d : Offer) → k < length w.offers → OfferAgrees set log v.fanout (get_or w.offers k d).child (get_or w.offers k d).reference (get_or w.offers k d).bytes (get_or w.offers k d).stage) where
   size-same : length w.nodes ≡ length v.nodes
   size-same = ap length nodes ∙ length-set v.nodes broker new
 
@@ -78,7 +78,7 @@ module _ (v w : ContentValue) (set : Setting) (log : Log) (a : AgreesContent v s
     above = λ c x pos l got. subst (λ f. has_got log (parent f c) x ≡ true) (sym fanout) (a.above c x pos (subst (λ n. c < n) size-same l) got);
     store = λ x bytes e. a.store x bytes (ap (blob_at x) (sym store) ∙ e);
     nodes = λ b l. subst (λ ns. NodeAgrees set log b (get_or ns b empty_node)) (sym nodes) (node b (subst (λ n. b < n) size-same l));
-    offers = λ k d l. subst (λ f. OfferAgrees set log f (get_or w.offers k d).child (get_or w.offers k d).reference (get_or w.offers k d).stage) (sym fanout) (offers k d l);
+    offers = λ k d l. subst (λ f. OfferAgrees set log f (get_or w.offers k d).child (get_or w.offers k d).reference (get_or w.offers k d).bytes (get_or w.offers k d).stage) (sym fanout) (offers k d l);
     wants = λ k d l. subst (λ f. WantAgrees set log f (get_or w.wants k d)) (sym fanout) (want k d l);
   } where
     want : (k : ℕ) (d : Want) → k < length w.wants → WantAgrees set log v.fanout (get_or w.wants k d)
@@ -100,11 +100,11 @@ module _ (v w : ContentValue) (set : Setting) (log : Log) (a : AgreesContent v s
 
 -- a refusal: what is dirty under another reference is so still
 pub reject-follows : (v w : ContentValue) (set : Setting) (log : Log) → AgreesContent v set log → (broker : ℕ) → broker < size_of v → (r : BlobRef) → IsRefused set log r
-    → w.fanout ≡ v.fanout → w.hash ≡ v.hash → w.store ≡ v.store → w.wants ≡ v.wants → w.nodes ≡ put v.nodes broker (rejected r (node_at v broker)) → AreSettled v.fanout broker r false v.offers w.offers
+    → w.fanout ≡ v.fanout → w.hash ≡ v.hash → w.store ≡ v.store → w.wants ≡ v.wants → w.nodes ≡ put v.nodes broker (rejected r (node_at v broker)) → AreSettled v.fanout broker r None v.offers w.offers
     → ((b : ℕ) (x : BlobRef) → IsDirty v b x → ((b ≡ broker) × (x ≡ r)) ⊎ IsDirty w b x) → Follows v w [] set log
 reject-follows v w set log a broker within r clash fanout hash store wants nodes sent still =
     same-follows v w set log a broker within (rejected r (node_at v broker)) (node-rejected set log broker r (node_at v broker) (a.nodes broker within) clash) fanout hash store wants nodes
-    (settled-agrees set log v.fanout broker r false v.offers w.offers sent (λ k d l e. clash) a.offers) (λ b x d. by b x (still b x d))
+    (settled-agrees set log v.fanout broker r None v.offers w.offers sent (λ k d l e. clash) a.offers) (λ b x d. by b x (still b x d))
   where
     by : (b : ℕ) (x : BlobRef) → ((b ≡ broker) × (x ≡ r)) ⊎ IsDirty w b x → IsRefused set log x ⊎ IsDirty w b x
     by b x (inl same) = inl (subst (IsRefused set log) (sym same.1) clash)
@@ -117,7 +117,7 @@ pub noted-follows : (v : ContentValue) (set : Setting) (log : Log) → AgreesCon
 noted-follows v set log a broker within r clash w is still =
     same-follows v w set log a broker within _ (node-noted set log broker r (node_at v broker) (a.nodes broker within) clash)
     (ap (λ u. u.fanout) is) (ap (λ u. u.hash) is) (ap (λ u. u.store) is) (ap (λ u. u.wants) is) (ap (λ u. u.nodes) is)
-    (subst (λ os. (k : ℕ) (d : Offer) → k < length os → OfferAgrees set log v.fanout (get_or os k d).child (get_or os k d).reference (get_or os k d).stage) (sym (ap (λ (u : ContentValue). u.offers) is)) a.offers)
+    (subst (λ os. (k : ℕ) (d : Offer) → k < length os → OfferAgrees set log v.fanout (get_or os k d).child (get_or os k d).reference (get_or os k d).bytes (get_or os k d).stage) (sym (ap (λ (u : ContentValue). u.offers) is)) a.offers)
     (λ b x d. inr (still b x d))
 
 -- a broker with one reference more that was refused

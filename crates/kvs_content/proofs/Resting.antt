@@ -1,10 +1,11 @@
 -- Where no message is on any link, nothing is left to do.
-use Rattle.std.proofs.Common.{◌≡◌, ℕ, zero, suc, ◌<◌, List, [], ◌∷◌, length, Bool, true, false, ◌||◌, ◌&&◌, ◌==◌, IsSome, refl, sym, ap, ◌∙◌, arith, true≢false, get_or}
+use Rattle.std.proofs.Common.{◌≡◌, ℕ, zero, suc, ◌<◌, List, [], ◌∷◌, length, Bool, true, false, ◌||◌, ◌&&◌, ◌==◌, Option, Some, None, IsSome, refl, sym, ap, ◌∙◌, arith, true≢false, get_or}
 use Rattle.std.specs.List.{list_any}
 use Rattle.std.specs.Map.{lookup}
 use Rattle.fl_digest.specs.declared.BlobRef.{BlobRef}
 use Rattle.fl_digest.specs.Reference.{same_reference}
 use Rattle.cache_node.proofs.Same.{same_refl}
+use Rattle.cache_node.specs.Cache.{dirty_at}
 use Rattle.kvs_rules.specs.Brokers.{parent}
 use Rattle.kvs_content.specs.declared.offers.Offer.{Offer}
 use Rattle.kvs_content.specs.declared.offers.OfferStage.{OfferStage}
@@ -42,7 +43,7 @@ module _ (v : ContentValue) (sound : IsSoundContent v) (still : AreLinksEmpty v)
       on from to h = some-at (is_offer_on v.fanout from to) v.offers k d l h (or-none _ _ (still from to)).0
 
       by : (stage : OfferStage) → (get_or v.offers k d).stage ≡ stage → is_waiting_stage (get_or v.offers k d).stage ≡ true
-      by (offered.Rising bytes) e = absurd (on (get_or v.offers k d).child (parent v.fanout (get_or v.offers k d).child)
+      by offered.Rising e = absurd (on (get_or v.offers k d).child (parent v.fanout (get_or v.offers k d).child)
           (ap (is_offered_so v.fanout (get_or v.offers k d).child (parent v.fanout (get_or v.offers k d).child) (get_or v.offers k d).child) e ∙ both-same (get_or v.offers k d).child (parent v.fanout (get_or v.offers k d).child)))
       by offered.Waiting e = ap is_waiting_stage e
       by offered.Accepted e = absurd (on (parent v.fanout (get_or v.offers k d).child) (get_or v.offers k d).child
@@ -53,20 +54,24 @@ module _ (v : ContentValue) (sound : IsSoundContent v) (still : AreLinksEmpty v)
   -- up to each rank nothing is dirty
   clean-below : (fuel broker : ℕ) (r : BlobRef) → broker < fuel → broker < size_of v → IsDirty v broker r → ⊥
   clean-below zero broker r f l dirty = absurd (omega arith)
-  clean-below (suc fuel) broker r f l dirty =
-      at (λ b x g m. clean-below fuel b x g m) v.offers (λ k d. waits-there k d) (λ k d. sound.placed.offers k d) (passes-at (is_offer_of broker r) v.offers (sound.carried broker r l dirty))
+  clean-below (suc fuel) broker r f l dirty = seen (λ b x g m. clean-below fuel b x g m) (dirty_at r (node_at v broker).cache) refl dirty
     where
       at : ((b : ℕ) (x : BlobRef) → b < fuel → b < size_of v → IsDirty v b x → ⊥)
           → (offers : List Offer) → ((k : ℕ) (d : Offer) → k < length offers → is_waiting_stage (get_or offers k d).stage ≡ true) → ((k : ℕ) (d : Offer) → k < length offers → IsOfferPlaced v (get_or offers k d))
-          → PassesAt (is_offer_of broker r) offers → ⊥
-      at above [] waits placed some = absurd (let w = some.within in omega arith)
-      at above (o ∷ os) waits placed some =
+          → (bytes : List ℕ) → PassesAt (is_offer_of broker r bytes) offers → ⊥
+      at above [] waits placed bytes some = absurd (let w = some.within in omega arith)
+      at above (o ∷ os) waits placed bytes some =
           let here = placed some.place o some.within in
           let passes = some.passes o in
-          let child : (get_or (o ∷ os) some.place o).child ≡ broker = same-number _ _ (and-left _ _ passes) in
+          let child : (get_or (o ∷ os) some.place o).child ≡ broker = same-number _ _ (and-left _ _ (and-left _ _ passes)) in
           let up : parent v.fanout (get_or (o ∷ os) some.place o).child < (get_or (o ∷ os) some.place o).child = parent-below v.fanout _ here.below in
           above (parent v.fanout (get_or (o ∷ os) some.place o).child) (get_or (o ∷ os) some.place o).reference (omega arith) (let w = here.within in omega arith)
           (here.waits (waits some.place o some.within))
+
+      seen : ((b : ℕ) (x : BlobRef) → b < fuel → b < size_of v → IsDirty v b x → ⊥) → (o : Option (List ℕ)) → dirty_at r (node_at v broker).cache ≡ o → IsSome o → ⊥
+      seen above (Some bytes) e t =
+          at above v.offers (λ k d. waits-there k d) (λ k d. sound.placed.offers k d) bytes (passes-at (is_offer_of broker r bytes) v.offers (sound.carried broker r bytes l e))
+      seen above None e t = true≢false (sym t)
 
   pub no-dirty : (broker : ℕ) (r : BlobRef) → broker < size_of v → IsDirty v broker r → ⊥
   no-dirty broker r l dirty = clean-below (suc broker) broker r (omega arith) l dirty

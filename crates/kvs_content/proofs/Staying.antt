@@ -48,7 +48,7 @@ module _ (log : Log) (m : Moment) (other : IsOtherwise m) where
       above = λ broker r pos l got. got-later log (m ∷ []) (parent v.fanout broker) r (a.above broker r pos l (sym (got-same broker r) ∙ got));
       store = λ r bytes e. blob-later log (m ∷ []) set r bytes (a.store r bytes e);
       nodes = λ broker l. node-stays broker _ (a.nodes broker l);
-      offers = λ k d l. offer-later log (m ∷ []) set v.fanout _ _ _ (a.offers k d l);
+      offers = λ k d l. offer-later log (m ∷ []) set v.fanout _ _ _ _ (a.offers k d l);
       wants = λ k d l. want-later log (m ∷ []) set v.fanout _ (a.wants k d l);
     }
 

@@ -9,20 +9,20 @@ use Rattle.fl_digest.specs.Reference.{same_reference}
 use Rattle.blob_store.specs.Blobs.{HasOther, blob_at, stored}
 use Rattle.cache_node.specs.Cache.{clean_at}
 use Rattle.cache_node.specs.Order.{Names}
-use Rattle.cache_node.proofs.Same.{same_true}
+use Rattle.cache_node.proofs.Same.{same_refl, same_true}
 use Rattle.kvs_rules.specs.declared.events.KvsEvent.{KvsEvent}
 use Rattle.kvs_rules.specs.Log.{Log}
 use Rattle.kvs_rules.specs.Namespaces.{Setting}
 use Rattle.kvs_rules.specs.Brokers.{has_got}
 use Rattle.kvs_content.specs.Agrees.{AgreesContent, Follows, IsBlob, IsRefused}
-use Rattle.kvs_content.specs.Messages.{AreSettled}
+use Rattle.kvs_content.specs.Messages.{AreSettled, same_bytes}
 use Rattle.kvs_content.specs.Node.{IsGetting, NodeValue}
 use Rattle.kvs_content.specs.Value.{ContentValue, node_at, size_of}
 use Rattle.kvs_content.proofs.Agreeing.{after, fresh}
 use Rattle.kvs_content.proofs.Events.{got-after}
 use Rattle.kvs_content.proofs.Getting.{got-follows}
 use Rattle.kvs_content.proofs.Later.{held-got}
-use Rattle.kvs_content.proofs.Lists.{each-push, either-left, or-nothing}
+use Rattle.kvs_content.proofs.Lists.{each-push, either-left, or-nothing, other-bytes, bytes-same}
 
 lookup-end : (x r : BlobRef) (bytes : List ℕ) (es : List (BlobRef × List ℕ))
     → lookup (same_reference x) (es ++ (r, bytes) ∷ []) ≡ option_map_or (λ kept. Some kept) (lookup (same_reference x) es) (cond (same_reference x r) (Some bytes) None)
@@ -75,6 +75,28 @@ module _ (store : List (BlobRef × List ℕ)) (r : BlobRef) (bytes : List ℕ) w
       by (Some kept) e = inl (ap (blob_at x) (sym (stored-old kept e)) ∙ h)
       by None e = more (blob_at x store) (same_reference x r) refl (sym (lookup-end x r bytes store) ∙ ap (blob_at x) (sym (stored-new e)) ∙ h)
 
+  -- what was put is there, unless others were
+  pub stored-there : (HasOther store r bytes → ⊥) → blob_at r (stored store r bytes) ≡ Some bytes
+  stored-there none = by (blob_at r store) refl
+    where
+      same : (kept : List ℕ) → blob_at r store ≡ Some kept → (b : Bool) → same_bytes kept bytes ≡ b → blob_at r (stored store r bytes) ≡ Some bytes
+      same kept e true t = ap (blob_at r) (stored-old kept e) ∙ e ∙ ap (λ (bs : List ℕ). Some bs) (bytes-same kept bytes t)
+      same kept e false t = absurd (none (kept, e, other-bytes kept bytes t))
+
+      by : (o : Option (List ℕ)) → blob_at r store ≡ o → blob_at r (stored store r bytes) ≡ Some bytes
+      by (Some kept) e = same kept e (same_bytes kept bytes) refl
+      by None e =
+          ap (blob_at r) (stored-new e) ∙ lookup-end r r bytes store ∙ ap (λ o. option_map_or (λ (kept : List ℕ). Some kept) o (cond (same_reference r r) (Some bytes) None)) e
+          ∙ ap (λ b. cond b (Some bytes) None) (same_refl r)
+
+  -- and what was there stays
+  pub stored-keeps : (x : BlobRef) (found : List ℕ) → blob_at x store ≡ Some found → blob_at x (stored store r bytes) ≡ Some found
+  stored-keeps x found e = by (blob_at r store) refl
+    where
+      by : (o : Option (List ℕ)) → blob_at r store ≡ o → blob_at x (stored store r bytes) ≡ Some found
+      by (Some kept) g = ap (blob_at x) (stored-old kept g) ∙ e
+      by None g = ap (blob_at x) (stored-new g) ∙ lookup-end x r bytes store ∙ ap (λ o. option_map_or (λ (kept : List ℕ). Some kept) o (cond (same_reference x r) (Some bytes) None)) e
+
   -- bytes under their references stay so
   pub stored-named : Names r bytes → Each (λ e. Names e.0 e.1) store → Each (λ e. Names e.0 e.1) (stored store r bytes)
   stored-named named all = by (blob_at r store) refl
@@ -106,10 +128,10 @@ module _ (v : ContentValue) (set : Setting) (log : Log) (a : AgreesContent v set
 
 module _ (v w : ContentValue) (set : Setting) (log : Log) (a : AgreesContent v set log) (some : 0 < size_of v) (r : BlobRef) (bytes : List ℕ) (blob : IsBlob set log r bytes) (new : NodeValue) (events : List KvsEvent)
     (h : IsGetting 0 r bytes (node_at v 0) new events) (store : w.store ≡ stored v.store r bytes)
-    (nodes : w.nodes ≡ put v.nodes 0 new) (fanout : w.fanout ≡ v.fanout) (hash : w.hash ≡ v.hash) (wants : w.wants ≡ v.wants) (sent : AreSettled v.fanout 0 r true v.offers w.offers) where
+    (nodes : w.nodes ≡ put v.nodes 0 new) (fanout : w.fanout ≡ v.fanout) (hash : w.hash ≡ v.hash) (wants : w.wants ≡ v.wants) (sent : AreSettled v.fanout 0 r (Some bytes) v.offers w.offers) where
   -- rank 0 keeps the content in its store and gets it
-  pub taken-follows : Follows v w events set log
-  taken-follows = got-follows v w set log a 0 some r bytes new events h blob (inl (refl, (bytes, blob.1, blob.0))) nodes fanout hash wants sent root kept (inl refl)
+  pub taken-follows : blob_at r w.store ≡ Some bytes → Follows v w events set log
+  taken-follows there = got-follows v w set log a 0 some r bytes new events h blob (inl (refl, (bytes, blob.1, blob.0))) nodes fanout hash wants sent root kept (inl refl) there
     where
       root : (x : BlobRef) → has_got (after log 0 r (fresh r (node_at v 0)) h.gone) 0 x ≡ is_some (blob_at x w.store)
       root x = root-stored v set log a some r bytes h.gone x ∙ ap (λ s. is_some (blob_at x s)) (sym store)

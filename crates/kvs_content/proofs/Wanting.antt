@@ -19,10 +19,10 @@ abbrev pub with-wants : ContentValue → List Want → ContentValue
 with-wants v wants = record v { wants = wants }
 
 offer-moved : (v : ContentValue) (wants : List Want) (o : Offer) → IsOfferPlaced v o → IsOfferPlaced (with-wants v wants) o
-offer-moved v wants o p = record { below = p.below; within = p.within; waits = p.waits; named = p.named }
+offer-moved v wants o p = record { below = p.below; within = p.within; waits = p.waits; named = p.named; same = p.same }
 
 want-moved : (v : ContentValue) (wants : List Want) (w : Want) → IsWantPlaced v w → IsWantPlaced (with-wants v wants) w
-want-moved v wants w p = record { below = p.below; within = p.within; way = p.way; named = p.named }
+want-moved v wants w p = record { below = p.below; within = p.within; way = p.way; named = p.named; same = p.same }
 
 -- wants that are each at their place leave all sound
 pub wants-sound : (v : ContentValue) → IsSoundContent v → (wants : List Want) → ((k : ℕ) (d : Want) → k < length wants → IsWantPlaced v (get_or wants k d)) → IsSoundContent (with-wants v wants)
@@ -32,6 +32,7 @@ wants-sound v s wants all = record {
     some = s.placed.some;
     root = s.placed.root;
     store = s.placed.store;
+    same = s.placed.same;
     offers = λ k d l. offer-moved v wants _ (s.placed.offers k d l);
     wants = λ k d l. want-moved v wants _ (all k d l);
   };

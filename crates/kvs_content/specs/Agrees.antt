@@ -49,14 +49,19 @@ pub record NodeAgrees (set : Setting) (log : Log) (broker : ℕ) (node : NodeVal
   pub unpinned : (reference : BlobRef) (held : Held)
       → held_at reference node.cache ≡ Some held → is_pinned held ≡ false
 
--- what the log says of an offer: its bytes are a content; once it is accepted, the broker above has
--- got the content
-abbrev pub OfferAgrees : Setting → Log → ℕ → ℕ → BlobRef → OfferStage → Type 0
-OfferAgrees set log fanout child reference (offered.Rising bytes) = IsBlob set log reference bytes
-OfferAgrees set log fanout child reference offered.Waiting = Unit {0}
-OfferAgrees set log fanout child reference offered.Accepted =
+-- what the log says of an offer at this stage: once it is accepted, the broker above has got the
+-- content
+abbrev pub OfferStageAgrees : Setting → Log → ℕ → ℕ → BlobRef → OfferStage → Type 0
+OfferStageAgrees set log fanout child reference offered.Rising = Unit {0}
+OfferStageAgrees set log fanout child reference offered.Waiting = Unit {0}
+OfferStageAgrees set log fanout child reference offered.Accepted =
     IsTrue (has_got log (parent fanout child) reference)
-OfferAgrees set log fanout child reference offered.Refused = IsRefused set log reference
+OfferStageAgrees set log fanout child reference offered.Refused = IsRefused set log reference
+
+-- and its bytes are a content
+abbrev pub OfferAgrees : Setting → Log → ℕ → ℕ → BlobRef → List ℕ → OfferStage → Type 0
+OfferAgrees set log fanout child reference bytes stage = IsBlob set log reference bytes
+    × OfferStageAgrees set log fanout child reference stage
 
 -- what a load may be told, where rank 0 had nothing: it had nothing when the command asked, and
 -- neither had the broker
@@ -112,7 +117,8 @@ pub record AgreesContent (v : ContentValue) (set : Setting) (log : Log) : Type 0
   pub nodes : (broker : ℕ) → broker < size_of v → NodeAgrees set log broker (node_at v broker)
   pub offers : (k : ℕ) (d : Offer) → k < length v.offers
       → OfferAgrees set log v.fanout (slice_index_or v.offers k d).child
-      (slice_index_or v.offers k d).reference (slice_index_or v.offers k d).stage
+      (slice_index_or v.offers k d).reference (slice_index_or v.offers k d).bytes
+      (slice_index_or v.offers k d).stage
   pub wants : (k : ℕ) (d : Want) → k < length v.wants
       → WantAgrees set log v.fanout (slice_index_or v.wants k d)
 

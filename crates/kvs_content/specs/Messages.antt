@@ -1,5 +1,6 @@
 -- The messages between brokers.
-use Rattle.std.specs.Prelude.{◌≡◌, ℕ, zero, suc, ◌<◌, ◌+◌, ◌-◌, ◌*◌, ◌==◌, ◌&&◌, Bool, true, false, List, count_by, length, slice_index_or, sum_by, if◌then◌else◌}
+use Rattle.std.specs.Prelude.{◌≡◌, ℕ, zero, suc, ◌<◌, ◌+◌, ◌-◌, ◌*◌, ◌==◌, ◌&&◌, Bool, true, false, List, Option, Some, None, nat_eq, count_by, length, slice_index_or, sum_by, if◌then◌else◌}
+use Rattle.std.specs.Cmp.Lexicographic.{pointwise}
 use Rattle.fl_digest.specs.declared.BlobRef.{BlobRef}
 use Rattle.fl_digest.specs.Reference.{same_reference}
 use Rattle.kvs_txn.specs.declared.txn.By.{By}
@@ -21,8 +22,9 @@ abbrev pub falls_on : ℕ → ℕ → ℕ → ℕ → Bool
 falls_on fanout from to child = (to == child) && (from == parent fanout child)
 
 -- an offer of a broker, and a want of a command's load at a broker, on the link of a child
-abbrev pub offer_of : ℕ → BlobRef → OfferStage → Offer
-offer_of child reference stage = record { child = child; reference = reference; stage = stage }
+abbrev pub offer_of : ℕ → BlobRef → List ℕ → OfferStage → Offer
+offer_of child reference bytes stage =
+    record { child = child; reference = reference; bytes = bytes; stage = stage }
 
 abbrev pub want_of : By → ℕ → ℕ → BlobRef → WantStage → Want
 want_of by broker child reference stage = record {
@@ -35,7 +37,7 @@ want_of by broker child reference stage = record {
 
 -- whether an offer at this stage is on the link between two brokers
 abbrev pub is_offered_so : ℕ → ℕ → ℕ → ℕ → OfferStage → Bool
-is_offered_so fanout from to child (offered.Rising bytes) = rises_on fanout from to child
+is_offered_so fanout from to child offered.Rising = rises_on fanout from to child
 is_offered_so fanout from to child offered.Waiting = false
 is_offered_so fanout from to child offered.Accepted = falls_on fanout from to child
 is_offered_so fanout from to child offered.Refused = falls_on fanout from to child
@@ -53,10 +55,14 @@ is_wanted_so fanout from to child (wanted.Falling gift) = falls_on fanout from t
 abbrev pub is_want_on : ℕ → ℕ → ℕ → Want → Bool
 is_want_on fanout from to want = is_wanted_so fanout from to want.child want.stage
 
--- whether a broker offers the reference
-abbrev pub is_offer_of : ℕ → BlobRef → Offer → Bool
-is_offer_of broker reference offer =
-    (offer.child == broker) && same_reference reference offer.reference
+-- whether two contents have the same bytes
+abbrev pub same_bytes : List ℕ → List ℕ → Bool
+same_bytes = pointwise nat_eq
+
+-- whether a broker offers these bytes under the reference
+abbrev pub is_offer_of : ℕ → BlobRef → List ℕ → Offer → Bool
+is_offer_of broker reference bytes offer = (offer.child == broker)
+    && same_reference reference offer.reference && same_bytes bytes offer.bytes
 
 -- whether an offer at this stage waits for what becomes of the content at the broker above
 abbrev pub is_waiting_stage : OfferStage → Bool
@@ -74,12 +80,17 @@ outcome accepted = if accepted then offered.Accepted else offered.Refused
 
 -- an offer at another stage
 abbrev pub staged : OfferStage → Offer → Offer
-staged stage offer = record { child = offer.child; reference = offer.reference; stage = stage }
+staged stage offer = offer_of offer.child offer.reference offer.bytes stage
 
--- an offer, once it is known what became of the content at a broker
-abbrev pub settled : ℕ → ℕ → BlobRef → Bool → Offer → Offer
-settled fanout broker reference accepted offer =
-    if waits_at fanout broker reference offer then staged (outcome accepted) offer else offer
+-- whether these bytes are those that are kept, if any are
+abbrev pub is_kept : Option (List ℕ) → List ℕ → Bool
+is_kept (Some kept) bytes = same_bytes kept bytes
+is_kept None bytes = false
+
+-- an offer, once it is known which bytes a broker keeps of the content, if it keeps any
+abbrev pub settled : ℕ → ℕ → BlobRef → Option (List ℕ) → Offer → Offer
+settled fanout broker reference kept offer = if waits_at fanout broker reference offer
+    then staged (outcome (is_kept kept offer.bytes)) offer else offer
 
 -- the broker so many links above another one
 abbrev pub ancestor : ℕ → ℕ → ℕ → ℕ
@@ -102,7 +113,7 @@ loads_of by wants = count_by (λ want. same_command want.by by) wants
 
 -- how often an offer of a broker still comes to one, at most
 abbrev pub offer_left : ℕ → OfferStage → ℕ
-offer_left child (offered.Rising bytes) = 2 * child
+offer_left child offered.Rising = 2 * child
 offer_left child _ = 1
 
 abbrev pub offers_left : Offer → ℕ
@@ -122,7 +133,7 @@ deliveries_left size offers wants = sum_by offers_left offers + sum_by (wants_le
 
 -- what became of a content at a broker is sent to all that wait there for it
 pub record AreSettled (fanout broker : ℕ) (reference : BlobRef)
-    (accepted : Bool) (old new : List Offer) : Type 0 where
+    (kept : Option (List ℕ)) (old new : List Offer) : Type 0 where
   pub same_len : length new ≡ length old
   pub each : (k : ℕ) (d : Offer) → k < length old
-      → slice_index_or new k d ≡ settled fanout broker reference accepted (slice_index_or old k d)
+      → slice_index_or new k d ≡ settled fanout broker reference kept (slice_index_or old k d)

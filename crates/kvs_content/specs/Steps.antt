@@ -1,15 +1,15 @@
 -- Which deliveries can be made, and what the calls do to the loads that wait.
-use Rattle.std.specs.Prelude.{◌≡◌, ℕ, Bool, false, ◌||◌, Option, Some, None, if◌then◌else◌}
+use Rattle.std.specs.Prelude.{◌≡◌, ℕ, Bool, false, ◌||◌, List, Option, Some, None, if◌then◌else◌}
 use Rattle.std.specs.List.{list_any}
 use Rattle.fl_digest.specs.declared.BlobRef.{BlobRef}
+use Rattle.cache_node.specs.Cache.{dirty_at}
 use Rattle.kvs_txn.specs.declared.txn.By.{By}
 use Rattle.kvs_rules.specs.Log.{same_command}
 use Rattle.kvs_content.specs.declared.outcomes.Answer.{Answer}
 use Rattle.kvs_content.specs.declared.outcomes.Load.{Load}
 use Rattle.kvs_content.specs.declared.outcomes.Load.TheVariants as load
 use Rattle.kvs_content.specs.Messages.{is_offer_of, is_offer_on, is_want_on}
-use Rattle.kvs_content.specs.Sound.{IsDirty}
-use Rattle.kvs_content.specs.Value.{ContentValue, size_of}
+use Rattle.kvs_content.specs.Value.{ContentValue, node_at, size_of}
 
 -- whether a message is on the link between two brokers
 abbrev pub can_deliver : ContentValue → ℕ → ℕ → Bool
@@ -38,8 +38,9 @@ answered by (Some told) = if same_command told.by by then 1 else 0
 
 -- no more contents are dirty, and the same ones are offered
 pub record IsLighter (old new : ContentValue) : Type 0 where
-  pub dirty : (broker : ℕ) (reference : BlobRef) → IsDirty new broker reference
-      → IsDirty old broker reference
-  pub offered : (broker : ℕ) (reference : BlobRef)
-      → list_any (is_offer_of broker reference) new.offers
-      ≡ list_any (is_offer_of broker reference) old.offers
+  pub dirty : (broker : ℕ) (reference : BlobRef) (bytes : List ℕ)
+      → dirty_at reference (node_at new broker).cache ≡ Some bytes
+      → dirty_at reference (node_at old broker).cache ≡ Some bytes
+  pub offered : (broker : ℕ) (reference : BlobRef) (bytes : List ℕ)
+      → list_any (is_offer_of broker reference bytes) new.offers
+      ≡ list_any (is_offer_of broker reference bytes) old.offers

@@ -1,19 +1,20 @@
 //! The contents of an instance, at all brokers.
-ghost use Rattle.std.specs.Prelude.{◌≡◌, ◌≢◌, ℕ, ◌+◌, ◌-◌, ◌*◌, ◌<◌, ◌≤◌, ◌↔◌, ◌++◌, ◌∷◌, [], true, ◌⊎◌, IsTrue, IsSome, IfOk, IfSome, OnOk, Contains, None, is_some, length, map, option_map, slice_index_or, slice_set, sum_by};
+ghost use Rattle.std.specs.Prelude.{◌≡◌, ◌≢◌, ℕ, ◌+◌, ◌-◌, ◌*◌, ◌<◌, ◌≤◌, ◌↔◌, ◌++◌, ◌∷◌, [], true, ◌⊎◌, IsTrue, IsSome, IfOk, IfSome, OnOk, List, Contains, Some, None, is_some, length, map, option_map, slice_index_or, slice_set, sum_by};
 ghost use Rattle.std.specs.List.{AllByRecursion as Each, list_any};
 ghost use Rattle.fl_digest.specs.declared.BlobRef.{BlobRef as Reference};
 ghost use Rattle.fl_digest.specs.Reference.{reference_of};
+ghost use Rattle.blob_store.specs.Blobs.{blob_at};
 ghost use Rattle.cache_node.specs.Order.{Names};
-ghost use Rattle.cache_node.specs.Cache.{any_at, clean_at};
+ghost use Rattle.cache_node.specs.Cache.{any_at, clean_at, dirty_at};
 ghost use Rattle.kvs_txn.specs.declared.txn.By.{By as Command};
 ghost use Rattle.kvs_rules.specs.Log.{Happened, Log, same_command};
 ghost use Rattle.kvs_rules.specs.Namespaces.{Request as Asked, Setting};
 ghost use Rattle.kvs_rules.specs.Brokers.{IsContent, has_got, holds, parent};
 ghost use Rattle.kvs_rules.specs.declared.events.KvsEvent.TheVariants as event;
-ghost use Rattle.kvs_content.specs.Messages.{AreSettled, IsAbove, deliveries_left, is_offer_on, is_want_on, loads_of, offer_of, offers_left, outcome, want_of, wants_left};
+ghost use Rattle.kvs_content.specs.Messages.{AreSettled, IsAbove, deliveries_left, is_offer_on, is_want_on, loads_of, offer_of, offers_left, outcome, same_bytes, want_of, wants_left};
 ghost use Rattle.kvs_content.specs.Node.{GetsOrDrops, IsDropping, IsFlush, IsGetting, empty_node};
 ghost use Rattle.kvs_content.specs.Steps.{AreAlike, AreLinksEmpty, IsLighter, answered, can_deliver, waiting};
-ghost use Rattle.kvs_content.specs.Sound.{ArePlaced, IsCarried, IsDirty, IsGiftNamed, IsSoundBut, IsSoundContent, IsWantNamed};
+ghost use Rattle.kvs_content.specs.Sound.{ArePlaced, IsCarried, IsDirty, IsGiftNamed, IsGiftSame, IsSoundBut, IsSoundContent, IsWantNamed, IsWantSame};
 ghost use Rattle.kvs_content.specs.Value.{node_at, size_of};
 ghost use Rattle.kvs_content.specs.Agrees.{AgreesContent, Follows, FollowsAlways, GiftAgrees, IsBlob, IsFound, IsFrom, IsKept, IsLoad, IsNoted, IsRefused, IsRuled, MayAnswer, MayLoad, WantAgrees};
 
@@ -179,6 +180,8 @@ impl Contents {
             → AgreesContent self.old set log
             → IsBlob set log reference bytes
             → IsRuled set (log ++ map Happened taken.events) reference taken.accepted) }
+        ensures same { IfOk result (λ taken. taken.accepted ≡ true
+            → blob_at reference self.new.store ≡ Some bytes) }
     {
         let kept = bytes.copy()?;
         match self.store.put(reference, kept) {
@@ -205,8 +208,9 @@ impl Contents {
         requires within { broker < size_of self.old }
         requires named { Names reference bytes }
         ensures placed { OnOk result (ArePlaced self.new) }
-        ensures carried { OnOk result ((b : ℕ) (name : Reference) → b < size_of self.old
-            → IsCarried self.old b name → IsCarried self.new b name) }
+        ensures carried { OnOk result ((b : ℕ) (name : Reference) (kept : List ℕ)
+            → b < size_of self.old → IsCarried self.old b name kept
+            → IsCarried self.new b name kept) }
         ensures alike { OnOk result (AreAlike self.old self.new) }
         ensures wants { OnOk result (self.new.wants ≡ self.old.wants) }
         ensures left { OnOk result (sum_by offers_left self.new.offers
@@ -225,13 +229,14 @@ impl Contents {
         self.offers.push(Offer {
             child: broker,
             reference,
-            stage: OfferStage::Rising(offered),
+            bytes: offered,
+            stage: OfferStage::Rising,
         })?;
         Ok(())
     }
 
-    /// Keeps a content as clean at a broker. The offers that wait there for one under the reference
-    /// are accepted then.
+    /// Keeps a content as clean at a broker. Of the offers that wait there for one under the
+    /// reference those of the same bytes are accepted then.
     fn get(
         &mut self,
         broker: u32,
@@ -247,12 +252,18 @@ impl Contents {
         }) }
         ensures got { IfOk result (λ events. IsGetting broker reference bytes
             (node_at self.old broker) (node_at self.new broker) events) }
-        ensures settled { OnOk result (AreSettled self.old.fanout broker reference true
+        ensures settled { OnOk result (AreSettled self.old.fanout broker reference (Some bytes)
             self.old.offers self.new.offers) }
     {
+        settle(
+            &mut self.offers,
+            self.fanout,
+            broker,
+            &reference,
+            Some(&bytes),
+        );
         let node = &mut self.nodes[broker as usize];
         let events = node.get(self.alloc, broker, reference, bytes)?;
-        settle(&mut self.offers, self.fanout, broker, &reference, true);
         Ok(events)
     }
 
@@ -297,6 +308,7 @@ impl Contents {
             → AgreesContent self.old set log
             → IsFound set (log ++ map Happened found.events) reference.now 0 found.stage) }
         ensures falls { IfOk result (λ found. found.stage ≢ WantStage.Rising) }
+        ensures same { IfOk result (λ found. IsWantSame self.new.store reference.now found.stage) }
     {
         let Some(kept) = self.store.get(reference) else {
             return Ok(Found {
@@ -331,6 +343,7 @@ impl Contents {
             → IsFound set (log ++ map Happened found.events) reference.now broker found.stage) }
         ensures none { IfOk result (λ found. found.stage ≡ WantStage.Rising → (0 < broker)
             × (any_at reference.now (node_at self.old broker).cache ≡ None)) }
+        ensures same { IfOk result (λ found. IsWantSame self.new.store reference.now found.stage) }
     {
         if let Some(gift) = self.kept(broker, reference)? {
             return Ok(Found {
@@ -470,20 +483,42 @@ impl Contents {
         let Offer {
             child,
             reference,
+            bytes,
             stage,
         } = self.offers.remove(i);
         match stage {
-            OfferStage::Rising(bytes) => self.receive(child, to, reference, bytes),
+            OfferStage::Rising => self.receive(child, to, reference, bytes),
             OfferStage::Waiting => unreachable!(),
-            OfferStage::Accepted => self.accept(to, reference),
-            OfferStage::Refused => self.reject(to, reference),
+            OfferStage::Accepted => self.accept(to, reference, bytes),
+            OfferStage::Refused => self.reject(to, reference, bytes),
         }
     }
 
+    /// Whether a broker has these bytes dirty under a reference.
+    fn is_dirty(&self, broker: u32, reference: &BlobRef, bytes: &Bytes) -> bool
+        requires { broker < size_of self.now }
+        ensures { IsTrue result
+            ↔ (dirty_at reference.now (node_at self.now broker).cache ≡ Some bytes.now) }
+    {
+        self.nodes[broker as usize].is_dirty(reference, bytes)
+    }
+
+    /// Whether the bytes that a broker has clean under a reference are these, where it has some.
+    fn has_clean(&self, broker: u32, reference: &BlobRef, bytes: &Bytes) -> Option<bool>
+        requires { broker < size_of self.now }
+        ensures { result ≡ option_map (λ kept. same_bytes kept bytes.now)
+            (clean_at reference.now (node_at self.now broker).cache) }
+    {
+        self.nodes[broker as usize].has_clean(reference, bytes)
+    }
+
     /// A broker hears that the one above has got a content, and so do those that wait there for it.
-    fn accept(&mut self, at: u32, reference: BlobRef) -> Result<KvsEvents, AllocError>
-        requires but { IsSoundBut at reference self.old }
+    /// Where other bytes are dirty there under the reference, they stay so: they have an offer of
+    /// their own.
+    fn accept(&mut self, at: u32, reference: BlobRef, bytes: Bytes) -> Result<KvsEvents, AllocError>
+        requires but { IsSoundBut at reference bytes self.old }
         requires within { at < size_of self.old }
+        requires same { blob_at reference self.old.store ≡ Some bytes }
         ensures sound { OnOk result (IsSoundContent self.new) }
         ensures alike { OnOk result (AreAlike self.old self.new) }
         ensures wants { OnOk result (self.new.wants ≡ self.old.wants) }
@@ -495,16 +530,19 @@ impl Contents {
             × IsTrue (has_got log (parent self.old.fanout at) reference)
             → Follows self.old self.new events set log) }
     {
+        if !self.is_dirty(at, &reference, &bytes) {
+            return Ok(ListOf::new(self.alloc));
+        }
         let node = &mut self.nodes[at as usize];
         let events = node.accept(self.alloc, at, reference)?;
-        settle(&mut self.offers, self.fanout, at, &reference, true);
+        settle(&mut self.offers, self.fanout, at, &reference, Some(&bytes));
         Ok(events)
     }
 
-    /// A broker hears that rank 0 has other bytes under a reference, and so do those that wait
-    /// there for it.
-    fn reject(&mut self, at: u32, reference: BlobRef) -> Result<KvsEvents, AllocError>
-        requires but { IsSoundBut at reference self.old }
+    /// A broker hears that a content was refused, and so do those that wait there for it. Where
+    /// other bytes are dirty there under the reference, they stay so.
+    fn reject(&mut self, at: u32, reference: BlobRef, bytes: Bytes) -> Result<KvsEvents, AllocError>
+        requires but { IsSoundBut at reference bytes self.old }
         requires within { at < size_of self.old }
         ensures sound { OnOk result (IsSoundContent self.new) }
         ensures alike { OnOk result (AreAlike self.old self.new) }
@@ -516,14 +554,18 @@ impl Contents {
             → AgreesContent self.old set log → IsRefused set log reference
             → Follows self.old self.new events set log) }
     {
+        if !self.is_dirty(at, &reference, &bytes) {
+            return Ok(ListOf::new(self.alloc));
+        }
         let node = &mut self.nodes[at as usize];
         node.reject(reference)?;
-        settle(&mut self.offers, self.fanout, at, &reference, false);
+        settle(&mut self.offers, self.fanout, at, &reference, None);
         Ok(ListOf::new(self.alloc))
     }
 
     /// Takes a content that a broker's child offers: rank 0 decides, and so does a broker that has
-    /// it clean. Any other broker keeps it as dirty too, and the child waits.
+    /// one clean under the reference, by its bytes. Any other broker keeps it as dirty too, unless
+    /// it has one, and the child waits.
     fn receive(
         &mut self,
         child: u32,
@@ -531,7 +573,7 @@ impl Contents {
         reference: BlobRef,
         bytes: Bytes,
     ) -> Result<KvsEvents, AllocError>
-        requires but { IsSoundBut child reference self.old }
+        requires but { IsSoundBut child reference bytes self.old }
         requires child { (0 < child) × (child < size_of self.old)
             × (at ≡ parent self.old.fanout child) }
         requires named { Names reference bytes }
@@ -546,18 +588,21 @@ impl Contents {
             → Follows self.old self.new events set log) }
     {
         if at == 0 {
-            let Taken { accepted, events } = self.take_up(reference, bytes)?;
-            self.answer_offer(child, reference, accepted)?;
+            let kept = bytes.copy()?;
+            let Taken { accepted, events } = self.take_up(reference, kept)?;
+            self.answer_offer(child, reference, bytes, accepted)?;
             return Ok(events);
         }
-        if self.nodes[at as usize].clean(&reference).is_some() {
-            self.answer_offer(child, reference, true)?;
+        if let Some(accepted) = self.has_clean(at, &reference, &bytes) {
+            self.answer_offer(child, reference, bytes, accepted)?;
             return Ok(ListOf::new(self.alloc));
         }
-        self.offer(at, reference, bytes)?;
+        let twin = bytes.copy()?;
+        self.offer(at, reference, twin)?;
         self.offers.push(Offer {
             child,
             reference,
+            bytes,
             stage: OfferStage::Waiting,
         })?;
         Ok(ListOf::new(self.alloc))
@@ -568,19 +613,24 @@ impl Contents {
         &mut self,
         child: u32,
         reference: BlobRef,
+        bytes: Bytes,
         accepted: bool,
     ) -> Result<(), AllocError>
-        requires but { IsSoundBut child reference self.old }
+        requires but { IsSoundBut child reference bytes self.old }
         requires child { (0 < child) × (child < size_of self.old) }
+        requires named { Names reference bytes }
+        requires same { accepted ≡ true → blob_at reference self.old.store ≡ Some bytes }
         ensures sound { OnOk result (IsSoundContent self.new) }
         ensures sent { OnOk result (self.new
             ≡ record self.old {
-              offers = self.old.offers ++ offer_of child reference (outcome accepted) ∷ [];
+              offers = self.old.offers
+                  ++ offer_of child reference bytes (outcome accepted) ∷ [];
             }) }
     {
         self.offers.push(Offer {
             child,
             reference,
+            bytes,
             stage: OfferStage::outcome(accepted),
         })?;
         Ok(())
@@ -676,8 +726,10 @@ impl Contents {
         requires sound { IsSoundContent self.old }
         requires within { (0 < at) × (at < size_of self.old) }
         requires named { IsGiftNamed reference gift.now }
+        requires same { IsGiftSame self.old.store reference gift.now }
         ensures sound { OnOk result (IsSoundContent self.new) }
         ensures alike { OnOk result (AreAlike self.old self.new) }
+        ensures store { OnOk result (self.new.store ≡ self.old.store) }
         ensures wants { OnOk result (self.new.wants ≡ self.old.wants) }
         ensures left { OnOk result (sum_by offers_left self.new.offers
             ≡ sum_by offers_left self.old.offers) }
@@ -716,6 +768,7 @@ impl Contents {
         requires below { 0 < at }
         requires way { (broker < size_of self.old) × IsAbove self.old.fanout at broker }
         requires named { IsGiftNamed reference gift }
+        requires same { IsGiftSame self.old.store reference gift }
         ensures sound { OnOk result (IsSoundContent self.new) }
         ensures alike { OnOk result (AreAlike self.old self.new) }
         ensures left { OnOk result (sum_by offers_left self.new.offers

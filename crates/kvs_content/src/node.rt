@@ -1,7 +1,8 @@
 //! What one broker keeps of contents.
-ghost use Rattle.std.specs.Prelude.{◌≡◌, ◌≢◌, ◌↔◌, ◌++◌, ◌∷◌, [], None, IfOk, IfSome, OnOk, IsTrue, option_copied, is_some};
+ghost use Rattle.std.specs.Prelude.{◌≡◌, ◌≢◌, ◌↔◌, ◌++◌, ◌∷◌, [], Some, None, IfOk, IfSome, OnOk, IsTrue, option_copied, option_map, is_some};
 ghost use Rattle.cache_node.specs.Order.{Names};
 ghost use Rattle.cache_node.specs.Cache.{acknowledged, any_at, clean_at, dirty_at, stored};
+ghost use Rattle.kvs_content.specs.Messages.{same_bytes};
 ghost use Rattle.kvs_content.specs.Node.{IsDropping, IsFlush, IsGetting, dropping, empty_node, getting, rejected, with_cache};
 
 use cache_node::CacheNode;
@@ -90,6 +91,30 @@ impl Node {
         ensures named { IfSome result (λ bytes. Names reference.now bytes.now) }
     {
         self.cache.clean(reference)
+    }
+
+    /// Whether the clean bytes under a reference are these, where there are some.
+    pub fn has_clean(&self, reference: &BlobRef, bytes: &Bytes) -> Option<bool>
+        ensures { result ≡ option_map (λ kept. same_bytes kept bytes.now)
+            (clean_at reference.now self.now.cache) }
+    {
+        match self.cache.clean(reference) {
+            Some(kept) => Some(*kept == *bytes),
+            None => None,
+        }
+    }
+
+    /// Whether these bytes are dirty under a reference.
+    pub fn is_dirty(&self, reference: &BlobRef, bytes: &Bytes) -> bool
+        ensures { IsTrue result ↔ (dirty_at reference.now self.now.cache ≡ Some bytes.now) }
+    {
+        if self.cache.clean(reference).is_some() {
+            return false;
+        }
+        match self.cache.any(reference) {
+            Some(kept) => *kept == *bytes,
+            None => false,
+        }
     }
 
     /// Whether a content is dirty.

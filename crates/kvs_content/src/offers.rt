@@ -1,8 +1,8 @@
 //! The dirty contents on their way up the tree, and what became of them on its way down.
-ghost use Rattle.std.specs.Prelude.{◌≡◌, ◌<◌};
+ghost use Rattle.std.specs.Prelude.{◌≡◌, ◌<◌, option_copied};
 ghost use Rattle.std.specs.List.{list_any, position};
 ghost use Rattle.kvs_rules.specs.Brokers.{parent};
-ghost use Rattle.kvs_content.specs.Messages.{AreSettled, is_offer_on, outcome, settled, waits_at};
+ghost use Rattle.kvs_content.specs.Messages.{AreSettled, is_kept, is_offer_on, outcome, settled, waits_at};
 
 use fl_digest::BlobRef;
 use lists::Bytes;
@@ -10,8 +10,8 @@ use lists::Bytes;
 /// Where an offer is.
 #[derive(Drop)]
 pub enum OfferStage {
-    /// On its way to the broker above, with the bytes.
-    Rising(Bytes),
+    /// On its way to the broker above.
+    Rising,
     /// At the broker above, which has offered the content to its own.
     Waiting,
     /// On its way down: the broker above has got the content.
@@ -20,11 +20,12 @@ pub enum OfferStage {
     Refused,
 }
 
-/// A broker offers a dirty content to the broker above.
+/// A broker offers a dirty content to the broker above. The offer keeps the bytes to its end.
 #[derive(Drop)]
 pub struct Offer {
     pub child: u32,
     pub reference: BlobRef,
+    pub bytes: Bytes,
     pub stage: OfferStage,
 }
 
@@ -57,7 +58,7 @@ impl Offer {
     {
         let above = parent(fanout, self.child);
         match self.stage {
-            OfferStage::Rising(_) => from == self.child && to == above,
+            OfferStage::Rising => from == self.child && to == above,
             OfferStage::Waiting => false,
             OfferStage::Accepted => to == self.child && from == above,
             OfferStage::Refused => to == self.child && from == above,
@@ -77,13 +78,24 @@ impl Offer {
         }
     }
 
-    /// Sends the offer down, if it waits at a broker for what becomes of the content there.
-    fn settle(&mut self, fanout: u32, broker: u32, reference: &BlobRef, accepted: bool)
+    /// Whether the offer's bytes are those that are kept, if any are.
+    fn is_kept(&self, kept: Option<&Bytes>) -> bool
+        ensures { result ≡ is_kept (option_copied kept.entry) self.now.bytes }
+    {
+        match kept {
+            Some(kept) => *kept == self.bytes,
+            None => false,
+        }
+    }
+
+    /// Sends the offer down, if it waits at a broker for what becomes of the content there: it is
+    /// accepted where its bytes are those that are kept.
+    fn settle(&mut self, fanout: u32, broker: u32, reference: &BlobRef, kept: Option<&Bytes>)
         requires { 0 < fanout }
-        ensures { self.new ≡ settled fanout broker reference.now accepted self.old }
+        ensures { self.new ≡ settled fanout broker reference.now (option_copied kept.entry) self.old }
     {
         if self.waits_at(fanout, broker, reference) {
-            self.stage = OfferStage::outcome(accepted);
+            self.stage = OfferStage::outcome(self.is_kept(kept));
         }
     }
 }
@@ -106,18 +118,20 @@ pub(crate) fn first_offer(offers: &Vec<Offer>, fanout: u32, from: u32, to: u32) 
         .position(|offer| offer.is_on(fanout, from, to))
 }
 
-/// Sends the offers down that wait at a broker for what becomes of the content there.
+/// Sends the offers down that wait at a broker for what becomes of the content there: those of the
+/// bytes that are kept are accepted.
 pub(crate) fn settle(
     offers: &mut Vec<Offer>,
     fanout: u32,
     broker: u32,
     reference: &BlobRef,
-    accepted: bool,
+    kept: Option<&Bytes>,
 )
     requires { 0 < fanout }
-    ensures { AreSettled fanout broker reference.now accepted offers.old.items offers.new.items }
+    ensures { AreSettled fanout broker reference.now (option_copied kept.entry)
+        offers.old.items offers.new.items }
 {
     for i in 0..offers.len() {
-        offers[i].settle(fanout, broker, reference, accepted);
+        offers[i].settle(fanout, broker, reference, kept);
     }
 }

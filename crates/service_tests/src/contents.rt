@@ -307,6 +307,36 @@ fn other_bytes_under_a_reference_are_refused(rt: HostRuntime) -> Result<(), Fail
     walk(&rt, rt.alloc(), &CLASH)
 }
 
+/// Where both meet below rank 0, the one that is kept is accepted and the other refused, on its way
+/// up and at a broker that has the first one clean.
+const MEETING: [(Act, u32, &str); 20] = [
+    (Act::Store(Text::Other), 5, "stored"),
+    (Act::Store(Text::One), 6, "stored"),
+    (Act::From(5), 2, "-"),
+    (Act::From(6), 2, "-"),
+    (Act::Flush, 6, "waits"),
+    (Act::From(2), 0, "- +0"),
+    (Act::From(0), 2, "- +2"),
+    (Act::From(2), 5, "- +5"),
+    (Act::From(2), 6, "-"),
+    (Act::Flush, 5, "flushed"),
+    (Act::Flush, 6, "clashed"),
+    (Act::Flush, 6, "flushed"),
+    (Act::Store(Text::One), 6, "stored"),
+    (Act::From(6), 2, "-"),
+    (Act::From(2), 6, "-"),
+    (Act::Flush, 6, "clashed"),
+    (Act::Store(Text::Other), 6, "stored"),
+    (Act::From(6), 2, "-"),
+    (Act::From(2), 6, "- +6"),
+    (Act::Load(Text::One), 6, "other"),
+];
+
+#[test]
+fn the_bytes_that_are_kept_are_accepted_alone(rt: HostRuntime) -> Result<(), Fail> {
+    walk(&rt, rt.alloc(), &MEETING)
+}
+
 /// A clean content comes down to a broker that has stored it since, and is waited for there.
 const CROSSING: [(Act, u32, &str); 17] = [
     (Act::Store(Text::Abc), 0, "stored +0"),

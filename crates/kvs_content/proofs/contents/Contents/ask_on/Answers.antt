@@ -18,7 +18,7 @@ returns-clause-sound c =
     let is = want-pushed c.self.view_is _ (want_of c.args.by c.args.broker (link_now c.args.child c.args.at stage) c.args.reference stage) link _ c.in_ok-push.ensures.items in
     subst IsSoundContent (sym is) (put-want-sound c.find.new.self _ c.in_ok-stage.ensures.sound
     (asked-placed c.args.self.now c.find.new.self c.in_ok-stage.ensures.alike c.args.by c.args.reference c.args.broker c.args.child c.args.at c.requires.child.0 c.requires.child.1 c.requires.way.0 c.requires.way.1
-    stage (λ e. (c.in_ok-stage.ensures.none e).0) c.in_ok-stage.ensures.named))
+    stage (λ e. (c.in_ok-stage.ensures.none e).0) c.in_ok-stage.ensures.named c.in_ok-stage.ensures.same))
 
 pub returns-clause-follows : goal.returns-clause-follows
 returns-clause-follows c = λ set log a h.

@@ -8,7 +8,7 @@ use Rattle.kvs_content.specs.declared.wants.WantStage.{WantStage}
 use Rattle.kvs_content.specs.declared.wants.WantStage.TheVariants as wanted
 use Rattle.kvs_content.specs.Agrees.{AgreesContent, Follows, WantAgrees}
 use Rattle.kvs_content.specs.Messages.{IsAbove, is_wanted_so, is_want_on, loads_of, offers_left, want_left, wants_left, want_of}
-use Rattle.kvs_content.specs.Sound.{IsSoundContent, IsWantNamed}
+use Rattle.kvs_content.specs.Sound.{IsGiftSame, IsSoundContent, IsWantNamed, IsWantSame}
 use Rattle.kvs_content.specs.Steps.{AreAlike}
 use Rattle.kvs_content.specs.Value.{ContentValue, size_of}
 use Rattle.kvs_content.proofs.Delivering.{ok-then, read-at, want-agrees, want-left-out, want-shorter, want-there, wants-removed}
@@ -65,6 +65,12 @@ hand_down-requires-clause-named c =
     let read = subst (λ (v : ContentValue). c.remove-broker.result ≡ get_or v.wants c.args.i c.remove-broker.result) c.self.view_is c.remove-broker.ensures.value in
     let there = want-there c.args.self.now c.requires.sound c.args.i c.requires.within c.remove-broker.result read in
     subst (IsWantNamed c.remove-broker.result.reference) c.in-Falling.is there.named
+
+pub hand_down-requires-clause-same : goal.hand_down-requires-clause-same
+hand_down-requires-clause-same c =
+    let read = subst (λ (v : ContentValue). c.remove-broker.result ≡ get_or v.wants c.args.i c.remove-broker.result) c.self.view_is c.remove-broker.ensures.value in
+    let there = want-there c.args.self.now c.requires.sound c.args.i c.requires.within c.remove-broker.result read in
+    subst (λ (v : ContentValue). IsGiftSame v.store c.remove-broker.result.reference c.in-Falling.gift) (sym c.self.view_is) (subst (IsWantSame c.args.self.now.store c.remove-broker.result.reference) c.in-Falling.is there.same)
 
 pub returns-in-Rising-clause-shorter : goal.returns-in-Rising-clause-shorter
 returns-in-Rising-clause-shorter c =

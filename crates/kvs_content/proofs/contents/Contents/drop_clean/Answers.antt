@@ -5,7 +5,7 @@ use Rattle.kvs_content.proofs.Events.{drops-come}
 use Rattle.kvs_content.specs.Sound.{IsSoundContent}
 use Rattle.kvs_content.specs.Value.{node_at, size_of}
 use Rattle.kvs_content.specs.Agrees.{AgreesContent, Follows}
-use Rattle.kvs_content.proofs.Following.{dropped-all, dropped-follows}
+use Rattle.kvs_content.proofs.Following.{dropped-all, dropped-clean, dropped-follows}
 use Rattle.kvs_content.proofs.Keeping.{kept-sound, node-read, node-written, one-changed}
 use Rattle.kvs_content.proofs.contents.Contents.drop_clean.Goals as goal
 
@@ -15,7 +15,7 @@ returns-clause-sound c =
     let within = subst (λ v. c.args.broker < size_of v) (sym c.self.view_is) c.requires.within in
     let node = node-read c.self.inside.nodes.items c.args.broker c.index_mut-node.result.now within c.index_mut-node.ensures.value in
     let drops = subst (λ n. IsDropping c.args.broker n c.drop_clean.new.self c.in_ok-events.events) node c.in_ok-events.ensures in
-    kept-sound _ c.args.broker within c.drop_clean.new.self (ap (λ k. k.dirty) drops.pinned) sound
+    kept-sound _ c.args.broker within c.drop_clean.new.self (ap (λ k. k.dirty) drops.pinned) (dropped-clean c.args.broker _ _ c.in_ok-events.events drops) sound
 
 pub returns-clause-dropped : goal.returns-clause-dropped
 returns-clause-dropped c =

@@ -4,7 +4,7 @@ use Rattle.cache_node.specs.Order.{Names}
 use Rattle.kvs_content.specs.Sound.{IsSoundContent}
 use Rattle.kvs_content.specs.Value.{ContentValue}
 use Rattle.kvs_content.proofs.Finding.{fetched}
-use Rattle.kvs_content.proofs.Gaining.{Gains, fetch-follows, gained-come, gained-left, gained-sound, store-named}
+use Rattle.kvs_content.proofs.Gaining.{Gains, fetch-follows, gained-come, gained-left, gained-sound, store-gained, store-named}
 use Rattle.kvs_content.proofs.contents.Contents.fetch.Goals as goal
 
 pub get-requires-2-clause-named : goal.get-requires-2-clause-named
@@ -21,7 +21,15 @@ pub returns-clause-sound : goal.returns-clause-sound
 returns-clause-sound c =
     let g : Gains c.args.self.now c.get-2.new.self 0 c.args.reference.now c.in_ok-twin.twin c.in_ok-events.events =
     record { rest = c.in_ok-events.ensures.rest; got = c.in_ok-events.ensures.got; settled = c.in_ok-events.ensures.settled } in
-    gained-sound _ _ 0 _ _ _ g c.requires.sound.placed.some c.requires.sound
+    let there = subst (λ (v : ContentValue). blob_at c.args.reference.now v.store ≡ Some c.in_ok-twin.twin) c.self.view_is (sym c.in-Some.ensures ∙ ap (λ bytes. Some bytes) (sym c.in_ok-twin.ensures)) in
+    gained-sound _ _ 0 _ _ _ g c.requires.sound.placed.some there c.requires.sound
+
+pub returns-clause-same : goal.returns-clause-same
+returns-clause-same c = λ clean.
+    let g : Gains c.args.self.now c.get-2.new.self 0 c.args.reference.now c.in_ok-twin.twin c.in_ok-events.events =
+    record { rest = c.in_ok-events.ensures.rest; got = c.in_ok-events.ensures.got; settled = c.in_ok-events.ensures.settled } in
+    let there = subst (λ (v : ContentValue). blob_at c.args.reference.now v.store ≡ Some c.in_ok-bytes.bytes) c.self.view_is (sym c.in-Some.ensures ∙ ap (λ bytes. Some bytes) (sym c.in_ok-bytes.ensures)) in
+    ap (blob_at c.args.reference.now) (store-gained _ _ 0 _ _ _ g) ∙ there
 
 pub returns-clause-left : goal.returns-clause-left
 returns-clause-left c =

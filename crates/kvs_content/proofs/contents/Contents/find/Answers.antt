@@ -9,9 +9,15 @@ use Rattle.kvs_content.specs.declared.wants.Gift.{Gift}
 use Rattle.kvs_content.specs.declared.wants.WantStage.TheVariants as wanted
 use Rattle.kvs_content.specs.Agrees.{AgreesContent, IsFound}
 use Rattle.kvs_content.specs.Value.{node_at}
-use Rattle.kvs_content.proofs.Finding.{has-found}
+use Rattle.kvs_content.proofs.Finding.{has-found, has-same}
 use Rattle.kvs_content.proofs.Nothing.{with-nothing}
 use Rattle.kvs_content.proofs.contents.Contents.find.Goals as goal
+
+pub returns-in-Some-clause-same : goal.returns-in-Some-clause-same
+returns-in-Some-clause-same c =
+    let found = sym c.in_ok-gift.ensures.found ∙ ap (option_map (λ (g : Gift). g.bytes)) c.in-Some.is in
+    let clean = subst (λ (o : Option Gift). IfSome o (λ g. g.clean ≡ is_some (clean_at c.args.reference.now (node_at c.args.self.now c.args.broker).cache))) c.in-Some.is c.in_ok-gift.ensures.clean in
+    has-same c.args.self.now c.requires.sound.placed c.args.broker c.requires.within c.args.reference.now c.in-Some.gift found clean
 
 pub returns-in-Some-clause-told : goal.returns-in-Some-clause-told
 returns-in-Some-clause-told c = λ set log a.

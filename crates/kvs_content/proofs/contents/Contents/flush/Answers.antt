@@ -1,4 +1,5 @@
-use Rattle.std.proofs.Common.{◌<◌, get_or, set as put, ap, subst, sym}
+use Rattle.std.proofs.Common.{◌<◌, ◌∙◌, get_or, set as put, ap, subst, sym}
+use Rattle.cache_node.specs.Cache.{clean_at}
 use Rattle.kvs_content.specs.Node.{IsFlush, empty_node}
 use Rattle.kvs_content.specs.Sound.{IsSoundContent}
 use Rattle.kvs_content.specs.Value.{node_at, size_of}
@@ -12,7 +13,7 @@ returns-clause-sound c =
     let within = subst (λ v. c.args.broker < size_of v) (sym c.self.view_is) c.requires.within in
     let node = node-read c.self.inside.nodes.items c.args.broker c.index_mut-node.result.now within c.index_mut-node.ensures.value in
     let told = subst (λ n. IsFlush n c.flush.new.self c.flush.result) node c.flush.ensures in
-    kept-sound _ c.args.broker within c.flush.new.self (ap (λ k. k.dirty) (flush-keeps _ _ _ told)) sound
+    kept-sound _ c.args.broker within c.flush.new.self (ap (λ k. k.dirty) (flush-keeps _ _ _ told)) (λ x found e. ap (clean_at x) (sym (flush-keeps _ _ _ told)) ∙ e) sound
 
 pub returns-clause-told : goal.returns-clause-told
 returns-clause-told c =

@@ -6,7 +6,7 @@ use Rattle.kvs_rules.specs.Brokers.{parent}
 use Rattle.kvs_content.specs.declared.wants.WantStage.TheVariants as wanted
 use Rattle.kvs_content.specs.Agrees.{Follows, MayTell}
 use Rattle.kvs_content.specs.Messages.{IsAbove, wants_left, want_of}
-use Rattle.kvs_content.specs.Sound.{IsSoundContent}
+use Rattle.kvs_content.specs.Sound.{IsGiftSame, IsSoundContent}
 use Rattle.kvs_content.specs.Value.{ContentValue, size_of}
 use Rattle.kvs_content.proofs.Passing.{hand-follows, handed-told, on-the-way}
 use Rattle.kvs_content.proofs.Resting.{parent-below}
@@ -39,6 +39,7 @@ returns-clause-sound c =
       within = subst (λ n. c.args.broker < n) (sym c.in_ok-events.ensures.alike.size) c.requires.way.0;
       way = down.2;
       named = c.requires.named;
+      same = subst (λ s. IsGiftSame s c.args.reference c.args.gift) (sym c.in_ok-events.ensures.store) c.requires.same;
     }))
 
 pub returns-clause-shorter : goal.returns-clause-shorter

@@ -29,6 +29,7 @@ returns-clause-sound c =
       within = subst (λ n. c.args.broker < n) (sym c.in_ok-stage.ensures.alike.size) c.requires.within;
       way = above-itself _ c.args.broker;
       named = tt;
+      same = tt;
     }))
 
 pub returns-clause-follows : goal.returns-clause-follows

@@ -29,12 +29,12 @@ returns-clause-follows c = λ set log a blob.
     (subst (IsBlob set log c.args.reference) (sym c.in_ok-offered.ensures) blob))
 
 pub returns-clause-carried : goal.returns-clause-carried
-returns-clause-carried c = λ b name in_size carried.
+returns-clause-carried c = λ b name kept in_size carried.
     let within = subst (λ v. c.args.broker < size_of v) (sym c.self.view_is) c.requires.within in
     let read = node-read c.self.inside.nodes.items c.args.broker c.index_mut-node.result.now within c.index_mut-node.ensures.value in
     let none = none-of-some (any_at c.args.reference c.index_mut-node.result.now.cache) (sym (sym (some-copied c.any.result) ∙ ap is_some c.any.ensures.found) ∙ sym c.is_some.ensures ∙ c.if-is_some.false) in
     let is = offered-then c.self.view_is c.args.broker c.args.reference c.args.bytes c.in_ok-offered.offered c.index_mut-node.result.now c.put_dirty.new.self read none c.in_ok-put_dirty.ensures c.push.new.self.items c.in_ok-push.ensures.items in
-    subst (λ (w : ContentValue). IsCarried w b name) (sym is) (offering-carried c.args.self.now c.args.broker c.requires.within c.args.reference c.args.bytes c.in_ok-offered.offered b name carried)
+    subst (λ (w : ContentValue). IsCarried w b name kept) (sym is) (offering-carried c.args.self.now c.args.broker c.requires.within c.args.reference c.args.bytes c.in_ok-offered.offered c.in_ok-offered.ensures b name kept carried)
 
 pub returns-clause-has : goal.returns-clause-has
 returns-clause-has c =

@@ -33,7 +33,7 @@ returns-then-broker-eq0-clause-sound c =
     let some = subst (λ v. 0 < size_of v) (sym c.self-then-broker-eq0.view_is) done.placed.some in
     let read = node-read c.self-then-broker-eq0.inside.nodes.items 0 c.index_mut.result.now some c.index_mut.ensures.value in
     let is = noted-then c.self-then-broker-eq0.view_is c.of-reference.result c.index_mut.result.now c.note.new.self read c.in_ok-note.ensures in
-    subst IsSoundContent (sym is) (kept-sound c.take_up.new.self 0 done.placed.some (noted c.of-reference.result (node_at c.take_up.new.self 0)) refl
+    subst IsSoundContent (sym is) (kept-sound c.take_up.new.self 0 done.placed.some (noted c.of-reference.result (node_at c.take_up.new.self 0)) refl (λ x found e. e)
     (lighter-sound c.args.self.now c.take_up.new.self done.alike.size c.requires.sound done.placed done.lighter))
 
 pub returns-then-broker-eq0-clause-made : goal.returns-then-broker-eq0-clause-made
