@@ -1,5 +1,5 @@
 //! Words behind `run`, and the options that they spell.
-use fl_digest::Hash;
+use answers::fl_digest::Hash;
 use run_options::{Options, read_options};
 use std::alloc::Global;
 use std::test::Fail;

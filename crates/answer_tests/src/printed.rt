@@ -1,15 +1,15 @@
 //! Replies, answers and entries of a journal, and their texts.
 use answers::chronicle::{Chronicle, Entry, JobState, Reply};
-use answers::printing::{print_answers, print_journal};
-use job_states::State;
-use kvs_txn::{
+use answers::job_states::State;
+use answers::kvs_txn::{
     Author, AuthorNames, By, Cause, Found, Group, Kind, Listed, NameList, Path, Refusal, Txn,
 };
-use lists::{Bytes, ListOf};
-use resource_set::Resources;
+use answers::lists::{Bytes, ListOf};
+use answers::printing::{print_answers, print_journal};
+use answers::resource_set::Resources;
+use answers::workload::{Command, Line, Workload};
 use std::alloc::{AllocError, Global};
 use std::test::Fail;
-use workload::{Command, Line, Workload};
 
 /// The replies to commands on keys, namespaces and contents that are printed.
 #[derive(Clone, Copy)]

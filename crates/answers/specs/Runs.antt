@@ -1,6 +1,6 @@
 -- What a run asks beside what its instance does: rules over all instances that live.
 use Rattle.std.specs.Prelude.{List, [], ◌∷◌}
-use Rattle.kvs_rules.specs.Sequence.{EachAfter}
+use Rattle.instance_rules.specs.kvs_rules.Sequence.{EachAfter}
 use Rattle.instance_rules.specs.Family.{IsFamilyIdle, IsFamilyTold, Living, MayTick}
 use Rattle.answers.specs.declared.chronicle.Entry.{Entry}
 use Rattle.answers.specs.declared.chronicle.Entry.TheVariants as entry

@@ -7,7 +7,7 @@ use Rattle.flux.specs.declared.generating.Generation.{Generation}
 use Rattle.flux.specs.Generated.{AreDrawnWords, HasSummary, generation_of}
 use Rattle.flux.specs.Runs.{AreRunWords, HasRun, run_options}
 use Rattle.flux.specs.Sides.{Side}
-use Rattle.tap.specs.declared.weights.Weights.{Weights}
+use Rattle.world.specs.tap.declared.weights.Weights.{Weights}
 
 -- the words of a command: of a run, of one whose workload is drawn, or of a tool
 abbrev pub AreWords : List (List ℕ) → Type 0

@@ -1,17 +1,17 @@
 -- Workloads that a seed draws, and what their runs promise.
 use Rattle.std.specs.Prelude.{◌≡◌, ◌≢◌, ◌&&◌, ℕ, List, [], ◌∷◌, Option, Some, None, false, codes, if◌then◌else◌}
 use Rattle.std.specs.Str.{bytes_eq}
-use Rattle.fl_digest.specs.declared.Hash.TheVariants.{Sha1}
+use Rattle.world.specs.fl_digest.declared.Hash.TheVariants.{Sha1}
 use Rattle.run_options.specs.declared.Options.{Options}
-use Rattle.workload.specs.Limits.{most_commands}
-use Rattle.workload.specs.Words.{is_number, is_number_within, number_value}
-use Rattle.workload.specs.declared.work.Workload.{Workload}
+use Rattle.world.specs.workload.Limits.{most_commands}
+use Rattle.world.specs.workload.Words.{is_number, is_number_within, number_value}
+use Rattle.world.specs.workload.declared.work.Workload.{Workload}
 use Rattle.workload_generator.specs.Texts.{generated}
 use Rattle.summaries.specs.Summary.{IsSummary}
 use Rattle.flux.specs.declared.call.Run.{Run}
 use Rattle.flux.specs.declared.generating.Generation.{Generation}
 use Rattle.flux.specs.Runs.{setup_of, IsRunOf, IsWorkOf}
-use Rattle.tap.specs.declared.weights.Weights.{Weights}
+use Rattle.world.specs.tap.declared.weights.Weights.{Weights}
 
 -- what a seed and a count of 1 to 10,000 draw a workload from
 abbrev pub generation_from : List ℕ → List ℕ → Option Generation

@@ -4,17 +4,17 @@ use Rattle.std.specs.Str.{bytes_eq}
 use Rattle.std.specs.Io.KnownBytes.{Consumes, IsAtEnd}
 use Rattle.run_options.specs.declared.Options.{Options}
 use Rattle.run_options.specs.Words.{options_of}
-use Rattle.workload.specs.declared.work.Workload.{Workload}
+use Rattle.world.specs.workload.declared.work.Workload.{Workload}
 use Rattle.workload_reader.specs.Reading.{first_fault, spelled}
-use Rattle.answers.specs.Chronicle.{Setup}
+use Rattle.world.specs.answers.Chronicle.{Setup}
 use Rattle.world.specs.declared.order.Schedule.{Schedule}
 use Rattle.world.specs.declared.order.Schedule.TheVariants as schedule
-use Rattle.hierarchy.specs.Headline.{ChildrenStayNested, IsTrueRun, JobsStaySoundInAll, LogsOnlyGrowInAll}
-use Rattle.hierarchy.specs.Stretches.{AreRunStretches}
-use Rattle.homes.specs.Grant.{first_resources, grant_text}
+use Rattle.world.specs.hierarchy.Headline.{ChildrenStayNested, IsTrueRun, JobsStaySoundInAll, LogsOnlyGrowInAll}
+use Rattle.world.specs.hierarchy.Stretches.{AreRunStretches}
+use Rattle.world.specs.homes.Grant.{first_resources, grant_text}
 use Rattle.flux.specs.declared.call.Run.{Run}
 use Rattle.flux.specs.Sides.{Side}
-use Rattle.tap.specs.declared.weights.Weights.{Weights}
+use Rattle.world.specs.tap.declared.weights.Weights.{Weights}
 
 -- the options of a run of a workload, where the words ask for one
 abbrev pub run_options : List (List ℕ) → Option Options

@@ -11,14 +11,14 @@ ghost use Rattle.flux.specs.Faults.{status_of, HasReadCause, IsComplete, IsDrawn
 use crate::generating::{Generation, drawn_work, generation_of, play_drawn};
 use crate::playing::{Played, play};
 use crate::reading::read_work;
-use answers::{Chronicle, Step};
 use flux_tools::{ToolFault, is_tool, tool};
-use lists::ListOf;
 use outside::{ReadFault, Sink, Source, write_all};
 use run_options::{Options, read_options};
 use std::alloc::Global;
-use tap::Weights;
 use workload_reader::LineFault;
+use world::answers::{Chronicle, Step};
+use world::lists::ListOf;
+use world::tap::Weights;
 
 /// Why a run wrote nothing or not all.
 #[derive(Drop)]

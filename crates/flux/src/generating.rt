@@ -1,9 +1,9 @@
 //! Workloads that a seed draws, and the summaries of their runs.
 ghost use Rattle.std.specs.Prelude.{◌≡◌, ◌≤◌, ℕ, List, true, false, map, string_bytes, All, IfErr, IfOk};
-ghost use Rattle.workload.specs.Laws.{HasOwnLabels, IsBuilt, IsWithin, KeepsTallies};
-ghost use Rattle.homes.specs.Grant.{grant_text};
-ghost use Rattle.hierarchy.specs.Headline.{ChildrenStayNested, IsTrueRun, JobsStaySoundInAll, LogsOnlyGrowInAll};
-ghost use Rattle.hierarchy.specs.Stretches.{AreRunStretches};
+ghost use Rattle.world.specs.workload.Laws.{HasOwnLabels, IsBuilt, IsWithin, KeepsTallies};
+ghost use Rattle.world.specs.homes.Grant.{grant_text};
+ghost use Rattle.world.specs.hierarchy.Headline.{ChildrenStayNested, IsTrueRun, JobsStaySoundInAll, LogsOnlyGrowInAll};
+ghost use Rattle.world.specs.hierarchy.Stretches.{AreRunStretches};
 ghost use Rattle.summaries.specs.Summary.{IsSummary};
 ghost use Rattle.flux.specs.Runs.{setup_of};
 ghost use Rattle.flux.specs.Generated.{generated_options, generation_of, IsDrawn};
@@ -11,26 +11,26 @@ ghost use Rattle.flux.specs.Faults.{IsDrawnFault};
 
 use crate::call::Fault;
 use crate::playing::{Played, play};
-use fl_digest::Hash;
-use hierarchy::a_whole_run_is_legal_in_all;
-use hierarchy::grown::births_are_numbered;
-use homes::hosts_of_brokers;
-use kvs_core::CoreFault;
-use lists::Bytes;
-use resource_set::print;
 use run_options::Options;
 use std::alloc::{AllocError, Global};
 use summaries::summary;
-use tap::Weights;
-use workload::Workload;
-use workload::limits::MOST_COMMANDS;
-use workload::words::{number, number_within};
 use workload_generator::generate;
 use workload_reader::laws::{
     spelled_commands_are_built, spelled_labels_are_their_own, spelled_tallies_are_kept,
     spelled_workloads_are_within,
 };
 use workload_reader::{LineFault, read};
+use world::fl_digest::Hash;
+use world::hierarchy::a_whole_run_is_legal_in_all;
+use world::hierarchy::grown::births_are_numbered;
+use world::homes::hosts_of_brokers;
+use world::kvs_core::CoreFault;
+use world::lists::Bytes;
+use world::resource_set::print;
+use world::tap::Weights;
+use world::workload::Workload;
+use world::workload::limits::MOST_COMMANDS;
+use world::workload::words::{number, number_within};
 
 /// What a workload is drawn from: a seed, and how many commands there are, 1 to 10,000.
 #[derive(Clone, Copy, Debug, PartialEq, Eq)]

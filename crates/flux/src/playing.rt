@@ -1,24 +1,24 @@
 //! A run of a workload, to its end.
 ghost use Rattle.std.specs.Prelude.{◌≡◌, [], false, true, All, IfOk, OnOk};
 ghost use Rattle.run_options.specs.Given.{AreWithin};
-ghost use Rattle.workload.specs.Laws.{HasOwnLabels, IsBuilt, IsWithin, KeepsTallies};
-ghost use Rattle.answers.specs.Headline.{output_text};
-ghost use Rattle.hierarchy.specs.Headline.{ChildrenStayNested, IsTrueRun, JobsStaySoundInAll, LogsOnlyGrowInAll};
-ghost use Rattle.hierarchy.specs.Laws.{AreValid};
-ghost use Rattle.hierarchy.specs.Legal.{IsSettledRun};
-ghost use Rattle.hierarchy.specs.Stretches.{AreRunStretches};
+ghost use Rattle.world.specs.workload.Laws.{HasOwnLabels, IsBuilt, IsWithin, KeepsTallies};
+ghost use Rattle.world.specs.answers.Headline.{output_text};
+ghost use Rattle.world.specs.hierarchy.Headline.{ChildrenStayNested, IsTrueRun, JobsStaySoundInAll, LogsOnlyGrowInAll};
+ghost use Rattle.world.specs.hierarchy.Laws.{AreValid};
+ghost use Rattle.world.specs.hierarchy.Legal.{IsSettledRun};
+ghost use Rattle.world.specs.hierarchy.Stretches.{AreRunStretches};
 ghost use Rattle.world.specs.Choice.{order_of};
 ghost use Rattle.world.specs.declared.order.Order.TheVariants as order;
 ghost use Rattle.flux.specs.Runs.{is_settled, schedule_of, setup_of};
 
-use answers::{Chronicle, print_answers, print_journal};
-use hierarchy::a_run_stays_sound;
-use kvs_core::CoreFault;
-use run_laws::time_stays_within;
 use run_options::Options;
 use std::alloc::{AllocError, Global};
-use tap::Weights;
-use workload::Workload;
+use world::answers::{Chronicle, print_answers, print_journal};
+use world::hierarchy::a_run_stays_sound;
+use world::kvs_core::CoreFault;
+use world::run_laws::time_stays_within;
+use world::tap::Weights;
+use world::workload::Workload;
 use world::{Ended, Schedule, Setting, World};
 
 /// What a run leaves, and the text of its answers.

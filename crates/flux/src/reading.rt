@@ -1,20 +1,20 @@
 //! What the source is read for.
 ghost use Rattle.std.specs.Prelude.{◌≤◌, All, IfOk, IfErr, OnOk};
-ghost use Rattle.workload.specs.Laws.{HasOwnLabels, IsBuilt, IsWithin, KeepsTallies};
+ghost use Rattle.world.specs.workload.Laws.{HasOwnLabels, IsBuilt, IsWithin, KeepsTallies};
 ghost use Rattle.flux.specs.Runs.{IsSpelled};
 ghost use Rattle.flux.specs.Sides.{side, FailsAt, IsSteady};
 ghost use Rattle.flux.specs.Faults.{HasReadCause, status_of};
 
 use crate::call::Fault;
 use outside::{ReadFault, Source, read_all};
-use run_limits::MOST_TEXT;
 use std::alloc::Global;
-use workload::Workload;
 use workload_reader::laws::{
     spelled_commands_are_built, spelled_labels_are_their_own, spelled_tallies_are_kept,
     spelled_workloads_are_within,
 };
 use workload_reader::{LineFault, read};
+use world::run_limits::MOST_TEXT;
+use world::workload::Workload;
 
 /// Reads the source to its end, for the workload that it spells for so many brokers. A text of more
 /// than 16 MiB is refused at the first byte past them.

@@ -3,13 +3,13 @@ use Rattle.std.proofs.Common.{◌≡◌, ℕ, ◌+◌, ◌&&◌, inl, inr, List,
 use Rattle.std.specs.Prelude.{Contains, option_and_then}
 use Rattle.std.specs.List.{cons_option}
 use Rattle.std.proofs.lemmas.Bool.{eq-eqb}
-use Rattle.job_rules.proofs.Among.{Among, any_at}
-use Rattle.kvs_rules.specs.Quiet.{AreAllTold}
-use Rattle.kvs_txn.specs.declared.txn.By.{By}
-use Rattle.manager_rules.specs.Times.{IsIdle}
-use Rattle.instance_rules.specs.Family.{IsEndOf, IsFamilyIdle, IsFamilyTold, Living, OfLiving}
-use Rattle.instance_rules.specs.Log.{service_of}
-use Rattle.workload.specs.declared.work.Command.{Command}
+use Rattle.answers.proofs.job_rules_proofs.Among.{Among, any_at}
+use Rattle.answers.specs.kvs_rules.Quiet.{AreAllTold}
+use Rattle.answers.specs.kvs_txn.declared.txn.By.{By}
+use Rattle.answers.specs.manager_rules.Times.{IsIdle}
+use Rattle.answers.specs.instance_rules.Family.{IsEndOf, IsFamilyIdle, IsFamilyTold, Living, OfLiving}
+use Rattle.answers.specs.instance_rules.Log.{service_of}
+use Rattle.answers.specs.workload.declared.work.Command.{Command}
 use Rattle.answers.specs.Chronicle.{IsOpenCommand, Setup, before_issue, is_issued, is_replied, issues}
 use Rattle.answers.specs.Commands.{command_at}
 use Rattle.answers.specs.Services.{setting_of}

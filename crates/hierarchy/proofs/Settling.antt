@@ -6,28 +6,28 @@ use Rattle.std.specs.Option.{option_map_or}
 use Rattle.std.proofs.lemmas.Bool.{and_parts, eq-eqb, eqb-true}
 use Rattle.std.proofs.lemmas.List.Elements.{filter_map-append}
 use Rattle.std.proofs.lemmas.List.Folds.{list_any-append}
-use Rattle.job_rules.proofs.Among.{any_from, contains_from}
-use Rattle.kvs_model.specs.History.{after}
-use Rattle.kvs_model.specs.Store.{Store}
-use Rattle.kvs_rules.specs.Log as service
-use Rattle.kvs_rules.specs.Namespaces.{Setting, begun_at, groups_landed, landed, landings, newest_store, number_landed, primary, scope_of}
-use Rattle.kvs_rules.specs.Quiet.{AreAllTold}
-use Rattle.kvs_rules.specs.Sequence.{EachAfter}
-use Rattle.kvs_rules.specs.declared.events.KvsEvent.TheVariants as event
-use Rattle.kvs_rules.proofs.Sequences.{each_joined, each_parts, latest_push}
-use Rattle.kvs_rules.proofs.Stores.{landings_push}
-use Rattle.manager_rules.specs.declared.asked.Asked.{Asked}
-use Rattle.manager_rules.specs.declared.asked.Asked.TheVariants as asked
-use Rattle.manager_rules.specs.Jobs.{AreJobsOf}
-use Rattle.manager_rules.specs.Posts.{Desk}
-use Rattle.manager_rules.specs.Scene.{has_living_child, is_child_of, is_living}
-use Rattle.manager_rules.specs.Times.{IsEndDue}
-use Rattle.manager_rules.proofs.Unique.{jobs_are_one}
-use Rattle.instance_rules.specs.Desks.{IsDeskOf}
-use Rattle.instance_rules.specs.Family.{IsEndOf, Living, OfLiving}
-use Rattle.instance_rules.specs.Legal.{OfDesk}
-use Rattle.instance_rules.specs.Log.{Instance, Log, Served, child_of, child_told, served, service_of}
-use Rattle.workload.specs.declared.work.Workload.{Workload}
+use Rattle.answers.proofs.job_rules_proofs.Among.{any_from, contains_from}
+use Rattle.answers.specs.kvs_model.History.{after}
+use Rattle.answers.specs.kvs_model.Store.{Store}
+use Rattle.answers.specs.kvs_rules.Log as service
+use Rattle.answers.specs.kvs_rules.Namespaces.{Setting, begun_at, groups_landed, landed, landings, newest_store, number_landed, primary, scope_of}
+use Rattle.answers.specs.kvs_rules.Quiet.{AreAllTold}
+use Rattle.answers.specs.kvs_rules.Sequence.{EachAfter}
+use Rattle.answers.specs.kvs_rules.declared.events.KvsEvent.TheVariants as event
+use Rattle.answers.proofs.kvs_rules_proofs.Sequences.{each_joined, each_parts, latest_push}
+use Rattle.answers.proofs.kvs_rules_proofs.Stores.{landings_push}
+use Rattle.answers.specs.manager_rules.declared.asked.Asked.{Asked}
+use Rattle.answers.specs.manager_rules.declared.asked.Asked.TheVariants as asked
+use Rattle.answers.specs.manager_rules.Jobs.{AreJobsOf}
+use Rattle.answers.specs.manager_rules.Posts.{Desk}
+use Rattle.answers.specs.manager_rules.Scene.{has_living_child, is_child_of, is_living}
+use Rattle.answers.specs.manager_rules.Times.{IsEndDue}
+use Rattle.answers.proofs.manager_rules_proofs.Unique.{jobs_are_one}
+use Rattle.answers.specs.instance_rules.Desks.{IsDeskOf}
+use Rattle.answers.specs.instance_rules.Family.{IsEndOf, Living, OfLiving}
+use Rattle.answers.specs.instance_rules.Legal.{OfDesk}
+use Rattle.answers.specs.instance_rules.Log.{Instance, Log, Served, child_of, child_told, served, service_of}
+use Rattle.answers.specs.workload.declared.work.Workload.{Workload}
 use Rattle.answers.specs.Chronicle.{Setup, top}
 use Rattle.answers.specs.Commands.{broker_of}
 use Rattle.answers.specs.Jobs.{instance_of, log_in}

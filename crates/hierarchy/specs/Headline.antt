@@ -1,7 +1,7 @@
 -- What a run that ends well promises of what it wrote, and what holds all the way through it.
 use Rattle.std.specs.Prelude.{◌≡◌, ℕ, List, [], ◌∷◌, ◌++◌, Bool, IsTrue, false}
-use Rattle.instance_rules.specs.Family.{AreNested}
-use Rattle.instance_rules.specs.Legal.{IsSound}
+use Rattle.answers.specs.instance_rules.Family.{AreNested}
+use Rattle.answers.specs.instance_rules.Legal.{IsSound}
 use Rattle.run_laws.specs.Jobs.{LogsOnlyGrow}
 use Rattle.answers.specs.Chronicle.{Setup}
 use Rattle.answers.specs.Headline.{output_text}

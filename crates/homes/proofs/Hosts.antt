@@ -6,13 +6,13 @@ use Rattle.std.specs.List.Sorted.{IsStrictlyIncreasing}
 use Rattle.std.proofs.lemmas.Fmt.{decimal_injective, digits_decimal}
 use Rattle.std.proofs.lemmas.List.Elements.{All-nil, All-cons}
 use Rattle.std.proofs.lemmas.List.FromFn.{map-range_with_len_more, length-range_with_len, get_or-range_with_len}
-use Rattle.hostlist.specs.Names.{AreHostNames}
-use Rattle.hostlist.proofs.NameLemmas.{digits_named, longer_named}
-use Rattle.hostlist.proofs.Numbers.{own}
-use Rattle.resource_set.specs.declared.node.Node.{Node}
-use Rattle.resource_set.specs.declared.node.Resources.{Resources}
-use Rattle.resource_set.specs.Units.{AreDistinct, host_names}
-use Rattle.resource_set.specs.Valid.{IsR}
+use Rattle.hierarchy.specs.hostlist.Names.{AreHostNames}
+use Rattle.hierarchy.proofs.hostlist_proofs.NameLemmas.{digits_named, longer_named}
+use Rattle.hierarchy.proofs.hostlist_proofs.Numbers.{own}
+use Rattle.hierarchy.specs.resource_set.declared.node.Node.{Node}
+use Rattle.hierarchy.specs.resource_set.declared.node.Resources.{Resources}
+use Rattle.hierarchy.specs.resource_set.Units.{AreDistinct, host_names}
+use Rattle.hierarchy.specs.resource_set.Valid.{IsR}
 use Rattle.homes.specs.Grant.{host_at, hosts_of_brokers}
 
 ranks : (a n : ℕ) → map (λ (node : Node). node.rank) (map host_at (range_with_len a n)) ≡ range_with_len a n

@@ -4,22 +4,22 @@ use Rattle.std.specs.List.{AllByRecursion as Each, list_any}
 use Rattle.std.proofs.lemmas.Bool.{eq-eqb, ne_eqb}
 use Rattle.std.proofs.lemmas.List.{map-append}
 use Rattle.std.proofs.lemmas.List.Sums.{sum_by-cons}
-use Rattle.kvs_rules.specs.declared.events.KvsEvent.{KvsEvent}
-use Rattle.kvs_rules.specs.declared.events.KvsEvent.TheVariants as event
-use Rattle.kvs_rules.specs.declared.events.KvsStep.{KvsStep}
-use Rattle.kvs_rules.specs.declared.events.KvsStep.TheVariants as kvs
-use Rattle.kvs_rules.specs.Log.{Log}
-use Rattle.kvs_rules.specs.Steps.{AreMadeBy, ComesTo, IsBrokersWork, IsRuling}
-use Rattle.workload.specs.declared.work.Actor.{Actor}
-use Rattle.workload.specs.declared.work.Workload.{Workload}
-use Rattle.answers.specs.Chronicle.{issues_of, replies_to, top}
-use Rattle.answers.specs.Commands.{broker_of}
-use Rattle.answers.specs.Services.{log_of}
-use Rattle.answers.specs.Entering.{entered}
-use Rattle.answers.specs.Stretches.{ComesBeforeReply, IsContentAt, IsIssueStretch, IsKvsStretch, IsReplyOf, IsReplyStretch}
-use Rattle.answers.specs.declared.chronicle.Entry.{Entry}
-use Rattle.answers.specs.declared.chronicle.Entry.TheVariants as entry
-use Rattle.answers.specs.declared.chronicle.Reply.{Reply}
+use Rattle.hierarchy.specs.kvs_rules.declared.events.KvsEvent.{KvsEvent}
+use Rattle.hierarchy.specs.kvs_rules.declared.events.KvsEvent.TheVariants as event
+use Rattle.hierarchy.specs.kvs_rules.declared.events.KvsStep.{KvsStep}
+use Rattle.hierarchy.specs.kvs_rules.declared.events.KvsStep.TheVariants as kvs
+use Rattle.hierarchy.specs.kvs_rules.Log.{Log}
+use Rattle.hierarchy.specs.kvs_rules.Steps.{AreMadeBy, ComesTo, IsBrokersWork, IsRuling}
+use Rattle.hierarchy.specs.workload.declared.work.Actor.{Actor}
+use Rattle.hierarchy.specs.workload.declared.work.Workload.{Workload}
+use Rattle.hierarchy.specs.answers.Chronicle.{issues_of, replies_to, top}
+use Rattle.hierarchy.specs.answers.Commands.{broker_of}
+use Rattle.hierarchy.specs.answers.Services.{log_of}
+use Rattle.hierarchy.specs.answers.Entering.{entered}
+use Rattle.hierarchy.specs.answers.Stretches.{ComesBeforeReply, IsContentAt, IsIssueStretch, IsKvsStretch, IsReplyOf, IsReplyStretch}
+use Rattle.hierarchy.specs.answers.declared.chronicle.Entry.{Entry}
+use Rattle.hierarchy.specs.answers.declared.chronicle.Entry.TheVariants as entry
+use Rattle.hierarchy.specs.answers.declared.chronicle.Reply.{Reply}
 use Rattle.hierarchy.specs.Births.{is_at}
 use Rattle.hierarchy.specs.Families.{shuts_down}
 use Rattle.hierarchy.specs.Growing.{IsMadeIn, IssuesNothing}

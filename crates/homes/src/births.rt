@@ -1,7 +1,7 @@
 //! The birth of a child.
 ghost use Rattle.std.specs.Prelude.{◌≡◌, ◌+◌, ◌<◌, ◌≤◌, ◌^◌, ℕ, All, IfOk, IsTrue, List, OnOk, Some, false, length};
-ghost use Rattle.answers.specs.Chronicle.{Setup};
-ghost use Rattle.answers.specs.declared.chronicle.Entry.{Entry as EntryValue};
+ghost use Rattle.hierarchy.specs.answers.Chronicle.{Setup};
+ghost use Rattle.hierarchy.specs.answers.declared.chronicle.Entry.{Entry as EntryValue};
 ghost use Rattle.hierarchy.specs.Births.{Birth, births, lives};
 ghost use Rattle.hierarchy.specs.Families.{second_in};
 ghost use Rattle.hierarchy.specs.Legal.{IsLegalBirth};
@@ -9,17 +9,17 @@ ghost use Rattle.hierarchy.specs.Own.{own_of, setup_in};
 ghost use Rattle.instance.specs.Agrees.{AgreesOwn};
 ghost use Rattle.instance.specs.Family.{bearing};
 ghost use Rattle.instance.specs.Makes.{Bears};
-ghost use Rattle.resource_set.specs.Valid.{IsR};
-ghost use Rattle.workload.specs.Laws.{HasOwnLabels, IsBuilt, IsWithin, KeepsTallies};
+ghost use Rattle.hierarchy.specs.resource_set.Valid.{IsR};
+ghost use Rattle.hierarchy.specs.workload.Laws.{HasOwnLabels, IsBuilt, IsWithin, KeepsTallies};
 ghost use Rattle.homes.specs.Inside.{AreSettled, IsChildHome};
 
 use crate::homes::{Home, Origin, Place, is_at, work_for};
+use hierarchy::lists::Bytes;
+use hierarchy::resource_set::Resources;
+use hierarchy::tap::Weights;
+use hierarchy::workload::{ActorList, Workload};
 use instance::{CoreFault, Instance, Setting};
-use lists::Bytes;
-use resource_set::Resources;
 use std::alloc::{AllocError, Global};
-use tap::Weights;
-use workload::{ActorList, Workload};
 
 /// The most brokers of an instance.
 const MOST_BROKERS: usize = 32;

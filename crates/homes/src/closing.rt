@@ -1,7 +1,7 @@
 //! What the actors are told at the end of a run.
 ghost use Rattle.std.specs.Prelude.{◌≡◌, ◌++◌, ◌<◌, ◌^◌, List, OnOk, count_by, false, filter, flat_map, length, true};
 ghost use Rattle.std.specs.List.{range_with_len};
-ghost use Rattle.answers.specs.declared.chronicle.Entry.{Entry as EntryValue};
+ghost use Rattle.hierarchy.specs.answers.declared.chronicle.Entry.{Entry as EntryValue};
 ghost use Rattle.hierarchy.specs.Closing.{told_unborn, unborn_reply};
 ghost use Rattle.instance.specs.Agrees.{AreLinesOf, is_of};
 ghost use Rattle.homes.specs.Closing.{AreLeft, LeavesBy, is_unborn};
@@ -10,9 +10,9 @@ ghost use Rattle.homes.specs.Tells.{EachLiving};
 
 use crate::entered::enter;
 use crate::homes::{Home, Place};
-use answers::{Chronicle, Entry, Reply};
+use hierarchy::answers::{Chronicle, Entry, Reply};
+use hierarchy::workload::{Line, Workload};
 use std::alloc::AllocError;
-use workload::{Line, Workload};
 
 /// How many of the lines are an actor's.
 fn count_lines(lines: &[Line], actor: u32) -> u32

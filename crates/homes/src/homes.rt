@@ -1,16 +1,16 @@
 //! The instances of a run, by their numbers, and where its actors stand.
 ghost use Rattle.std.specs.Prelude.{◌≡◌, ◌≢◌, ◌≤◌, ◌<◌, ℕ, IfOk, [], filter, length, option_map, slice_get, slice_index_or};
-ghost use Rattle.answers.specs.Chronicle.{Setup};
+ghost use Rattle.hierarchy.specs.answers.Chronicle.{Setup};
 ghost use Rattle.hierarchy.specs.Births.{is_at};
 ghost use Rattle.hierarchy.specs.Own.{placed, work_for};
-ghost use Rattle.workload.specs.declared.work.Line.{Line as LineValue};
-ghost use Rattle.workload.specs.Limits.{most_actors};
+ghost use Rattle.hierarchy.specs.workload.declared.work.Line.{Line as LineValue};
+ghost use Rattle.hierarchy.specs.workload.Limits.{most_actors};
 ghost use Rattle.homes.specs.Homes.{ArePlaces, AreReady, ListTurns};
 
+use hierarchy::lists::{Bytes, Copied, ListOf};
+use hierarchy::workload::{Actor, ActorList, Line, Workload};
 use instance::Instance;
-use lists::{Bytes, Copied, ListOf};
 use std::alloc::{AllocError, Global};
-use workload::{Actor, ActorList, Line, Workload};
 
 /// Whose child an instance is: the job of its parent, and that job's label.
 #[derive(Drop)]

@@ -1,7 +1,7 @@
 //! Time, which goes on for all instances.
 ghost use Rattle.std.specs.Prelude.{◌≡◌, ◌++◌, ℕ, false, List, None, OnOk, Some, true};
 ghost use Rattle.std.specs.List.{list_any};
-ghost use Rattle.job_book.specs.Seconds.{IsSoonest};
+ghost use Rattle.instance.specs.job_book.Seconds.{IsSoonest};
 ghost use Rattle.homes.specs.Homes.{AreReady};
 ghost use Rattle.homes.specs.Times.{all_ends, all_targets, has_due, is_left, may_go};
 ghost use Rattle.homes.specs.Tells.{EachLiving, HavePassedTo, MayPassTo, TellsEnds, TellsEndIn, TellsIdle, TellsRest, TellsTargets};

@@ -1,32 +1,32 @@
 -- What a birth, an end and a tick of all instances leave of one of them.
 use Rattle.std.proofs.Common.{◌≡◌, ℕ, ◌+◌, ◌≤◌, ◌<◌, ◌||◌, All, List, [], ◌∷◌, ◌++◌, Bool, true, false, is_some, Option, Some, None, refl, sym, ap, ◌∙◌, subst, true≢false}
 use Rattle.std.specs.Prelude.{IfNone, slice_get}
-use Rattle.kvs_model.specs.Store.{Name}
-use Rattle.kvs_rules.specs.Log.{Log}
-use Rattle.kvs_rules.proofs.Sequences.{each_push}
-use Rattle.kvs_txn.specs.declared.txn.By.{By}
-use Rattle.instance_rules.specs.Legal.{IsLegalMoment}
-use Rattle.instance_rules.specs.Log as rules
-use Rattle.instance_rules.specs.Log.{Instance, Log as InstanceLog, Moment}
-use Rattle.job_service.specs.Agrees.{AgreesJobs}
-use Rattle.job_service.specs.Times.{MayPassTo}
-use Rattle.job_service.specs.Value.{JobServiceValue}
-use Rattle.resource_set.specs.declared.node.Resources.{Resources}
+use Rattle.services.specs.kvs_model.Store.{Name}
+use Rattle.services.specs.kvs_rules.Log.{Log}
+use Rattle.services.proofs.kvs_rules_proofs.Sequences.{each_push}
+use Rattle.services.specs.kvs_txn.declared.txn.By.{By}
+use Rattle.services.specs.instance_rules.Legal.{IsLegalMoment}
+use Rattle.services.specs.instance_rules.Log as rules
+use Rattle.services.specs.instance_rules.Log.{Instance, Log as InstanceLog, Moment}
+use Rattle.services.specs.job_service.Agrees.{AgreesJobs}
+use Rattle.services.specs.job_service.Times.{MayPassTo}
+use Rattle.services.specs.job_service.Value.{JobServiceValue}
+use Rattle.services.specs.resource_set.declared.node.Resources.{Resources}
 use Rattle.services.specs.Agrees.{AgreesServices}
 use Rattle.services.specs.Asks.{Keeps}
 use Rattle.services.specs.Value.{ServicesValue}
-use Rattle.run_limits.specs.Limits.{most_seconds}
-use Rattle.answers.specs.declared.chronicle.Entry.{Entry}
-use Rattle.answers.specs.declared.chronicle.Entry.TheVariants as entry
-use Rattle.answers.specs.declared.steps.Step.TheVariants as step
-use Rattle.answers.specs.Chronicle.{Setup, issues_of, replies_to, top}
-use Rattle.answers.specs.Floors.{floor}
-use Rattle.answers.specs.Jobs.{happening_of, instance_of, log_in}
-use Rattle.answers.specs.Legal.{IsLegalEntry}
-use Rattle.answers.specs.Services.{log_of, moment_of}
-use Rattle.answers.specs.Whole.{IsEarlierEntry}
-use Rattle.answers.proofs.Floors.{floor_push}
-use Rattle.answers.proofs.Services.{asks_of, log_push}
+use Rattle.services.specs.run_limits.Limits.{most_seconds}
+use Rattle.services.specs.answers.declared.chronicle.Entry.{Entry}
+use Rattle.services.specs.answers.declared.chronicle.Entry.TheVariants as entry
+use Rattle.services.specs.answers.declared.steps.Step.TheVariants as step
+use Rattle.services.specs.answers.Chronicle.{Setup, issues_of, replies_to, top}
+use Rattle.services.specs.answers.Floors.{floor}
+use Rattle.services.specs.answers.Jobs.{happening_of, instance_of, log_in}
+use Rattle.services.specs.answers.Legal.{IsLegalEntry}
+use Rattle.services.specs.answers.Services.{log_of, moment_of}
+use Rattle.services.specs.answers.Whole.{IsEarlierEntry}
+use Rattle.services.proofs.answers_proofs.Floors.{floor_push}
+use Rattle.services.proofs.answers_proofs.Services.{asks_of, log_push}
 use Rattle.instance.specs.Agrees.{ActorStands, AgreesOwn, IsTallied, command_of}
 use Rattle.instance.specs.Family.{birth_of, ends_left, is_due, present}
 use Rattle.instance.specs.Makes.{Follows}

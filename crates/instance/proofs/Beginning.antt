@@ -8,15 +8,15 @@ use Rattle.std.proofs.Math.ListN.{get_or-append}
 use Rattle.std.proofs.lemmas.Option.{slice_get_within, get_or_from_slice_get, slice_get-get_or}
 use Rattle.services.specs.Agrees.{AgreesServices}
 use Rattle.services.specs.Value.{ServicesValue}
-use Rattle.workload.specs.declared.work.Actor.{Actor}
-use Rattle.workload.specs.declared.work.Line.{Line}
-use Rattle.workload.specs.declared.work.Workload.{Workload}
-use Rattle.workload.specs.Laws.{IsBuilt, IsWithin, KeepsTallies}
-use Rattle.run_limits.specs.Limits.{most_seconds}
-use Rattle.workload.specs.Tallies.{seconds_in, submits_in}
-use Rattle.answers.specs.Chronicle.{Setup}
-use Rattle.answers.specs.Commands.{broker_of, namespace_at, staged_at}
-use Rattle.answers.specs.Jobs.{instance_of}
+use Rattle.services.specs.workload.declared.work.Actor.{Actor}
+use Rattle.services.specs.workload.declared.work.Line.{Line}
+use Rattle.services.specs.workload.declared.work.Workload.{Workload}
+use Rattle.services.specs.workload.Laws.{IsBuilt, IsWithin, KeepsTallies}
+use Rattle.services.specs.run_limits.Limits.{most_seconds}
+use Rattle.services.specs.workload.Tallies.{seconds_in, submits_in}
+use Rattle.services.specs.answers.Chronicle.{Setup}
+use Rattle.services.specs.answers.Commands.{broker_of, namespace_at, staged_at}
+use Rattle.services.specs.answers.Jobs.{instance_of}
 use Rattle.instance.specs.declared.seats.Seat.{Seat}
 use Rattle.instance.specs.First.{IsFirstSeat, AreFirstSeats}
 use Rattle.instance.specs.Seats.{is_free, replied_of}

@@ -5,46 +5,46 @@ use Rattle.std.specs.Str.{bytes_eq}
 use Rattle.std.specs.Option.{option_map, option_map_or, is_some}
 use Rattle.std.specs.List.{list_any, cons_option}
 use Rattle.std.proofs.lemmas.Bool.{cases_lt, le-ltb, lt-ltb, ltb-false}
-use Rattle.kvs_txn.specs.declared.txn.By.{By}
-use Rattle.kvs_rules.specs.declared.events.KvsAnswer.{KvsAnswer}
-use Rattle.kvs_rules.specs.declared.events.KvsEvent.{KvsEvent}
-use Rattle.kvs_rules.specs.declared.events.KvsEvent.TheVariants as event
-use Rattle.kvs_rules.specs.Log.{IsOpen, Log, Moment, Happened, Asked, IsPending, is_asked, is_answered, answers_now, same_command}
-use Rattle.kvs_rules.specs.Namespaces.{Request, is_live, landed}
-use Rattle.kvs_rules.specs.Brokers.{heard}
-use Rattle.kvs_model.specs.Store.{Name}
-use Rattle.kvs_rules.specs.declared.events.KvsStep.{KvsStep}
-use Rattle.kvs_rules.specs.Quiet.{IsQuiet, IsShortFence}
-use Rattle.manager_rules.specs.Times.{IsIdle}
-use Rattle.instance_rules.specs.Family.{HasTarget, IsLeftResult, Living}
-use Rattle.instance_rules.specs.Legal.{OfDesk}
-use Rattle.instance_rules.specs.Log as rules
-use Rattle.instance_rules.specs.Log.{Instance, Log as InstanceLog, service_of}
-use Rattle.job_clock.specs.Standing.{IsLiving}
-use Rattle.job_service.specs.Children.{is_due as jobs_due}
-use Rattle.job_service.specs.Replies.{can_reply}
-use Rattle.job_service.specs.Still.{awaited}
-use Rattle.job_states.specs.declared.job.State.{State}
-use Rattle.kvs_core.specs.Agrees.{Agrees}
+use Rattle.services.specs.kvs_txn.declared.txn.By.{By}
+use Rattle.services.specs.kvs_rules.declared.events.KvsAnswer.{KvsAnswer}
+use Rattle.services.specs.kvs_rules.declared.events.KvsEvent.{KvsEvent}
+use Rattle.services.specs.kvs_rules.declared.events.KvsEvent.TheVariants as event
+use Rattle.services.specs.kvs_rules.Log.{IsOpen, Log, Moment, Happened, Asked, IsPending, is_asked, is_answered, answers_now, same_command}
+use Rattle.services.specs.kvs_rules.Namespaces.{Request, is_live, landed}
+use Rattle.services.specs.kvs_rules.Brokers.{heard}
+use Rattle.services.specs.kvs_model.Store.{Name}
+use Rattle.services.specs.kvs_rules.declared.events.KvsStep.{KvsStep}
+use Rattle.services.specs.kvs_rules.Quiet.{IsQuiet, IsShortFence}
+use Rattle.services.specs.manager_rules.Times.{IsIdle}
+use Rattle.services.specs.instance_rules.Family.{HasTarget, IsLeftResult, Living}
+use Rattle.services.specs.instance_rules.Legal.{OfDesk}
+use Rattle.services.specs.instance_rules.Log as rules
+use Rattle.services.specs.instance_rules.Log.{Instance, Log as InstanceLog, service_of}
+use Rattle.services.specs.job_clock.Standing.{IsLiving}
+use Rattle.services.specs.job_service.Children.{is_due as jobs_due}
+use Rattle.services.specs.job_service.Replies.{can_reply}
+use Rattle.services.specs.job_service.Still.{awaited}
+use Rattle.services.specs.job_states.declared.job.State.{State}
+use Rattle.services.specs.kvs_core.Agrees.{Agrees}
 use Rattle.services.specs.Agrees.{AgreesServices}
 use Rattle.services.specs.Steps.{IsStill, can_step, can_take}
 use Rattle.services.specs.Value.{ServicesValue}
 use Rattle.services.proofs.Waiting.{open_asks, taken_waits}
-use Rattle.workload.specs.declared.work.Line.{Line}
-use Rattle.workload.specs.declared.work.Workload.{Workload}
-use Rattle.answers.specs.declared.chronicle.Entry.{Entry}
-use Rattle.answers.specs.declared.chronicle.Entry.TheVariants as entry
-use Rattle.answers.specs.declared.chronicle.Reply.{Reply}
-use Rattle.answers.specs.declared.chronicle.Reply.TheVariants as reply
-use Rattle.answers.specs.Chronicle.{top, is_issued, issues_of, replies_to, answer_of}
-use Rattle.answers.specs.Commands.{ask_at, broker_of, command_at, subject_at}
-use Rattle.answers.specs.Jobs.{HasNoAdvance, instance_of, job_ask_at, living_of, log_in}
-use Rattle.answers.specs.Services.{setting_of, log_of, moment_of, moments_after}
-use Rattle.answers.specs.Whole.{HasComeToRest}
-use Rattle.answers.proofs.JobLogs.{asks_no_service}
-use Rattle.answers.proofs.Services.{asked_issued, issued_below, or_cases}
-use Rattle.answers.proofs.Floors.{asked_so}
-use Rattle.answers.proofs.Reaching.{asked_within}
+use Rattle.services.specs.workload.declared.work.Line.{Line}
+use Rattle.services.specs.workload.declared.work.Workload.{Workload}
+use Rattle.services.specs.answers.declared.chronicle.Entry.{Entry}
+use Rattle.services.specs.answers.declared.chronicle.Entry.TheVariants as entry
+use Rattle.services.specs.answers.declared.chronicle.Reply.{Reply}
+use Rattle.services.specs.answers.declared.chronicle.Reply.TheVariants as reply
+use Rattle.services.specs.answers.Chronicle.{top, is_issued, issues_of, replies_to, answer_of}
+use Rattle.services.specs.answers.Commands.{ask_at, broker_of, command_at, subject_at}
+use Rattle.services.specs.answers.Jobs.{HasNoAdvance, instance_of, job_ask_at, living_of, log_in}
+use Rattle.services.specs.answers.Services.{setting_of, log_of, moment_of, moments_after}
+use Rattle.services.specs.answers.Whole.{HasComeToRest}
+use Rattle.services.proofs.answers_proofs.JobLogs.{asks_no_service}
+use Rattle.services.proofs.answers_proofs.Services.{asked_issued, issued_below, or_cases}
+use Rattle.services.proofs.answers_proofs.Floors.{asked_so}
+use Rattle.services.proofs.answers_proofs.Reaching.{asked_within}
 use Rattle.instance.specs.declared.seats.Seat.{Seat}
 use Rattle.instance.specs.declared.seats.Waiting.{Waiting}
 use Rattle.instance.specs.declared.seats.Waiting.TheVariants as waiting

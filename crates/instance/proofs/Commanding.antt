@@ -10,20 +10,20 @@ use Rattle.std.proofs.lemmas.Option.{slice_get_past, slice_get_within, get_or_fr
 use Rattle.std.proofs.lemmas.Bool.{cases_lt, lt-ltb, le-ltb}
 use Rattle.std.proofs.lemmas.List.Folds.{list_any-append}
 use Rattle.std.proofs.Math.Seq.{take-suc, drop-cons}
-use Rattle.kvs_txn.specs.declared.txn.By.{By}
-use Rattle.kvs_txn.specs.declared.txn.Op.{Op}
-use Rattle.kvs_txn.specs.declared.txn.Op.TheVariants as op
-use Rattle.kvs_model.specs.Store.{Name}
-use Rattle.kvs_rules.specs.Namespaces.{primary}
-use Rattle.kvs_rules.specs.Sequence.{latest}
-use Rattle.kvs_rules.proofs.Sequences.{latest_push}
-use Rattle.workload.specs.declared.work.Command.{Command}
-use Rattle.workload.specs.declared.work.Command.TheVariants as command
-use Rattle.workload.specs.declared.work.Line.{Line}
-use Rattle.workload.specs.declared.work.Workload.{Workload}
-use Rattle.workload.specs.Laws.{IsBuilt}
-use Rattle.kvs_txn.specs.Staged.{most_ops}
-use Rattle.answers.specs.Commands.{commands_of, command_at, used_name, namespace_at, subject_of, subject_at, op_of, takes_staged, since_last, staged_at}
+use Rattle.services.specs.kvs_txn.declared.txn.By.{By}
+use Rattle.services.specs.kvs_txn.declared.txn.Op.{Op}
+use Rattle.services.specs.kvs_txn.declared.txn.Op.TheVariants as op
+use Rattle.services.specs.kvs_model.Store.{Name}
+use Rattle.services.specs.kvs_rules.Namespaces.{primary}
+use Rattle.services.specs.kvs_rules.Sequence.{latest}
+use Rattle.services.proofs.kvs_rules_proofs.Sequences.{latest_push}
+use Rattle.services.specs.workload.declared.work.Command.{Command}
+use Rattle.services.specs.workload.declared.work.Command.TheVariants as command
+use Rattle.services.specs.workload.declared.work.Line.{Line}
+use Rattle.services.specs.workload.declared.work.Workload.{Workload}
+use Rattle.services.specs.workload.Laws.{IsBuilt}
+use Rattle.services.specs.kvs_txn.Staged.{most_ops}
+use Rattle.services.specs.answers.Commands.{commands_of, command_at, used_name, namespace_at, subject_of, subject_at, op_of, takes_staged, since_last, staged_at}
 use Rattle.instance.specs.declared.seats.Seat.{Seat}
 use Rattle.instance.specs.Seats.{ops_after, space_after, with_op}
 use Rattle.instance.specs.Agrees.{command_of, is_of, IsPlaced}

@@ -9,31 +9,31 @@ use Rattle.std.proofs.lemmas.List.{take_all, take-append-drop, length-map}
 use Rattle.std.proofs.lemmas.List.Elements.{Contains-get_or}
 use Rattle.std.proofs.lemmas.List.Folds.{list_any-append}
 use Rattle.std.proofs.lemmas.Option.{slice_get_cases, slice_get_past, slice_get_within}
-use Rattle.kvs_txn.specs.declared.txn.By.{By}
-use Rattle.kvs_model.specs.Store.{Name}
-use Rattle.kvs_rules.specs.Sequence.{EachAfter}
-use Rattle.kvs_rules.specs.Log.{Log, is_asked, is_landed, is_denied}
-use Rattle.kvs_rules.specs.Namespaces.{landed, is_live}
-use Rattle.kvs_rules.specs.Brokers.{heard}
-use Rattle.kvs_rules.specs.Quiet.{IsMember, IsQuiet}
-use Rattle.kvs_rules.proofs.Sequences.{each_joined}
-use Rattle.workload.specs.declared.work.Command.{Command}
-use Rattle.workload.specs.declared.work.Command.TheVariants as command
-use Rattle.workload.specs.declared.work.Line.{Line}
-use Rattle.answers.specs.declared.chronicle.Entry.{Entry}
-use Rattle.answers.specs.declared.chronicle.Entry.TheVariants as entry
-use Rattle.answers.specs.declared.chronicle.Reply.{Reply}
-use Rattle.answers.specs.declared.chronicle.Reply.TheVariants as reply
-use Rattle.answers.specs.Chronicle.{top, issues, is_issued, replies_to}
-use Rattle.answers.specs.Commands.{broker_of, command_at, commands_of, subject_at}
-use Rattle.answers.specs.Legal.{HasEntryGrounds, IsLegalEntry}
-use Rattle.answers.specs.Jobs.{happening_of, job_ask_at, log_in}
-use Rattle.answers.specs.Services.{setting_of, log_of}
-use Rattle.instance_rules.specs.Family.{IsLeftResult}
-use Rattle.instance_rules.specs.Log.{JobAsk, Log as InstanceLog, service_of}
-use Rattle.job_states.specs.declared.job.State.{State}
-use Rattle.answers.specs.Whole.{IsWhole, IsGrounded, IsClosingEntry, has_ended, is_closing, is_end, is_unfinished, joins, leaves_member, leaves_of}
-use Rattle.answers.proofs.Services.{asked_issued, issued_below}
+use Rattle.services.specs.kvs_txn.declared.txn.By.{By}
+use Rattle.services.specs.kvs_model.Store.{Name}
+use Rattle.services.specs.kvs_rules.Sequence.{EachAfter}
+use Rattle.services.specs.kvs_rules.Log.{Log, is_asked, is_landed, is_denied}
+use Rattle.services.specs.kvs_rules.Namespaces.{landed, is_live}
+use Rattle.services.specs.kvs_rules.Brokers.{heard}
+use Rattle.services.specs.kvs_rules.Quiet.{IsMember, IsQuiet}
+use Rattle.services.proofs.kvs_rules_proofs.Sequences.{each_joined}
+use Rattle.services.specs.workload.declared.work.Command.{Command}
+use Rattle.services.specs.workload.declared.work.Command.TheVariants as command
+use Rattle.services.specs.workload.declared.work.Line.{Line}
+use Rattle.services.specs.answers.declared.chronicle.Entry.{Entry}
+use Rattle.services.specs.answers.declared.chronicle.Entry.TheVariants as entry
+use Rattle.services.specs.answers.declared.chronicle.Reply.{Reply}
+use Rattle.services.specs.answers.declared.chronicle.Reply.TheVariants as reply
+use Rattle.services.specs.answers.Chronicle.{top, issues, is_issued, replies_to}
+use Rattle.services.specs.answers.Commands.{broker_of, command_at, commands_of, subject_at}
+use Rattle.services.specs.answers.Legal.{HasEntryGrounds, IsLegalEntry}
+use Rattle.services.specs.answers.Jobs.{happening_of, job_ask_at, log_in}
+use Rattle.services.specs.answers.Services.{setting_of, log_of}
+use Rattle.services.specs.instance_rules.Family.{IsLeftResult}
+use Rattle.services.specs.instance_rules.Log.{JobAsk, Log as InstanceLog, service_of}
+use Rattle.services.specs.job_states.declared.job.State.{State}
+use Rattle.services.specs.answers.Whole.{IsWhole, IsGrounded, IsClosingEntry, has_ended, is_closing, is_end, is_unfinished, joins, leaves_member, leaves_of}
+use Rattle.services.proofs.answers_proofs.Services.{asked_issued, issued_below}
 use Rattle.instance.specs.declared.seats.Seat.{Seat}
 use Rattle.instance.specs.declared.seats.Waiting.{Waiting}
 use Rattle.instance.specs.declared.seats.Waiting.TheVariants as waiting
@@ -47,7 +47,7 @@ use Rattle.instance.proofs.Listing.{any_left, count-append}
 use Rattle.instance.proofs.Ranges.{counted_flat, counted_none, counted_one, counted_range, contained_flat, distinct_passed, each_flat, each_mapped, each_passed, no_more_than}
 use Rattle.instance.proofs.Commanding.{own_length}
 use Rattle.instance.proofs.Leaving.{IsCause, IsDone, IsLeft, IsStuckFence, ends_at, in_fence, numbers_of, seat_told, states_of, told_of}
-use Rattle.answers.proofs.Carried.{unasked_uncarried}
+use Rattle.services.proofs.answers_proofs.Carried.{unasked_uncarried}
 use Rattle.instance.proofs.Closing.{AreResults, CanDoNothing, IsStillSo, advanced_so, heard_so, left_of, past_all, quiet_so, rest_so, results_so}
 use Rattle.instance.proofs.Families.{advanced_at_end, rests_at_end, same_living}
 use Rattle.instance.proofs.Logs.{log_closed, log_without, served_log}

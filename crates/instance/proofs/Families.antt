@@ -1,23 +1,23 @@
 -- When an instance rests and may close, and how time goes on in it.
 use Rattle.std.proofs.Common.{◌≡◌, ℕ, List, [], ◌∷◌, ◌++◌, false, None, refl, sym, ap, ◌∙◌, subst}
 use Rattle.std.specs.List.{AllByRecursion as Each}
-use Rattle.kvs_rules.specs.Quiet.{AreAllTold}
-use Rattle.kvs_rules.specs.Sequence.{EachAfter}
-use Rattle.manager_rules.specs.Times.{IsIdle}
-use Rattle.instance_rules.specs.Family.{HasTarget, Living}
-use Rattle.instance_rules.specs.Legal.{IsLegalMoment, OfDesk}
-use Rattle.instance_rules.specs.Log.{Log, Ticked, service_of}
-use Rattle.job_clock.specs.Standing.{IsLiving, IsTop}
-use Rattle.answers.specs.declared.chronicle.Entry.{Entry}
-use Rattle.answers.specs.declared.chronicle.Entry.TheVariants as entry
-use Rattle.answers.specs.declared.steps.Step.TheVariants as step
-use Rattle.answers.specs.Chronicle.{Setup, top}
-use Rattle.answers.specs.Jobs.{HasNoAdvance, instance_of, living_of, log_in}
-use Rattle.answers.specs.Legal.{IsLegalEntry, RestsAtIssue}
-use Rattle.answers.specs.Services.{log_of, setting_of}
-use Rattle.answers.specs.Stretches.{IsStretch}
-use Rattle.answers.specs.Whole.{HasComeToRest, IsClosingEntry, has_ended}
-use Rattle.workload.specs.declared.work.Workload.{Workload}
+use Rattle.services.specs.kvs_rules.Quiet.{AreAllTold}
+use Rattle.services.specs.kvs_rules.Sequence.{EachAfter}
+use Rattle.services.specs.manager_rules.Times.{IsIdle}
+use Rattle.services.specs.instance_rules.Family.{HasTarget, Living}
+use Rattle.services.specs.instance_rules.Legal.{IsLegalMoment, OfDesk}
+use Rattle.services.specs.instance_rules.Log.{Log, Ticked, service_of}
+use Rattle.services.specs.job_clock.Standing.{IsLiving, IsTop}
+use Rattle.services.specs.answers.declared.chronicle.Entry.{Entry}
+use Rattle.services.specs.answers.declared.chronicle.Entry.TheVariants as entry
+use Rattle.services.specs.answers.declared.steps.Step.TheVariants as step
+use Rattle.services.specs.answers.Chronicle.{Setup, top}
+use Rattle.services.specs.answers.Jobs.{HasNoAdvance, instance_of, living_of, log_in}
+use Rattle.services.specs.answers.Legal.{IsLegalEntry, RestsAtIssue}
+use Rattle.services.specs.answers.Services.{log_of, setting_of}
+use Rattle.services.specs.answers.Stretches.{IsStretch}
+use Rattle.services.specs.answers.Whole.{HasComeToRest, IsClosingEntry, has_ended}
+use Rattle.services.specs.workload.declared.work.Workload.{Workload}
 use Rattle.instance.proofs.Logs.{log_closed, served_log}
 
 pub is_top : (set : Setup) (c : List Entry) → IsTop (instance_of set) (log_in set.work c) (living_of set c)

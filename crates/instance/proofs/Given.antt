@@ -8,31 +8,31 @@ use Rattle.std.proofs.lemmas.Bool.{cases_lt}
 use Rattle.std.proofs.lemmas.List.Sums.{sum_by-cons}
 use Rattle.std.proofs.lemmas.Option.{get_or_from_slice_get, slice_get_within}
 use Rattle.std.proofs.lemmas.Slice.Eq.{bytes_eq-Decides}
-use Rattle.fl_digest.specs.declared.Hash.{Hash}
-use Rattle.kvs_txn.specs.declared.txn.By.{By}
-use Rattle.job_rules.specs.Fits.{IsGrant}
-use Rattle.resource_set.specs.Writing.{r_text}
-use Rattle.resource_set.specs.declared.node.Resources.{Resources}
-use Rattle.instance_rules.specs.Log as rules
-use Rattle.instance_rules.specs.Log.{IsInRange, IsInstance}
-use Rattle.job_commands.specs.Agrees.{HasUniqueLabels}
-use Rattle.answers.specs.Chronicle.{Setup}
-use Rattle.answers.specs.Commands.{broker_of, command_at}
-use Rattle.answers.specs.Jobs.{IsSetup, instance_of, job_ask_at, job_ask_of}
-use Rattle.answers.proofs.JobLogs.{is_instance}
-use Rattle.answers.proofs.Services.{eqb_is}
+use Rattle.services.specs.fl_digest.declared.Hash.{Hash}
+use Rattle.services.specs.kvs_txn.declared.txn.By.{By}
+use Rattle.services.specs.job_rules.Fits.{IsGrant}
+use Rattle.services.specs.resource_set.Writing.{r_text}
+use Rattle.services.specs.resource_set.declared.node.Resources.{Resources}
+use Rattle.services.specs.instance_rules.Log as rules
+use Rattle.services.specs.instance_rules.Log.{IsInRange, IsInstance}
+use Rattle.services.specs.job_commands.Agrees.{HasUniqueLabels}
+use Rattle.services.specs.answers.Chronicle.{Setup}
+use Rattle.services.specs.answers.Commands.{broker_of, command_at}
+use Rattle.services.specs.answers.Jobs.{IsSetup, instance_of, job_ask_at, job_ask_of}
+use Rattle.services.proofs.answers_proofs.JobLogs.{is_instance}
+use Rattle.services.proofs.answers_proofs.Services.{eqb_is}
 use Rattle.services.specs.Agrees.{IsGiven}
-use Rattle.workload.specs.declared.work.Actor.{Actor}
-use Rattle.workload.specs.declared.work.Command.{Command}
-use Rattle.workload.specs.declared.work.Command.TheVariants as command
-use Rattle.workload.specs.declared.work.Line.{Line}
-use Rattle.workload.specs.declared.work.Workload.{Workload}
-use Rattle.workload.specs.Laws.{HasOwnLabels, IsBuilt, IsWithin}
-use Rattle.workload.specs.Limits.{most_severity, most_urgency}
-use Rattle.workload.specs.Tallies.{declares}
+use Rattle.services.specs.workload.declared.work.Actor.{Actor}
+use Rattle.services.specs.workload.declared.work.Command.{Command}
+use Rattle.services.specs.workload.declared.work.Command.TheVariants as command
+use Rattle.services.specs.workload.declared.work.Line.{Line}
+use Rattle.services.specs.workload.declared.work.Workload.{Workload}
+use Rattle.services.specs.workload.Laws.{HasOwnLabels, IsBuilt, IsWithin}
+use Rattle.services.specs.workload.Limits.{most_severity, most_urgency}
+use Rattle.services.specs.workload.Tallies.{declares}
 use Rattle.instance.specs.Agrees.{is_of}
-use Rattle.tap.specs.Factors.{priority_by}
-use Rattle.tap.specs.declared.weights.Weights.{Weights}
+use Rattle.services.specs.tap.Factors.{priority_by}
+use Rattle.services.specs.tap.declared.weights.Weights.{Weights}
 
 -- ---- commands stand in lines
 

@@ -1,13 +1,13 @@
 -- Before the end the run goes on, and no command has a closing reply.
 use Rattle.std.proofs.Common.{◌≡◌, List, [], ◌∷◌, Bool, true, false, ◌&&◌, ◌||◌, refl, true≢false, Option}
 use Rattle.std.specs.List.{AllByRecursion as Each}
-use Rattle.kvs_txn.specs.declared.txn.By.{By}
-use Rattle.kvs_rules.specs.Log.{same_command}
-use Rattle.kvs_rules.specs.Landings.{commands_of}
-use Rattle.answers.specs.declared.chronicle.Entry.{Entry}
-use Rattle.answers.specs.declared.chronicle.Entry.TheVariants as entry
-use Rattle.answers.specs.Legal.{AreUnclosed}
-use Rattle.answers.specs.Whole.{closes_off, is_closed_off, is_closing, is_end, has_ended, IsEarlierEntry}
+use Rattle.services.specs.kvs_txn.declared.txn.By.{By}
+use Rattle.services.specs.kvs_rules.Log.{same_command}
+use Rattle.services.specs.kvs_rules.Landings.{commands_of}
+use Rattle.services.specs.answers.declared.chronicle.Entry.{Entry}
+use Rattle.services.specs.answers.declared.chronicle.Entry.TheVariants as entry
+use Rattle.services.specs.answers.Legal.{AreUnclosed}
+use Rattle.services.specs.answers.Whole.{closes_off, is_closed_off, is_closing, is_end, has_ended, IsEarlierEntry}
 
 neither : (a b : Bool) → a ≡ false → b ≡ false → (a || b) ≡ false
 neither true b e f = absurd (true≢false e)

@@ -9,49 +9,49 @@ use Rattle.std.proofs.lemmas.List.{length-take}
 use Rattle.std.proofs.lemmas.Option.{slice_get_within, slice_get-get_or}
 use Rattle.std.proofs.lemmas.List.Sums.{count_by-le-length}
 use Rattle.std.proofs.Math.ListN.{length-set}
-use Rattle.kvs_txn.specs.declared.txn.Author.TheVariants as author
-use Rattle.kvs_txn.specs.declared.txn.By.{By}
-use Rattle.kvs_txn.specs.declared.txn.Op.{Op}
-use Rattle.kvs_txn.specs.declared.txn.Op.TheVariants as op
-use Rattle.kvs_txn.specs.declared.answers.Query.TheVariants as query
-use Rattle.kvs_txn.specs.declared.txn.Txn.{Txn}
-use Rattle.kvs_rules.specs.declared.events.KvsAsk.{KvsAsk}
-use Rattle.kvs_rules.specs.declared.events.KvsAsk.TheVariants as ask
-use Rattle.kvs_rules.specs.Log.{Log, Moment, Asked, is_asked, asks_now, same_command}
-use Rattle.kvs_model.specs.Store.{Name}
-use Rattle.kvs_rules.proofs.Sequences.{each_push}
-use Rattle.instance_rules.specs.Log as rules
-use Rattle.instance_rules.specs.Log.{Instance, Issued, Log as InstanceLog, Served, issues_now, service_of}
-use Rattle.job_commands.specs.Asks.{told}
-use Rattle.job_commands.specs.declared.ask.JobAsk.{JobAsk}
-use Rattle.job_commands.specs.declared.ask.JobAsk.TheVariants as ask_of_jobs
-use Rattle.instance_rules.specs.Desks.{is_submission}
-use Rattle.job_service.specs.Agrees.{HasRoom, MayIssue}
-use Rattle.job_service.specs.Times.{HasTime, KeepsCounts, jobs_asked, seconds_asked}
-use Rattle.job_service.specs.Value.{JobServiceValue}
+use Rattle.services.specs.kvs_txn.declared.txn.Author.TheVariants as author
+use Rattle.services.specs.kvs_txn.declared.txn.By.{By}
+use Rattle.services.specs.kvs_txn.declared.txn.Op.{Op}
+use Rattle.services.specs.kvs_txn.declared.txn.Op.TheVariants as op
+use Rattle.services.specs.kvs_txn.declared.answers.Query.TheVariants as query
+use Rattle.services.specs.kvs_txn.declared.txn.Txn.{Txn}
+use Rattle.services.specs.kvs_rules.declared.events.KvsAsk.{KvsAsk}
+use Rattle.services.specs.kvs_rules.declared.events.KvsAsk.TheVariants as ask
+use Rattle.services.specs.kvs_rules.Log.{Log, Moment, Asked, is_asked, asks_now, same_command}
+use Rattle.services.specs.kvs_model.Store.{Name}
+use Rattle.services.proofs.kvs_rules_proofs.Sequences.{each_push}
+use Rattle.services.specs.instance_rules.Log as rules
+use Rattle.services.specs.instance_rules.Log.{Instance, Issued, Log as InstanceLog, Served, issues_now, service_of}
+use Rattle.services.specs.job_commands.Asks.{told}
+use Rattle.services.specs.job_commands.declared.ask.JobAsk.{JobAsk}
+use Rattle.services.specs.job_commands.declared.ask.JobAsk.TheVariants as ask_of_jobs
+use Rattle.services.specs.instance_rules.Desks.{is_submission}
+use Rattle.services.specs.job_service.Agrees.{HasRoom, MayIssue}
+use Rattle.services.specs.job_service.Times.{HasTime, KeepsCounts, jobs_asked, seconds_asked}
+use Rattle.services.specs.job_service.Value.{JobServiceValue}
 use Rattle.services.specs.Value.{ServicesValue}
 use Rattle.services.specs.Agrees.{AgreesServices}
 use Rattle.services.specs.Asks.{Keeps, MayAsk}
-use Rattle.workload.specs.declared.work.Command.{Command}
-use Rattle.workload.specs.declared.work.Command.TheVariants as command
-use Rattle.workload.specs.declared.work.Line.{Line}
-use Rattle.answers.specs.declared.chronicle.Entry.{Entry}
-use Rattle.answers.specs.declared.chronicle.Entry.TheVariants as entry
-use Rattle.answers.specs.declared.steps.Step.TheVariants as step
-use Rattle.answers.specs.Chronicle.{Setup, top, issues, issues_of, is_issued, replies_to}
-use Rattle.kvs_txn.specs.Staged.{most_ops}
-use Rattle.answers.specs.Commands.{command_at, ask_of, ask_at, subject_at, subject_of, staged_at, op_of, broker_of, since_last, takes_staged, commands_before}
-use Rattle.answers.specs.Floors.{floor}
-use Rattle.answers.specs.Jobs.{happening_of, instance_of, job_ask_at, job_ask_of, log_in}
-use Rattle.answers.specs.Legal.{IsLegalEntry, IsStaging}
-use Rattle.answers.specs.Services.{setting_of, log_of, moment_of, asked_at}
-use Rattle.answers.specs.Whole.{IsEarlierEntry}
-use Rattle.answers.proofs.Services.{log_push, asks_of, asked_issued, issued_below}
-use Rattle.answers.proofs.Floors.{floor_push}
-use Rattle.run_limits.specs.Limits.{most_seconds, most_submits}
+use Rattle.services.specs.workload.declared.work.Command.{Command}
+use Rattle.services.specs.workload.declared.work.Command.TheVariants as command
+use Rattle.services.specs.workload.declared.work.Line.{Line}
+use Rattle.services.specs.answers.declared.chronicle.Entry.{Entry}
+use Rattle.services.specs.answers.declared.chronicle.Entry.TheVariants as entry
+use Rattle.services.specs.answers.declared.steps.Step.TheVariants as step
+use Rattle.services.specs.answers.Chronicle.{Setup, top, issues, issues_of, is_issued, replies_to}
+use Rattle.services.specs.kvs_txn.Staged.{most_ops}
+use Rattle.services.specs.answers.Commands.{command_at, ask_of, ask_at, subject_at, subject_of, staged_at, op_of, broker_of, since_last, takes_staged, commands_before}
+use Rattle.services.specs.answers.Floors.{floor}
+use Rattle.services.specs.answers.Jobs.{happening_of, instance_of, job_ask_at, job_ask_of, log_in}
+use Rattle.services.specs.answers.Legal.{IsLegalEntry, IsStaging}
+use Rattle.services.specs.answers.Services.{setting_of, log_of, moment_of, asked_at}
+use Rattle.services.specs.answers.Whole.{IsEarlierEntry}
+use Rattle.services.proofs.answers_proofs.Services.{log_push, asks_of, asked_issued, issued_below}
+use Rattle.services.proofs.answers_proofs.Floors.{floor_push}
+use Rattle.services.specs.run_limits.Limits.{most_seconds, most_submits}
 use Rattle.instance.specs.declared.seats.Seat.{Seat}
 use Rattle.instance.specs.declared.seats.Waiting.TheVariants as waiting
-use Rattle.workload.specs.Laws.{IsBuilt}
+use Rattle.services.specs.workload.Laws.{IsBuilt}
 use Rattle.instance.specs.declared.jobs.Ordered.{Ordered}
 use Rattle.instance.specs.declared.jobs.Ordered.TheVariants as ordered
 use Rattle.instance.specs.Jobs.{CountsIn, IfAsked, IsNewOrder, asked_in, issues_of as orders_of}

@@ -4,30 +4,30 @@ use Rattle.std.proofs.Common.{◌≡◌, ℕ, ◌-◌, ◌<◌, ◌⊎◌, inl, 
 use Rattle.std.specs.Prelude.{slice_get, option_and_then, IsTrue}
 use Rattle.std.specs.Option.{option_map, option_map_or}
 use Rattle.std.specs.Str.{bytes_eq}
-use Rattle.kvs_txn.specs.declared.txn.Author.TheVariants as author
-use Rattle.kvs_txn.specs.declared.txn.By.{By}
-use Rattle.kvs_txn.specs.declared.txn.Txn.{Txn}
-use Rattle.kvs_model.specs.Store.{Name}
-use Rattle.kvs_rules.specs.declared.events.KvsAsk.{KvsAsk}
-use Rattle.kvs_rules.specs.declared.events.KvsAsk.TheVariants as ask
-use Rattle.kvs_rules.specs.Namespaces.{Request, Setting, is_live, landed}
-use Rattle.kvs_rules.specs.Log.{Log}
-use Rattle.kvs_rules.specs.Quiet.{IsLeft as IsLeftAsk, IsMember, IsShortFence}
-use Rattle.workload.specs.declared.work.Command.{Command}
-use Rattle.workload.specs.declared.work.Command.TheVariants as command
-use Rattle.workload.specs.declared.work.Line.{Line}
-use Rattle.workload.specs.declared.work.Workload.{Workload}
-use Rattle.answers.specs.declared.chronicle.Entry.{Entry}
-use Rattle.answers.specs.declared.chronicle.Reply.{Reply}
-use Rattle.answers.specs.declared.chronicle.Reply.TheVariants as reply
-use Rattle.answers.specs.Chronicle.{top}
-use Rattle.answers.specs.Commands.{ask_at, ask_of, command_at, staged_at, subject_at}
-use Rattle.answers.specs.Jobs.{living_of}
-use Rattle.answers.specs.Legal.{IsUncarried}
-use Rattle.answers.specs.Services.{setting_of, log_of}
-use Rattle.instance_rules.specs.Family.{IsLeftResult}
-use Rattle.job_service.specs.Still.{awaited}
-use Rattle.job_states.specs.declared.job.State.{State}
+use Rattle.services.specs.kvs_txn.declared.txn.Author.TheVariants as author
+use Rattle.services.specs.kvs_txn.declared.txn.By.{By}
+use Rattle.services.specs.kvs_txn.declared.txn.Txn.{Txn}
+use Rattle.services.specs.kvs_model.Store.{Name}
+use Rattle.services.specs.kvs_rules.declared.events.KvsAsk.{KvsAsk}
+use Rattle.services.specs.kvs_rules.declared.events.KvsAsk.TheVariants as ask
+use Rattle.services.specs.kvs_rules.Namespaces.{Request, Setting, is_live, landed}
+use Rattle.services.specs.kvs_rules.Log.{Log}
+use Rattle.services.specs.kvs_rules.Quiet.{IsLeft as IsLeftAsk, IsMember, IsShortFence}
+use Rattle.services.specs.workload.declared.work.Command.{Command}
+use Rattle.services.specs.workload.declared.work.Command.TheVariants as command
+use Rattle.services.specs.workload.declared.work.Line.{Line}
+use Rattle.services.specs.workload.declared.work.Workload.{Workload}
+use Rattle.services.specs.answers.declared.chronicle.Entry.{Entry}
+use Rattle.services.specs.answers.declared.chronicle.Reply.{Reply}
+use Rattle.services.specs.answers.declared.chronicle.Reply.TheVariants as reply
+use Rattle.services.specs.answers.Chronicle.{top}
+use Rattle.services.specs.answers.Commands.{ask_at, ask_of, command_at, staged_at, subject_at}
+use Rattle.services.specs.answers.Jobs.{living_of}
+use Rattle.services.specs.answers.Legal.{IsUncarried}
+use Rattle.services.specs.answers.Services.{setting_of, log_of}
+use Rattle.services.specs.instance_rules.Family.{IsLeftResult}
+use Rattle.services.specs.job_service.Still.{awaited}
+use Rattle.services.specs.job_states.declared.job.State.{State}
 use Rattle.instance.specs.declared.seats.Seat.{Seat}
 use Rattle.instance.specs.declared.seats.Waiting.{Waiting}
 use Rattle.instance.specs.declared.seats.Waiting.TheVariants as waiting

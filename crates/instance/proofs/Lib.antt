@@ -28,3 +28,5 @@ mod Beginning
 mod Numbering
 mod Seeing
 mod Telling
+-- what lies below, for the crates that stand on this one
+pub use Rattle.services.proofs.kvs_core_proofs as kvs_core_proofs

@@ -2,10 +2,10 @@
 use Rattle.std.proofs.Common.{◌≡◌, ℕ, ◌+◌, ◌≤◌, List, Option, refl, sym, subst, ap₂, ◌∙◌}
 use Rattle.std.specs.Prelude.{slice_get}
 use Rattle.std.specs.Option.{option_map}
-use Rattle.job_service.specs.Times.{KeepsCounts}
-use Rattle.workload.specs.declared.work.Line.{Line}
-use Rattle.run_limits.specs.Limits.{most_seconds}
-use Rattle.workload.specs.Tallies.{seconds_in, submits_in}
+use Rattle.services.specs.job_service.Times.{KeepsCounts}
+use Rattle.services.specs.workload.declared.work.Line.{Line}
+use Rattle.services.specs.run_limits.Limits.{most_seconds}
+use Rattle.services.specs.workload.Tallies.{seconds_in, submits_in}
 use Rattle.instance.specs.declared.seats.Seat.{Seat}
 use Rattle.instance.specs.Agrees.{IsTallied}
 use Rattle.instance.specs.Value.{InstanceValue}

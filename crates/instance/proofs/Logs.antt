@@ -3,29 +3,29 @@ use Rattle.std.proofs.Common.{◌≡◌, ℕ, ◌==◌, ◌&&◌, ◌||◌, List
 use Rattle.std.specs.Prelude.{IsSome, IsTrue}
 use Rattle.std.specs.Option.{option_map_or}
 use Rattle.std.specs.List.{AllByRecursion as Each, cons_option, list_any}
-use Rattle.kvs_rules.specs.declared.events.KvsAnswer.{KvsAnswer}
-use Rattle.kvs_rules.specs.declared.events.KvsAnswer.TheVariants as answer
-use Rattle.kvs_rules.specs.declared.events.KvsAsk.{KvsAsk}
-use Rattle.kvs_rules.specs.declared.events.KvsEvent.{KvsEvent}
-use Rattle.kvs_rules.specs.declared.events.KvsEvent.TheVariants as event
-use Rattle.kvs_rules.specs.Log as service
-use Rattle.kvs_rules.specs.Log.{Happened, same_command}
-use Rattle.kvs_rules.specs.Namespaces.{Request}
-use Rattle.kvs_txn.specs.declared.txn.By.{By}
-use Rattle.instance_rules.specs.Log as rules
-use Rattle.instance_rules.specs.Log.{IsOpen, JobReply, Log, Moment, Born, Gone, Issued, Replied, Served, Ticked, issues_now, replies_now, service_of}
-use Rattle.answers.specs.declared.chronicle.Entry.{Entry}
-use Rattle.answers.specs.declared.chronicle.Entry.TheVariants as entry
-use Rattle.answers.specs.declared.chronicle.Reply.{Reply}
-use Rattle.answers.specs.declared.chronicle.Reply.TheVariants as reply
-use Rattle.answers.specs.Chronicle.{is_issued, is_replied, issues, replies_to, top}
-use Rattle.answers.specs.Commands.{ask_at, broker_of, subject_at}
-use Rattle.answers.specs.Entering.{entered, reply_of}
-use Rattle.answers.specs.Jobs.{happening_of, happenings_after, job_ask_at, job_reply_of, log_in}
-use Rattle.answers.specs.Services.{asked_at, log_of, moment_of}
-use Rattle.answers.specs.Whole.{IsClosingEntry, is_closing}
-use Rattle.answers.proofs.JobLogs.{asks_no_service, issued_alike, service_kept}
-use Rattle.workload.specs.declared.work.Workload.{Workload}
+use Rattle.services.specs.kvs_rules.declared.events.KvsAnswer.{KvsAnswer}
+use Rattle.services.specs.kvs_rules.declared.events.KvsAnswer.TheVariants as answer
+use Rattle.services.specs.kvs_rules.declared.events.KvsAsk.{KvsAsk}
+use Rattle.services.specs.kvs_rules.declared.events.KvsEvent.{KvsEvent}
+use Rattle.services.specs.kvs_rules.declared.events.KvsEvent.TheVariants as event
+use Rattle.services.specs.kvs_rules.Log as service
+use Rattle.services.specs.kvs_rules.Log.{Happened, same_command}
+use Rattle.services.specs.kvs_rules.Namespaces.{Request}
+use Rattle.services.specs.kvs_txn.declared.txn.By.{By}
+use Rattle.services.specs.instance_rules.Log as rules
+use Rattle.services.specs.instance_rules.Log.{IsOpen, JobReply, Log, Moment, Born, Gone, Issued, Replied, Served, Ticked, issues_now, replies_now, service_of}
+use Rattle.services.specs.answers.declared.chronicle.Entry.{Entry}
+use Rattle.services.specs.answers.declared.chronicle.Entry.TheVariants as entry
+use Rattle.services.specs.answers.declared.chronicle.Reply.{Reply}
+use Rattle.services.specs.answers.declared.chronicle.Reply.TheVariants as reply
+use Rattle.services.specs.answers.Chronicle.{is_issued, is_replied, issues, replies_to, top}
+use Rattle.services.specs.answers.Commands.{ask_at, broker_of, subject_at}
+use Rattle.services.specs.answers.Entering.{entered, reply_of}
+use Rattle.services.specs.answers.Jobs.{happening_of, happenings_after, job_ask_at, job_reply_of, log_in}
+use Rattle.services.specs.answers.Services.{asked_at, log_of, moment_of}
+use Rattle.services.specs.answers.Whole.{IsClosingEntry, is_closing}
+use Rattle.services.proofs.answers_proofs.JobLogs.{asks_no_service, issued_alike, service_kept}
+use Rattle.services.specs.workload.declared.work.Workload.{Workload}
 use Rattle.instance.proofs.Listing.{none_counted}
 
 -- the log of the service in it

@@ -4,28 +4,28 @@ use Rattle.std.specs.List.{list_any}
 use Rattle.std.specs.List.{AllByRecursion as Each}
 use Rattle.std.proofs.lemmas.List.Folds.{list_any-append}
 use Rattle.std.proofs.lemmas.List.Sums.{fold-append}
-use Rattle.kvs_txn.specs.declared.txn.By.{By}
-use Rattle.kvs_model.specs.Store.{Name}
-use Rattle.kvs_rules.specs.declared.events.KvsEvent.{KvsEvent}
-use Rattle.kvs_rules.specs.declared.events.KvsEvent.TheVariants as event
-use Rattle.kvs_rules.specs.declared.events.KvsStep.{KvsStep}
-use Rattle.kvs_rules.specs.declared.events.KvsStep.TheVariants as kvs
-use Rattle.kvs_rules.specs.Sequence.{EachAfter}
-use Rattle.kvs_rules.specs.Log.{Log, Happened, is_asked, asks_now}
-use Rattle.kvs_rules.specs.Steps.{AreMadeBy, ComesTo, IsRuling, IsBrokersWork}
-use Rattle.kvs_rules.specs.Answers.{IsLegalEvent}
-use Rattle.answers.specs.declared.chronicle.Entry.{Entry}
-use Rattle.workload.specs.declared.work.Workload.{Workload}
-use Rattle.answers.specs.Chronicle.{Setup, top, issues_of, replies_to, issues}
-use Rattle.answers.specs.Entering.{entered}
-use Rattle.answers.specs.Floors.{floor, raised}
-use Rattle.answers.specs.Legal.{IsLegalEntry, HasEntryGrounds, RestsAtIssue}
-use Rattle.answers.specs.Services.{setting_of, log_of}
-use Rattle.answers.specs.Whole.{IsEarlierEntry}
-use Rattle.answers.specs.Jobs.{instance_of, log_in}
-use Rattle.answers.proofs.Services.{log_push}
-use Rattle.instance_rules.specs.Legal.{IsDueEvent, IsLegalMoment}
-use Rattle.job_landings.specs.Landings.{happening}
+use Rattle.services.specs.kvs_txn.declared.txn.By.{By}
+use Rattle.services.specs.kvs_model.Store.{Name}
+use Rattle.services.specs.kvs_rules.declared.events.KvsEvent.{KvsEvent}
+use Rattle.services.specs.kvs_rules.declared.events.KvsEvent.TheVariants as event
+use Rattle.services.specs.kvs_rules.declared.events.KvsStep.{KvsStep}
+use Rattle.services.specs.kvs_rules.declared.events.KvsStep.TheVariants as kvs
+use Rattle.services.specs.kvs_rules.Sequence.{EachAfter}
+use Rattle.services.specs.kvs_rules.Log.{Log, Happened, is_asked, asks_now}
+use Rattle.services.specs.kvs_rules.Steps.{AreMadeBy, ComesTo, IsRuling, IsBrokersWork}
+use Rattle.services.specs.kvs_rules.Answers.{IsLegalEvent}
+use Rattle.services.specs.answers.declared.chronicle.Entry.{Entry}
+use Rattle.services.specs.workload.declared.work.Workload.{Workload}
+use Rattle.services.specs.answers.Chronicle.{Setup, top, issues_of, replies_to, issues}
+use Rattle.services.specs.answers.Entering.{entered}
+use Rattle.services.specs.answers.Floors.{floor, raised}
+use Rattle.services.specs.answers.Legal.{IsLegalEntry, HasEntryGrounds, RestsAtIssue}
+use Rattle.services.specs.answers.Services.{setting_of, log_of}
+use Rattle.services.specs.answers.Whole.{IsEarlierEntry}
+use Rattle.services.specs.answers.Jobs.{instance_of, log_in}
+use Rattle.services.proofs.answers_proofs.Services.{log_push}
+use Rattle.services.specs.instance_rules.Legal.{IsDueEvent, IsLegalMoment}
+use Rattle.services.specs.job_landings.Landings.{happening}
 use Rattle.instance.specs.declared.seats.Seat.{Seat}
 use Rattle.instance.specs.declared.seats.Waiting.{Waiting}
 use Rattle.instance.specs.declared.seats.Waiting.TheVariants as waiting

@@ -1,7 +1,7 @@
 -- An instance with a chronicle of its own.
 use Rattle.std.specs.Prelude.{List}
-use Rattle.answers.specs.declared.chronicle.Entry.{Entry}
-use Rattle.answers.specs.Chronicle.{Setup}
+use Rattle.services.specs.answers.declared.chronicle.Entry.{Entry}
+use Rattle.services.specs.answers.Chronicle.{Setup}
 use Rattle.instance.specs.Agrees.{AgreesOwn}
 use Rattle.instance.specs.Value.{InstanceValue}
 

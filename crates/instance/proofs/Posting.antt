@@ -1,11 +1,11 @@
 -- What a post leaves of an instance.
 use Rattle.std.proofs.Common.{[], refl, sym, subst, append-nil}
-use Rattle.instance_rules.specs.Log.{Instance, Log as InstanceLog}
+use Rattle.services.specs.instance_rules.Log.{Instance, Log as InstanceLog}
 use Rattle.services.specs.Agrees.{AgreesServices}
 use Rattle.services.specs.Asks.{Keeps}
 use Rattle.services.specs.Value.{ServicesValue}
-use Rattle.answers.specs.declared.steps.Step.TheVariants as step
-use Rattle.answers.specs.Jobs.{instance_of, log_in}
+use Rattle.services.specs.answers.declared.steps.Step.TheVariants as step
+use Rattle.services.specs.answers.Jobs.{instance_of, log_in}
 use Rattle.instance.specs.Agrees.{AgreesOwn}
 use Rattle.instance.specs.Makes.{Follows}
 use Rattle.instance.proofs.Lining.{same_lines, tallied_on}

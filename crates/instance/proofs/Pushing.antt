@@ -2,13 +2,13 @@
 use Rattle.std.proofs.Common.{◌≡◌, ℕ, ◌+◌, ◌-◌, List, [], ◌∷◌, ◌++◌, Bool, true, false, ◌||◌, cond, refl, sym, ap, ◌∙◌, arith, append-nil, Option, Some, None, true≢false}
 use Rattle.std.specs.List.{cons_option}
 use Rattle.std.proofs.lemmas.List.Folds.{list_any-append}
-use Rattle.kvs_txn.specs.declared.txn.By.{By}
-use Rattle.kvs_rules.specs.Log.{Log, Moment, is_asked, is_answered, asks_now, answers_now}
-use Rattle.kvs_model.specs.Store.{Name}
-use Rattle.answers.specs.declared.chronicle.Entry.{Entry}
-use Rattle.answers.specs.Chronicle.{Setup, issues_of, replies_to, issues}
-use Rattle.answers.specs.Floors.{floor}
-use Rattle.answers.proofs.Services.{asks_of}
+use Rattle.services.specs.kvs_txn.declared.txn.By.{By}
+use Rattle.services.specs.kvs_rules.Log.{Log, Moment, is_asked, is_answered, asks_now, answers_now}
+use Rattle.services.specs.kvs_model.Store.{Name}
+use Rattle.services.specs.answers.declared.chronicle.Entry.{Entry}
+use Rattle.services.specs.answers.Chronicle.{Setup, issues_of, replies_to, issues}
+use Rattle.services.specs.answers.Floors.{floor}
+use Rattle.services.proofs.answers_proofs.Services.{asks_of}
 use Rattle.instance.specs.declared.seats.Seat.{Seat}
 use Rattle.instance.specs.declared.seats.Waiting.{Waiting}
 use Rattle.instance.specs.declared.seats.Waiting.TheVariants as waiting

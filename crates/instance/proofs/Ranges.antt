@@ -6,8 +6,8 @@ use Rattle.std.proofs.lemmas.Bool.{cases_eq}
 use Rattle.std.proofs.lemmas.List.Concat.{flat_map-cons}
 use Rattle.std.proofs.lemmas.List.{length-append}
 use Rattle.std.proofs.lemmas.List.Elements.{Contains-append_cases, Contains-append_left, Contains-append_right}
-use Rattle.kvs_rules.proofs.Asking.{contains_stands}
-use Rattle.kvs_rules.specs.Sequence.{AreDistinct}
+use Rattle.services.proofs.kvs_rules_proofs.Asking.{contains_stands}
+use Rattle.services.specs.kvs_rules.Sequence.{AreDistinct}
 use Rattle.instance.proofs.Listing.{count-append, each_append}
 
 -- where each list has one element that passes exactly if its number passes, as many elements pass as numbers do

@@ -9,39 +9,39 @@ use Rattle.std.proofs.lemmas.List.Elements.{Contains-get_or}
 use Rattle.std.proofs.lemmas.Bool.{cases_eq, cases_lt, lt-ltb, le-ltb}
 use Rattle.std.proofs.lemmas.Option.{slice_get-get_or, slice_get_within}
 use Rattle.std.proofs.Math.ListN.{length-set}
-use Rattle.kvs_txn.specs.declared.txn.By.{By}
-use Rattle.kvs_rules.specs.declared.events.KvsAnswer.{KvsAnswer}
-use Rattle.kvs_rules.specs.declared.events.KvsAnswer.TheVariants as answer
-use Rattle.kvs_rules.specs.declared.events.KvsEvent.TheVariants as event
-use Rattle.kvs_rules.specs.Log.{Log, Moment, Happened, is_asked, is_answered, answers_now, same_command}
-use Rattle.kvs_model.specs.Store.{Name}
-use Rattle.kvs_rules.specs.Sequence.{EachAfter}
-use Rattle.kvs_rules.proofs.Sequences.{each_joined, each_push}
-use Rattle.instance_rules.specs.Log as rules
-use Rattle.instance_rules.specs.Log.{JobReply}
-use Rattle.instance_rules.specs.Replies.{IsLegalReply}
-use Rattle.job_service.specs.Times.{KeepsCounts}
+use Rattle.services.specs.kvs_txn.declared.txn.By.{By}
+use Rattle.services.specs.kvs_rules.declared.events.KvsAnswer.{KvsAnswer}
+use Rattle.services.specs.kvs_rules.declared.events.KvsAnswer.TheVariants as answer
+use Rattle.services.specs.kvs_rules.declared.events.KvsEvent.TheVariants as event
+use Rattle.services.specs.kvs_rules.Log.{Log, Moment, Happened, is_asked, is_answered, answers_now, same_command}
+use Rattle.services.specs.kvs_model.Store.{Name}
+use Rattle.services.specs.kvs_rules.Sequence.{EachAfter}
+use Rattle.services.proofs.kvs_rules_proofs.Sequences.{each_joined, each_push}
+use Rattle.services.specs.instance_rules.Log as rules
+use Rattle.services.specs.instance_rules.Log.{JobReply}
+use Rattle.services.specs.instance_rules.Replies.{IsLegalReply}
+use Rattle.services.specs.job_service.Times.{KeepsCounts}
 use Rattle.services.specs.Agrees.{AgreesServices}
 use Rattle.services.specs.Asks.{Answers}
 use Rattle.services.specs.Value.{ServicesValue}
-use Rattle.answers.specs.declared.chronicle.Entry.{Entry}
-use Rattle.answers.specs.declared.chronicle.Entry.TheVariants as entry
-use Rattle.answers.specs.declared.chronicle.Reply.{Reply}
-use Rattle.answers.specs.declared.chronicle.Reply.TheVariants as reply
-use Rattle.answers.specs.declared.steps.Step.TheVariants as step
-use Rattle.answers.specs.Chronicle.{Setup, top, issues, issues_of, is_issued, is_replied, replies_to, answer_of}
-use Rattle.workload.specs.declared.work.Command.TheVariants as command
-use Rattle.answers.specs.Commands.{command_at, subject_at}
-use Rattle.answers.specs.Entering.{reply_of}
-use Rattle.answers.specs.Floors.{floor}
-use Rattle.answers.specs.Jobs.{happening_of, instance_of, job_ask_at, job_reply_of, log_in, state_by}
-use Rattle.answers.specs.Legal.{HasReplyGrounds, IsLegal, IsLegalEntry, IsLegalIn, RestsAtIssue}
-use Rattle.answers.specs.Stretches.{ComesBeforeReply}
-use Rattle.answers.specs.Services.{setting_of, log_of, moment_of}
-use Rattle.kvs_rules.specs.Answers.{IsLegalEvent}
-use Rattle.answers.specs.Whole.{is_closing, IsEarlierEntry}
-use Rattle.answers.proofs.Services.{log_push, asks_of, moment_asks}
-use Rattle.answers.proofs.Floors.{floor_push}
+use Rattle.services.specs.answers.declared.chronicle.Entry.{Entry}
+use Rattle.services.specs.answers.declared.chronicle.Entry.TheVariants as entry
+use Rattle.services.specs.answers.declared.chronicle.Reply.{Reply}
+use Rattle.services.specs.answers.declared.chronicle.Reply.TheVariants as reply
+use Rattle.services.specs.answers.declared.steps.Step.TheVariants as step
+use Rattle.services.specs.answers.Chronicle.{Setup, top, issues, issues_of, is_issued, is_replied, replies_to, answer_of}
+use Rattle.services.specs.workload.declared.work.Command.TheVariants as command
+use Rattle.services.specs.answers.Commands.{command_at, subject_at}
+use Rattle.services.specs.answers.Entering.{reply_of}
+use Rattle.services.specs.answers.Floors.{floor}
+use Rattle.services.specs.answers.Jobs.{happening_of, instance_of, job_ask_at, job_reply_of, log_in, state_by}
+use Rattle.services.specs.answers.Legal.{HasReplyGrounds, IsLegal, IsLegalEntry, IsLegalIn, RestsAtIssue}
+use Rattle.services.specs.answers.Stretches.{ComesBeforeReply}
+use Rattle.services.specs.answers.Services.{setting_of, log_of, moment_of}
+use Rattle.services.specs.kvs_rules.Answers.{IsLegalEvent}
+use Rattle.services.specs.answers.Whole.{is_closing, IsEarlierEntry}
+use Rattle.services.proofs.answers_proofs.Services.{log_push, asks_of, moment_asks}
+use Rattle.services.proofs.answers_proofs.Floors.{floor_push}
 use Rattle.instance.specs.declared.seats.Seat.{Seat}
 use Rattle.instance.specs.declared.seats.Waiting.{Waiting}
 use Rattle.instance.specs.declared.seats.Waiting.TheVariants as waiting

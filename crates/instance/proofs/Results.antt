@@ -2,44 +2,44 @@
 use Rattle.std.proofs.Common.{◌≡◌, ◌⊎◌, inl, inr, ℕ, suc, arith, List, [], ◌∷◌, ◌++◌, Bool, true, false, ◌&&◌, ◌||◌, cond, not, Option, Some, None, find, is_some, refl, sym, ap, ◌∙◌, subst, true≢false}
 use Rattle.std.specs.Prelude.{Contains, IsSome}
 use Rattle.std.specs.Option.{option_map, option_map_or}
-use Rattle.kvs_rules.specs.Log.{is_denied, is_landed}
-use Rattle.kvs_rules.specs.Sequence.{EachAfter}
-use Rattle.kvs_rules.proofs.Asking.{command_is}
-use Rattle.kvs_txn.specs.declared.txn.By.{By}
-use Rattle.job_states.specs.declared.job.State.{State}
-use Rattle.instance_rules.specs.Family.{IsLeftResult}
-use Rattle.instance_rules.specs.Log as rules
-use Rattle.instance_rules.specs.Log.{Instance, IsOpen, JobReply, Log, Replied, is_decided, service_of}
-use Rattle.instance_rules.specs.Replies.{IsLegalReply}
-use Rattle.job_commands.specs.Agrees.{AgreesCommands, HasLanded, HasRow, StageAgrees}
-use Rattle.job_commands.specs.Asks.{told}
-use Rattle.job_commands.specs.Rows.{CommandsValue}
-use Rattle.job_commands.specs.declared.ask.JobAsk.{JobAsk}
-use Rattle.job_commands.specs.declared.ask.JobAsk.TheVariants as ask
-use Rattle.job_commands.specs.declared.row.Row.{Row}
-use Rattle.job_commands.specs.declared.row.Stage.{Stage}
-use Rattle.job_commands.specs.declared.row.Stage.TheVariants as stage
-use Rattle.job_commands.proofs.Tables.{found}
-use Rattle.job_replies.specs.Ready.{is_ready}
-use Rattle.job_service.specs.declared.refusals.Refused.{Refused}
-use Rattle.job_service.specs.Agrees.{AgreesJobs}
-use Rattle.job_service.specs.Refusals.{fault_for, is_refusal_of, row_in}
-use Rattle.job_service.specs.Replies.{can_reply, is_kept_back, is_ready_in}
-use Rattle.job_service.specs.Value.{JobServiceValue}
+use Rattle.services.specs.kvs_rules.Log.{is_denied, is_landed}
+use Rattle.services.specs.kvs_rules.Sequence.{EachAfter}
+use Rattle.services.proofs.kvs_rules_proofs.Asking.{command_is}
+use Rattle.services.specs.kvs_txn.declared.txn.By.{By}
+use Rattle.services.specs.job_states.declared.job.State.{State}
+use Rattle.services.specs.instance_rules.Family.{IsLeftResult}
+use Rattle.services.specs.instance_rules.Log as rules
+use Rattle.services.specs.instance_rules.Log.{Instance, IsOpen, JobReply, Log, Replied, is_decided, service_of}
+use Rattle.services.specs.instance_rules.Replies.{IsLegalReply}
+use Rattle.services.specs.job_commands.Agrees.{AgreesCommands, HasLanded, HasRow, StageAgrees}
+use Rattle.services.specs.job_commands.Asks.{told}
+use Rattle.services.specs.job_commands.Rows.{CommandsValue}
+use Rattle.services.specs.job_commands.declared.ask.JobAsk.{JobAsk}
+use Rattle.services.specs.job_commands.declared.ask.JobAsk.TheVariants as ask
+use Rattle.services.specs.job_commands.declared.row.Row.{Row}
+use Rattle.services.specs.job_commands.declared.row.Stage.{Stage}
+use Rattle.services.specs.job_commands.declared.row.Stage.TheVariants as stage
+use Rattle.services.proofs.job_commands_proofs.Tables.{found}
+use Rattle.services.specs.job_replies.Ready.{is_ready}
+use Rattle.services.specs.job_service.declared.refusals.Refused.{Refused}
+use Rattle.services.specs.job_service.Agrees.{AgreesJobs}
+use Rattle.services.specs.job_service.Refusals.{fault_for, is_refusal_of, row_in}
+use Rattle.services.specs.job_service.Replies.{can_reply, is_kept_back, is_ready_in}
+use Rattle.services.specs.job_service.Value.{JobServiceValue}
 use Rattle.services.specs.Agrees.{AgreesServices}
 use Rattle.services.specs.Asks.{Answers}
 use Rattle.services.specs.Value.{ServicesValue}
-use Rattle.answers.specs.declared.chronicle.Entry.{Entry}
-use Rattle.answers.specs.declared.chronicle.Entry.TheVariants as entry
-use Rattle.answers.specs.declared.chronicle.Reply.{Reply}
-use Rattle.answers.specs.declared.chronicle.Reply.TheVariants as reply
-use Rattle.answers.specs.declared.steps.Step.TheVariants as step
-use Rattle.answers.specs.Chronicle.{Setup, is_issued}
-use Rattle.answers.specs.Jobs.{instance_of, job_ask_at, job_reply_of, living_of, log_in}
-use Rattle.answers.specs.Legal.{HasReplyGrounds, IsLegalEntry, IsUncarried, RestsAtIssue}
-use Rattle.answers.specs.Stretches.{IsStretch}
-use Rattle.answers.specs.Whole.{HasClosingGrounds, has_ended, is_closing}
-use Rattle.workload.specs.declared.work.Workload.{Workload}
+use Rattle.services.specs.answers.declared.chronicle.Entry.{Entry}
+use Rattle.services.specs.answers.declared.chronicle.Entry.TheVariants as entry
+use Rattle.services.specs.answers.declared.chronicle.Reply.{Reply}
+use Rattle.services.specs.answers.declared.chronicle.Reply.TheVariants as reply
+use Rattle.services.specs.answers.declared.steps.Step.TheVariants as step
+use Rattle.services.specs.answers.Chronicle.{Setup, is_issued}
+use Rattle.services.specs.answers.Jobs.{instance_of, job_ask_at, job_reply_of, living_of, log_in}
+use Rattle.services.specs.answers.Legal.{HasReplyGrounds, IsLegalEntry, IsUncarried, RestsAtIssue}
+use Rattle.services.specs.answers.Stretches.{IsStretch}
+use Rattle.services.specs.answers.Whole.{HasClosingGrounds, has_ended, is_closing}
+use Rattle.services.specs.workload.declared.work.Workload.{Workload}
 use Rattle.instance.proofs.Families.{same_living}
 use Rattle.instance.proofs.Logs.{job_replied, log_issued, log_unissued, log_with, served_log}
 

@@ -9,7 +9,7 @@ use Rattle.std.specs.Ordering.{nat_cmp}
 use Rattle.std.specs.Str.{bytes_eq}
 use Rattle.std.proofs.lemmas.Map.Text.{is_eq-slice_cmp}
 use Rattle.std.proofs.lemmas.Slice.Eq.{bytes_eq-Decides}
-use Rattle.kvs_model.specs.Store.{Name}
+use Rattle.services.specs.kvs_model.Store.{Name}
 use Rattle.instance.specs.Floors.{Floors, floor_in}
 
 pub name_is : (a b : Name) → bytes_eq a b ≡ true → a ≡ b

@@ -1,23 +1,23 @@
 -- What a step of the services leaves of an instance.
 use Rattle.std.proofs.Common.{◌≡◌, List, [], ◌++◌, map, false, sym, refl, subst}
 use Rattle.std.specs.Prelude.{slice_get}
-use Rattle.instance_rules.specs.Log.{Instance, Log as InstanceLog}
-use Rattle.kvs_rules.specs.declared.events.KvsEvent.{KvsEvent}
-use Rattle.kvs_rules.specs.declared.events.KvsStep.{KvsStep}
-use Rattle.kvs_rules.specs.Log.{Log}
-use Rattle.kvs_rules.specs.Steps.{AreMadeBy}
-use Rattle.kvs_rules.proofs.Sequences.{each_joined}
+use Rattle.services.specs.instance_rules.Log.{Instance, Log as InstanceLog}
+use Rattle.services.specs.kvs_rules.declared.events.KvsEvent.{KvsEvent}
+use Rattle.services.specs.kvs_rules.declared.events.KvsStep.{KvsStep}
+use Rattle.services.specs.kvs_rules.Log.{Log}
+use Rattle.services.specs.kvs_rules.Steps.{AreMadeBy}
+use Rattle.services.proofs.kvs_rules_proofs.Sequences.{each_joined}
 use Rattle.services.specs.Agrees.{AgreesServices}
 use Rattle.services.specs.Makes.{Makes}
 use Rattle.services.specs.Value.{ServicesValue}
-use Rattle.answers.specs.declared.chronicle.Entry.{Entry}
-use Rattle.answers.specs.declared.steps.Step.TheVariants as step
-use Rattle.answers.specs.Chronicle.{top}
-use Rattle.answers.specs.Entering.{entered}
-use Rattle.answers.specs.Jobs.{instance_of, log_in}
-use Rattle.answers.specs.Legal.{IsLegalEntry}
-use Rattle.answers.specs.Services.{log_of}
-use Rattle.answers.specs.Whole.{IsEarlierEntry}
+use Rattle.services.specs.answers.declared.chronicle.Entry.{Entry}
+use Rattle.services.specs.answers.declared.steps.Step.TheVariants as step
+use Rattle.services.specs.answers.Chronicle.{top}
+use Rattle.services.specs.answers.Entering.{entered}
+use Rattle.services.specs.answers.Jobs.{instance_of, log_in}
+use Rattle.services.specs.answers.Legal.{IsLegalEntry}
+use Rattle.services.specs.answers.Services.{log_of}
+use Rattle.services.specs.answers.Whole.{IsEarlierEntry}
 use Rattle.instance.specs.declared.seats.Seat.{Seat}
 use Rattle.instance.specs.Agrees.{ActorStands}
 use Rattle.instance.specs.Makes.{Follows}

@@ -1,24 +1,24 @@
 -- What the code knows where it issues a command.
 use Rattle.std.proofs.Common.{◌≡◌, ℕ, ◌+◌, ◌<◌, ◌≤◌, List, ◌++◌, length, map, true, false, Option, Some, get_or, sym, ap, ◌∙◌, subst, arith}
 use Rattle.std.specs.Prelude.{IfSome}
-use Rattle.kvs_txn.specs.declared.txn.Author.TheVariants as author
-use Rattle.kvs_rules.specs.declared.events.KvsAsk.{KvsAsk}
-use Rattle.kvs_rules.specs.Log.{is_asked}
-use Rattle.instance_rules.specs.Desks.{is_submission}
-use Rattle.instance_rules.specs.Log.{Instance, Log, Served, service_of}
-use Rattle.job_commands.specs.Asks.{told}
-use Rattle.job_service.specs.Agrees.{HasRoom, MayIssue}
-use Rattle.job_service.specs.Times.{HasTime}
+use Rattle.services.specs.kvs_txn.declared.txn.Author.TheVariants as author
+use Rattle.services.specs.kvs_rules.declared.events.KvsAsk.{KvsAsk}
+use Rattle.services.specs.kvs_rules.Log.{is_asked}
+use Rattle.services.specs.instance_rules.Desks.{is_submission}
+use Rattle.services.specs.instance_rules.Log.{Instance, Log, Served, service_of}
+use Rattle.services.specs.job_commands.Asks.{told}
+use Rattle.services.specs.job_service.Agrees.{HasRoom, MayIssue}
+use Rattle.services.specs.job_service.Times.{HasTime}
 use Rattle.services.specs.Agrees.{AgreesServices}
 use Rattle.services.specs.Asks.{Keeps, MayAsk}
 use Rattle.services.specs.Value.{ServicesValue}
-use Rattle.workload.specs.declared.work.Command.{Command}
-use Rattle.workload.specs.declared.work.Line.{Line}
-use Rattle.workload.specs.Laws.{IsBuilt}
-use Rattle.answers.specs.declared.chronicle.Entry.{Entry}
-use Rattle.answers.specs.Chronicle.{Setup}
-use Rattle.answers.specs.Commands.{ask_of, subject_of}
-use Rattle.answers.specs.Jobs.{instance_of, job_ask_of, log_in}
+use Rattle.services.specs.workload.declared.work.Command.{Command}
+use Rattle.services.specs.workload.declared.work.Line.{Line}
+use Rattle.services.specs.workload.Laws.{IsBuilt}
+use Rattle.services.specs.answers.declared.chronicle.Entry.{Entry}
+use Rattle.services.specs.answers.Chronicle.{Setup}
+use Rattle.services.specs.answers.Commands.{ask_of, subject_of}
+use Rattle.services.specs.answers.Jobs.{instance_of, job_ask_of, log_in}
 use Rattle.instance.specs.declared.seats.Seat.{Seat}
 use Rattle.instance.specs.declared.jobs.Ordered.{Ordered}
 use Rattle.instance.specs.Jobs.{IfAsked, asked_in}

@@ -2,19 +2,19 @@
 use Rattle.std.proofs.Common.{◌≡◌, ℕ, ◌+◌, ◌<◌, List, length, true, cond, Option, Some, None, get_or, set, refl, sym, ap, ◌∙◌, arith, true≢false}
 use Rattle.std.specs.Prelude.{slice_get}
 use Rattle.std.specs.Option.{option_map_or}
-use Rattle.instance_rules.specs.Desks.{is_submission}
-use Rattle.instance_rules.specs.Log as rules
-use Rattle.job_commands.specs.Asks.{told}
-use Rattle.job_commands.specs.declared.ask.JobAsk.{JobAsk}
-use Rattle.job_commands.specs.declared.ask.JobAsk.TheVariants as ask
-use Rattle.job_service.specs.Agrees.{HasRoom}
-use Rattle.job_service.specs.Times.{Counts, HasTime, KeepsCounts, jobs_asked, seconds_asked}
-use Rattle.answers.specs.Jobs.{job_ask_of}
-use Rattle.workload.specs.declared.work.Command.{Command}
-use Rattle.workload.specs.declared.work.Command.TheVariants as command
-use Rattle.workload.specs.declared.work.Line.{Line}
-use Rattle.workload.specs.Laws.{KeepsTallies}
-use Rattle.workload.specs.Tallies.{seconds_in, seconds_of, submits, submits_in}
+use Rattle.services.specs.instance_rules.Desks.{is_submission}
+use Rattle.services.specs.instance_rules.Log as rules
+use Rattle.services.specs.job_commands.Asks.{told}
+use Rattle.services.specs.job_commands.declared.ask.JobAsk.{JobAsk}
+use Rattle.services.specs.job_commands.declared.ask.JobAsk.TheVariants as ask
+use Rattle.services.specs.job_service.Agrees.{HasRoom}
+use Rattle.services.specs.job_service.Times.{Counts, HasTime, KeepsCounts, jobs_asked, seconds_asked}
+use Rattle.services.specs.answers.Jobs.{job_ask_of}
+use Rattle.services.specs.workload.declared.work.Command.{Command}
+use Rattle.services.specs.workload.declared.work.Command.TheVariants as command
+use Rattle.services.specs.workload.declared.work.Line.{Line}
+use Rattle.services.specs.workload.Laws.{KeepsTallies}
+use Rattle.services.specs.workload.Tallies.{seconds_in, seconds_of, submits, submits_in}
 use Rattle.instance.specs.declared.seats.Seat.{Seat}
 use Rattle.instance.specs.Agrees.{IsTallied, lines_ahead}
 use Rattle.instance.specs.Floors.{Floors}

@@ -4,34 +4,34 @@ use Rattle.std.specs.Prelude.{Contains, IsSome, find, option_and_then}
 use Rattle.std.specs.Option.{option_map, option_map_or}
 use Rattle.std.specs.List.{AllByRecursion as Each, cons_option, list_any}
 use Rattle.std.proofs.lemmas.List.Folds.{list_any-append}
-use Rattle.kvs_txn.specs.declared.txn.By.{By}
-use Rattle.kvs_rules.specs.declared.events.KvsAnswer.{KvsAnswer}
-use Rattle.kvs_rules.specs.Log.{same_command}
-use Rattle.kvs_rules.specs.Sequence.{EachAfter}
-use Rattle.kvs_rules.proofs.Asking.{command_is}
-use Rattle.kvs_rules.proofs.Sequences.{each_along}
-use Rattle.instance_rules.specs.Log as rules
-use Rattle.instance_rules.specs.Log.{Instance, IsOpen, JobReply, Log, Moment, replies_now}
-use Rattle.job_commands.specs.declared.row.Row.{Row}
-use Rattle.job_replies.specs.Ready.{is_ready}
-use Rattle.job_service.specs.declared.refusals.Refused.{Refused}
-use Rattle.job_service.specs.Agrees.{AgreesJobs}
-use Rattle.job_service.specs.Refusals.{fault_for, is_refusal_of, row_in}
-use Rattle.job_service.specs.Replies.{can_reply, is_kept_back, is_ready_in}
-use Rattle.job_service.specs.Value.{JobServiceValue}
-use Rattle.workload.specs.declared.work.Command.{Command}
-use Rattle.workload.specs.declared.work.Command.TheVariants as command
-use Rattle.answers.specs.declared.chronicle.Entry.{Entry}
-use Rattle.answers.specs.declared.chronicle.Entry.TheVariants as entry
-use Rattle.answers.specs.declared.chronicle.Reply.{Reply}
-use Rattle.answers.specs.declared.chronicle.Reply.TheVariants as reply
-use Rattle.answers.specs.Chronicle.{Setup, answer_of, is_replied, replies_to}
-use Rattle.answers.specs.Commands.{command_at, op_of}
-use Rattle.answers.specs.Jobs.{happening_of, job_ask_at, job_ask_of, job_reply_of, log_in}
-use Rattle.answers.specs.Legal.{HandsOn, HasReplyGrounds, IsLegal, IsLegalEntry}
-use Rattle.answers.specs.Whole.{IsEarlierEntry, is_closing}
-use Rattle.answers.proofs.JobLogs.{asks_no_service}
-use Rattle.answers.proofs.Services.{or_cases}
+use Rattle.services.specs.kvs_txn.declared.txn.By.{By}
+use Rattle.services.specs.kvs_rules.declared.events.KvsAnswer.{KvsAnswer}
+use Rattle.services.specs.kvs_rules.Log.{same_command}
+use Rattle.services.specs.kvs_rules.Sequence.{EachAfter}
+use Rattle.services.proofs.kvs_rules_proofs.Asking.{command_is}
+use Rattle.services.proofs.kvs_rules_proofs.Sequences.{each_along}
+use Rattle.services.specs.instance_rules.Log as rules
+use Rattle.services.specs.instance_rules.Log.{Instance, IsOpen, JobReply, Log, Moment, replies_now}
+use Rattle.services.specs.job_commands.declared.row.Row.{Row}
+use Rattle.services.specs.job_replies.Ready.{is_ready}
+use Rattle.services.specs.job_service.declared.refusals.Refused.{Refused}
+use Rattle.services.specs.job_service.Agrees.{AgreesJobs}
+use Rattle.services.specs.job_service.Refusals.{fault_for, is_refusal_of, row_in}
+use Rattle.services.specs.job_service.Replies.{can_reply, is_kept_back, is_ready_in}
+use Rattle.services.specs.job_service.Value.{JobServiceValue}
+use Rattle.services.specs.workload.declared.work.Command.{Command}
+use Rattle.services.specs.workload.declared.work.Command.TheVariants as command
+use Rattle.services.specs.answers.declared.chronicle.Entry.{Entry}
+use Rattle.services.specs.answers.declared.chronicle.Entry.TheVariants as entry
+use Rattle.services.specs.answers.declared.chronicle.Reply.{Reply}
+use Rattle.services.specs.answers.declared.chronicle.Reply.TheVariants as reply
+use Rattle.services.specs.answers.Chronicle.{Setup, answer_of, is_replied, replies_to}
+use Rattle.services.specs.answers.Commands.{command_at, op_of}
+use Rattle.services.specs.answers.Jobs.{happening_of, job_ask_at, job_ask_of, job_reply_of, log_in}
+use Rattle.services.specs.answers.Legal.{HandsOn, HasReplyGrounds, IsLegal, IsLegalEntry}
+use Rattle.services.specs.answers.Whole.{IsEarlierEntry, is_closing}
+use Rattle.services.proofs.answers_proofs.JobLogs.{asks_no_service}
+use Rattle.services.proofs.answers_proofs.Services.{or_cases}
 use Rattle.instance.proofs.Listing.{any_left}
 use Rattle.instance.proofs.Logs.{job_replied, log_grown}
 

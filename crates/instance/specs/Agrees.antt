@@ -2,26 +2,26 @@
 use Rattle.std.specs.Prelude.{◌≡◌, ◌≢◌, ℕ, ◌+◌, ◌-◌, ◌<◌, ◌≤◌, ◌==◌, nat_le, nat_lt, cond, List, Bool, true, false, All, IsSome, Option, Some, None, length, map, take, count_by, slice_get, slice_index_or}
 use Rattle.std.specs.List.{AllByRecursion as Each, enumerate_from, filter}
 use Rattle.std.specs.Option.{option_map, option_map_or}
-use Rattle.kvs_txn.specs.declared.txn.Author.TheVariants as author
-use Rattle.kvs_txn.specs.declared.txn.By.{By}
-use Rattle.kvs_model.specs.Store.{Name}
-use Rattle.kvs_rules.specs.Log.{Log, is_asked, is_answered}
-use Rattle.instance_rules.specs.Log.{Shutdown}
+use Rattle.services.specs.kvs_txn.declared.txn.Author.TheVariants as author
+use Rattle.services.specs.kvs_txn.declared.txn.By.{By}
+use Rattle.services.specs.kvs_model.Store.{Name}
+use Rattle.services.specs.kvs_rules.Log.{Log, is_asked, is_answered}
+use Rattle.services.specs.instance_rules.Log.{Shutdown}
 use Rattle.services.specs.Agrees.{AgreesServices}
-use Rattle.workload.specs.declared.work.Command.TheVariants as command
-use Rattle.workload.specs.declared.work.Line.{Line}
-use Rattle.workload.specs.Laws.{IsBuilt, IsWithin, KeepsTallies}
-use Rattle.run_limits.specs.Limits.{most_seconds}
-use Rattle.workload.specs.Tallies.{seconds_in, submits_in}
-use Rattle.answers.specs.declared.chronicle.Entry.{Entry}
-use Rattle.answers.specs.Chronicle.{Setup, top, issues_of, is_issued, replies_to}
-use Rattle.kvs_txn.specs.Staged.{most_ops}
-use Rattle.answers.specs.Commands.{broker_of, command_at, namespace_at, staged_at, subject_at}
-use Rattle.answers.specs.Floors.{floor}
-use Rattle.answers.specs.Legal.{IsLegal, IsStaging}
-use Rattle.answers.specs.Jobs.{instance_of, job_ask_at, log_in}
-use Rattle.answers.specs.Services.{log_of}
-use Rattle.answers.specs.Whole.{IsEarlierEntry}
+use Rattle.services.specs.workload.declared.work.Command.TheVariants as command
+use Rattle.services.specs.workload.declared.work.Line.{Line}
+use Rattle.services.specs.workload.Laws.{IsBuilt, IsWithin, KeepsTallies}
+use Rattle.services.specs.run_limits.Limits.{most_seconds}
+use Rattle.services.specs.workload.Tallies.{seconds_in, submits_in}
+use Rattle.services.specs.answers.declared.chronicle.Entry.{Entry}
+use Rattle.services.specs.answers.Chronicle.{Setup, top, issues_of, is_issued, replies_to}
+use Rattle.services.specs.kvs_txn.Staged.{most_ops}
+use Rattle.services.specs.answers.Commands.{broker_of, command_at, namespace_at, staged_at, subject_at}
+use Rattle.services.specs.answers.Floors.{floor}
+use Rattle.services.specs.answers.Legal.{IsLegal, IsStaging}
+use Rattle.services.specs.answers.Jobs.{instance_of, job_ask_at, log_in}
+use Rattle.services.specs.answers.Services.{log_of}
+use Rattle.services.specs.answers.Whole.{IsEarlierEntry}
 use Rattle.instance.specs.declared.seats.Seat.{Seat}
 use Rattle.instance.specs.declared.seats.Waiting.{Waiting}
 use Rattle.instance.specs.declared.seats.Waiting.TheVariants as waiting

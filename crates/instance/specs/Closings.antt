@@ -3,18 +3,18 @@ use Rattle.std.specs.Prelude.{ℕ, ◌-◌, ◌&&◌, List, [], ◌∷◌, Bool,
 use Rattle.std.specs.List.{range_with_len}
 use Rattle.std.specs.Option.{option_map, option_map_or}
 use Rattle.std.specs.Str.{bytes_eq}
-use Rattle.kvs_model.specs.Store.{Name}
-use Rattle.job_states.specs.declared.job.State.{State}
-use Rattle.kvs_txn.specs.declared.txn.By.{By}
-use Rattle.kvs_rules.specs.Log.{Log}
-use Rattle.kvs_rules.specs.Brokers.{heard}
-use Rattle.workload.specs.declared.work.Command.{Command}
-use Rattle.workload.specs.declared.work.Command.TheVariants as command
-use Rattle.workload.specs.declared.work.Line.{Line}
-use Rattle.answers.specs.declared.chronicle.Entry.{Entry}
-use Rattle.answers.specs.declared.chronicle.Entry.TheVariants as entry
-use Rattle.answers.specs.declared.chronicle.Reply.{Reply}
-use Rattle.answers.specs.declared.chronicle.Reply.TheVariants as reply
+use Rattle.services.specs.kvs_model.Store.{Name}
+use Rattle.services.specs.job_states.declared.job.State.{State}
+use Rattle.services.specs.kvs_txn.declared.txn.By.{By}
+use Rattle.services.specs.kvs_rules.Log.{Log}
+use Rattle.services.specs.kvs_rules.Brokers.{heard}
+use Rattle.services.specs.workload.declared.work.Command.{Command}
+use Rattle.services.specs.workload.declared.work.Command.TheVariants as command
+use Rattle.services.specs.workload.declared.work.Line.{Line}
+use Rattle.services.specs.answers.declared.chronicle.Entry.{Entry}
+use Rattle.services.specs.answers.declared.chronicle.Entry.TheVariants as entry
+use Rattle.services.specs.answers.declared.chronicle.Reply.{Reply}
+use Rattle.services.specs.answers.declared.chronicle.Reply.TheVariants as reply
 use Rattle.instance.specs.declared.seats.Seat.{Seat}
 use Rattle.instance.specs.declared.seats.Waiting.{Waiting}
 use Rattle.instance.specs.declared.seats.Waiting.TheVariants as waiting

@@ -1,16 +1,16 @@
 -- An instance among others: the children of its jobs, and what time asks of it.
 use Rattle.std.specs.Prelude.{ℕ, Bool, List, Option}
-use Rattle.answers.specs.declared.chronicle.Entry.{Entry}
-use Rattle.answers.specs.Chronicle.{Setup}
-use Rattle.answers.specs.Jobs.{instance_of, log_in}
-use Rattle.instance_rules.specs.Family.{Living}
-use Rattle.instance_rules.specs.Legal.{OfDesk}
-use Rattle.job_book.specs.Contract.{r_at, seconds_left}
-use Rattle.job_clock.specs.Standing.{IsLiving}
-use Rattle.job_service.specs.Children as jobs
-use Rattle.job_service.specs.Times as times
-use Rattle.manager_rules.specs.Posts.{Desk}
-use Rattle.resource_set.specs.declared.node.Resources.{Resources}
+use Rattle.services.specs.answers.declared.chronicle.Entry.{Entry}
+use Rattle.services.specs.answers.Chronicle.{Setup}
+use Rattle.services.specs.answers.Jobs.{instance_of, log_in}
+use Rattle.services.specs.instance_rules.Family.{Living}
+use Rattle.services.specs.instance_rules.Legal.{OfDesk}
+use Rattle.services.specs.job_book.Contract.{r_at, seconds_left}
+use Rattle.services.specs.job_clock.Standing.{IsLiving}
+use Rattle.services.specs.job_service.Children as jobs
+use Rattle.services.specs.job_service.Times as times
+use Rattle.services.specs.manager_rules.Posts.{Desk}
+use Rattle.services.specs.resource_set.declared.node.Resources.{Resources}
 use Rattle.std.specs.Option.{option_map}
 use Rattle.instance.specs.Value.{InstanceValue}
 

@@ -1,10 +1,10 @@
 -- Where the actors of a workload stand before anything has happened.
 use Rattle.std.specs.Prelude.{◌≡◌, ℕ, ◌<◌, List, [], length, slice_index_or}
-use Rattle.kvs_txn.specs.declared.txn.Author.TheVariants as author
-use Rattle.kvs_model.specs.Store.{Name}
-use Rattle.kvs_rules.specs.Namespaces.{primary}
-use Rattle.workload.specs.declared.work.Actor.{Actor}
-use Rattle.workload.specs.declared.work.Workload.{Workload}
+use Rattle.services.specs.kvs_txn.declared.txn.Author.TheVariants as author
+use Rattle.services.specs.kvs_model.Store.{Name}
+use Rattle.services.specs.kvs_rules.Namespaces.{primary}
+use Rattle.services.specs.workload.declared.work.Actor.{Actor}
+use Rattle.services.specs.workload.declared.work.Workload.{Workload}
 use Rattle.instance.specs.declared.seats.Seat.{Seat}
 use Rattle.instance.specs.declared.seats.Waiting.TheVariants as waiting
 use Rattle.instance.specs.Floors.{floor_in}

@@ -2,7 +2,7 @@
 use Rattle.std.specs.Prelude.{ℕ, max, List, Option, Some, None, unwrap_or, if◌then◌else◌}
 use Rattle.std.specs.Map.{lookup}
 use Rattle.std.specs.Str.{bytes_eq}
-use Rattle.kvs_model.specs.Store.{Name}
+use Rattle.services.specs.kvs_model.Store.{Name}
 
 -- numbers by their namespaces
 abbrev pub Floors : Type 0

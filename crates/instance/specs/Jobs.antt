@@ -1,12 +1,12 @@
 -- What an issue leaves of the services, by what the command orders.
 use Rattle.std.specs.Prelude.{◌≡◌, [], ◌∷◌, false, ℕ, Option, Some, None}
-use Rattle.instance_rules.specs.Log as rules
-use Rattle.instance_rules.specs.Log.{Instance, Issued, Log, is_issued}
-use Rattle.job_commands.specs.Asks.{told}
-use Rattle.job_commands.specs.declared.ask.JobAsk.{JobAsk}
-use Rattle.job_service.specs.Agrees.{IsNewCommand}
-use Rattle.job_service.specs.Times.{Counts}
-use Rattle.kvs_txn.specs.declared.txn.By.{By}
+use Rattle.services.specs.instance_rules.Log as rules
+use Rattle.services.specs.instance_rules.Log.{Instance, Issued, Log, is_issued}
+use Rattle.services.specs.job_commands.Asks.{told}
+use Rattle.services.specs.job_commands.declared.ask.JobAsk.{JobAsk}
+use Rattle.services.specs.job_service.Agrees.{IsNewCommand}
+use Rattle.services.specs.job_service.Times.{Counts}
+use Rattle.services.specs.kvs_txn.declared.txn.By.{By}
 use Rattle.services.specs.Value.{ServicesValue}
 use Rattle.instance.specs.declared.jobs.Ordered.{Ordered}
 use Rattle.instance.specs.declared.jobs.Ordered.TheVariants as ordered

@@ -13,3 +13,13 @@ pub mod View
 -- what the code keeps to that end
 pub mod Replies
 pub mod First
+-- what lies below, for the crates that stand on this one
+pub use Rattle.services.specs.answers as answers
+pub use Rattle.services.specs.fl_digest as fl_digest
+pub use Rattle.services.specs.job_book as job_book
+pub use Rattle.services.specs.job_manager as job_manager
+pub use Rattle.services.specs.kvs_core as kvs_core
+pub use Rattle.services.specs.manager_rules as manager_rules
+pub use Rattle.services.specs.resource_set as resource_set
+pub use Rattle.services.specs as services
+pub use Rattle.services.specs.workload as workload

@@ -1,17 +1,17 @@
 -- What a step of an instance makes.
 use Rattle.std.specs.Prelude.{◌≡◌, ℕ, Bool, List, [], ◌∷◌, ◌++◌}
 use Rattle.std.specs.List.{AllByRecursion as Each}
-use Rattle.kvs_rules.specs.Sequence.{EachAfter}
-use Rattle.workload.specs.declared.work.Line.{Line}
-use Rattle.answers.specs.declared.chronicle.Entry.{Entry}
-use Rattle.answers.specs.declared.chronicle.Entry.TheVariants as entry
-use Rattle.answers.specs.declared.steps.Step.{Step}
-use Rattle.answers.specs.declared.steps.Step.TheVariants as step
-use Rattle.resource_set.specs.declared.node.Resources.{Resources}
-use Rattle.answers.specs.Chronicle.{Setup, top}
-use Rattle.answers.specs.Legal.{IsLegalEntry, RestsAtIssue}
-use Rattle.answers.specs.Stretches.{IsStretch}
-use Rattle.answers.specs.Whole.{HasComeToRest, IsClosingEntry, IsWhole}
+use Rattle.services.specs.kvs_rules.Sequence.{EachAfter}
+use Rattle.services.specs.workload.declared.work.Line.{Line}
+use Rattle.services.specs.answers.declared.chronicle.Entry.{Entry}
+use Rattle.services.specs.answers.declared.chronicle.Entry.TheVariants as entry
+use Rattle.services.specs.answers.declared.steps.Step.{Step}
+use Rattle.services.specs.answers.declared.steps.Step.TheVariants as step
+use Rattle.services.specs.resource_set.declared.node.Resources.{Resources}
+use Rattle.services.specs.answers.Chronicle.{Setup, top}
+use Rattle.services.specs.answers.Legal.{IsLegalEntry, RestsAtIssue}
+use Rattle.services.specs.answers.Stretches.{IsStretch}
+use Rattle.services.specs.answers.Whole.{HasComeToRest, IsClosingEntry, IsWhole}
 use Rattle.instance.specs.Agrees.{AgreesOwn}
 use Rattle.instance.specs.Steps.{IsIssue}
 use Rattle.instance.specs.Value.{InstanceValue}

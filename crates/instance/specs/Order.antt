@@ -3,11 +3,11 @@
 use Rattle.std.specs.Prelude.{ℕ, ◌==◌, ◌&&◌, List, [], ◌∷◌, Bool, false, Option, Some, None, length, filter_map, slice_get, option_and_then, if◌then◌else◌}
 use Rattle.std.specs.List.{filter, range_with_len}
 use Rattle.std.specs.Option.{option_map_or}
-use Rattle.workload.specs.declared.work.Line.{Line}
+use Rattle.services.specs.workload.declared.work.Line.{Line}
 use Rattle.instance.specs.declared.seats.Seat.{Seat}
 use Rattle.instance.specs.Seats.{is_free}
-use Rattle.answers.specs.declared.steps.Step.{Step}
-use Rattle.answers.specs.declared.steps.Step.TheVariants as step
+use Rattle.services.specs.answers.declared.steps.Step.{Step}
+use Rattle.services.specs.answers.declared.steps.Step.TheVariants as step
 use Rattle.instance.specs.Steps.{can_answer, can_post}
 use Rattle.instance.specs.Value.{InstanceValue}
 

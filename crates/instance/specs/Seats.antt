@@ -2,20 +2,20 @@
 use Rattle.std.specs.Prelude.{◌≡◌, ℕ, ◌-◌, max, nat_lt, slice_get, slice_set, List, [], ◌∷◌, ◌++◌, Bool, true, false, Option, Some, None, is_some, unwrap_or, length, if◌then◌else◌}
 use Rattle.std.specs.Option.{option_map_or, option_map}
 use Rattle.std.specs.List.{cons_option}
-use Rattle.kvs_txn.specs.declared.txn.By.{By}
-use Rattle.kvs_txn.specs.declared.txn.Op.{Op}
-use Rattle.kvs_model.specs.Store.{Name}
-use Rattle.kvs_rules.specs.declared.events.KvsAsk.{KvsAsk}
-use Rattle.kvs_rules.specs.Log.{Log, Asked}
-use Rattle.kvs_rules.specs.Namespaces.{Setting}
-use Rattle.job_service.specs.Replies.{can_reply}
+use Rattle.services.specs.kvs_txn.declared.txn.By.{By}
+use Rattle.services.specs.kvs_txn.declared.txn.Op.{Op}
+use Rattle.services.specs.kvs_model.Store.{Name}
+use Rattle.services.specs.kvs_rules.declared.events.KvsAsk.{KvsAsk}
+use Rattle.services.specs.kvs_rules.Log.{Log, Asked}
+use Rattle.services.specs.kvs_rules.Namespaces.{Setting}
+use Rattle.services.specs.job_service.Replies.{can_reply}
 use Rattle.services.specs.Steps.{can_take}
 use Rattle.services.specs.Value.{ServicesValue}
-use Rattle.workload.specs.declared.work.Command.{Command}
-use Rattle.workload.specs.declared.work.Command.TheVariants as command
-use Rattle.kvs_txn.specs.Staged.{most_ops}
-use Rattle.answers.specs.Commands.{op_of, takes_staged, used_name}
-use Rattle.answers.specs.Jobs.{job_ask_of}
+use Rattle.services.specs.workload.declared.work.Command.{Command}
+use Rattle.services.specs.workload.declared.work.Command.TheVariants as command
+use Rattle.services.specs.kvs_txn.Staged.{most_ops}
+use Rattle.services.specs.answers.Commands.{op_of, takes_staged, used_name}
+use Rattle.services.specs.answers.Jobs.{job_ask_of}
 use Rattle.instance.specs.declared.seats.Seat.{Seat}
 use Rattle.instance.specs.declared.seats.Waiting.{Waiting}
 use Rattle.instance.specs.declared.seats.Waiting.TheVariants as waiting

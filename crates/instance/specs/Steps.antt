@@ -1,12 +1,12 @@
 -- Which steps an instance can make.
 use Rattle.std.specs.Prelude.{◌≡◌, ℕ, ◌&&◌, nat_lt, Bool, false, List, [], is_some, length, slice_get}
 use Rattle.std.specs.Option.{option_map_or}
-use Rattle.kvs_rules.specs.declared.events.KvsStep.{KvsStep}
+use Rattle.services.specs.kvs_rules.declared.events.KvsStep.{KvsStep}
 use Rattle.services.specs.Steps.{can_step}
 use Rattle.services.specs.Value.{ServicesValue}
-use Rattle.workload.specs.declared.work.Line.{Line}
-use Rattle.answers.specs.declared.steps.Step.{Step}
-use Rattle.answers.specs.declared.steps.Step.TheVariants as step
+use Rattle.services.specs.workload.declared.work.Line.{Line}
+use Rattle.services.specs.answers.declared.steps.Step.{Step}
+use Rattle.services.specs.answers.declared.steps.Step.TheVariants as step
 use Rattle.instance.specs.declared.seats.Seat.{Seat}
 use Rattle.instance.specs.Family.{is_due, targets_left}
 use Rattle.instance.specs.Seats.{is_free, last_command, has_come}

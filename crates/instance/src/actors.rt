@@ -1,15 +1,15 @@
 //! An instance.
 ghost use Rattle.std.specs.Prelude.{◌≡◌, ◌<◌, ◌≤◌, ◌+◌, ◌^◌, ◌++◌, [], ◌∷◌, ℕ, true, false, All, List, None, map, slice_get, slice_index_or, IfOk, IfSome, OnErr, OnOk};
-ghost use Rattle.workload.specs.Laws.{HasOwnLabels, IsBuilt, IsWithin, KeepsTallies};
-ghost use Rattle.answers.specs.declared.chronicle.Entry.{Entry as EntryValue};
-ghost use Rattle.answers.specs.Chronicle.{Setup, top};
-ghost use Rattle.answers.specs.Entering.{entered};
-ghost use Rattle.answers.specs.Services.{log_of};
-ghost use Rattle.answers.specs.Whole.{HasComeToRest};
-ghost use Rattle.job_service.specs.Still.{awaited};
-ghost use Rattle.kvs_model.specs.Store.{Name};
-ghost use Rattle.resource_set.specs.Valid.{IsR};
-ghost use Rattle.resource_set.specs.Writing.{r_text};
+ghost use Rattle.services.specs.workload.Laws.{HasOwnLabels, IsBuilt, IsWithin, KeepsTallies};
+ghost use Rattle.services.specs.answers.declared.chronicle.Entry.{Entry as EntryValue};
+ghost use Rattle.services.specs.answers.Chronicle.{Setup, top};
+ghost use Rattle.services.specs.answers.Entering.{entered};
+ghost use Rattle.services.specs.answers.Services.{log_of};
+ghost use Rattle.services.specs.answers.Whole.{HasComeToRest};
+ghost use Rattle.services.specs.job_service.Still.{awaited};
+ghost use Rattle.services.specs.kvs_model.Store.{Name};
+ghost use Rattle.services.specs.resource_set.Valid.{IsR};
+ghost use Rattle.services.specs.resource_set.Writing.{r_text};
 ghost use Rattle.services.specs.Asks.{Keeps};
 ghost use Rattle.services.specs.Order.{possible};
 ghost use Rattle.services.specs.Steps.{can_step};
@@ -34,18 +34,18 @@ use crate::seats::{
     Seat, Waiting, ask, begin, first_answer, has_answer, has_issue, issue_from, next_line, raise,
 };
 use crate::unfinished::close_off;
-use answers::{Chronicle, Entry, Reply, Step};
-use kvs_core::{Core, CoreFault, KvsEvents, Setting};
-use kvs_rules::KvsStep;
-use kvs_txn::{Author, By, Txn};
-use lists::{Bytes, ListOf};
-use resource_set::Resources;
 use services::Services;
+use services::answers::{Chronicle, Entry, Reply, Step};
+use services::kvs_core::{Core, CoreFault, KvsEvents, Setting};
+use services::kvs_rules::KvsStep;
+use services::kvs_txn::{Author, By, Txn};
 use services::laws::shutdowns_leave_services;
+use services::lists::{Bytes, ListOf};
+use services::resource_set::Resources;
+use services::tap::Weights;
+use services::workload::{Line, Workload};
 use std::alloc::{AllocError, Global};
 use std::marker::Model;
-use tap::Weights;
-use workload::{Line, Workload};
 
 /// Actors, whose commands the services of one instance carry out. Which lines of a workload are
 /// theirs and what has happened is its caller's to keep: the clauses speak of every chronicle of

@@ -1,9 +1,9 @@
 //! How far an actor has seen, namespace by namespace.
 ghost use Rattle.std.specs.Prelude.{◌≡◌, max, OnOk, Some};
-ghost use Rattle.kvs_model.specs.Store.{Name};
+ghost use Rattle.services.specs.kvs_model.Store.{Name};
 ghost use Rattle.instance.specs.Floors.{floor_in, risen_in};
 
-use lists::{Bytes, Copied};
+use services::lists::{Bytes, Copied};
 use std::alloc::{AllocError, Global};
 use std::collections::BTreeMap;
 use std::marker::Model;

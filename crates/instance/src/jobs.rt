@@ -1,23 +1,23 @@
 //! What actors ask of the job manager and of time, and that their instance shuts down.
 ghost use Rattle.std.specs.Prelude.{◌≡◌, ◌++◌, false, true, map, IfOk, OnOk, Some};
-ghost use Rattle.answers.specs.Jobs.{job_ask_of, key_by, named_by};
-ghost use Rattle.instance_rules.specs.Desks.{is_submission};
-ghost use Rattle.instance_rules.specs.Log as rules;
-ghost use Rattle.instance_rules.specs.Log.{Instance, Log};
-ghost use Rattle.job_commands.specs.Asks.{key_of, named_of, told};
-ghost use Rattle.job_service.specs.Agrees.{HasRoom, MayIssue};
-ghost use Rattle.job_service.specs.Times.{HasTime};
+ghost use Rattle.services.specs.answers.Jobs.{job_ask_of, key_by, named_by};
+ghost use Rattle.services.specs.instance_rules.Desks.{is_submission};
+ghost use Rattle.services.specs.instance_rules.Log as rules;
+ghost use Rattle.services.specs.instance_rules.Log.{Instance, Log};
+ghost use Rattle.services.specs.job_commands.Asks.{key_of, named_of, told};
+ghost use Rattle.services.specs.job_service.Agrees.{HasRoom, MayIssue};
+ghost use Rattle.services.specs.job_service.Times.{HasTime};
 ghost use Rattle.services.specs.Agrees.{AgreesServices};
 ghost use Rattle.instance.specs.Jobs.{CountsIn, IfAsked, IsNewOrder, asked_in, issues_of};
-ghost use Rattle.workload.specs.Laws.{IsBuilt};
+ghost use Rattle.services.specs.workload.Laws.{IsBuilt};
 
-use job_commands::{JobAsk, Key, Named, NamedList};
-use kvs_txn::By;
-use lists::{Bytes, Copied, ListOf};
 use services::Services;
+use services::job_commands::{JobAsk, Key, Named, NamedList};
+use services::kvs_txn::By;
 use services::laws::shutdowns_leave_services;
+use services::lists::{Bytes, Copied, ListOf};
+use services::workload::{Command, InfoKey, Needed};
 use std::alloc::{AllocError, Global};
-use workload::{Command, InfoKey, Needed};
 
 /// What a command orders: nothing of jobs, time or its instance, what it asks of the job manager or
 /// of time, or that its instance shuts down, of which no service is asked anything.

@@ -2,6 +2,9 @@
 //! key-value service, and its jobs.
 #![tactic(auto)]
 
+// The crates below that those above reach through this one.
+pub use services::{answers, fl_digest, kvs_core, tap, workload};
+
 mod actors;
 mod floors;
 mod jobs;
@@ -9,4 +12,4 @@ mod seats;
 mod unfinished;
 
 pub use actors::Instance;
-pub use kvs_core::{CoreFault, Setting};
+pub use services::kvs_core::{CoreFault, Setting};

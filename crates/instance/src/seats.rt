@@ -1,25 +1,25 @@
 //! Where the actors stand.
 ghost use Rattle.std.specs.Prelude.{◌≡◌, ◌≢◌, ◌++◌, [], ℕ, ◌<◌, ◌≤◌, false, length, slice_index_or, map, IfOk, IfSome, OnOk, Ok, Some, None, true};
-ghost use Rattle.kvs_txn.specs.declared.txn.Author.TheVariants as author;
-ghost use Rattle.workload.specs.declared.work.Line.{Line as LineValue};
-ghost use Rattle.kvs_rules.specs.Log.{is_asked};
-ghost use Rattle.instance_rules.specs.Log.{Instance, Log, Served, service_of};
+ghost use Rattle.services.specs.kvs_txn.declared.txn.Author.TheVariants as author;
+ghost use Rattle.services.specs.workload.declared.work.Line.{Line as LineValue};
+ghost use Rattle.services.specs.kvs_rules.Log.{is_asked};
+ghost use Rattle.services.specs.instance_rules.Log.{Instance, Log, Served, service_of};
 ghost use Rattle.services.specs.Agrees.{AgreesServices};
 ghost use Rattle.services.specs.Asks.{IsServedAsk, Keeps, MayAsk};
-ghost use Rattle.workload.specs.Laws.{IsBuilt};
-ghost use Rattle.kvs_txn.specs.Staged.{most_ops};
-ghost use Rattle.answers.specs.Commands.{ask_of, op_of, subject_of};
+ghost use Rattle.services.specs.workload.Laws.{IsBuilt};
+ghost use Rattle.services.specs.kvs_txn.Staged.{most_ops};
+ghost use Rattle.services.specs.answers.Commands.{ask_of, op_of, subject_of};
 ghost use Rattle.instance.specs.Seats.{room_behind, with_op, waiting_after, waits_for, ops_after, space_after, seat_floor, moment_asked, AreTold, IsTheAsk, has_come, is_free};
 ghost use Rattle.instance.specs.Steps.{has_issue, has_answer, next_of};
 
 use crate::floors::Floors;
-use kvs_rules::KvsAsk;
-use kvs_txn::{Author, By, Op, Path, Query, StageFault, Txn};
-use lists::{Bytes, Copied};
 use services::Services;
+use services::kvs_rules::KvsAsk;
+use services::kvs_txn::{Author, By, Op, Path, Query, StageFault, Txn};
+use services::lists::{Bytes, Copied};
+use services::workload::{Command, Line};
 use std::alloc::{AllocError, Global};
 use std::mem;
-use workload::{Command, Line};
 
 /// What an actor waits for: for nothing, to be told what became of its operation, to have told
 /// another actor what it saw, to be told that it uses another namespace, for the service's answer,

@@ -1,21 +1,21 @@
 //! What the commands that didn't finish are told at the end.
 ghost use Rattle.std.specs.Prelude.{◌≡◌, ◌<◌, ◌≤◌, ◌++◌, ◌-◌, false, length, count_by, option_and_then, option_map, All, IfOk, OnOk};
-ghost use Rattle.kvs_rules.specs.Log.{Log};
-ghost use Rattle.kvs_rules.specs.Namespaces.{Setting as Service};
-ghost use Rattle.kvs_core.specs.Agrees.{Agrees};
-ghost use Rattle.job_service.specs.Still.{awaited};
+ghost use Rattle.services.specs.kvs_rules.Log.{Log};
+ghost use Rattle.services.specs.kvs_rules.Namespaces.{Setting as Service};
+ghost use Rattle.services.specs.kvs_core.Agrees.{Agrees};
+ghost use Rattle.services.specs.job_service.Still.{awaited};
 ghost use Rattle.instance.specs.Closings.{closings, closings_of, fence_at, is_served, left_reply, not_reached, numbers_in, open_command, unfinished_at, waiting_in, waits_in};
 ghost use Rattle.instance.specs.Agrees.{is_of};
 
 use crate::seats::{Seat, Waiting};
-use answers::{Chronicle, Entry, Reply};
-use job_service::JobService;
-use job_states::State;
-use kvs_core::Core;
-use kvs_txn::By;
-use lists::{Bytes, ListOf};
+use services::answers::{Chronicle, Entry, Reply};
+use services::job_service::JobService;
+use services::job_states::State;
+use services::kvs_core::Core;
+use services::kvs_txn::By;
+use services::lists::{Bytes, ListOf};
+use services::workload::{Command, Line};
 use std::alloc::{AllocError, Global};
-use workload::{Command, Line};
 
 /// Whether an actor waits for the service.
 fn is_served(waiting: Waiting) -> bool

@@ -3,8 +3,8 @@ use Rattle.std.proofs.Common.{◌≡◌, ℕ, ◌<◌, ◌≤◌, ◌⊎◌, inl
 use Rattle.std.specs.Prelude.{All, IfSome, filter, nat_lt}
 use Rattle.std.proofs.lemmas.Bool.{ltb-true}
 use Rattle.std.proofs.lemmas.List.Elements.{All-contains, All-nil, All-weaker, filter_passes}
-use Rattle.job_book.specs.Seconds.{IsSoonest}
-use Rattle.manager_rules.specs.Times.{IsLeast}
+use Rattle.instance.specs.job_book.Seconds.{IsSoonest}
+use Rattle.instance.specs.manager_rules.Times.{IsLeast}
 use Rattle.instance.specs.Family.{ends_left, present, targets_left}
 use Rattle.instance.specs.Value.{InstanceValue}
 

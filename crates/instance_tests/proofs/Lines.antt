@@ -1,9 +1,9 @@
 -- The lines of an instance stay those of its workload.
 use Rattle.std.specs.Prelude.{ℕ, List, [], ◌∷◌, ◌++◌}
-use Rattle.workload.specs.declared.work.Line.{Line}
-use Rattle.answers.specs.declared.chronicle.Entry.{Entry}
-use Rattle.answers.specs.declared.chronicle.Entry.TheVariants as entry
-use Rattle.answers.specs.declared.steps.Step.{Step}
+use Rattle.instance.specs.workload.declared.work.Line.{Line}
+use Rattle.instance.specs.answers.declared.chronicle.Entry.{Entry}
+use Rattle.instance.specs.answers.declared.chronicle.Entry.TheVariants as entry
+use Rattle.instance.specs.answers.declared.steps.Step.{Step}
 use Rattle.instance.specs.Agrees.{AreLinesOf}
 use Rattle.instance.specs.Makes.{MakesOf, PassesTo}
 use Rattle.instance.specs.Value.{InstanceValue}

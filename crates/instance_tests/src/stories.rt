@@ -1,15 +1,15 @@
 //! Instances whose actors act in a given order, with what the rules say of it.
 ghost use Rattle.std.specs.Prelude.{◌≡◌, ◌<◌, ◌≤◌, ◌⊎◌, false, All, IfOk, IfSome, IsTrue, List, OnOk, Some};
-ghost use Rattle.workload.specs.declared.work.Line.{Line as LineValue};
+ghost use Rattle.instance.specs.workload.declared.work.Line.{Line as LineValue};
 ghost use Rattle.instance.specs.Agrees.{AreLinesOf};
 
-use answers::{Entry, Reply};
-use fl_digest::Hash;
+use instance::answers::{Entry, Reply};
+use instance::fl_digest::Hash;
+use instance::tap::Weights;
+use instance::workload::{Actor, Grant, Line, Workload};
 use instance::{Instance, Setting};
 use std::alloc::Global;
 use std::test::Fail;
-use tap::Weights;
-use workload::{Actor, Grant, Line, Workload};
 use workload_reader::laws::{
     spelled_commands_are_built, spelled_labels_are_their_own, spelled_tallies_are_kept,
     spelled_workloads_are_within,

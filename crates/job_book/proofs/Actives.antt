@@ -6,21 +6,21 @@ use Rattle.std.specs.List.Sorted.{IsStrictlyIncreasing}
 use Rattle.std.proofs.Math.ListN.{set}
 use Rattle.std.proofs.lemmas.Bool.{cases_lt, eq-eqb, eqb-true, ne_eqb, lt-ltb, le-ltb}
 use Rattle.std.proofs.lemmas.List.{get_or-map, get_or_default, length-map}
-use Rattle.graph_match.proofs.Holds.{RiseFrom, rise_of, rises}
-use Rattle.job_rules.proofs.Among.{Among, all_at, all_from, among_append, among_filter, among_from, among_kept, among_map, among_mapped, among_take, contains_from, distinct_rising, each_at, each_from, same_image}
-use Rattle.job_states.specs.Table.{is_state}
-use Rattle.job_states.specs.declared.job.State.{State}
-use Rattle.job_states.specs.declared.job.State.TheVariants as state
-use Rattle.manager_rules.specs.declared.asked.Asked.{Asked}
-use Rattle.manager_rules.specs.declared.asked.Asked.TheVariants.{Cancel, Raise, Urgency, Child}
-use Rattle.manager_rules.specs.declared.due.Due.{Due}
-use Rattle.manager_rules.specs.Deeds.{Deed}
-use Rattle.manager_rules.specs.Dependencies.{is_inactive}
-use Rattle.manager_rules.specs.Due.{IsDue, MayCarry, MayDo}
-use Rattle.manager_rules.specs.Jobs.{StoredJob, ids_of}
-use Rattle.manager_rules.specs.Posts.{event_done, with_event, with_job}
-use Rattle.manager_rules.specs.Scene.{Scene, has_child}
-use Rattle.manager_rules.specs.Times.{seconds_of}
+use Rattle.job_deeds.proofs.graph_match_proofs.Holds.{RiseFrom, rise_of, rises}
+use Rattle.job_deeds.proofs.job_rules_proofs.Among.{Among, all_at, all_from, among_append, among_filter, among_from, among_kept, among_map, among_mapped, among_take, contains_from, distinct_rising, each_at, each_from, same_image}
+use Rattle.job_deeds.specs.job_states.Table.{is_state}
+use Rattle.job_deeds.specs.job_states.declared.job.State.{State}
+use Rattle.job_deeds.specs.job_states.declared.job.State.TheVariants as state
+use Rattle.job_deeds.specs.manager_rules.declared.asked.Asked.{Asked}
+use Rattle.job_deeds.specs.manager_rules.declared.asked.Asked.TheVariants.{Cancel, Raise, Urgency, Child}
+use Rattle.job_deeds.specs.manager_rules.declared.due.Due.{Due}
+use Rattle.job_deeds.specs.manager_rules.Deeds.{Deed}
+use Rattle.job_deeds.specs.manager_rules.Dependencies.{is_inactive}
+use Rattle.job_deeds.specs.manager_rules.Due.{IsDue, MayCarry, MayDo}
+use Rattle.job_deeds.specs.manager_rules.Jobs.{StoredJob, ids_of}
+use Rattle.job_deeds.specs.manager_rules.Posts.{event_done, with_event, with_job}
+use Rattle.job_deeds.specs.manager_rules.Scene.{Scene, has_child}
+use Rattle.job_deeds.specs.manager_rules.Times.{seconds_of}
 use Rattle.job_book.specs.Active.{AreActive, AreEntriesOf, IsEntryOf, active_of, follow_with, ids_in, is_active, is_to_bear, with_entry}
 use Rattle.job_book.specs.declared.active.Active.{Active}
 use Rattle.job_book.specs.Seconds.{is_bearing}

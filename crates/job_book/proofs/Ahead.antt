@@ -6,18 +6,18 @@ use Rattle.std.specs.Option.{option_map_or, option_to_list}
 use Rattle.std.proofs.lemmas.Bool.{and_parts, cases_lt}
 use Rattle.std.proofs.lemmas.List.{append_assoc, append-nil, flat_map_more}
 use Rattle.std.proofs.lemmas.List.Elements.{filter-append}
-use Rattle.graph_match.proofs.Holds.{RiseFrom, rise_of}
-use Rattle.job_rules.proofs.Among.{Among, all_at, all_from, among_append, among_from, among_left, among_right, contains_from}
-use Rattle.job_states.specs.Table.{is_state}
-use Rattle.job_states.specs.declared.job.State.{State}
-use Rattle.job_states.specs.declared.job.State.TheVariants as state
-use Rattle.shells.specs.Endings.{ending_of}
-use Rattle.shells.specs.declared.ends.Ending.{Ending}
-use Rattle.shells.specs.declared.ends.Ending.TheVariants as ending
-use Rattle.manager_rules.specs.declared.asked.Asked.{Asked}
-use Rattle.manager_rules.specs.Jobs.{StoredJob, ids_of}
-use Rattle.manager_rules.specs.Scene.{has_child}
-use Rattle.manager_rules.specs.Times.{IsLeast, command_seconds, expiry_seconds, seconds_of}
+use Rattle.job_deeds.proofs.graph_match_proofs.Holds.{RiseFrom, rise_of}
+use Rattle.job_deeds.proofs.job_rules_proofs.Among.{Among, all_at, all_from, among_append, among_from, among_left, among_right, contains_from}
+use Rattle.job_deeds.specs.job_states.Table.{is_state}
+use Rattle.job_deeds.specs.job_states.declared.job.State.{State}
+use Rattle.job_deeds.specs.job_states.declared.job.State.TheVariants as state
+use Rattle.job_deeds.specs.shells.Endings.{ending_of}
+use Rattle.job_deeds.specs.shells.declared.ends.Ending.{Ending}
+use Rattle.job_deeds.specs.shells.declared.ends.Ending.TheVariants as ending
+use Rattle.job_deeds.specs.manager_rules.declared.asked.Asked.{Asked}
+use Rattle.job_deeds.specs.manager_rules.Jobs.{StoredJob, ids_of}
+use Rattle.job_deeds.specs.manager_rules.Scene.{has_child}
+use Rattle.job_deeds.specs.manager_rules.Times.{IsLeast, command_seconds, expiry_seconds, seconds_of}
 use Rattle.job_book.specs.Contract.{BirthIn, IsFirstBirth, NoBirth}
 use Rattle.job_book.specs.Seconds.{IsSoonest, begins_child, is_bearing, is_parent, sooner_of}
 use Rattle.job_book.specs.Value.{BookValue}

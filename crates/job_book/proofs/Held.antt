@@ -3,10 +3,10 @@ use Rattle.std.proofs.Common.{Bor, ◌≡◌, ℕ, ◌==◌, Bool, true, false, 
 use Rattle.std.specs.Prelude.{IfSome}
 use Rattle.std.specs.Option.{option_copied}
 use Rattle.std.specs.List.{AllByRecursion as Each}
-use Rattle.resource_set.specs.Valid.{IsR}
-use Rattle.resource_set.specs.declared.node.Resources.{Resources}
-use Rattle.manager_rules.specs.Dependencies.{job_at}
-use Rattle.manager_rules.specs.Jobs.{StoredJob}
+use Rattle.job_deeds.specs.resource_set.Valid.{IsR}
+use Rattle.job_deeds.specs.resource_set.declared.node.Resources.{Resources}
+use Rattle.job_deeds.specs.manager_rules.Dependencies.{job_at}
+use Rattle.job_deeds.specs.manager_rules.Jobs.{StoredJob}
 
 found_case : (P : StoredJob → Type 0) (x j : StoredJob) (rest : Option StoredJob) (b : Bool) → P x → (rest ≡ Some j → P j) → cond b (Some x) rest ≡ Some j → P j
 found_case P x j rest true p f e = let same : x ≡ j = cc in subst P same p

@@ -4,33 +4,33 @@ use Rattle.std.proofs.Common.{◌≡◌, ℕ, Bool, true, false, List, length, g
 use Rattle.std.specs.Prelude.{◌⊎◌, ◌<◌, ◌^◌, Contains, IfSome, if◌then◌else◌}
 use Rattle.std.specs.List.Sorted.{IsStrictlyIncreasing}
 use Rattle.std.specs.Result.{result_ok}
-use Rattle.graph_match.specs.Allotment.{Allotment}
-use Rattle.graph_match.proofs.Holds.{rise_of}
-use Rattle.graph_match.proofs.Named.{names_within}
-use Rattle.job_rules.proofs.Among.{Among, among_from, among_mapped, contains_from, distinct_rising, each_at, same_image}
-use Rattle.job_rules.proofs.Lying.{read_is}
-use Rattle.job_spec.specs.Sound.{IsSpec}
-use Rattle.job_states.specs.Changes.{change_of}
-use Rattle.job_states.specs.Table.{made}
-use Rattle.job_states.specs.declared.job.Job.{Job}
-use Rattle.resource_set.specs.Reading.{told}
-use Rattle.resource_set.specs.Units.{AreHosts}
-use Rattle.resource_set.specs.Valid.{IsR}
-use Rattle.resource_set.specs.Writing.{r_text}
-use Rattle.resource_set.specs.declared.node.Resources.{Resources}
-use Rattle.tap.specs.declared.Ask.{Ask}
-use Rattle.manager_rules.specs.declared.asked.Asked.{Asked}
-use Rattle.manager_rules.specs.declared.due.Due.{Due}
-use Rattle.manager_rules.specs.Dependencies.{is_inactive, job_at}
-use Rattle.manager_rules.specs.Deeds.{Deed, Validates, Adds, Removes, Loses, Depends, Prioritizes, NeverFits, Takes, Starts, Finishes, Expires, Stops, Releases, Frees, Cleans, Carries, change_by, due_of, r_given}
-use Rattle.manager_rules.specs.Due.{MayDo}
-use Rattle.manager_rules.specs.Jobs.{StoredJob, ids_of, is_live}
-use Rattle.manager_rules.specs.Posts.{event_done, held_after, r_after, with_event}
-use Rattle.manager_rules.specs.Scene.{IsScene}
-use Rattle.manager_rules.specs.Sound.{HoldsInTime, holds_of}
-use Rattle.manager_rules.proofs.Allowed.{due_is_allowed}
-use Rattle.manager_rules.proofs.Landing.{with_event_ids}
-use Rattle.manager_rules.proofs.Soundness.{stays_in_time, stays_sound}
+use Rattle.job_deeds.specs.graph_match.Allotment.{Allotment}
+use Rattle.job_deeds.proofs.graph_match_proofs.Holds.{rise_of}
+use Rattle.job_deeds.proofs.graph_match_proofs.Named.{names_within}
+use Rattle.job_deeds.proofs.job_rules_proofs.Among.{Among, among_from, among_mapped, contains_from, distinct_rising, each_at, same_image}
+use Rattle.job_deeds.proofs.job_rules_proofs.Lying.{read_is}
+use Rattle.job_deeds.specs.job_spec.Sound.{IsSpec}
+use Rattle.job_deeds.specs.job_states.Changes.{change_of}
+use Rattle.job_deeds.specs.job_states.Table.{made}
+use Rattle.job_deeds.specs.job_states.declared.job.Job.{Job}
+use Rattle.job_deeds.specs.resource_set.Reading.{told}
+use Rattle.job_deeds.specs.resource_set.Units.{AreHosts}
+use Rattle.job_deeds.specs.resource_set.Valid.{IsR}
+use Rattle.job_deeds.specs.resource_set.Writing.{r_text}
+use Rattle.job_deeds.specs.resource_set.declared.node.Resources.{Resources}
+use Rattle.job_deeds.specs.tap.declared.Ask.{Ask}
+use Rattle.job_deeds.specs.manager_rules.declared.asked.Asked.{Asked}
+use Rattle.job_deeds.specs.manager_rules.declared.due.Due.{Due}
+use Rattle.job_deeds.specs.manager_rules.Dependencies.{is_inactive, job_at}
+use Rattle.job_deeds.specs.manager_rules.Deeds.{Deed, Validates, Adds, Removes, Loses, Depends, Prioritizes, NeverFits, Takes, Starts, Finishes, Expires, Stops, Releases, Frees, Cleans, Carries, change_by, due_of, r_given}
+use Rattle.job_deeds.specs.manager_rules.Due.{MayDo}
+use Rattle.job_deeds.specs.manager_rules.Jobs.{StoredJob, ids_of, is_live}
+use Rattle.job_deeds.specs.manager_rules.Posts.{event_done, held_after, r_after, with_event}
+use Rattle.job_deeds.specs.manager_rules.Scene.{IsScene}
+use Rattle.job_deeds.specs.manager_rules.Sound.{HoldsInTime, holds_of}
+use Rattle.job_deeds.proofs.manager_rules_proofs.Allowed.{due_is_allowed}
+use Rattle.job_deeds.proofs.manager_rules_proofs.Landing.{with_event_ids}
+use Rattle.job_deeds.proofs.manager_rules_proofs.Soundness.{stays_in_time, stays_sound}
 use Rattle.job_book.specs.Active.{AreActive, AreEntriesOf, IsEntryOf, follow_with, is_active}
 use Rattle.job_book.specs.declared.active.Active.{Active}
 use Rattle.job_book.specs.Contract.{WasDue, after_event}

@@ -3,13 +3,13 @@ use Rattle.std.proofs.Common.{◌≡◌, ◌≢◌, ℕ, ◌+◌, ◌==◌, Bool
 use Rattle.std.specs.Prelude.{◌↔◌, Contains, IfSome, IsNone, if◌then◌else◌, nat_lt, option_map}
 use Rattle.std.specs.List.Sorted.{IsStrictlyIncreasing}
 use Rattle.std.proofs.lemmas.Bool.{eq-eqb, eqb-true, ne_eqb}
-use Rattle.graph_match.proofs.Holds.{RiseFrom, rise_of}
-use Rattle.job_queue.specs.Queue as queues
-use Rattle.job_rules.proofs.Among.{Among, among_from, contains_from, among_mapped}
-use Rattle.manager_rules.specs.declared.due.Due.{Due}
-use Rattle.manager_rules.specs.Dependencies.{IsHead, job_at}
-use Rattle.manager_rules.specs.Jobs.{StoredJob, ids_of}
-use Rattle.manager_rules.specs.Posts.{event_done, with_event, with_job}
+use Rattle.job_deeds.proofs.graph_match_proofs.Holds.{RiseFrom, rise_of}
+use Rattle.job_deeds.specs.job_queue.Queue as queues
+use Rattle.job_deeds.proofs.job_rules_proofs.Among.{Among, among_from, contains_from, among_mapped}
+use Rattle.job_deeds.specs.manager_rules.declared.due.Due.{Due}
+use Rattle.job_deeds.specs.manager_rules.Dependencies.{IsHead, job_at}
+use Rattle.job_deeds.specs.manager_rules.Jobs.{StoredJob, ids_of}
+use Rattle.job_deeds.specs.manager_rules.Posts.{event_done, with_event, with_job}
 use Rattle.job_deeds.specs.Waiting.{IsFirstOf, IsQueueOf, waits_with}
 use Rattle.job_deeds.proofs.Heads.{head_some}
 use Rattle.job_deeds.proofs.Lists.{none_of}

@@ -2,17 +2,17 @@
 use Rattle.std.proofs.Common.{◌≡◌, ℕ, ◌<◌, ◌≤◌, ◌^◌, ltb, Bool, true, false, cond, List, [], ◌∷◌, ◌++◌, take, drop, None, refl, sym, ap, ◌∙◌, arith}
 use Rattle.std.specs.Prelude.{Contains, IfSome}
 use Rattle.std.specs.List.{AllByRecursion as Each, cons_option}
-use Rattle.event_log.specs.declared.event.Event.{Event}
-use Rattle.job_spec.specs.declared.spec.Depend.{Depend}
-use Rattle.job_spec.specs.declared.spec.JobSpec.{JobSpec}
-use Rattle.job_spec.specs.Sound.{IsSpec}
-use Rattle.resource_set.specs.Valid.{IsR}
-use Rattle.graph_match.specs.Allotment.{Allotment}
-use Rattle.graph_match.proofs.Holds.{rise_of, rises}
-use Rattle.manager_rules.specs.Jobs.{StoredJob, ids_of}
-use Rattle.manager_rules.specs.Posts.{with_job}
-use Rattle.manager_rules.specs.Sound.{HoldsInTime, hold_of, holds_of}
-use Rattle.manager_rules.proofs.Others.{new_jobs_sound}
+use Rattle.job_deeds.specs.event_log.declared.event.Event.{Event}
+use Rattle.job_deeds.specs.job_spec.declared.spec.Depend.{Depend}
+use Rattle.job_deeds.specs.job_spec.declared.spec.JobSpec.{JobSpec}
+use Rattle.job_deeds.specs.job_spec.Sound.{IsSpec}
+use Rattle.job_deeds.specs.resource_set.Valid.{IsR}
+use Rattle.job_deeds.specs.graph_match.Allotment.{Allotment}
+use Rattle.job_deeds.proofs.graph_match_proofs.Holds.{rise_of, rises}
+use Rattle.job_deeds.specs.manager_rules.Jobs.{StoredJob, ids_of}
+use Rattle.job_deeds.specs.manager_rules.Posts.{with_job}
+use Rattle.job_deeds.specs.manager_rules.Sound.{HoldsInTime, hold_of, holds_of}
+use Rattle.job_deeds.proofs.manager_rules_proofs.Others.{new_jobs_sound}
 use Rattle.job_book.specs.Contract.{new_job, with_new}
 use Rattle.job_book.specs.Kept.{IsBook}
 use Rattle.job_deeds.specs.Waiting.{IsRanked}

@@ -3,16 +3,16 @@ use Rattle.std.proofs.Common.{◌≡◌, ℕ, ◌+◌, ◌<◌, ◌^◌, true, f
 use Rattle.std.specs.Prelude.{All, Contains, filter, is_some, min}
 use Rattle.std.specs.List.{list_all, AllByRecursion as Each}
 use Rattle.std.proofs.lemmas.Bool.{and_parts}
-use Rattle.event_log.specs.declared.event.Event.{Event}
-use Rattle.job_rules.proofs.Among.{Among, among_filter, among_mapped, contains_from, each_at, each_from}
-use Rattle.job_spec.specs.declared.spec.Depend.{Depend}
-use Rattle.job_spec.specs.declared.spec.JobSpec.{JobSpec}
-use Rattle.tap.specs.declared.Ask.{Ask}
-use Rattle.manager_rules.specs.declared.asked.Asked.{Asked}
-use Rattle.manager_rules.specs.declared.due.Due.{Due}
-use Rattle.manager_rules.specs.Dependencies.{job_at}
-use Rattle.manager_rules.specs.Jobs.{StoredJob, distinct, ids_of, listed_in, same_need}
-use Rattle.manager_rules.specs.Scene.{IsAsked}
+use Rattle.job_deeds.specs.event_log.declared.event.Event.{Event}
+use Rattle.job_deeds.proofs.job_rules_proofs.Among.{Among, among_filter, among_mapped, contains_from, each_at, each_from}
+use Rattle.job_deeds.specs.job_spec.declared.spec.Depend.{Depend}
+use Rattle.job_deeds.specs.job_spec.declared.spec.JobSpec.{JobSpec}
+use Rattle.job_deeds.specs.tap.declared.Ask.{Ask}
+use Rattle.job_deeds.specs.manager_rules.declared.asked.Asked.{Asked}
+use Rattle.job_deeds.specs.manager_rules.declared.due.Due.{Due}
+use Rattle.job_deeds.specs.manager_rules.Dependencies.{job_at}
+use Rattle.job_deeds.specs.manager_rules.Jobs.{StoredJob, distinct, ids_of, listed_in, same_need}
+use Rattle.job_deeds.specs.manager_rules.Scene.{IsAsked}
 use Rattle.job_book.specs.Contract.{IsDueIn, KnowsNeeds, WasDue}
 use Rattle.job_book.specs.Value.{BookValue}
 use Rattle.job_deeds.proofs.Whys.{found_job, no_job}

@@ -3,17 +3,17 @@ use Rattle.std.proofs.Common.{◌≡◌, ◌≢◌, ℕ, ◌<◌, ◌≤◌, Boo
 use Rattle.std.specs.Prelude.{◌&&◌, ◌||◌, Contains, IfSome, IsSomeAnd, if◌then◌else◌, option_and_then, option_map}
 use Rattle.std.specs.List.{list_any}
 use Rattle.std.proofs.lemmas.Bool.{eq-eqb, ne_eqb}
-use Rattle.job_rules.proofs.Among.{Among, among_from}
-use Rattle.job_states.specs.declared.job.State.TheVariants as state
-use Rattle.resource_set.specs.declared.node.Resources.{Resources}
-use Rattle.shells.specs.Endings.{ending_of}
-use Rattle.shells.specs.declared.ends.Ending.{Ending}
-use Rattle.shells.specs.declared.ends.Ending.TheVariants as ending
-use Rattle.manager_rules.specs.declared.asked.Asked.{Asked}
-use Rattle.manager_rules.specs.declared.asked.Asked.TheVariants.{Cancel, Raise, Urgency, Child}
-use Rattle.manager_rules.specs.Due.{IsOver, MayCarry, status_at, status_now}
-use Rattle.manager_rules.specs.Jobs.{StoredJob}
-use Rattle.manager_rules.specs.Scene.{Scene, has_shut_child, is_child_of, is_shut}
+use Rattle.job_deeds.proofs.job_rules_proofs.Among.{Among, among_from}
+use Rattle.job_deeds.specs.job_states.declared.job.State.TheVariants as state
+use Rattle.job_deeds.specs.resource_set.declared.node.Resources.{Resources}
+use Rattle.job_deeds.specs.shells.Endings.{ending_of}
+use Rattle.job_deeds.specs.shells.declared.ends.Ending.{Ending}
+use Rattle.job_deeds.specs.shells.declared.ends.Ending.TheVariants as ending
+use Rattle.job_deeds.specs.manager_rules.declared.asked.Asked.{Asked}
+use Rattle.job_deeds.specs.manager_rules.declared.asked.Asked.TheVariants.{Cancel, Raise, Urgency, Child}
+use Rattle.job_deeds.specs.manager_rules.Due.{IsOver, MayCarry, status_at, status_now}
+use Rattle.job_deeds.specs.manager_rules.Jobs.{StoredJob}
+use Rattle.job_deeds.specs.manager_rules.Scene.{Scene, has_shut_child, is_child_of, is_shut}
 use Rattle.job_book.specs.Waking.{Sleeps, is_about}
 use Rattle.job_deeds.proofs.Chosen.{chosen}
 use Rattle.job_deeds.proofs.Rest.{none_running}

@@ -1,10 +1,10 @@
 -- The jobs that aren't over.
 use Rattle.std.specs.Prelude.{◌≡◌, ◌==◌, ◌&&◌, ℕ, List, Bool, Contains, not, filter, map, if◌then◌else◌}
 use Rattle.std.specs.List.{AllByRecursion as Each}
-use Rattle.manager_rules.specs.declared.asked.Asked.{Asked}
-use Rattle.manager_rules.specs.Dependencies.{is_inactive}
-use Rattle.manager_rules.specs.Jobs.{StoredJob, ids_of}
-use Rattle.manager_rules.specs.Scene.{has_child}
+use Rattle.job_deeds.specs.manager_rules.declared.asked.Asked.{Asked}
+use Rattle.job_deeds.specs.manager_rules.Dependencies.{is_inactive}
+use Rattle.job_deeds.specs.manager_rules.Jobs.{StoredJob, ids_of}
+use Rattle.job_deeds.specs.manager_rules.Scene.{has_child}
 use Rattle.job_book.specs.Seconds.{is_parent}
 use Rattle.job_book.specs.Waking.{Sleeps}
 use Rattle.job_book.specs.declared.active.Active.{Active}

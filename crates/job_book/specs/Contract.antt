@@ -2,26 +2,26 @@
 use Rattle.std.specs.Prelude.{◌≡◌, ◌≤◌, ◌<◌, ◌^◌, ℕ, List, Option, Some, None, Contains, IfSome, filter, flat_map, nat_lt, option_and_then}
 use Rattle.std.specs.List.{AllByRecursion as Each}
 use Rattle.std.specs.List.Sorted.{IsStrictlyIncreasing}
-use Rattle.event_log.specs.declared.event.Event.{Event}
-use Rattle.job_rules.specs.Fits.{IsGrant}
-use Rattle.job_spec.specs.declared.spec.Depend.{Depend}
-use Rattle.job_spec.specs.declared.spec.JobSpec.{JobSpec}
-use Rattle.job_spec.specs.Sound.{IsSpec}
-use Rattle.job_states.specs.Changes.{change_of}
-use Rattle.job_states.specs.Table.{submitted_job}
-use Rattle.job_states.specs.declared.job.Change.TheVariants.{Submit}
-use Rattle.resource_set.specs.Valid.{IsR}
-use Rattle.resource_set.specs.declared.node.Resources.{Resources}
-use Rattle.tap.specs.declared.Ask.{Ask}
-use Rattle.manager_rules.specs.Dependencies.{job_at}
-use Rattle.manager_rules.specs.Due.{IsDue}
-use Rattle.manager_rules.specs.Jobs.{AreNeeds, StoredJob, ids_of}
-use Rattle.manager_rules.specs.Posts.{with_event, with_job}
-use Rattle.manager_rules.specs.Scene.{IsScene}
-use Rattle.manager_rules.specs.Sound.{IsSound}
-use Rattle.manager_rules.specs.Times.{IsBirthDue, seconds_of}
-use Rattle.manager_rules.specs.declared.asked.Asked.{Asked}
-use Rattle.manager_rules.specs.declared.due.Due.{Due}
+use Rattle.job_deeds.specs.event_log.declared.event.Event.{Event}
+use Rattle.job_deeds.specs.job_rules.Fits.{IsGrant}
+use Rattle.job_deeds.specs.job_spec.declared.spec.Depend.{Depend}
+use Rattle.job_deeds.specs.job_spec.declared.spec.JobSpec.{JobSpec}
+use Rattle.job_deeds.specs.job_spec.Sound.{IsSpec}
+use Rattle.job_deeds.specs.job_states.Changes.{change_of}
+use Rattle.job_deeds.specs.job_states.Table.{submitted_job}
+use Rattle.job_deeds.specs.job_states.declared.job.Change.TheVariants.{Submit}
+use Rattle.job_deeds.specs.resource_set.Valid.{IsR}
+use Rattle.job_deeds.specs.resource_set.declared.node.Resources.{Resources}
+use Rattle.job_deeds.specs.tap.declared.Ask.{Ask}
+use Rattle.job_deeds.specs.manager_rules.Dependencies.{job_at}
+use Rattle.job_deeds.specs.manager_rules.Due.{IsDue}
+use Rattle.job_deeds.specs.manager_rules.Jobs.{AreNeeds, StoredJob, ids_of}
+use Rattle.job_deeds.specs.manager_rules.Posts.{with_event, with_job}
+use Rattle.job_deeds.specs.manager_rules.Scene.{IsScene}
+use Rattle.job_deeds.specs.manager_rules.Sound.{IsSound}
+use Rattle.job_deeds.specs.manager_rules.Times.{IsBirthDue, seconds_of}
+use Rattle.job_deeds.specs.manager_rules.declared.asked.Asked.{Asked}
+use Rattle.job_deeds.specs.manager_rules.declared.due.Due.{Due}
 use Rattle.job_deeds.specs.Choices.{SaysAs}
 use Rattle.job_book.specs.Value.{BookValue, scene_of}
 

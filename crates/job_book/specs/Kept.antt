@@ -1,8 +1,8 @@
 -- What a book keeps besides: what makes each event of the table one that its job allows.
 use Rattle.std.specs.Prelude.{◌≡◌}
 use Rattle.std.specs.List.{AllByRecursion as Each}
-use Rattle.graph_match.specs.Allotment.{Allotment}
-use Rattle.manager_rules.specs.Sound.{AreInTime, holds_of}
+use Rattle.job_deeds.specs.graph_match.Allotment.{Allotment}
+use Rattle.job_deeds.specs.manager_rules.Sound.{AreInTime, holds_of}
 use Rattle.job_deeds.specs.Waiting.{IsRanked}
 use Rattle.job_book.specs.Contract.{IsKept}
 use Rattle.job_book.specs.Value.{BookValue}

@@ -1,15 +1,15 @@
 -- The next second at which something happens by itself, and whose child is to be born.
 use Rattle.std.specs.Prelude.{◌≡◌, ◌&&◌, ℕ, List, [], Bool, true, false, not, Option, Some, None, min, nat_lt, if◌then◌else◌}
 use Rattle.std.specs.Option.{option_map_or}
-use Rattle.job_states.specs.Table.{is_state}
-use Rattle.job_states.specs.declared.job.State.TheVariants as state
-use Rattle.shells.specs.Endings.{ending_of}
-use Rattle.shells.specs.declared.ends.Ending.{Ending}
-use Rattle.shells.specs.declared.ends.Ending.TheVariants as ending
-use Rattle.manager_rules.specs.declared.asked.Asked.{Asked}
-use Rattle.manager_rules.specs.Jobs.{StoredJob}
-use Rattle.manager_rules.specs.Scene.{has_child}
-use Rattle.manager_rules.specs.Times.{IsLeast}
+use Rattle.job_deeds.specs.job_states.Table.{is_state}
+use Rattle.job_deeds.specs.job_states.declared.job.State.TheVariants as state
+use Rattle.job_deeds.specs.shells.Endings.{ending_of}
+use Rattle.job_deeds.specs.shells.declared.ends.Ending.{Ending}
+use Rattle.job_deeds.specs.shells.declared.ends.Ending.TheVariants as ending
+use Rattle.job_deeds.specs.manager_rules.declared.asked.Asked.{Asked}
+use Rattle.job_deeds.specs.manager_rules.Jobs.{StoredJob}
+use Rattle.job_deeds.specs.manager_rules.Scene.{has_child}
+use Rattle.job_deeds.specs.manager_rules.Times.{IsLeast}
 
 -- a command that ends with the instance that it begins
 abbrev pub begins_child : Ending → Bool

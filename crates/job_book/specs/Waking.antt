@@ -1,12 +1,12 @@
 -- Jobs for which nothing is due for a while.
 use Rattle.std.specs.Prelude.{◌≡◌, ℕ, ◌<◌, ◌==◌, Bool, false}
 use Rattle.std.specs.List.{list_any}
-use Rattle.manager_rules.specs.declared.asked.Asked.{Asked}
-use Rattle.manager_rules.specs.declared.asked.Asked.TheVariants.{Cancel, Raise, Urgency, Child}
-use Rattle.manager_rules.specs.Deeds.{Deed}
-use Rattle.manager_rules.specs.Due.{MayDo}
-use Rattle.manager_rules.specs.Jobs.{StoredJob}
-use Rattle.manager_rules.specs.Scene.{Scene}
+use Rattle.job_deeds.specs.manager_rules.declared.asked.Asked.{Asked}
+use Rattle.job_deeds.specs.manager_rules.declared.asked.Asked.TheVariants.{Cancel, Raise, Urgency, Child}
+use Rattle.job_deeds.specs.manager_rules.Deeds.{Deed}
+use Rattle.job_deeds.specs.manager_rules.Due.{MayDo}
+use Rattle.job_deeds.specs.manager_rules.Jobs.{StoredJob}
+use Rattle.job_deeds.specs.manager_rules.Scene.{Scene}
 
 -- a command about this job, or a child of it
 abbrev pub is_about : ℕ → Asked → Bool

@@ -3,14 +3,14 @@ ghost use Rattle.std.specs.Prelude.{◌≡◌, ◌==◌, ◌<◌, ◌⊎◌, Lis
 ghost use Rattle.std.specs.List.{HoldsAt};
 ghost use Rattle.std.specs.List.Sorted.{IsStrictlyIncreasing};
 ghost use Rattle.std.specs.Vec.{vec_capacity};
-ghost use Rattle.manager_rules.specs.Jobs.{StoredJob, ids_of};
-ghost use Rattle.manager_rules.specs.Posts.{with_job};
+ghost use Rattle.job_deeds.specs.manager_rules.Jobs.{StoredJob, ids_of};
+ghost use Rattle.job_deeds.specs.manager_rules.Posts.{with_job};
 ghost use Rattle.job_book.specs.Active.{AreActive, IsEntryOf, active_of, follow_with, ids_in, is_to_bear as is_to_bear_child, with_entry};
 
 use crate::seconds::{has_child, is_parent};
 use crate::waking::wake_of;
+use job_deeds::manager_rules::Asked;
 use job_deeds::{Row, place_in};
-use manager_rules::Asked;
 
 /// What is kept of a job that isn't over, beside its row.
 #[derive(Clone, Copy, Debug, PartialEq, Eq)]

@@ -2,35 +2,35 @@
 ghost use Rattle.std.specs.Prelude.{◌≡◌, [], All, Contains, IfNone, IfOk, IfSome, OnErr, OnOk, option_map};
 ghost use Rattle.std.specs.Option.{option_copied};
 ghost use Rattle.std.specs.Fn.{FnReturnsAt};
-ghost use Rattle.job_spec.specs.Sound.{IsSpec};
-ghost use Rattle.resource_set.specs.Valid.{IsR};
-ghost use Rattle.tap.specs.Priorities.{AnswersOnce};
-ghost use Rattle.manager_rules.specs.Dependencies.{job_at};
-ghost use Rattle.manager_rules.specs.Jobs.{ids_of};
-ghost use Rattle.manager_rules.specs.Scene.{IsAsked};
-ghost use Rattle.manager_rules.specs.Times.{IsLeast};
-ghost use Rattle.manager_rules.specs.Whys.{IsWhy};
+ghost use Rattle.job_deeds.specs.job_spec.Sound.{IsSpec};
+ghost use Rattle.job_deeds.specs.resource_set.Valid.{IsR};
+ghost use Rattle.job_deeds.specs.tap.Priorities.{AnswersOnce};
+ghost use Rattle.job_deeds.specs.manager_rules.Dependencies.{job_at};
+ghost use Rattle.job_deeds.specs.manager_rules.Jobs.{ids_of};
+ghost use Rattle.job_deeds.specs.manager_rules.Scene.{IsAsked};
+ghost use Rattle.job_deeds.specs.manager_rules.Times.{IsLeast};
+ghost use Rattle.job_deeds.specs.manager_rules.Whys.{IsWhy};
 ghost use Rattle.job_book.specs.Contract.{BeginsAsOne, Finds, Gains, IsFirstBirth, IsKept, IsNewJob, KnowsNeeds, NoBirth, WasDue, after_event, r_at, seconds_left};
 
 use crate::active::{Active, enter, entry_of, first_bearing, follow, place_of_active};
 use crate::seconds::next_of_rows;
 use crate::waking::sleeps;
-use event_log::Event;
-use graph_match::Graph;
+use job_deeds::event_log::Event;
+use job_deeds::graph_match::Graph;
+use job_deeds::job_queue::Queue;
+use job_deeds::job_spec::JobSpec;
+use job_deeds::job_states::{Job, ReplayFault, begin};
+use job_deeds::job_texts::needs_of;
+use job_deeds::lists::Copied;
+use job_deeds::manager_rules::{Due, JobList, OpenList, Why};
+use job_deeds::resource_set::Resources;
+use job_deeds::tap::{Ask, Tap};
 use job_deeds::{
     Desk, Row, change_at, choice, due, find, hold, is_over, next_of, place_in, place_of, rank,
     reason,
 };
-use job_queue::Queue;
-use job_spec::JobSpec;
-use job_states::{Job, ReplayFault, begin};
-use job_texts::needs_of;
-use lists::Copied;
-use manager_rules::{Due, JobList, OpenList, Why};
-use resource_set::Resources;
 use std::alloc::{AllocError, Global};
 use std::marker::Model;
-use tap::{Ask, Tap};
 
 /// The jobs of an instance, and the grant that they share.
 #[derive(Drop)]

@@ -1,20 +1,20 @@
 //! When something happens by itself, and whose child is to be born.
 ghost use Rattle.std.specs.Prelude.{◌≡◌, ◌++◌, List, ℕ, [], false, filter, flat_map, nat_lt};
 ghost use Rattle.std.specs.Option.{option_map_or, option_to_list};
-ghost use Rattle.shells.specs.Endings.{ending_of};
-ghost use Rattle.manager_rules.specs.Scene.{has_child as has_child_in, is_child_of};
-ghost use Rattle.manager_rules.specs.Times.{command_seconds, expiry_seconds, seconds_of};
-ghost use Rattle.manager_rules.specs.Jobs.{ids_of};
+ghost use Rattle.job_deeds.specs.shells.Endings.{ending_of};
+ghost use Rattle.job_deeds.specs.manager_rules.Scene.{has_child as has_child_in, is_child_of};
+ghost use Rattle.job_deeds.specs.manager_rules.Times.{command_seconds, expiry_seconds, seconds_of};
+ghost use Rattle.job_deeds.specs.manager_rules.Jobs.{ids_of};
 ghost use Rattle.std.specs.List.Sorted.{IsStrictlyIncreasing};
 ghost use Rattle.job_book.specs.Active.{AreActive};
 ghost use Rattle.job_book.specs.Seconds.{IsSoonest, begins_child as begins_child_at, is_parent as is_parent_at, sooner_of};
 
 use crate::active::{Active, place_of_active};
 use job_deeds::Row;
-use job_spec::JobSpec;
-use job_states::State;
-use manager_rules::Asked;
-use shells::Ending;
+use job_deeds::job_spec::JobSpec;
+use job_deeds::job_states::State;
+use job_deeds::manager_rules::Asked;
+use job_deeds::shells::Ending;
 
 /// Whether this is a child of the job.
 fn is_child(asked: &Asked, id: u64) -> bool
@@ -37,7 +37,7 @@ pub fn has_child(asked: &[Asked], id: u64) -> bool
 fn is_childs(spec: &JobSpec, start: u64) -> bool
     ensures { result ≡ begins_child_at (ending_of spec.now start) }
 {
-    match shells::ending(spec, start) {
+    match job_deeds::shells::ending(spec, start) {
         Ending::Child => true,
         Ending::At { .. } => false,
     }
@@ -66,7 +66,7 @@ pub fn is_parent(row: &Row) -> bool
 fn end_of_command(row: &Row) -> Option<u64>
     ensures { option_to_list result ≡ command_seconds row.now }
 {
-    match shells::ending(&row.spec, row.start?) {
+    match job_deeds::shells::ending(&row.spec, row.start?) {
         Ending::At { second, .. } => Some(second),
         Ending::Child => None,
     }

@@ -1,17 +1,17 @@
 //! From when on something may be due for a job.
 ghost use Rattle.std.specs.Prelude.{◌≡◌, ◌<◌, ◌≤◌, ℕ, IfSome, IsTrue, Some, false, option_map};
 ghost use Rattle.std.specs.List.{list_any};
-ghost use Rattle.manager_rules.specs.Jobs.{StoredJob};
-ghost use Rattle.shells.specs.Endings.{ending_of};
-ghost use Rattle.shells.specs.declared.ends.Ending.TheVariants as ending;
+ghost use Rattle.job_deeds.specs.manager_rules.Jobs.{StoredJob};
+ghost use Rattle.job_deeds.specs.shells.Endings.{ending_of};
+ghost use Rattle.job_deeds.specs.shells.declared.ends.Ending.TheVariants as ending;
 ghost use Rattle.job_book.specs.Waking.{Sleeps, is_about as is_about_job};
 
 use crate::active::Active;
-use job_spec::JobSpec;
-use job_states::{Job, State};
-use manager_rules::Asked;
-use resource_set::Resources;
-use shells::Ending;
+use job_deeds::job_spec::JobSpec;
+use job_deeds::job_states::{Job, State};
+use job_deeds::manager_rules::Asked;
+use job_deeds::resource_set::Resources;
+use job_deeds::shells::Ending;
 
 /// The second at which a command ends by itself, or the last one.
 fn command_wakes(spec: &JobSpec, start: Option<u64>) -> u64
@@ -22,7 +22,7 @@ fn command_wakes(spec: &JobSpec, start: Option<u64>) -> u64
     let Some(start) = start else {
         return u64::MAX;
     };
-    match shells::ending(spec, start) {
+    match job_deeds::shells::ending(spec, start) {
         Ending::At { second, .. } => second,
         Ending::Child => u64::MAX,
     }

@@ -6,3 +6,7 @@ pub mod Heads
 pub mod Whys
 pub mod Fitting
 pub mod Stepping
+-- what lies below, for the crates that stand on this one
+pub use Rattle.graph_match.proofs as graph_match_proofs
+pub use Rattle.manager_rules.proofs.job_rules_proofs as job_rules_proofs
+pub use Rattle.manager_rules.proofs as manager_rules_proofs

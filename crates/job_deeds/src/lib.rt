@@ -2,6 +2,14 @@
 //! and 27).
 #![tactic(auto)]
 
+// The crates below that those above reach through this one.
+pub use graph_match;
+pub use job_texts;
+pub use manager_rules;
+pub use manager_rules::{
+    event_log, fl_json, job_queue, job_spec, job_states, lists, resource_set, shells, tap,
+};
+
 mod action;
 mod commands;
 mod decisions;

@@ -2,13 +2,13 @@
 ghost use Rattle.std.specs.Prelude.{◌≡◌, false, IfOk};
 ghost use Rattle.job_replies.specs.Jobs.{IsTextAt, key_by, reply_of_why, states_of};
 
+use answers::kvs_txn::{Found, Path};
+use answers::lists::Bytes;
+use answers::manager_rules::Why;
 use answers::{JobState, JobStates, Reply};
-use job_book::Book;
 use job_commands::Key;
+use job_manager::job_book::Book;
 use job_manager::{Manager, log_path, r_path, spec_path};
-use kvs_txn::{Found, Path};
-use lists::Bytes;
-use manager_rules::Why;
 use std::alloc::{AllocError, Global};
 
 /// What is said of why a job doesn't run, as a reply.

@@ -3,6 +3,14 @@
 //! their laws.
 #![tactic(auto)]
 
+// The crates below that those above reach through this one.
+pub use fl_json;
+pub use fluid_ids;
+pub use idset;
+pub use job_spec;
+pub use lists;
+pub use resource_set;
+
 pub mod hold;
 mod laws;
 

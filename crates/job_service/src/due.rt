@@ -2,16 +2,16 @@
 ghost use Rattle.std.specs.Prelude.{◌≡◌, All, IfOk, false, option_map};
 ghost use Rattle.job_commands.specs.Desks.{asked_of};
 ghost use Rattle.job_manager.specs.Posts.{post_of};
-ghost use Rattle.manager_rules.specs.Scene.{IsAsked};
+ghost use Rattle.answers.specs.manager_rules.Scene.{IsAsked};
 ghost use Rattle.job_service.specs.Due.{CanLook, IsEventDue, IsFound, IsFoundBeside};
 
-use job_book::Book;
+use answers::manager_rules::Due;
+use answers::tap::{Ask, Tap, Weights};
 use job_commands::Commands;
+use job_manager::job_book::Book;
 use job_manager::{Manager, Post};
 use job_submissions::submission;
-use manager_rules::Due;
 use std::alloc::{AllocError, Global};
-use tap::{Ask, Tap, Weights};
 
 /// An event that is due at this second, if one is, where jobs have their priorities by these
 /// weights.

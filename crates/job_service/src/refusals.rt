@@ -7,10 +7,10 @@ ghost use Rattle.job_service.specs.Replies.{asks_manager, is_undone};
 ghost use Rattle.std.specs.Option.{option_copied};
 
 use answers::Reply;
-use job_book::Book;
+use answers::kvs_txn::By;
 use job_commands::{Commands, JobAsk, Row, Stage};
+use job_manager::job_book::Book;
 use job_submissions::{Fault, fault_of};
-use kvs_txn::By;
 use std::alloc::{AllocError, Global};
 
 /// A submission that was refused at its issue, and why.

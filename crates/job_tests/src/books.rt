@@ -2,9 +2,9 @@
 ghost use Rattle.std.specs.Prelude.{◌≡◌, ◌<◌, [], All, Contains, IfOk, IsTrue, Some, codes, is_some};
 ghost use Rattle.std.specs.List.{list_all};
 ghost use Rattle.std.specs.Str.{IsUtf8};
-ghost use Rattle.job_spec.specs.Sound.{IsSpec};
-ghost use Rattle.job_states.specs.Changes.{change_of};
-ghost use Rattle.job_states.specs.declared.job.Change.TheVariants.{Submit};
+ghost use Rattle.manager_rules.specs.job_spec.Sound.{IsSpec};
+ghost use Rattle.manager_rules.specs.job_states.Changes.{change_of};
+ghost use Rattle.manager_rules.specs.job_states.declared.job.Change.TheVariants.{Submit};
 ghost use Rattle.serde_json.specs.Data.{no_members, object};
 ghost use Rattle.serde_json.specs.View.{view};
 ghost use Rattle.manager_rules.specs.Deeds.{number_member};
@@ -12,17 +12,17 @@ ghost use Rattle.manager_rules.specs.Dependencies.{job_at};
 ghost use Rattle.manager_rules.specs.Jobs.{listed_in};
 ghost use Rattle.manager_rules.specs.Scene.{IsAsked};
 
-use event_log::Event;
-use fl_json::Value;
 use job_book::Book;
-use job_spec::{Depend, JobSpec};
-use kvs_txn::By;
-use lists::{Bytes, Copied};
+use manager_rules::event_log::Event;
+use manager_rules::fl_json::Value;
+use manager_rules::job_spec::{Depend, JobSpec};
+use manager_rules::kvs_txn::By;
+use manager_rules::lists::{Bytes, Copied};
+use manager_rules::tap::{Ask, Tap};
 use manager_rules::{Asked, Due, OpenList, Why};
 use serde_json::json;
 use std::alloc::{AllocError, Global};
 use std::test::Fail;
-use tap::{Ask, Tap};
 
 /// A grant of two hosts of two cores, until second 1000.
 const GRANT: &str =
@@ -267,7 +267,7 @@ fn job(
             \"attributes\":{{\"system\":{{\"duration\":{duration},\"dependencies\":[{needs}]}}}},\
             \"version\":1}}"
     )?;
-    Ok(job_spec::read(alloc, text.as_bytes())?)
+    Ok(manager_rules::job_spec::read(alloc, text.as_bytes())?)
 }
 
 /// What a submission by user 1000 tells, which lists no dependencies.
@@ -289,7 +289,7 @@ fn submission(alloc: Global, now: u64, urgency: u32) -> Result<Event, AllocError
     Ok(Event {
         timestamp: now,
         name: Bytes::of(alloc, b"submit")?,
-        context: Some(Bytes::from_vec(fl_json::text(alloc, &context)?)),
+        context: Some(Bytes::from_vec(manager_rules::fl_json::text(alloc, &context)?)),
     })
 }
 
@@ -567,7 +567,7 @@ fn take_step(alloc: Global, stage: &mut Stage, step: &str, log: &mut String) -> 
 
 /// The events that follow the steps but the first.
 fn run(alloc: Global, steps: &str) -> Result<String, Fail> {
-    let grant = resource_set::read(alloc, GRANT.as_bytes())?;
+    let grant = manager_rules::resource_set::read(alloc, GRANT.as_bytes())?;
     let mut stage = Stage {
         book: Book::new(alloc, &grant)?,
         now: 0,

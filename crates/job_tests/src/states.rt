@@ -1,7 +1,7 @@
 //! Eventlogs of a job, and the state that they lead to (Flux RFC 21).
-use event_log::Event;
-use job_states::{Job, ReplayFault, State, begin, replay, step};
-use lists::Bytes;
+use manager_rules::event_log::Event;
+use manager_rules::job_states::{Job, ReplayFault, State, begin, replay, step};
+use manager_rules::lists::Bytes;
 use std::test::Fail;
 
 /// Events by their names and contexts.

@@ -1,18 +1,18 @@
 -- What the tests issue is new.
 use Rattle.std.proofs.Common.{◌≡◌, ℕ, ◌<◌, ◌^◌, ◌⊎◌, inl, inr, List, [], ◌∷◌, ◌++◌, Bool, true, false, cond, Some, None, refl, sym, ap, ◌∙◌, subst, arith, true≢false}
-use Rattle.fl_digest.specs.declared.Hash.TheVariants.{Sha1}
-use Rattle.instance_rules.specs.Desks.{is_submission}
-use Rattle.instance_rules.specs.Log.{Instance, IsInRange, Issued, JobAsk as Asks, Log, Named, Submit}
-use Rattle.job_commands.specs.Asks.{told}
-use Rattle.job_commands.specs.declared.ask.JobAsk.{JobAsk}
-use Rattle.kvs_rules.proofs.Asking.{command_is}
-use Rattle.kvs_rules.specs.Log.{same_command}
-use Rattle.kvs_txn.specs.declared.txn.By.{By}
-use Rattle.resource_set.specs.Writing.{r_text}
+use Rattle.job_service.specs.fl_digest.declared.Hash.TheVariants.{Sha1}
+use Rattle.job_service.specs.instance_rules.Desks.{is_submission}
+use Rattle.job_service.specs.instance_rules.Log.{Instance, IsInRange, Issued, JobAsk as Asks, Log, Named, Submit}
+use Rattle.job_service.specs.job_commands.Asks.{told}
+use Rattle.job_service.specs.job_commands.declared.ask.JobAsk.{JobAsk}
+use Rattle.job_service.proofs.kvs_rules_proofs.Asking.{command_is}
+use Rattle.job_service.specs.kvs_rules.Log.{same_command}
+use Rattle.job_service.specs.kvs_txn.declared.txn.By.{By}
+use Rattle.job_service.specs.resource_set.Writing.{r_text}
 use Rattle.job_service.specs.Agrees.{AgreesJobs, IsNewCommand, IsServedBy, MayIssue}
 use Rattle.manager_tests.specs.Begun.{IsBegun, by_urgency}
 use Rattle.job_service.specs.Value.{JobServiceValue}
-use Rattle.tap.specs.Factors.{priority_by}
+use Rattle.job_service.specs.tap.Factors.{priority_by}
 
 abbrev first : By
 first = record { actor = 0; command = 0 }

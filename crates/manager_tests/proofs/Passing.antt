@@ -3,13 +3,13 @@ use Rattle.std.proofs.Common.{◌≡◌, ℕ, ◌<◌, ◌≤◌, ◌⊎◌, ◌
 use Rattle.std.specs.Prelude.{All, IfSome, filter, flat_map, is_some, nat_lt}
 use Rattle.std.proofs.lemmas.Bool.{ltb-true, or_parts}
 use Rattle.std.proofs.lemmas.List.Elements.{All-contains, All-nil, All-weaker, filter_passes}
-use Rattle.job_book.specs.Contract.{seconds_left}
-use Rattle.job_book.specs.Seconds.{IsSoonest}
-use Rattle.job_clock.specs.Targets.{targets_of}
+use Rattle.job_service.specs.job_book.Contract.{seconds_left}
+use Rattle.job_service.specs.job_book.Seconds.{IsSoonest}
+use Rattle.job_service.specs.job_clock.Targets.{targets_of}
 use Rattle.job_service.specs.Children.{is_due}
 use Rattle.job_service.specs.Times.{MayPassTo, targets_left}
 use Rattle.job_service.specs.Value.{JobServiceValue}
-use Rattle.manager_rules.specs.Times.{IsLeast, seconds_of}
+use Rattle.job_service.specs.manager_rules.Times.{IsLeast, seconds_of}
 
 none_of : {A : Type 0} (o : Option A) → is_some o ≡ false → o ≡ None
 none_of None e = cc

@@ -5,16 +5,16 @@ use Rattle.std.specs.List.{AllByRecursion as Each}
 use Rattle.std.specs.Option.{is_some}
 use Rattle.std.proofs.lemmas.List.Elements.{All-nil}
 use Rattle.serde_json.specs.Data.{no_members}
-use Rattle.fluid_ids.specs.Ids.{id_of}
-use Rattle.job_book.proofs.Trying.{not_had}
-use Rattle.job_book.specs.Value.{BookValue, scene_of}
-use Rattle.job_spec.specs.Specs.{spec_reading}
-use Rattle.manager_rules.specs.Deeds.{event_with, number_member}
-use Rattle.manager_rules.specs.Dependencies.{job_at}
-use Rattle.manager_rules.specs.Jobs.{distinct, ids_of}
-use Rattle.manager_rules.specs.Posts.{Submission, Submit, Submits}
-use Rattle.manager_rules.specs.Scene.{IsAsked}
-use Rattle.job_manager.specs.Managed.{WasDuePost}
+use Rattle.job_service.specs.fluid_ids.Ids.{id_of}
+use Rattle.job_service.proofs.job_book_proofs.Trying.{not_had}
+use Rattle.job_service.specs.job_book.Value.{BookValue, scene_of}
+use Rattle.job_service.specs.job_spec.Specs.{spec_reading}
+use Rattle.job_service.specs.manager_rules.Deeds.{event_with, number_member}
+use Rattle.job_service.specs.manager_rules.Dependencies.{job_at}
+use Rattle.job_service.specs.manager_rules.Jobs.{distinct, ids_of}
+use Rattle.job_service.specs.manager_rules.Posts.{Submission, Submit, Submits}
+use Rattle.job_service.specs.manager_rules.Scene.{IsAsked}
+use Rattle.job_service.specs.job_manager.Managed.{WasDuePost}
 
 abbrev from : ℕ → ℕ → List ℕ → Submit
 from id urgency text = record { by = record { actor = 1000; command = 0 }; rank = 0; urgency = urgency; needs = []; text = text; seconds = 5 ∷ []; issued = suc id }

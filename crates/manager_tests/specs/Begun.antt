@@ -1,11 +1,11 @@
 -- What a test begins with.
 use Rattle.std.specs.Prelude.{◌≡◌, false, []}
-use Rattle.instance_rules.specs.Log.{Instance}
-use Rattle.job_rules.specs.Fits.{IsGrant}
-use Rattle.resource_set.specs.declared.node.Resources.{Resources}
+use Rattle.job_service.specs.instance_rules.Log.{Instance}
+use Rattle.job_service.specs.job_rules.Fits.{IsGrant}
+use Rattle.job_service.specs.resource_set.declared.node.Resources.{Resources}
 use Rattle.job_service.specs.Agrees.{AgreesJobs, IsServedBy}
 use Rattle.job_service.specs.Value.{JobServiceValue}
-use Rattle.tap.specs.declared.weights.Weights.{Weights}
+use Rattle.job_service.specs.tap.declared.weights.Weights.{Weights}
 
 -- jobs have their urgency for their priority
 abbrev pub by_urgency : Weights

@@ -1,10 +1,10 @@
 //! Two submissions under labels, commands about their jobs, and the child of a job.
 ghost use Rattle.std.specs.Prelude.{◌≡◌, ◌<◌, OnOk, length};
 
-use job_commands::{Commands, JobAsk, NamedList};
-use kvs_txn::By;
-use lists::Bytes;
-use manager_rules::Asked;
+use job_service::job_commands::{Commands, JobAsk, NamedList};
+use job_service::kvs_txn::By;
+use job_service::lists::Bytes;
+use job_service::manager_rules::Asked;
 use std::alloc::{AllocError, Global};
 use std::test::Fail;
 

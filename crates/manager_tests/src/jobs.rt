@@ -1,26 +1,26 @@
 //! What the first command of an instance is told at once, if it is told.
 ghost use Rattle.std.specs.Prelude.{◌≡◌, ◌≤◌, ◌⊎◌, ◌++◌, ◌∷◌, [], false, true, IfOk, IfSome, IsTrue, OnOk, Some};
-ghost use Rattle.instance_rules.specs.Desks.{is_submission};
-ghost use Rattle.instance_rules.specs.Log.{Instance, IsInRange, Issued, Log};
-ghost use Rattle.job_commands.specs.Asks.{told};
+ghost use Rattle.job_service.specs.instance_rules.Desks.{is_submission};
+ghost use Rattle.job_service.specs.instance_rules.Log.{Instance, IsInRange, Issued, Log};
+ghost use Rattle.job_service.specs.job_commands.Asks.{told};
 ghost use Rattle.job_service.specs.Agrees.{AgreesJobs, IsNewCommand, MayIssue};
 ghost use Rattle.job_service.specs.Replies.{can_reply};
 ghost use Rattle.manager_tests.specs.Begun.{IsBegun};
 ghost use Rattle.job_service.specs.Times.{HasTime};
 
-use answers::Reply;
-use fl_digest::Hash;
-use job_book::Book;
-use job_commands::{JobAsk, Named, NamedList};
 use job_service::JobService;
-use job_spec::Scheme;
-use job_states::State;
-use kvs_core::Setting;
-use kvs_txn::By;
-use lists::Bytes;
+use job_service::answers::Reply;
+use job_service::fl_digest::Hash;
+use job_service::job_book::Book;
+use job_service::job_commands::{JobAsk, Named, NamedList};
+use job_service::job_spec::Scheme;
+use job_service::job_states::State;
+use job_service::kvs_core::Setting;
+use job_service::kvs_txn::By;
+use job_service::lists::Bytes;
+use job_service::tap::Weights;
 use std::alloc::Global;
 use std::test::Fail;
-use tap::Weights;
 
 /// The R of a host with two cores.
 const GRANT: &str =
@@ -113,7 +113,7 @@ fn asked(alloc: Global, words: &str) -> Result<JobAsk, Fail>
 fn begun(alloc: Global) -> Result<JobService, Fail>
     ensures { IfOk result IsBegun }
 {
-    let grant = resource_set::read(alloc, GRANT.as_bytes())?;
+    let grant = job_service::resource_set::read(alloc, GRANT.as_bytes())?;
     let book = Book::new(alloc, &grant)?;
     book.keeps();
     let setting = Setting {

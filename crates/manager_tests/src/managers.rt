@@ -2,23 +2,23 @@
 ghost use Rattle.std.specs.Prelude.{◌≡◌, ◌<◌, [], IfOk, IsTrue, None, Ok as Tells, OnOk, codes, false, length};
 ghost use Rattle.serde_json.specs.Data.{no_members, object};
 ghost use Rattle.serde_json.specs.View.{view};
-ghost use Rattle.job_spec.specs.Specs.{spec_reading};
-ghost use Rattle.manager_rules.specs.Deeds.{event_with, number_member};
-ghost use Rattle.manager_rules.specs.Dependencies.{job_at};
+ghost use Rattle.job_service.specs.job_spec.Specs.{spec_reading};
+ghost use Rattle.job_service.specs.manager_rules.Deeds.{event_with, number_member};
+ghost use Rattle.job_service.specs.manager_rules.Dependencies.{job_at};
 
-use event_log::Event;
-use fl_digest::Hash;
-use fl_json::Value;
-use job_manager::{Manager, Submission};
-use job_spec::{JobSpec, Needs};
-use kvs_core::Setting;
-use kvs_txn::{By, Found, Path};
-use lists::Bytes;
-use manager_rules::OpenList;
+use job_service::event_log::Event;
+use job_service::fl_digest::Hash;
+use job_service::fl_json::Value;
+use job_service::job_manager::{Manager, Submission};
+use job_service::job_spec::{JobSpec, Needs};
+use job_service::kvs_core::Setting;
+use job_service::kvs_txn::{By, Found, Path};
+use job_service::lists::Bytes;
+use job_service::manager_rules::OpenList;
+use job_service::tap::{Ask, Tap};
 use serde_json::json;
 use std::alloc::{AllocError, Global};
 use std::test::Fail;
-use tap::{Ask, Tap};
 
 /// A grant of two hosts of two cores, until second 1000.
 const GRANT: &str =
@@ -101,7 +101,7 @@ fn submitted(alloc: Global, urgency: u32) -> Result<Event, AllocError>
     Ok(Event {
         timestamp: 5,
         name: Bytes::of(alloc, b"submit")?,
-        context: Some(Bytes::from_vec(fl_json::text(alloc, &context)?)),
+        context: Some(Bytes::from_vec(job_service::fl_json::text(alloc, &context)?)),
     })
 }
 
@@ -110,7 +110,7 @@ fn jobspec(alloc: Global, text: &Bytes) -> Result<JobSpec, Fail>
     ensures accepted { IfOk result (λ spec. spec_reading text.now ≡ Tells spec) }
     ensures alone { IfOk result (λ spec. spec.depends ≡ []) }
 {
-    let spec = job_spec::read(alloc, text.as_slice())?;
+    let spec = job_service::job_spec::read(alloc, text.as_slice())?;
     if !spec.depends.as_slice().is_empty() {
         return Err("dependencies".into());
     }
@@ -220,7 +220,7 @@ fn events(alloc: Global, manager: &Manager, id: usize) -> Result<String, Fail>
         return Err("no log".into());
     };
     let mut names = String::new(alloc);
-    for event in event_log::read(alloc, text.as_slice())?.as_slice() {
+    for event in job_service::event_log::read(alloc, text.as_slice())?.as_slice() {
         if !names.is_empty() {
             names.push_str(" ")?;
         }
@@ -245,7 +245,7 @@ fn manage(alloc: Global, manager: &mut Manager, jobs: &str, second: u64) -> Resu
 fn managed(alloc: Global, jobs: &str, second: u64) -> Result<Manager, Fail>
     ensures ready { IfOk result (λ manager. manager.spent ≡ false) }
 {
-    let grant = resource_set::read(alloc, GRANT.as_bytes())?;
+    let grant = job_service::resource_set::read(alloc, GRANT.as_bytes())?;
     let setting = Setting {
         size: 3,
         fanout: 2,

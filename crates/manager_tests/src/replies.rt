@@ -1,14 +1,14 @@
 //! What commands are told where no job stands, and which of them wait.
 ghost use Rattle.std.specs.Prelude.{◌≡◌, ◌<◌, false, IfOk};
 
-use answers::Reply;
-use fl_digest::Hash;
-use job_commands::{Commands, JobAsk, Key, NamedList, Row};
-use job_manager::Manager;
-use job_replies::{is_ready, tell};
-use kvs_core::Setting;
-use kvs_txn::By;
-use lists::Bytes;
+use job_service::answers::Reply;
+use job_service::fl_digest::Hash;
+use job_service::job_commands::{Commands, JobAsk, Key, NamedList, Row};
+use job_service::job_manager::Manager;
+use job_service::job_replies::{is_ready, tell};
+use job_service::kvs_core::Setting;
+use job_service::kvs_txn::By;
+use job_service::lists::Bytes;
 use std::alloc::{AllocError, Global};
 use std::test::Fail;
 
@@ -95,7 +95,7 @@ fn managed(alloc: Global) -> Result<Manager, Fail>
     ensures ready { IfOk result (λ manager. manager.spent ≡ false) }
     ensures size { IfOk result (λ manager. manager.core.size ≡ 1) }
 {
-    let grant = resource_set::read(alloc, GRANT.as_bytes())?;
+    let grant = job_service::resource_set::read(alloc, GRANT.as_bytes())?;
     let setting = Setting {
         size: 1,
         fanout: 2,

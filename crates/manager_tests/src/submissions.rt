@@ -1,17 +1,17 @@
 //! A text that is no jobspec, a submission behind a label that names no job, and what is posted of
 //! one that is accepted.
 ghost use Rattle.std.specs.Prelude.{◌≡◌, IfOk, length};
-ghost use Rattle.job_commands.specs.Agrees.{AreDrawn};
-ghost use Rattle.job_commands.specs.Rows.{AreMarkedBy};
+ghost use Rattle.job_service.specs.job_commands.Agrees.{AreDrawn};
+ghost use Rattle.job_service.specs.job_commands.Rows.{AreMarkedBy};
 
-use job_book::Book;
-use job_commands::{Commands, JobAsk, Named, NamedList};
-use job_manager::Submission;
-use job_spec::Scheme;
-use job_submissions::faults::{Fault, fault_of};
-use job_submissions::posting::submission;
-use kvs_txn::By;
-use lists::Bytes;
+use job_service::job_book::Book;
+use job_service::job_commands::{Commands, JobAsk, Named, NamedList};
+use job_service::job_manager::Submission;
+use job_service::job_spec::Scheme;
+use job_service::job_submissions::faults::{Fault, fault_of};
+use job_service::job_submissions::posting::submission;
+use job_service::kvs_txn::By;
+use job_service::lists::Bytes;
 use std::alloc::Global;
 use std::test::Fail;
 
@@ -28,7 +28,7 @@ const GRANT: &str =
 
 /// A book of no jobs.
 fn book(alloc: Global) -> Result<Book, Fail> {
-    let grant = resource_set::read(alloc, GRANT.as_bytes())?;
+    let grant = job_service::resource_set::read(alloc, GRANT.as_bytes())?;
     Ok(Book::new(alloc, &grant)?)
 }
 
@@ -136,7 +136,7 @@ fn submitted(alloc: Global, spec: &str) -> Result<Commands, Fail>
 
 /// The id and the event of a submission.
 fn words_of(alloc: Global, x: &Submission) -> Result<String, Fail> {
-    let line = String::from_utf8(event_log::line(alloc, &x.event)?)?;
+    let line = String::from_utf8(job_service::event_log::line(alloc, &x.event)?)?;
     Ok(format!(in alloc; "{} {}", x.id, line.as_str())?)
 }
 

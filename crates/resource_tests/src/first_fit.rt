@@ -1,15 +1,15 @@
 //! First fit over grants of a few hosts, and the jobs in the way.
 ghost use Rattle.std.specs.Prelude.{◌≡◌, ◌+◌, ◌≤◌, ◌<◌, [], ◌∷◌, IfOk, IsTrue};
-ghost use Rattle.resource_set.specs.Units.{AreHosts};
+ghost use Rattle.job_rules.specs.resource_set.Units.{AreHosts};
 ghost use Rattle.job_rules.specs.Fits.{IsSpec};
 ghost use Rattle.graph_match.specs.Answers.{Answers};
 ghost use Rattle.graph_match.specs.Holds.{IsNew};
 
 use graph_match::{Fit, Free, Graph};
-use idset::IdSet;
-use job_spec::{JobSpec, Needs, Tasks, WordList};
-use lists::Bytes;
-use resource_set::{Node, NodeList, Resources, read};
+use job_rules::idset::IdSet;
+use job_rules::job_spec::{JobSpec, Needs, Tasks, WordList};
+use job_rules::lists::Bytes;
+use job_rules::resource_set::{Node, NodeList, Resources, read};
 use std::alloc::{AllocError, Global};
 use std::process::Abort;
 use std::test::Fail;

@@ -1,16 +1,16 @@
 -- An instance without job commands, at its birth.
 use Rattle.std.proofs.Common.{ℕ, Option, None, refl, true≢false, sym, arith}
-use Rattle.fl_digest.specs.declared.Hash.{Hash}
-use Rattle.instance_rules.specs.Log.{Instance}
-use Rattle.job_rules.specs.Fits.{IsGrant}
-use Rattle.kvs_rules.specs.Namespaces.{Request}
-use Rattle.kvs_txn.specs.declared.txn.By.{By}
-use Rattle.resource_set.specs.Writing.{r_text}
-use Rattle.resource_set.specs.declared.node.Resources.{Resources}
+use Rattle.services.specs.fl_digest.declared.Hash.{Hash}
+use Rattle.services.specs.instance_rules.Log.{Instance}
+use Rattle.services.specs.job_rules.Fits.{IsGrant}
+use Rattle.services.specs.kvs_rules.Namespaces.{Request}
+use Rattle.services.specs.kvs_txn.declared.txn.By.{By}
+use Rattle.services.specs.resource_set.Writing.{r_text}
+use Rattle.services.specs.resource_set.declared.node.Resources.{Resources}
 use Rattle.services.specs.Agrees.{IsGiven}
 use Rattle.service_tests.specs.Open.{asking}
-use Rattle.tap.specs.Factors.{priority_by}
-use Rattle.tap.specs.declared.weights.Weights.{Weights}
+use Rattle.services.specs.tap.Factors.{priority_by}
+use Rattle.services.specs.tap.declared.weights.Weights.{Weights}
 
 -- jobs have their urgency for their priority
 abbrev pub by_urgency : Weights

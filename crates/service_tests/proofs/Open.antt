@@ -3,24 +3,24 @@ use Rattle.std.proofs.Common.{◌≡◌, ℕ, ◌+◌, ◌<◌, ◌==◌, List, 
 use Rattle.std.specs.Prelude.{if◌then◌else◌}
 use Rattle.std.specs.List.{list_any}
 use Rattle.std.proofs.lemmas.List.Folds.{list_any-append}
-use Rattle.kvs_model.specs.Store.{Name}
-use Rattle.kvs_rules.specs.declared.events.KvsAnswer.{KvsAnswer}
-use Rattle.kvs_rules.specs.declared.events.KvsAsk.{KvsAsk}
-use Rattle.kvs_rules.specs.declared.events.KvsEvent.{KvsEvent}
-use Rattle.kvs_rules.specs.declared.events.KvsEvent.TheVariants as event
-use Rattle.kvs_rules.specs.declared.events.KvsStep.{KvsStep}
-use Rattle.kvs_rules.specs.Log as service
-use Rattle.kvs_rules.specs.Log.{Asked, Happened, asks_now, is_asked, same_command}
-use Rattle.kvs_rules.specs.Namespaces.{Request}
-use Rattle.instance_rules.specs.Log.{Log, Served, service_of}
-use Rattle.job_landings.proofs.Landing.{service_all}
-use Rattle.job_landings.specs.Landings.{happening}
-use Rattle.kvs_txn.specs.declared.txn.By.{By}
+use Rattle.services.specs.kvs_model.Store.{Name}
+use Rattle.services.specs.kvs_rules.declared.events.KvsAnswer.{KvsAnswer}
+use Rattle.services.specs.kvs_rules.declared.events.KvsAsk.{KvsAsk}
+use Rattle.services.specs.kvs_rules.declared.events.KvsEvent.{KvsEvent}
+use Rattle.services.specs.kvs_rules.declared.events.KvsEvent.TheVariants as event
+use Rattle.services.specs.kvs_rules.declared.events.KvsStep.{KvsStep}
+use Rattle.services.specs.kvs_rules.Log as service
+use Rattle.services.specs.kvs_rules.Log.{Asked, Happened, asks_now, is_asked, same_command}
+use Rattle.services.specs.kvs_rules.Namespaces.{Request}
+use Rattle.services.specs.instance_rules.Log.{Log, Served, service_of}
+use Rattle.services.proofs.job_landings_proofs.Landing.{service_all}
+use Rattle.services.specs.job_landings.Landings.{happening}
+use Rattle.services.specs.kvs_txn.declared.txn.By.{By}
 use Rattle.services.specs.Asks.{AgreesOnce, Keeps, MayAsk, Tells}
 use Rattle.services.specs.Makes.{Makes}
 use Rattle.service_tests.specs.Open.{IsOpenFrom, asking}
 use Rattle.services.specs.Value.{ServicesValue}
-use Rattle.job_commands.proofs.Logs.{service_push}
+use Rattle.services.proofs.job_commands_proofs.Logs.{service_push}
 
 -- a moment of the service stands behind those before it
 served_is : (log : Log) (m : service.Moment) → service_of (log ++ Served m ∷ []) ≡ service_of log ++ m ∷ []

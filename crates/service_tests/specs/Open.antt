@@ -1,9 +1,9 @@
 -- What the services' test goes on with.
 use Rattle.std.specs.Prelude.{◌≡◌, ℕ, ◌<◌, ◌≤◌, false, Option, None}
-use Rattle.instance_rules.specs.Log.{Instance, Log, service_of}
-use Rattle.kvs_rules.specs.Log.{is_asked}
-use Rattle.kvs_rules.specs.Namespaces.{Request}
-use Rattle.kvs_txn.specs.declared.txn.By.{By}
+use Rattle.services.specs.instance_rules.Log.{Instance, Log, service_of}
+use Rattle.services.specs.kvs_rules.Log.{is_asked}
+use Rattle.services.specs.kvs_rules.Namespaces.{Request}
+use Rattle.services.specs.kvs_txn.declared.txn.By.{By}
 use Rattle.services.specs.Agrees.{AgreesServices}
 use Rattle.services.specs.Value.{ServicesValue}
 

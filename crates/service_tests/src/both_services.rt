@@ -4,15 +4,15 @@ ghost use Rattle.std.specs.Prelude.{◌≡◌, ◌<◌, ◌+◌, IfOk, OnOk};
 ghost use Rattle.services.specs.Asks.{IsServedAsk};
 ghost use Rattle.service_tests.specs.Open.{IsOpenFrom};
 
-use fl_digest::{BlobRef, Hash};
-use kvs_core::Setting;
-use kvs_rules::{KvsAnswer, KvsAsk};
-use kvs_txn::{Author, By, Found, Op, Path, Query, Txn};
-use lists::{Bytes, ListOf};
 use services::Services;
+use services::fl_digest::{BlobRef, Hash};
+use services::kvs_core::Setting;
+use services::kvs_rules::{KvsAnswer, KvsAsk};
+use services::kvs_txn::{Author, By, Found, Op, Path, Query, Txn};
+use services::lists::{Bytes, ListOf};
+use services::tap::Weights;
 use std::alloc::Global;
 use std::test::Fail;
-use tap::Weights;
 
 /// A grant of one host of two cores.
 const GRANT: &str =
@@ -64,7 +64,7 @@ const TOLD: &str =
 fn begun(alloc: Global) -> Result<Services, Fail>
     ensures { IfOk result (IsOpenFrom 0) }
 {
-    let grant = resource_set::read(alloc, GRANT.as_bytes())?;
+    let grant = services::resource_set::read(alloc, GRANT.as_bytes())?;
     let setting = Setting {
         size: 4,
         fanout: 2,

@@ -1,13 +1,13 @@
 -- An instance without job commands, at its birth.
 use Rattle.std.proofs.Common.{ℕ, None, refl, true≢false, sym, arith}
-use Rattle.fl_digest.specs.declared.Hash.{Hash}
-use Rattle.instance_rules.specs.Log.{Instance}
-use Rattle.job_rules.specs.Fits.{IsGrant}
-use Rattle.resource_set.specs.Writing.{r_text}
-use Rattle.resource_set.specs.declared.node.Resources.{Resources}
+use Rattle.job_service.specs.fl_digest.declared.Hash.{Hash}
+use Rattle.job_service.specs.instance_rules.Log.{Instance}
+use Rattle.job_service.specs.job_rules.Fits.{IsGrant}
+use Rattle.job_service.specs.resource_set.Writing.{r_text}
+use Rattle.job_service.specs.resource_set.declared.node.Resources.{Resources}
 use Rattle.services.specs.Agrees.{IsGiven}
-use Rattle.tap.specs.Factors.{priority_by}
-use Rattle.tap.specs.declared.weights.Weights.{Weights}
+use Rattle.job_service.specs.tap.Factors.{priority_by}
+use Rattle.job_service.specs.tap.declared.weights.Weights.{Weights}
 
 module _ (size fanout : ℕ) (hash : Hash) (grant : Resources) (birth : ℕ) (weights : Weights) where
   abbrev pub plain : Instance

@@ -2,24 +2,24 @@
 use Rattle.std.proofs.Common.{◌≡◌, List, [], ◌∷◌, ◌++◌, map, Bool, true, false, ◌&&◌, Option, Some, None, refl, sym, ap, ◌∙◌, true≢false}
 use Rattle.std.specs.List.{AllByRecursion as Each}
 use Rattle.std.specs.Option.{option_map_or}
-use Rattle.kvs_txn.specs.declared.txn.By.{By}
-use Rattle.kvs_rules.specs.declared.events.KvsAsk.{KvsAsk}
-use Rattle.kvs_rules.specs.declared.events.KvsAsk.TheVariants as ask
-use Rattle.kvs_rules.specs.declared.events.KvsEvent.{KvsEvent}
-use Rattle.kvs_rules.specs.declared.events.KvsEvent.TheVariants as event
-use Rattle.kvs_rules.specs.Answers.{IsLegalMoment}
-use Rattle.kvs_rules.specs.Log.{Happened, Log, Moment, same_command}
-use Rattle.kvs_rules.specs.Namespaces.{Request, Setting}
-use Rattle.kvs_rules.proofs.Asking.{command_is}
-use Rattle.kvs_requests.specs.Agreement.{RowAgrees as CoreRowAgrees}
-use Rattle.kvs_requests.specs.Rows.{IsKnownAsk, asks_contents, is_about_contents}
-use Rattle.kvs_requests.specs.Stages.{is_held as core_is_held}
-use Rattle.kvs_core.specs.Agrees.{Agrees}
-use Rattle.kvs_core.specs.Contents.{IsOfContents}
-use Rattle.kvs_core.specs.Makes.{IsOfKeys}
-use Rattle.kvs_core.specs.Steps.{can_take as core_can_take}
-use Rattle.kvs_core.specs.Value.{CoreValue}
-use Rattle.kvs_space.proofs.Finding.{and-left}
+use Rattle.job_service.specs.kvs_txn.declared.txn.By.{By}
+use Rattle.job_service.specs.kvs_rules.declared.events.KvsAsk.{KvsAsk}
+use Rattle.job_service.specs.kvs_rules.declared.events.KvsAsk.TheVariants as ask
+use Rattle.job_service.specs.kvs_rules.declared.events.KvsEvent.{KvsEvent}
+use Rattle.job_service.specs.kvs_rules.declared.events.KvsEvent.TheVariants as event
+use Rattle.job_service.specs.kvs_rules.Answers.{IsLegalMoment}
+use Rattle.job_service.specs.kvs_rules.Log.{Happened, Log, Moment, same_command}
+use Rattle.job_service.specs.kvs_rules.Namespaces.{Request, Setting}
+use Rattle.job_service.proofs.kvs_rules_proofs.Asking.{command_is}
+use Rattle.job_service.specs.kvs_requests.Agreement.{RowAgrees as CoreRowAgrees}
+use Rattle.job_service.specs.kvs_requests.Rows.{IsKnownAsk, asks_contents, is_about_contents}
+use Rattle.job_service.specs.kvs_requests.Stages.{is_held as core_is_held}
+use Rattle.job_service.specs.kvs_core.Agrees.{Agrees}
+use Rattle.job_service.specs.kvs_core.Contents.{IsOfContents}
+use Rattle.job_service.specs.kvs_core.Makes.{IsOfKeys}
+use Rattle.job_service.specs.kvs_core.Steps.{can_take as core_can_take}
+use Rattle.job_service.specs.kvs_core.Value.{CoreValue}
+use Rattle.job_service.proofs.kvs_space_proofs.Finding.{and-left}
 use Rattle.kvs_content.proofs.Linking.{some-one}
 use Rattle.content_service.specs.Agrees.{AgreesService, RowAgrees}
 use Rattle.content_service.specs.Asks.{IsOthers, asks_content, is_content}

@@ -1,9 +1,9 @@
 -- Both services have the links of one tree.
 use Rattle.std.proofs.Common.{◌≡◌, ◌∙◌, ℕ, ◌<◌, ◌⊎◌, ◌||◌, Bool, true, false, refl, sym, subst}
-use Rattle.kvs_rules.specs.Brokers.{parent}
-use Rattle.kvs_rules.specs.declared.events.KvsStep.TheVariants as kvs
-use Rattle.kvs_core.specs.Steps.{can_step as core_can_step}
-use Rattle.kvs_core.specs.Value.{CoreValue}
+use Rattle.job_service.specs.kvs_rules.Brokers.{parent}
+use Rattle.job_service.specs.kvs_rules.declared.events.KvsStep.TheVariants as kvs
+use Rattle.job_service.specs.kvs_core.Steps.{can_step as core_can_step}
+use Rattle.job_service.specs.kvs_core.Value.{CoreValue}
 use Rattle.content_service.specs.Steps.{can_step as contents_can_step}
 use Rattle.content_service.specs.Value.{ContentServiceValue}
 use Rattle.services.specs.View.{IsFit}

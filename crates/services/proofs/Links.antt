@@ -1,11 +1,11 @@
 -- A broker sends to the broker above it and to those below it alone.
 use Rattle.std.proofs.Common.{◌≡◌, ◌∙◌, ℕ, ◌+◌, ◌*◌, ◌<◌, ◌≤◌, ◌⊎◌, inl, inr, min, ◌++◌, map, true, sym, arith}
 use Rattle.std.specs.List.{filter}
-use Rattle.kvs_rules.specs.Brokers.{parent}
-use Rattle.kvs_rules.specs.declared.events.KvsStep.TheVariants as kvs
-use Rattle.kvs_core.specs.Walk.{between, sent}
-use Rattle.kvs_core.proofs.Links.{children, times-le, two-parts}
-use Rattle.kvs_requests.proofs.Ways.{parent-le}
+use Rattle.job_service.specs.kvs_rules.Brokers.{parent}
+use Rattle.job_service.specs.kvs_rules.declared.events.KvsStep.TheVariants as kvs
+use Rattle.job_service.specs.kvs_core.Walk.{between, sent}
+use Rattle.job_service.proofs.kvs_core_proofs.Links.{children, times-le, two-parts}
+use Rattle.job_service.proofs.kvs_requests_proofs.Ways.{parent-le}
 use Rattle.services.specs.Steps.{can_step}
 use Rattle.services.specs.Value.{ServicesValue}
 

@@ -1,11 +1,11 @@
 -- Where nothing can go on, nothing of the services can.
 use Rattle.std.proofs.Common.{◌≡◌, ◌||◌, Bool, true, false, refl, ◌∙◌, true≢false}
-use Rattle.kvs_rules.specs.Log.{IsOpen, Log}
-use Rattle.kvs_rules.specs.Namespaces.{Setting}
-use Rattle.kvs_rules.specs.declared.events.KvsStep.{KvsStep}
-use Rattle.kvs_txn.specs.declared.txn.By.{By}
-use Rattle.kvs_requests.specs.Rows.{asks_contents}
-use Rattle.kvs_core.specs.Steps.{IsStill as CoreIsStill, can_step as core_can_step, can_take as core_can_take}
+use Rattle.job_service.specs.kvs_rules.Log.{IsOpen, Log}
+use Rattle.job_service.specs.kvs_rules.Namespaces.{Setting}
+use Rattle.job_service.specs.kvs_rules.declared.events.KvsStep.{KvsStep}
+use Rattle.job_service.specs.kvs_txn.declared.txn.By.{By}
+use Rattle.job_service.specs.kvs_requests.Rows.{asks_contents}
+use Rattle.job_service.specs.kvs_core.Steps.{IsStill as CoreIsStill, can_step as core_can_step, can_take as core_can_take}
 use Rattle.content_service.specs.Asks.{asks_content}
 use Rattle.content_service.specs.Steps.{IsStill as ContentsAreStill, can_step as contents_can_step, can_take as contents_can_take}
 use Rattle.job_service.specs.Still.{IsStill as JobsAreStill}

@@ -2,31 +2,31 @@
 use Rattle.std.proofs.Common.{◌≡◌, ℕ, List, [], ◌∷◌, ◌++◌, map, Bool, false, Option, None, IsSome, refl, sym, ap, ◌∙◌, subst, append-nil, append_assoc}
 use Rattle.std.specs.List.{AllByRecursion as Each}
 use Rattle.std.proofs.lemmas.Bool.{or_from, or_parts}
-use Rattle.kvs_core.specs.Agrees.{Agrees}
-use Rattle.kvs_core.specs.Contents.{IsOfContents}
-use Rattle.kvs_core.specs.Posted.{LandsUsers}
-use Rattle.kvs_rules.proofs.Logs.{legal_joined}
-use Rattle.kvs_rules.proofs.Sequences.{latest_push}
-use Rattle.kvs_rules.proofs.Stores.{any_push}
-use Rattle.kvs_rules.specs.Answers.{IsLegalAfter, IsLegalLog, IsLegalMoment as IsLegalService}
-use Rattle.kvs_rules.specs.Log as service
-use Rattle.kvs_rules.specs.Sequence.{EachAfter}
-use Rattle.kvs_rules.specs.declared.events.KvsEvent.{KvsEvent}
-use Rattle.kvs_rules.specs.declared.events.KvsEvent.TheVariants as event
-use Rattle.kvs_txn.specs.declared.txn.By.{By}
+use Rattle.job_service.specs.kvs_core.Agrees.{Agrees}
+use Rattle.job_service.specs.kvs_core.Contents.{IsOfContents}
+use Rattle.job_service.specs.kvs_core.Posted.{LandsUsers}
+use Rattle.job_service.proofs.kvs_rules_proofs.Logs.{legal_joined}
+use Rattle.job_service.proofs.kvs_rules_proofs.Sequences.{latest_push}
+use Rattle.job_service.proofs.kvs_rules_proofs.Stores.{any_push}
+use Rattle.job_service.specs.kvs_rules.Answers.{IsLegalAfter, IsLegalLog, IsLegalMoment as IsLegalService}
+use Rattle.job_service.specs.kvs_rules.Log as service
+use Rattle.job_service.specs.kvs_rules.Sequence.{EachAfter}
+use Rattle.job_service.specs.kvs_rules.declared.events.KvsEvent.{KvsEvent}
+use Rattle.job_service.specs.kvs_rules.declared.events.KvsEvent.TheVariants as event
+use Rattle.job_service.specs.kvs_txn.declared.txn.By.{By}
 use Rattle.content_service.specs.Makes.{IsOfContents as IsContentEvent}
-use Rattle.instance_rules.specs.Legal.{IsLegalMoment}
-use Rattle.instance_rules.specs.Log.{Born, Gone, Instance, JobAsk, JobReply, Log, Moment, Served, Issued, Replied, SinceIssued, Submit, Ticked, is_issued, is_replied, issues_now, replies_now, service_of, ticked}
-use Rattle.instance_rules.specs.Replies.{FindsNoJob, IsLegalReply, LacksJob}
-use Rattle.job_commands.proofs.Logs.{open_kept, service_push, undecided_kept}
-use Rattle.job_commands.proofs.Steps.{beside_agrees}
-use Rattle.job_commands.specs.Moments.{IsBeside, decides_now}
-use Rattle.job_landings.proofs.Landing.{legal_next, users_legal}
-use Rattle.job_landings.proofs.Naming.{event_beside}
-use Rattle.job_landings.proofs.Serving.{desk_same}
-use Rattle.job_landings.specs.Landings.{happening}
-use Rattle.job_submissions.specs.declared.faults.Fault.{Fault}
-use Rattle.job_submissions.specs.declared.faults.Fault.TheVariants as fault
+use Rattle.job_service.specs.instance_rules.Legal.{IsLegalMoment}
+use Rattle.job_service.specs.instance_rules.Log.{Born, Gone, Instance, JobAsk, JobReply, Log, Moment, Served, Issued, Replied, SinceIssued, Submit, Ticked, is_issued, is_replied, issues_now, replies_now, service_of, ticked}
+use Rattle.job_service.specs.instance_rules.Replies.{FindsNoJob, IsLegalReply, LacksJob}
+use Rattle.job_service.proofs.job_commands_proofs.Logs.{open_kept, service_push, undecided_kept}
+use Rattle.job_service.proofs.job_commands_proofs.Steps.{beside_agrees}
+use Rattle.job_service.specs.job_commands.Moments.{IsBeside, decides_now}
+use Rattle.job_service.proofs.job_landings_proofs.Landing.{legal_next, users_legal}
+use Rattle.job_service.proofs.job_landings_proofs.Naming.{event_beside}
+use Rattle.job_service.proofs.job_landings_proofs.Serving.{desk_same}
+use Rattle.job_service.specs.job_landings.Landings.{happening}
+use Rattle.job_service.specs.job_submissions.declared.faults.Fault.{Fault}
+use Rattle.job_service.specs.job_submissions.declared.faults.Fault.TheVariants as fault
 use Rattle.job_service.specs.Agrees.{AgreesJobs, IsUntold}
 use Rattle.job_service.specs.Due.{Owes}
 use Rattle.job_service.specs.Refusals.{reply_to}

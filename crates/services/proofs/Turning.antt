@@ -1,29 +1,29 @@
 -- What each call makes of the services, and that they can go on.
 use Rattle.std.proofs.Common.{◌≡◌, ℕ, List, [], ◌∷◌, ◌++◌, map, true, false, Option, Some, None, refl, sym, ◌∙◌, subst}
 use Rattle.std.specs.List.{AllByRecursion as Each}
-use Rattle.kvs_txn.specs.declared.txn.By.{By}
-use Rattle.kvs_model.specs.Store.{Name}
-use Rattle.kvs_rules.specs.declared.events.KvsAnswer.{KvsAnswer}
-use Rattle.kvs_rules.specs.declared.events.KvsAsk.{KvsAsk}
-use Rattle.kvs_rules.specs.declared.events.KvsEvent.{KvsEvent}
-use Rattle.kvs_rules.specs.declared.events.KvsEvent.TheVariants as event
-use Rattle.kvs_rules.specs.declared.events.KvsStep.{KvsStep}
-use Rattle.kvs_rules.specs.Answers.{IsLegalAfter, IsLegalAnswer, IsLegalMoment as IsLegalService}
-use Rattle.kvs_rules.specs.Log as service
-use Rattle.kvs_rules.specs.Log.{Asked, Happened, is_asked}
-use Rattle.kvs_rules.specs.Namespaces.{Request, Setting}
-use Rattle.kvs_core.specs.Steps.{can_take as core_can_take}
+use Rattle.job_service.specs.kvs_txn.declared.txn.By.{By}
+use Rattle.job_service.specs.kvs_model.Store.{Name}
+use Rattle.job_service.specs.kvs_rules.declared.events.KvsAnswer.{KvsAnswer}
+use Rattle.job_service.specs.kvs_rules.declared.events.KvsAsk.{KvsAsk}
+use Rattle.job_service.specs.kvs_rules.declared.events.KvsEvent.{KvsEvent}
+use Rattle.job_service.specs.kvs_rules.declared.events.KvsEvent.TheVariants as event
+use Rattle.job_service.specs.kvs_rules.declared.events.KvsStep.{KvsStep}
+use Rattle.job_service.specs.kvs_rules.Answers.{IsLegalAfter, IsLegalAnswer, IsLegalMoment as IsLegalService}
+use Rattle.job_service.specs.kvs_rules.Log as service
+use Rattle.job_service.specs.kvs_rules.Log.{Asked, Happened, is_asked}
+use Rattle.job_service.specs.kvs_rules.Namespaces.{Request, Setting}
+use Rattle.job_service.specs.kvs_core.Steps.{can_take as core_can_take}
 use Rattle.content_service.specs.Agrees.{AgreesService}
 use Rattle.content_service.specs.Asks.{IsOthers, is_content}
 use Rattle.content_service.specs.Makes.{Makes as ContentsMake}
 use Rattle.content_service.specs.Steps.{can_take as contents_can_take}
 use Rattle.content_service.specs.Value.{ContentServiceValue}
-use Rattle.instance_rules.specs.Legal.{IsLegalMoment}
-use Rattle.instance_rules.specs.Log.{Instance, Log, Moment, Served, service_of}
-use Rattle.job_commands.specs.declared.ask.JobAsk.{JobAsk}
-use Rattle.job_landings.proofs.Landing.{service_all}
-use Rattle.job_landings.proofs.Naming.{asked_beside, event_beside}
-use Rattle.job_landings.specs.Landings.{happening}
+use Rattle.job_service.specs.instance_rules.Legal.{IsLegalMoment}
+use Rattle.job_service.specs.instance_rules.Log.{Instance, Log, Moment, Served, service_of}
+use Rattle.job_service.specs.job_commands.declared.ask.JobAsk.{JobAsk}
+use Rattle.job_service.proofs.job_landings_proofs.Landing.{service_all}
+use Rattle.job_service.proofs.job_landings_proofs.Naming.{asked_beside, event_beside}
+use Rattle.job_service.specs.job_landings.Landings.{happening}
 use Rattle.job_service.specs.Agrees.{AgreesJobs, IsNewAsk, MayIssue}
 use Rattle.job_service.specs.Makes.{Makes as JobsMake}
 use Rattle.job_service.specs.Times.{KeepsCounts}

@@ -1,16 +1,16 @@
 -- Whose answer waits to be taken has asked, and waits.
 use Rattle.std.proofs.Common.{◌≡◌, ℕ, zero, suc, ◌<◌, List, [], ◌∷◌, length, Bool, true, false, ◌||◌, ◌&&◌, Option, Some, None, refl, sym, ap, subst, arith, get_or}
 use Rattle.std.specs.Option.{option_map_or}
-use Rattle.kvs_txn.specs.declared.txn.By.{By}
-use Rattle.kvs_rules.specs.Log.{IsOpen, same_command}
-use Rattle.kvs_rules.specs.Namespaces.{Request}
-use Rattle.instance_rules.specs.Log.{Instance, Log, service_of}
-use Rattle.kvs_rules.proofs.Asking.{command_is}
-use Rattle.kvs_requests.specs.Agreement.{RowAgrees as CoreRowAgrees}
-use Rattle.kvs_requests.specs.Rows.{asks_contents, is_about_contents}
-use Rattle.kvs_requests.specs.Stages.{is_held as core_is_held}
-use Rattle.kvs_space.proofs.Finding.{and-left}
-use Rattle.kvs_core.specs.Steps.{can_take as core_can_take}
+use Rattle.job_service.specs.kvs_txn.declared.txn.By.{By}
+use Rattle.job_service.specs.kvs_rules.Log.{IsOpen, same_command}
+use Rattle.job_service.specs.kvs_rules.Namespaces.{Request}
+use Rattle.job_service.specs.instance_rules.Log.{Instance, Log, service_of}
+use Rattle.job_service.proofs.kvs_rules_proofs.Asking.{command_is}
+use Rattle.job_service.specs.kvs_requests.Agreement.{RowAgrees as CoreRowAgrees}
+use Rattle.job_service.specs.kvs_requests.Rows.{asks_contents, is_about_contents}
+use Rattle.job_service.specs.kvs_requests.Stages.{is_held as core_is_held}
+use Rattle.job_service.proofs.kvs_space_proofs.Finding.{and-left}
+use Rattle.job_service.specs.kvs_core.Steps.{can_take as core_can_take}
 use Rattle.kvs_content.proofs.Linking.{some-one}
 use Rattle.content_service.specs.Agrees.{RowAgrees}
 use Rattle.content_service.specs.Rows.{is_held}

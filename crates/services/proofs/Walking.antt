@@ -6,15 +6,15 @@ use Rattle.std.specs.Option.{option_map_or}
 use Rattle.std.proofs.lemmas.Bool.{cases_eq}
 use Rattle.std.proofs.lemmas.Option.{slice_get_within}
 use Rattle.std.proofs.lemmas.List.Elements.{filter-append}
-use Rattle.kvs_rules.specs.Brokers.{parent}
-use Rattle.kvs_rules.specs.declared.events.KvsStep.{KvsStep}
-use Rattle.kvs_rules.specs.declared.events.KvsStep.TheVariants as kvs
-use Rattle.kvs_requests.proofs.Ways.{parent-le}
-use Rattle.kvs_space.proofs.Finding.{and-left, lt-is}
-use Rattle.kvs_space.specs.Space.{SpaceValue, is_ready}
-use Rattle.kvs_core.specs.Order.{all_steps, possible as core_possible}
-use Rattle.kvs_core.specs.Steps.{can_step as core_can_step}
-use Rattle.kvs_core.specs.Walk.{nth}
+use Rattle.job_service.specs.kvs_rules.Brokers.{parent}
+use Rattle.job_service.specs.kvs_rules.declared.events.KvsStep.{KvsStep}
+use Rattle.job_service.specs.kvs_rules.declared.events.KvsStep.TheVariants as kvs
+use Rattle.job_service.proofs.kvs_requests_proofs.Ways.{parent-le}
+use Rattle.job_service.proofs.kvs_space_proofs.Finding.{and-left, lt-is}
+use Rattle.job_service.specs.kvs_space.Space.{SpaceValue, is_ready}
+use Rattle.job_service.specs.kvs_core.Order.{all_steps, possible as core_possible}
+use Rattle.job_service.specs.kvs_core.Steps.{can_step as core_can_step}
+use Rattle.job_service.specs.kvs_core.Walk.{nth}
 use Rattle.content_service.specs.Steps.{can_step as contents_can_step}
 use Rattle.services.specs.Order.{possible}
 use Rattle.services.specs.Steps.{can_step}

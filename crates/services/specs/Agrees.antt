@@ -1,14 +1,14 @@
 -- When the services stand where the log of an instance leaves them.
 use Rattle.std.specs.Prelude.{◌≡◌, ℕ}
-use Rattle.fl_digest.specs.declared.Hash.{Hash}
-use Rattle.instance_rules.specs.Log.{Instance, Log, service_of}
-use Rattle.kvs_rules.specs.Log as service
-use Rattle.kvs_rules.specs.Namespaces.{Setting}
+use Rattle.job_service.specs.fl_digest.declared.Hash.{Hash}
+use Rattle.job_service.specs.instance_rules.Log.{Instance, Log, service_of}
+use Rattle.job_service.specs.kvs_rules.Log as service
+use Rattle.job_service.specs.kvs_rules.Namespaces.{Setting}
 use Rattle.content_service.specs.Agrees.{AgreesService}
 use Rattle.job_service.specs.Agrees.{AgreesJobs, IsServedBy}
-use Rattle.resource_set.specs.declared.node.Resources.{Resources}
+use Rattle.job_service.specs.resource_set.declared.node.Resources.{Resources}
 use Rattle.services.specs.Value.{ServicesValue}
-use Rattle.tap.specs.declared.weights.Weights.{Weights}
+use Rattle.job_service.specs.tap.declared.weights.Weights.{Weights}
 
 -- the jobs with the key-value service, and the contents, stand where one log of the instance leaves
 -- them, which has so many brokers in such a tree

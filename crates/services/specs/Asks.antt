@@ -1,18 +1,18 @@
 -- What is asked of the services, and what is told.
 use Rattle.std.specs.Prelude.{◌≡◌, ℕ, [], ◌∷◌, ◌++◌, Option, Some}
-use Rattle.kvs_model.specs.Store.{Name}
-use Rattle.kvs_requests.specs.Rows.{IsKnownAsk}
-use Rattle.kvs_rules.specs.declared.events.KvsAsk.{KvsAsk}
-use Rattle.kvs_rules.specs.declared.events.KvsAsk.TheVariants as ask
-use Rattle.kvs_rules.specs.declared.events.KvsAnswer.{KvsAnswer}
-use Rattle.kvs_rules.specs.declared.events.KvsEvent.TheVariants as event
-use Rattle.kvs_rules.specs.Log.{Asked, Happened}
-use Rattle.kvs_txn.specs.declared.txn.By.{By}
-use Rattle.answers.specs.Jobs.{job_reply_of}
-use Rattle.answers.specs.declared.chronicle.Reply.{Reply}
-use Rattle.instance_rules.specs.Legal.{IsLegalMoment}
-use Rattle.instance_rules.specs.Log.{Instance, JobReply, Log, Replied, Served}
-use Rattle.instance_rules.specs.Replies.{IsLegalReply}
+use Rattle.job_service.specs.kvs_model.Store.{Name}
+use Rattle.job_service.specs.kvs_requests.Rows.{IsKnownAsk}
+use Rattle.job_service.specs.kvs_rules.declared.events.KvsAsk.{KvsAsk}
+use Rattle.job_service.specs.kvs_rules.declared.events.KvsAsk.TheVariants as ask
+use Rattle.job_service.specs.kvs_rules.declared.events.KvsAnswer.{KvsAnswer}
+use Rattle.job_service.specs.kvs_rules.declared.events.KvsEvent.TheVariants as event
+use Rattle.job_service.specs.kvs_rules.Log.{Asked, Happened}
+use Rattle.job_service.specs.kvs_txn.declared.txn.By.{By}
+use Rattle.job_service.specs.answers.Jobs.{job_reply_of}
+use Rattle.job_service.specs.answers.declared.chronicle.Reply.{Reply}
+use Rattle.job_service.specs.instance_rules.Legal.{IsLegalMoment}
+use Rattle.job_service.specs.instance_rules.Log.{Instance, JobReply, Log, Replied, Served}
+use Rattle.job_service.specs.instance_rules.Replies.{IsLegalReply}
 use Rattle.job_service.specs.Agrees.{IsNewAsk}
 use Rattle.job_service.specs.Times.{KeepsCounts}
 use Rattle.services.specs.Agrees.{AgreesServices}

@@ -1,12 +1,12 @@
 -- What a step does of the services.
 use Rattle.std.specs.Prelude.{◌≡◌, ◌++◌, List, false, map}
-use Rattle.kvs_rules.specs.declared.events.KvsEvent.{KvsEvent}
-use Rattle.kvs_rules.specs.declared.events.KvsStep.{KvsStep}
-use Rattle.kvs_rules.specs.Sequence.{EachAfter}
-use Rattle.kvs_rules.specs.Steps.{AreMadeBy}
-use Rattle.instance_rules.specs.Legal.{IsLegalMoment}
-use Rattle.instance_rules.specs.Log.{Instance, Log, service_of}
-use Rattle.job_landings.specs.Landings.{happening}
+use Rattle.job_service.specs.kvs_rules.declared.events.KvsEvent.{KvsEvent}
+use Rattle.job_service.specs.kvs_rules.declared.events.KvsStep.{KvsStep}
+use Rattle.job_service.specs.kvs_rules.Sequence.{EachAfter}
+use Rattle.job_service.specs.kvs_rules.Steps.{AreMadeBy}
+use Rattle.job_service.specs.instance_rules.Legal.{IsLegalMoment}
+use Rattle.job_service.specs.instance_rules.Log.{Instance, Log, service_of}
+use Rattle.job_service.specs.job_landings.Landings.{happening}
 use Rattle.services.specs.Agrees.{AgreesServices}
 use Rattle.services.specs.Asks.{Keeps}
 use Rattle.services.specs.Value.{ServicesValue}

@@ -1,8 +1,8 @@
 -- Which steps can be made, in the order in which they are made.
 use Rattle.std.specs.Prelude.{List, length}
 use Rattle.std.specs.List.{filter}
-use Rattle.kvs_rules.specs.declared.events.KvsStep.{KvsStep}
-use Rattle.kvs_core.specs.Order.{all_steps}
+use Rattle.job_service.specs.kvs_rules.declared.events.KvsStep.{KvsStep}
+use Rattle.job_service.specs.kvs_core.Order.{all_steps}
 use Rattle.services.specs.Steps.{can_step}
 use Rattle.services.specs.Value.{ServicesValue}
 

@@ -1,8 +1,8 @@
 -- Which steps the services can make.
 use Rattle.std.specs.Prelude.{◌≡◌, ◌||◌, Bool, false}
-use Rattle.kvs_txn.specs.declared.txn.By.{By}
-use Rattle.kvs_rules.specs.declared.events.KvsStep.{KvsStep}
-use Rattle.kvs_core.specs.Steps.{can_step as core_can_step, can_take as core_can_take}
+use Rattle.job_service.specs.kvs_txn.declared.txn.By.{By}
+use Rattle.job_service.specs.kvs_rules.declared.events.KvsStep.{KvsStep}
+use Rattle.job_service.specs.kvs_core.Steps.{can_step as core_can_step, can_take as core_can_take}
 use Rattle.content_service.specs.Steps.{can_step as contents_can_step, can_take as contents_can_take}
 use Rattle.job_service.specs.Children.{is_due}
 use Rattle.job_service.specs.Replies.{can_reply}

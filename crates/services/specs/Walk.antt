@@ -1,7 +1,7 @@
 -- The steps that can be made, by number.
 use Rattle.std.specs.Prelude.{ℕ}
-use Rattle.kvs_rules.specs.declared.events.KvsStep.{KvsStep}
-use Rattle.kvs_rules.specs.declared.events.KvsStep.TheVariants as kvs
+use Rattle.job_service.specs.kvs_rules.declared.events.KvsStep.{KvsStep}
+use Rattle.job_service.specs.kvs_rules.declared.events.KvsStep.TheVariants as kvs
 use Rattle.services.specs.declared.services.walk.Strand.{Strand}
 use Rattle.services.specs.declared.services.walk.Strand.TheVariants as strand
 

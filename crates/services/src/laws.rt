@@ -1,7 +1,7 @@
 //! What follows from the words of the contracts.
 ghost use Rattle.std.specs.Prelude.{◌≡◌, ◌++◌, ◌∷◌, [], None, Some, false};
-ghost use Rattle.instance_rules.specs.Log.{Instance, IsOpen, Issued, Log, Replied, Shut, Shutdown, is_issued};
-ghost use Rattle.kvs_txn.specs.declared.txn.By.{By};
+ghost use Rattle.job_service.specs.instance_rules.Log.{Instance, IsOpen, Issued, Log, Replied, Shut, Shutdown, is_issued};
+ghost use Rattle.job_service.specs.kvs_txn.declared.txn.By.{By};
 ghost use Rattle.services.specs.Agrees.{AgreesServices};
 ghost use Rattle.services.specs.Value.{ServicesValue};
 

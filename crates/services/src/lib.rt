@@ -2,6 +2,15 @@
 //! jobs over it, and the contents. They stand beside each other over one log.
 #![tactic(auto)]
 
+// The crates below that those above reach through this one.
+pub use content_service;
+pub use job_service;
+pub use job_service::{
+    answers, fl_digest, job_commands, job_states, kvs_core, kvs_rules, kvs_txn, lists,
+    resource_set, tap, workload,
+};
+pub use kvs_content;
+
 pub mod laws;
 mod services;
 

@@ -1,32 +1,32 @@
 //! The services.
 ghost use Rattle.std.specs.Prelude.{◌≡◌, ◌≢◌, ◌<◌, ◌≤◌, ◌+◌, ◌^◌, ◌++◌, ◌∷◌, [], ℕ, true, false, None, Some, is_some, slice_get, IsSome, IfOk, IfSome, OnErr, OnOk};
-ghost use Rattle.kvs_model.specs.Store.{Name};
-ghost use Rattle.kvs_rules.specs.Namespaces.{is_live};
-ghost use Rattle.kvs_rules.specs.Quiet.{IsQuiet};
-ghost use Rattle.kvs_rules.specs.Brokers.{heard};
+ghost use Rattle.job_service.specs.kvs_model.Store.{Name};
+ghost use Rattle.job_service.specs.kvs_rules.Namespaces.{is_live};
+ghost use Rattle.job_service.specs.kvs_rules.Quiet.{IsQuiet};
+ghost use Rattle.job_service.specs.kvs_rules.Brokers.{heard};
 ghost use Rattle.content_service.specs.Asks.{is_content};
-ghost use Rattle.instance_rules.specs.Desks.{is_submission};
-ghost use Rattle.instance_rules.specs.Family.{HasTarget, IsLeftResult, Living};
-ghost use Rattle.instance_rules.specs.Legal.{IsLegalMoment, OfDesk};
-ghost use Rattle.instance_rules.specs.Log.{Born, Gone, Instance, IsOpen, Issued, Log, Shutdown, Ticked, service_of};
-ghost use Rattle.job_clock.specs.Standing.{IsLiving};
-ghost use Rattle.job_commands.specs.Asks.{told};
+ghost use Rattle.job_service.specs.instance_rules.Desks.{is_submission};
+ghost use Rattle.job_service.specs.instance_rules.Family.{HasTarget, IsLeftResult, Living};
+ghost use Rattle.job_service.specs.instance_rules.Legal.{IsLegalMoment, OfDesk};
+ghost use Rattle.job_service.specs.instance_rules.Log.{Born, Gone, Instance, IsOpen, Issued, Log, Shutdown, Ticked, service_of};
+ghost use Rattle.job_service.specs.job_clock.Standing.{IsLiving};
+ghost use Rattle.job_service.specs.job_commands.Asks.{told};
 ghost use Rattle.job_service.specs.Agrees.{HasRoom, IsNewCommand, MayIssue};
 ghost use Rattle.job_service.specs.Children.{is_due, may_end};
 ghost use Rattle.job_service.specs.Replies.{can_reply};
 ghost use Rattle.job_service.specs.Still.{awaited};
 ghost use Rattle.job_service.specs.Times.{Counts, HasTime, MayPassTo, targets_left};
-ghost use Rattle.job_rules.specs.Fits.{IsGrant};
-ghost use Rattle.job_states.specs.declared.job.State.{State};
-ghost use Rattle.kvs_txn.specs.declared.txn.By.{By as Command};
-ghost use Rattle.manager_rules.specs.Times.{IsIdle};
-ghost use Rattle.resource_set.specs.Valid.{IsR};
+ghost use Rattle.job_service.specs.job_rules.Fits.{IsGrant};
+ghost use Rattle.job_service.specs.job_states.declared.job.State.{State};
+ghost use Rattle.job_service.specs.kvs_txn.declared.txn.By.{By as Command};
+ghost use Rattle.job_service.specs.manager_rules.Times.{IsIdle};
+ghost use Rattle.job_service.specs.resource_set.Valid.{IsR};
 ghost use Rattle.services.specs.Agrees.{AgreesServices, IsGiven};
 ghost use Rattle.services.specs.Asks.{AgreesOnce, Answers, IsServedAsk, Keeps, MayAsk, Tells};
 ghost use Rattle.services.specs.Makes.{Makes};
 ghost use Rattle.services.specs.Order.{possible};
-ghost use Rattle.kvs_requests.specs.Rows.{IsKnownAsk};
-ghost use Rattle.kvs_core.specs.Steps.{can_step as core_can_step, can_take as core_can_take};
+ghost use Rattle.job_service.specs.kvs_requests.Rows.{IsKnownAsk};
+ghost use Rattle.job_service.specs.kvs_core.Steps.{can_step as core_can_step, can_take as core_can_take};
 ghost use Rattle.content_service.specs.Steps.{can_step as contents_can_step, can_take as contents_can_take};
 ghost use Rattle.services.specs.Steps.{IsStill, can_step, can_take};
 
@@ -34,18 +34,18 @@ mod walk;
 
 use content_service::ContentService;
 use content_service::laws::others_leave_the_contents;
-use job_commands::JobAsk;
-use job_replies::Told;
 use job_service::JobService;
-use kvs_core::laws::content_moments_leave_the_core;
-use kvs_core::{Core, CoreFault, Held, KvsEvents, Setting};
-use kvs_rules::{KvsAnswer, KvsAsk, KvsStep};
-use kvs_txn::By;
-use lists::Bytes;
-use resource_set::Resources;
+use job_service::job_commands::JobAsk;
+use job_service::job_replies::Told;
+use job_service::kvs_core::laws::content_moments_leave_the_core;
+use job_service::kvs_core::{Core, CoreFault, Held, KvsEvents, Setting};
+use job_service::kvs_rules::{KvsAnswer, KvsAsk, KvsStep};
+use job_service::kvs_txn::By;
+use job_service::lists::Bytes;
+use job_service::resource_set::Resources;
+use job_service::tap::Weights;
 use std::alloc::{AllocError, Global};
 use std::marker::Model;
-use tap::Weights;
 
 /// The services of an instance: its jobs with the core below them, and the contents. Each call goes
 /// on from whatever log both agree with.

@@ -6,34 +6,34 @@ use Rattle.std.specs.Option.{option_map_or}
 use Rattle.std.proofs.lemmas.Bool.{and_parts, eqb-true, lt-ltb, ltb-true}
 use Rattle.std.proofs.lemmas.List.Folds.{list_any-append}
 use Rattle.std.proofs.lemmas.Option.{slice_get_within}
-use Rattle.kvs_rules.proofs.Sequences.{each_along}
-use Rattle.kvs_txn.specs.declared.txn.By.{By}
-use Rattle.answers.specs.Chronicle.{IsOpenCommand, Setup, is_issued, issues, issues_of, replies_to, top}
-use Rattle.workload.specs.Actors.{are_together}
-use Rattle.workload.specs.declared.work.Actor.{Actor}
-use Rattle.answers.specs.declared.chronicle.Entry.{Entry}
-use Rattle.answers.specs.declared.chronicle.Entry.TheVariants as entry
-use Rattle.answers.specs.declared.steps.Step.{Step}
-use Rattle.answers.specs.declared.steps.Step.TheVariants as step
-use Rattle.hierarchy.specs.Births.{birth_of, has_lost_home, is_at, is_born, is_gone, label_of}
-use Rattle.hierarchy.specs.Families.{family_of, left_in, living_in, second_in}
-use Rattle.hierarchy.specs.Grows.{GrowsBySecond}
-use Rattle.hierarchy.specs.Legal.{IsLegalRun, IsLegalRunEntry}
-use Rattle.hierarchy.specs.Own.{child_setup, own_of, setup_in, work_for}
-use Rattle.hierarchy.proofs.Advances.{next_within}
-use Rattle.hierarchy.proofs.Growth.{second_grown}
-use Rattle.hierarchy.proofs.Homes.{all_idle, in_family_only, left_so}
-use Rattle.hierarchy.proofs.Members.{gone_was_born}
-use Rattle.hierarchy.proofs.Nested.{in_family}
-use Rattle.hierarchy.proofs.Numbering.{born_exactly, top_lives}
-use Rattle.hierarchy.proofs.OneEntry.{one_home}
-use Rattle.hierarchy.proofs.Resting.{left_answered}
-use Rattle.hierarchy.proofs.Seconds.{at_once}
-use Rattle.hierarchy.proofs.Settling.{nothing_issued}
-use Rattle.instance.specs.Family.{LivesAs, ends_left, is_due, present, targets_left}
-use Rattle.instance_rules.specs.Family.{EndsIn, HasTarget, IsAhead, IsTarget, Living, MayTick, OfLiving}
-use Rattle.job_rules.proofs.Among.{Among, all_at, all_from, among_append, among_filter, among_from, among_left, among_right, any_at, contains_from}
-use Rattle.manager_rules.specs.Times.{IsLeast, seconds_ahead, seconds_of}
+use Rattle.homes.proofs.kvs_rules_proofs.Sequences.{each_along}
+use Rattle.homes.specs.kvs_txn.declared.txn.By.{By}
+use Rattle.homes.specs.answers.Chronicle.{IsOpenCommand, Setup, is_issued, issues, issues_of, replies_to, top}
+use Rattle.homes.specs.workload.Actors.{are_together}
+use Rattle.homes.specs.workload.declared.work.Actor.{Actor}
+use Rattle.homes.specs.answers.declared.chronicle.Entry.{Entry}
+use Rattle.homes.specs.answers.declared.chronicle.Entry.TheVariants as entry
+use Rattle.homes.specs.answers.declared.steps.Step.{Step}
+use Rattle.homes.specs.answers.declared.steps.Step.TheVariants as step
+use Rattle.homes.specs.hierarchy.Births.{birth_of, has_lost_home, is_at, is_born, is_gone, label_of}
+use Rattle.homes.specs.hierarchy.Families.{family_of, left_in, living_in, second_in}
+use Rattle.homes.specs.hierarchy.Grows.{GrowsBySecond}
+use Rattle.homes.specs.hierarchy.Legal.{IsLegalRun, IsLegalRunEntry}
+use Rattle.homes.specs.hierarchy.Own.{child_setup, own_of, setup_in, work_for}
+use Rattle.homes.proofs.hierarchy_proofs.Advances.{next_within}
+use Rattle.homes.proofs.hierarchy_proofs.Growth.{second_grown}
+use Rattle.homes.proofs.hierarchy_proofs.Homes.{all_idle, in_family_only, left_so}
+use Rattle.homes.proofs.hierarchy_proofs.Members.{gone_was_born}
+use Rattle.homes.proofs.hierarchy_proofs.Nested.{in_family}
+use Rattle.homes.proofs.hierarchy_proofs.Numbering.{born_exactly, top_lives}
+use Rattle.homes.proofs.hierarchy_proofs.OneEntry.{one_home}
+use Rattle.homes.proofs.hierarchy_proofs.Resting.{left_answered}
+use Rattle.homes.proofs.hierarchy_proofs.Seconds.{at_once}
+use Rattle.homes.proofs.hierarchy_proofs.Settling.{nothing_issued}
+use Rattle.homes.specs.instance.Family.{LivesAs, ends_left, is_due, present, targets_left}
+use Rattle.homes.specs.instance_rules.Family.{EndsIn, HasTarget, IsAhead, IsTarget, Living, MayTick, OfLiving}
+use Rattle.homes.proofs.job_rules_proofs.Among.{Among, all_at, all_from, among_append, among_filter, among_from, among_left, among_right, any_at, contains_from}
+use Rattle.homes.specs.manager_rules.Times.{IsLeast, seconds_ahead, seconds_of}
 use Rattle.world.specs.Advances.{Advances}
 use Rattle.homes.specs.Homes.{AreHomes, ArePlaces, IsHome, answered}
 use Rattle.world.specs.Sound.{IsSound}

@@ -2,17 +2,17 @@
 ghost use Rattle.std.specs.Prelude.{◌≡◌, ◌<◌, [], false, IfOk, IfSome, OnOk};
 ghost use Rattle.world.specs.Steps.{CanMake};
 
-use answers::{Entry, Reply, Step};
-use fl_digest::Hash;
-use kvs_rules::KvsStep;
 use std::alloc::Global;
 use std::test::Fail;
-use tap::Weights;
 use workload_reader::laws::{
     spelled_commands_are_built, spelled_labels_are_their_own, spelled_tallies_are_kept,
     spelled_workloads_are_within,
 };
 use workload_reader::read;
+use world::answers::{Entry, Reply, Step};
+use world::fl_digest::Hash;
+use world::kvs_rules::KvsStep;
+use world::tap::Weights;
 use world::{Ended, Schedule, Setting, World};
 
 const SETTING: Setting = Setting {

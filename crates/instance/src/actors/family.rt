@@ -1,21 +1,21 @@
 //! An instance among others: the children of its jobs, and time that goes on for all of them.
 ghost use Rattle.std.specs.Prelude.{◌≡◌, ◌↔◌, ◌<◌, ◌≤◌, ◌+◌, ℕ, false, true, All, Contains, IfNone, IfOk, IfSome, IsSome, IsTrue, List, OnErr, OnOk, Some};
-ghost use Rattle.answers.specs.declared.chronicle.Entry.{Entry as EntryValue};
-ghost use Rattle.answers.specs.Chronicle.{Setup};
-ghost use Rattle.answers.specs.Jobs.{instance_of, log_in, second_of};
-ghost use Rattle.instance_rules.specs.Desks.{Names};
-ghost use Rattle.instance_rules.specs.Family.{HasTarget, Living, OfLiving};
-ghost use Rattle.job_book.specs.Seconds.{IsSoonest};
-ghost use Rattle.job_service.specs.Children.{IsFirstBirth, IsGrantedBy, NoBirth};
-ghost use Rattle.manager_rules.specs.Times.{IsEndDue, IsIdle, seconds_ahead};
-ghost use Rattle.resource_set.specs.Valid.{IsR};
-ghost use Rattle.run_limits.specs.Limits.{most_seconds};
+ghost use Rattle.services.specs.answers.declared.chronicle.Entry.{Entry as EntryValue};
+ghost use Rattle.services.specs.answers.Chronicle.{Setup};
+ghost use Rattle.services.specs.answers.Jobs.{instance_of, log_in, second_of};
+ghost use Rattle.services.specs.instance_rules.Desks.{Names};
+ghost use Rattle.services.specs.instance_rules.Family.{HasTarget, Living, OfLiving};
+ghost use Rattle.services.specs.job_book.Seconds.{IsSoonest};
+ghost use Rattle.services.specs.job_service.Children.{IsFirstBirth, IsGrantedBy, NoBirth};
+ghost use Rattle.services.specs.manager_rules.Times.{IsEndDue, IsIdle, seconds_ahead};
+ghost use Rattle.services.specs.resource_set.Valid.{IsR};
+ghost use Rattle.services.specs.run_limits.Limits.{most_seconds};
 ghost use Rattle.instance.specs.Agrees.{AgreesOwn};
 ghost use Rattle.instance.specs.Family.{LivesAs, OfOwn, bearing, birth_of, ends_left, grant_at, is_due, is_end_due, may_end, present, targets_left};
 ghost use Rattle.instance.specs.Makes.{Bears, LetsGo, PassesTo};
 
 use super::Instance;
-use resource_set::Resources;
+use services::resource_set::Resources;
 use std::alloc::AllocError;
 
 impl Instance {

@@ -1,6 +1,6 @@
 //! The steps that can be made, by number.
 ghost use Rattle.std.specs.Prelude.{◌≡◌, true, false, IfOk};
-ghost use Rattle.kvs_core.specs.Walk.{nth};
+ghost use Rattle.services.specs.kvs_core.Walk.{nth};
 ghost use Rattle.services.specs.Order.{possible};
 ghost use Rattle.services.specs.Steps.{can_step};
 ghost use Rattle.instance.specs.Agrees.{AreLinesOf};
@@ -9,8 +9,8 @@ ghost use Rattle.instance.specs.Steps.{can_answer, can_issue};
 
 use super::Instance;
 use crate::seats::{has_answer, issue_from};
-use kvs_rules::KvsStep;
-use workload::Line;
+use services::kvs_rules::KvsStep;
+use services::workload::Line;
 
 impl Instance {
     /// The step of this number among those of the services, or what the number has left behind

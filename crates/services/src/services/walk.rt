@@ -1,13 +1,13 @@
 //! The steps that can be made, counted in their order.
 ghost use Rattle.std.specs.Prelude.{◌≡◌, ◌<◌, true, false, None, map, slice_get, IfOk, IfSome};
 ghost use Rattle.std.specs.List.{filter};
-ghost use Rattle.kvs_core.specs.Walk.{between, deliveries, nth, sent};
+ghost use Rattle.job_service.specs.kvs_core.Walk.{between, deliveries, nth, sent};
 ghost use Rattle.services.specs.Order.{possible};
 ghost use Rattle.services.specs.Steps.{can_step};
 ghost use Rattle.services.specs.Walk.{step_of};
 
 use super::Services;
-use kvs_rules::KvsStep;
+use job_service::kvs_rules::KvsStep;
 
 /// Steps that stand beside each other in the order.
 #[derive(Clone, Copy)]

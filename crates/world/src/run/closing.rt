@@ -4,7 +4,7 @@ ghost use Rattle.world.specs.Advances.{Advances};
 ghost use Rattle.world.specs.Steps.{CanMake};
 
 use super::{World, keep};
-use answers::{Entry, Step};
+use homes::answers::{Entry, Step};
 use homes::{rest, tell_all_unborn, tell_living};
 use std::alloc::AllocError;
 

@@ -1,13 +1,13 @@
 //! Time, which goes on for all instances.
 ghost use Rattle.std.specs.Prelude.{◌≡◌, ◌++◌, false, IfSome, None, OnErr, OnOk, Some, is_some, true};
-ghost use Rattle.manager_rules.specs.Times.{IsLeast};
+ghost use Rattle.homes.specs.manager_rules.Times.{IsLeast};
 ghost use Rattle.world.specs.Advances.{Advances};
 ghost use Rattle.homes.specs.Times.{all_ends, all_targets};
 ghost use Rattle.world.specs.Steps.{CanMake, can_tick};
 ghost use Rattle.homes.specs.Tells.{TellAll};
 
 use super::{World, keep};
-use answers::{Entry, Step};
+use homes::answers::{Entry, Step};
 use homes::{are_left, is_due, is_ending, least_end, least_target, pass_to, sooner};
 use std::alloc::AllocError;
 

@@ -1,8 +1,8 @@
 use Rattle.std.proofs.Common.{◌∙◌, ap, sym}
 use Rattle.std.specs.Prelude.{unwrap_or}
 use Rattle.std.proofs.lemmas.Result.{IfOk-weaker}
-use Rattle.resource_set.specs.Writing.{r_text}
-use Rattle.homes.specs.Grant.{grant_text, hosts_of_brokers}
+use Rattle.world.specs.resource_set.Writing.{r_text}
+use Rattle.world.specs.homes.Grant.{grant_text, hosts_of_brokers}
 use Rattle.flux.proofs.generating.first_grant.Goals as goal
 
 pub returns-in-Some : goal.returns-in-Some

@@ -1,9 +1,9 @@
 use Rattle.std.proofs.Common.{◌≡◌, ◌∙◌, List, Bool, true, false, refl, sym, append-nil}
 use Rattle.std.specs.Prelude.{not}
-use Rattle.answers.specs.Chronicle.{Setup, top}
-use Rattle.answers.specs.declared.chronicle.Entry.{Entry}
-use Rattle.hierarchy.specs.Births.{is_gone, lives}
-use Rattle.hierarchy.specs.Legal.{AreOwnLegal}
+use Rattle.world.specs.answers.Chronicle.{Setup, top}
+use Rattle.world.specs.answers.declared.chronicle.Entry.{Entry}
+use Rattle.world.specs.hierarchy.Births.{is_gone, lives}
+use Rattle.world.specs.hierarchy.Legal.{AreOwnLegal}
 use Rattle.summaries.specs.Summary.{IsTopLegal}
 use Rattle.flux.specs.Generated.{generated_options}
 use Rattle.flux.specs.Runs.{setup_of}

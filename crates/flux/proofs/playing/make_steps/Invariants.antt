@@ -1,5 +1,5 @@
 use Rattle.std.proofs.Common.{◌≡◌, false}
-use Rattle.hierarchy.specs.Legal.{IsSettledRun}
+use Rattle.world.specs.hierarchy.Legal.{IsSettledRun}
 use Rattle.world.specs.declared.order.Order.TheVariants as order
 use Rattle.flux.proofs.playing.make_steps.Given as goal
 

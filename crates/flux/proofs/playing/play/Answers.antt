@@ -1,11 +1,11 @@
 use Rattle.std.proofs.Common.{List, refl}
 use Rattle.std.specs.Prelude.{Ok, Err, Bool, IfOk, Result}
-use Rattle.answers.specs.Chronicle.{Setup}
-use Rattle.answers.specs.declared.chronicle.Entry.{Entry}
-use Rattle.hierarchy.specs.Headline.{ChildrenStayNested, IsTrueRun, JobsStaySoundInAll, LogsOnlyGrowInAll}
-use Rattle.hierarchy.specs.Laws.{AreValid}
-use Rattle.hierarchy.specs.Legal.{IsLegalRun}
-use Rattle.kvs_core.specs.declared.service.CoreFault.{CoreFault}
+use Rattle.world.specs.answers.Chronicle.{Setup}
+use Rattle.world.specs.answers.declared.chronicle.Entry.{Entry}
+use Rattle.world.specs.hierarchy.Headline.{ChildrenStayNested, IsTrueRun, JobsStaySoundInAll, LogsOnlyGrowInAll}
+use Rattle.world.specs.hierarchy.Laws.{AreValid}
+use Rattle.world.specs.hierarchy.Legal.{IsLegalRun}
+use Rattle.world.specs.kvs_core.declared.service.CoreFault.{CoreFault}
 use Rattle.flux.specs.Runs.{is_settled, setup_of}
 use Rattle.flux.specs.declared.playing.Played.{Played}
 use Rattle.flux.proofs.playing.play.Goals as goal

@@ -1,11 +1,11 @@
 use Rattle.std.proofs.Common.{◌≡◌, ◌∙◌, [], ℕ, Bool, Option, Some, None, ap, ap₂, sym, subst, refl, true}
 use Rattle.std.specs.Prelude.{IsTrue}
-use Rattle.fl_digest.specs.declared.Hash.{Hash}
+use Rattle.world.specs.fl_digest.declared.Hash.{Hash}
 use Rattle.run_options.specs.declared.Options.{Options}
-use Rattle.answers.specs.Headline.{output_text}
-use Rattle.hierarchy.specs.Laws.{AreValid}
-use Rattle.hierarchy.specs.Legal.{IsLegalRun, IsSettledRun}
-use Rattle.hierarchy.specs.Whole.{IsWholeRun}
+use Rattle.world.specs.answers.Headline.{output_text}
+use Rattle.world.specs.hierarchy.Laws.{AreValid}
+use Rattle.world.specs.hierarchy.Legal.{IsLegalRun, IsSettledRun}
+use Rattle.world.specs.hierarchy.Whole.{IsWholeRun}
 use Rattle.world.specs.Choice.{order_of}
 use Rattle.world.specs.declared.order.Order.TheVariants as order
 use Rattle.flux.specs.Runs.{is_settled, schedule_of, setup_of}

@@ -1,8 +1,8 @@
 use Rattle.std.proofs.Common.{◌≡◌, ◌<◌, ℕ, [], Some, false}
 use Rattle.std.specs.Prelude.{slice_get}
-use Rattle.kvs_rules.specs.declared.events.KvsStep.{KvsStep}
-use Rattle.services.specs.Order.{possible}
-use Rattle.services.specs.Steps.{can_step}
+use Rattle.hierarchy.specs.kvs_rules.declared.events.KvsStep.{KvsStep}
+use Rattle.instance.specs.services.Order.{possible}
+use Rattle.instance.specs.services.Steps.{can_step}
 use Rattle.homes.specs.declared.homes.Home.{Home}
 use Rattle.homes.proofs.homes.turns_are_listed.Given as goal
 

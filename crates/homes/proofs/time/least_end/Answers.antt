@@ -1,7 +1,7 @@
 use Rattle.std.proofs.Common.{◌≡◌, ◌+◌, ◌<◌, [], true, false, true≢false, ◌∙◌, ap, length, sym, subst, rules, take}
 use Rattle.std.specs.Prelude.{if◌then◌else◌}
 use Rattle.instance.specs.Family.{ends_left}
-use Rattle.job_book.specs.Seconds.{IsSoonest}
+use Rattle.instance.specs.job_book.Seconds.{IsSoonest}
 use Rattle.homes.specs.Times.{all_ends, of_living}
 use Rattle.homes.specs.Tells.{TellsEnds}
 use Rattle.homes.proofs.Walking.{flat_more, living_all, living_more, soonest_past}

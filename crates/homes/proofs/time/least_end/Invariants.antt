@@ -1,5 +1,5 @@
 use Rattle.std.proofs.Common.{take}
-use Rattle.job_book.specs.Seconds.{IsSoonest}
+use Rattle.instance.specs.job_book.Seconds.{IsSoonest}
 use Rattle.homes.specs.Times.{all_ends}
 use Rattle.homes.specs.Tells.{TellsEnds}
 use Rattle.homes.proofs.Walking.{LivingBelow}

@@ -1,5 +1,5 @@
 use Rattle.std.proofs.Common.{take}
-use Rattle.job_book.specs.Seconds.{IsSoonest}
+use Rattle.instance.specs.job_book.Seconds.{IsSoonest}
 use Rattle.homes.specs.Times.{all_targets}
 use Rattle.homes.specs.Tells.{TellsTargets}
 use Rattle.homes.proofs.Walking.{LivingBelow}

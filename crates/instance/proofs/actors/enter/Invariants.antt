@@ -1,5 +1,5 @@
 use Rattle.std.proofs.Common.{◌≡◌, ◌++◌, map}
-use Rattle.answers.specs.Entering.{entered}
+use Rattle.services.specs.answers.Entering.{entered}
 use Rattle.instance.proofs.actors.enter.Given as goal
 
 abbrev pub invariant-loop-event : goal.invariant-loop-event

@@ -1,6 +1,6 @@
 use Rattle.std.proofs.Common.{◌≡◌, ◌≢◌, ℕ, ◌<◌, ◌≤◌, ◌+◌, ◌∙◌, ap, refl, subst, length, get_or}
 use Rattle.std.proofs.lemmas.List.{length-append}
-use Rattle.workload.specs.declared.work.Line.{Line}
+use Rattle.services.specs.workload.declared.work.Line.{Line}
 use Rattle.instance.proofs.Beginning.{seats_push, first_placed, actor_got}
 use Rattle.instance.proofs.actors.seated.Goals as goal
 

@@ -1,6 +1,6 @@
 use Rattle.std.proofs.Common.{◌≡◌, ℕ, ◌<◌, length}
 use Rattle.std.specs.Prelude.{slice_index_or}
-use Rattle.workload.specs.declared.work.Actor.{Actor}
+use Rattle.services.specs.workload.declared.work.Actor.{Actor}
 use Rattle.instance.specs.declared.seats.Seat.{Seat}
 use Rattle.instance.specs.First.{IsFirstSeat}
 use Rattle.instance.proofs.actors.seated.Given as goal

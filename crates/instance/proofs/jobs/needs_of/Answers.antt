@@ -1,8 +1,8 @@
 use Rattle.std.proofs.Common.{◌≡◌, ◌+◌, ◌++◌, ◌∷◌, ◌∙◌, [], map, take, sym, ap, add-one}
 use Rattle.std.proofs.Math.Seq.{take-suc}
 use Rattle.std.proofs.lemmas.List.{map-append}
-use Rattle.answers.specs.Jobs.{named_by}
-use Rattle.job_commands.specs.Asks.{named_of}
+use Rattle.services.specs.answers.Jobs.{named_by}
+use Rattle.services.specs.job_commands.Asks.{named_of}
 use Rattle.instance.proofs.jobs.needs_of.Goals as goal
 
 pub loop-need-preserved : goal.loop-need-preserved

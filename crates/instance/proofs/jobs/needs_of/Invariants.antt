@@ -1,6 +1,6 @@
 use Rattle.std.proofs.Common.{◌≡◌, map, take}
-use Rattle.answers.specs.Jobs.{named_by}
-use Rattle.job_commands.specs.Asks.{named_of}
+use Rattle.services.specs.answers.Jobs.{named_by}
+use Rattle.services.specs.job_commands.Asks.{named_of}
 use Rattle.instance.proofs.jobs.needs_of.Given as goal
 
 abbrev pub invariant-loop-need : goal.invariant-loop-need

@@ -1,9 +1,9 @@
 use Rattle.std.proofs.Common.{◌≡◌, ℕ, ◌++◌, [], ◌∷◌, map, sym, subst}
 use Rattle.std.specs.Prelude.{IfSome, Some}
 use Rattle.std.proofs.lemmas.Result.{on_ok_weaker}
-use Rattle.kvs_model.specs.Store.{Name}
-use Rattle.kvs_rules.specs.Log.{Asked}
-use Rattle.instance_rules.specs.Log.{Served}
+use Rattle.services.specs.kvs_model.Store.{Name}
+use Rattle.services.specs.kvs_rules.Log.{Asked}
+use Rattle.services.specs.instance_rules.Log.{Served}
 use Rattle.services.specs.Agrees.{AgreesServices}
 use Rattle.services.specs.Asks.{MayAsk}
 use Rattle.instance.specs.Seats.{IsTheAsk, moment_asked, seat_floor}

@@ -2,9 +2,9 @@ use Rattle.std.proofs.Common.{◌≡◌, ◌++◌, ◌-◌, ◌∙◌, ◌∷◌
 use Rattle.std.specs.Prelude.{slice_get, count_by, unwrap_or}
 use Rattle.std.proofs.lemmas.Bool.{ltb-true, ltb-false}
 use Rattle.std.proofs.lemmas.Option.{slice_get-get_or, slice_get_past}
-use Rattle.answers.specs.declared.chronicle.Entry.TheVariants as entry
+use Rattle.services.specs.answers.declared.chronicle.Entry.TheVariants as entry
 use Rattle.instance.specs.Closings.{not_reached, numbers_in, unfinished_at}
-use Rattle.job_service.specs.Still.{awaited}
+use Rattle.services.specs.job_service.Still.{awaited}
 use Rattle.instance.specs.Agrees.{command_of, is_of}
 use Rattle.instance.specs.Seats.{last_command}
 use Rattle.instance.proofs.Leaving.{ends_at, told_none, told_finished, told_left}

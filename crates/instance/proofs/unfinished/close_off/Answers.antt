@@ -2,7 +2,7 @@ use Rattle.std.proofs.Common.{[], ◌≡◌, ◌++◌, ◌∙◌, length, sym, a
 use Rattle.std.specs.Prelude.{flat_map}
 use Rattle.std.specs.List.{range_with_len}
 use Rattle.std.proofs.lemmas.List.{flat_map_more}
-use Rattle.job_service.specs.Still.{awaited}
+use Rattle.services.specs.job_service.Still.{awaited}
 use Rattle.instance.specs.Closings.{closings_of, numbers_in}
 use Rattle.instance.proofs.Ranges.{first_more}
 use Rattle.instance.proofs.unfinished.close_off.Goals as goal

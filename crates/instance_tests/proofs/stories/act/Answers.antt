@@ -1,5 +1,5 @@
 use Rattle.std.specs.Prelude.{Result, Ok, Err, OnOk}
-use Rattle.answers.specs.declared.steps.Step.TheVariants as step
+use Rattle.instance.specs.answers.declared.steps.Step.TheVariants as step
 use Rattle.instance_tests.proofs.Lines.{lines_behind}
 use Rattle.instance_tests.proofs.stories.act.Goals as goal
 

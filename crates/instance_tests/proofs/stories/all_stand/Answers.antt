@@ -2,7 +2,7 @@ use Rattle.std.proofs.Common.{rules, ◌≡◌, ◌<◌, ℕ, Bool, true, List, 
 use Rattle.std.specs.Prelude.{All, MatchBool}
 use Rattle.std.specs.List.{AllWithin, HoldsAt}
 use Rattle.std.proofs.lemmas.Iterator.{YieldsList-from_slice, cases_from_all}
-use Rattle.workload.specs.declared.work.Actor.{Actor}
+use Rattle.instance.specs.workload.declared.work.Actor.{Actor}
 use Rattle.instance_tests.proofs.stories.all_stand.Goals as goal
 
 all_of : {A : Type 0} (P Q : A → Type 0) (b : Bool) (xs : List A) → b ≡ true → MatchBool b (AllWithin P xs 0 (length xs)) ((k : ℕ) × (k < length xs) × HoldsAt Q xs k) → All P xs

@@ -1,7 +1,7 @@
 use Rattle.std.proofs.Common.{[], refl}
-use Rattle.fl_digest.specs.declared.Hash.TheVariants as hash
-use Rattle.answers.specs.Chronicle.{Setup}
-use Rattle.resource_set.specs.Writing.{r_text}
+use Rattle.instance.specs.fl_digest.declared.Hash.TheVariants as hash
+use Rattle.instance.specs.answers.Chronicle.{Setup}
+use Rattle.instance.specs.resource_set.Writing.{r_text}
 use Rattle.instance_tests.proofs.stories.begin.Goals as goal
 
 pub returns-clause-lines : goal.returns-clause-lines

@@ -1,11 +1,11 @@
 use Rattle.std.proofs.Common.{◌≡◌, ℕ, List, None, Ok, ap, ap₂, sym, ◌∙◌}
 use Rattle.std.specs.Prelude.{option_and_then}
-use Rattle.job_spec.specs.declared.spec.Depend.{Depend}
-use Rattle.job_spec.specs.declared.spec.JobSpec.{JobSpec}
-use Rattle.job_states.specs.declared.job.Job.{Job}
-use Rattle.job_states.specs.Replay.{allowed}
-use Rattle.job_states.specs.Table.{begun_by, submitted_job}
-use Rattle.manager_rules.specs.Jobs.{StoredJob}
+use Rattle.job_deeds.specs.job_spec.declared.spec.Depend.{Depend}
+use Rattle.job_deeds.specs.job_spec.declared.spec.JobSpec.{JobSpec}
+use Rattle.job_deeds.specs.job_states.declared.job.Job.{Job}
+use Rattle.job_deeds.specs.job_states.Replay.{allowed}
+use Rattle.job_deeds.specs.job_states.Table.{begun_by, submitted_job}
+use Rattle.job_deeds.specs.manager_rules.Jobs.{StoredJob}
 use Rattle.job_book.proofs.book.new_row.Goals as goal
 
 abbrev row_of : ℕ → JobSpec → List Depend → Job → StoredJob

@@ -1,7 +1,7 @@
 use Rattle.std.proofs.Common.{◌≡◌, ◌<◌, ◌≤◌, ◌++◌, get_or, length, take, ap, ◌∙◌, subst}
 use Rattle.std.specs.Prelude.{filter, flat_map, nat_lt}
 use Rattle.std.proofs.lemmas.List.{take_all}
-use Rattle.manager_rules.specs.Times.{seconds_of}
+use Rattle.job_deeds.specs.manager_rules.Times.{seconds_of}
 use Rattle.job_book.specs.Active.{active_of}
 use Rattle.job_book.specs.Seconds.{IsSoonest}
 use Rattle.job_book.proofs.Actives.{active_length, ends_not, flat_active}

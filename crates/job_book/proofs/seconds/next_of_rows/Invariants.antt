@@ -1,6 +1,6 @@
 use Rattle.std.proofs.Common.{take}
 use Rattle.std.specs.Prelude.{filter, flat_map, nat_lt}
-use Rattle.manager_rules.specs.Times.{seconds_of}
+use Rattle.job_deeds.specs.manager_rules.Times.{seconds_of}
 use Rattle.job_book.specs.Active.{active_of}
 use Rattle.job_book.specs.Seconds.{IsSoonest}
 use Rattle.job_book.proofs.seconds.next_of_rows.Given as goal

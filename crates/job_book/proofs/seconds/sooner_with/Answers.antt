@@ -1,8 +1,8 @@
 use Rattle.std.proofs.Common.{◌≡◌, true, ◌++◌, sym, ap, ◌∙◌, subst, rules}
 use Rattle.std.specs.Prelude.{filter, nat_lt}
-use Rattle.job_states.specs.Table.{is_state}
-use Rattle.job_states.specs.declared.job.State.TheVariants as state
-use Rattle.manager_rules.specs.Times.{seconds_of}
+use Rattle.job_deeds.specs.job_states.Table.{is_state}
+use Rattle.job_deeds.specs.job_states.declared.job.State.TheVariants as state
+use Rattle.job_deeds.specs.manager_rules.Times.{seconds_of}
 use Rattle.job_book.specs.Seconds.{IsSoonest, sooner_of}
 use Rattle.job_book.proofs.Ahead.{soonest_running}
 use Rattle.job_book.proofs.seconds.sooner_with.Goals as goal

@@ -1,8 +1,8 @@
 use Rattle.std.proofs.Common.{◌≡◌, ◌<◌, ◌≤◌, true, Some, ap, ◌∙◌, sym, subst, arith, rules}
 use Rattle.std.specs.Prelude.{IfSome, min, option_map}
-use Rattle.job_states.specs.declared.job.State.TheVariants as state
-use Rattle.shells.specs.Endings.{ending_of}
-use Rattle.shells.specs.declared.ends.Ending.TheVariants as ending
+use Rattle.job_deeds.specs.job_states.declared.job.State.TheVariants as state
+use Rattle.job_deeds.specs.shells.Endings.{ending_of}
+use Rattle.job_deeds.specs.shells.declared.ends.Ending.TheVariants as ending
 use Rattle.job_book.proofs.Wakes.{running_sleeps}
 use Rattle.job_book.proofs.waking.wake_of.Goals as goal
 

@@ -1,7 +1,7 @@
 use Rattle.std.proofs.Common.{Contains, [], refl, sym, subst}
 use Rattle.std.proofs.lemmas.List.Elements.{Contains-push}
-use Rattle.job_rules.proofs.Among.{among_from}
-use Rattle.job_commands.specs.Children.{born_child}
+use Rattle.job_service.proofs.job_rules_proofs.Among.{among_from}
+use Rattle.job_service.specs.job_commands.Children.{born_child}
 use Rattle.manager_tests.proofs.commands.a_child_is_born_and_goes.Goals as goal
 
 pub born-requires : goal.born-requires

@@ -1,5 +1,5 @@
 use Rattle.std.proofs.Common.{subst}
-use Rattle.job_rules.specs.Fits.{IsGrant}
+use Rattle.job_service.specs.job_rules.Fits.{IsGrant}
 use Rattle.manager_tests.proofs.jobs.begun.Goals as goal
 
 pub returns : goal.returns

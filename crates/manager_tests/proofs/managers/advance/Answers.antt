@@ -1,6 +1,6 @@
 use Rattle.std.proofs.Common.{ℕ, ◌+◌, [], min, arith, refl, rules}
-use Rattle.job_book.specs.Value.{scene_of}
-use Rattle.tap.specs.declared.Ask.{Ask}
+use Rattle.job_service.specs.job_book.Value.{scene_of}
+use Rattle.job_service.specs.tap.declared.Ask.{Ask}
 use Rattle.manager_tests.proofs.managers.advance.Goals as goal
 
 pub post_due-requires-clause-due : goal.post_due-requires-clause-due

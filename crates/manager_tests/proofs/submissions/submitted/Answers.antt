@@ -1,10 +1,10 @@
 use Rattle.std.proofs.Common.{[], ◌∷◌, refl, arith}
 use Rattle.std.specs.Prelude.{Some, None}
-use Rattle.fl_digest.specs.declared.Hash.TheVariants as hash
-use Rattle.instance_rules.specs.Log.{Instance, Ticked}
-use Rattle.job_commands.proofs.Steps.{beside_agrees, tick_beside}
-use Rattle.job_commands.specs.Asks.{told}
-use Rattle.job_commands.specs.declared.ask.JobAsk.{JobAsk}
+use Rattle.job_service.specs.fl_digest.declared.Hash.TheVariants as hash
+use Rattle.job_service.specs.instance_rules.Log.{Instance, Ticked}
+use Rattle.job_service.proofs.job_commands_proofs.Steps.{beside_agrees, tick_beside}
+use Rattle.job_service.specs.job_commands.Asks.{told}
+use Rattle.job_service.specs.job_commands.declared.ask.JobAsk.{JobAsk}
 use Rattle.manager_tests.proofs.submissions.submitted.Goals as goal
 
 -- an instance, born at second 3, in which each command asks this at rank 0

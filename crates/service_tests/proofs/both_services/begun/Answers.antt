@@ -1,5 +1,5 @@
 use Rattle.std.proofs.Common.{[], refl}
-use Rattle.fl_digest.specs.declared.Hash.TheVariants as hash
+use Rattle.services.specs.fl_digest.declared.Hash.TheVariants as hash
 use Rattle.service_tests.specs.Open.{asking}
 use Rattle.service_tests.proofs.Beginning.{asked_given, by_urgency, plain}
 use Rattle.service_tests.proofs.both_services.begun.Goals as goal

@@ -1,6 +1,6 @@
 use Rattle.std.proofs.Common.{◌≡◌}
-use Rattle.kvs_content.specs.Sound.{IsSoundContent}
-use Rattle.kvs_content.specs.Value.{size_of}
+use Rattle.services.specs.kvs_content.Sound.{IsSoundContent}
+use Rattle.services.specs.kvs_content.Value.{size_of}
 use Rattle.service_tests.proofs.contents.deliver_round.Given as goal
 
 abbrev pub invariant-loop-link : goal.invariant-loop-link

@@ -1,6 +1,6 @@
 use Rattle.std.proofs.Common.{None, sym, subst}
 use Rattle.content_service.specs.Agrees.{AgreesService}
-use Rattle.instance_rules.specs.Log.{Shut}
+use Rattle.job_service.specs.instance_rules.Log.{Shut}
 use Rattle.services.proofs.Staying.{issued_is, replied_is}
 use Rattle.services.proofs.laws.shutdowns_leave_services.Goals as goal
 

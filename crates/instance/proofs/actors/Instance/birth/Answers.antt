@@ -1,5 +1,5 @@
 use Rattle.std.proofs.lemmas.Option.{IfSome_then}
-use Rattle.answers.specs.Jobs.{instance_of, log_in}
+use Rattle.services.specs.answers.Jobs.{instance_of, log_in}
 use Rattle.instance.specs.View.{value_of}
 use Rattle.instance.proofs.Bearing.{jobs_agree, none_then}
 use Rattle.instance.proofs.actors.Instance.birth.Goals as goal

@@ -1,9 +1,9 @@
 use Rattle.std.proofs.Common.{◌≡◌, ◌∙◌, ap, ap₂, sym, subst}
-use Rattle.kvs_core.specs.Agrees.{Agrees}
+use Rattle.services.specs.kvs_core.Agrees.{Agrees}
 use Rattle.std.proofs.lemmas.Result.{IfOk-weaker}
-use Rattle.answers.specs.Chronicle.{top}
-use Rattle.answers.specs.Services.{setting_of, log_of}
-use Rattle.job_service.specs.Still.{awaited}
+use Rattle.services.specs.answers.Chronicle.{top}
+use Rattle.services.specs.answers.Services.{setting_of, log_of}
+use Rattle.services.specs.job_service.Still.{awaited}
 use Rattle.instance.specs.Agrees.{AgreesOwn}
 use Rattle.instance.specs.Closings.{closings, numbers_in}
 use Rattle.instance.specs.Makes.{Ends}

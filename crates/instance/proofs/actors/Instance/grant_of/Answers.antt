@@ -1,6 +1,6 @@
 use Rattle.std.proofs.lemmas.Option.{IfSome_then}
 use Rattle.std.proofs.lemmas.Result.{IfOk-weaker}
-use Rattle.answers.specs.Jobs.{instance_of, log_in}
+use Rattle.services.specs.answers.Jobs.{instance_of, log_in}
 use Rattle.instance.specs.View.{value_of}
 use Rattle.instance.proofs.Bearing.{jobs_agree}
 use Rattle.instance.proofs.actors.Instance.grant_of.Goals as goal

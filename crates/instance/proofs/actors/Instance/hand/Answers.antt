@@ -1,7 +1,7 @@
 use Rattle.std.proofs.Common.{◌≡◌, ◌∙◌, ap, sym, subst, true, [], ◌∷◌}
 use Rattle.std.specs.Prelude.{Some}
 use Rattle.std.proofs.lemmas.Option.{slice_get-get_or}
-use Rattle.answers.specs.declared.chronicle.Entry.TheVariants as entry
+use Rattle.services.specs.answers.declared.chronicle.Entry.TheVariants as entry
 use Rattle.instance.specs.Agrees.{AgreesOwn}
 use Rattle.instance.specs.Replies.{IsGiven}
 use Rattle.instance.specs.Steps.{can_answer}

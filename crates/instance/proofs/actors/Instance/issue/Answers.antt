@@ -1,8 +1,8 @@
 use Rattle.std.proofs.Common.{◌≡◌, ◌≢◌, ◌∙◌, ℕ, ◌+◌, ◌<◌, ◌≤◌, ap, sym, subst, arith, get_or, length, true}
-use Rattle.kvs_txn.specs.declared.txn.Author.TheVariants as author
-use Rattle.workload.specs.declared.work.Line.{Line}
-use Rattle.answers.specs.Commands.{ask_of}
-use Rattle.answers.specs.Jobs.{job_ask_of}
+use Rattle.services.specs.kvs_txn.declared.txn.Author.TheVariants as author
+use Rattle.services.specs.workload.declared.work.Line.{Line}
+use Rattle.services.specs.answers.Commands.{ask_of}
+use Rattle.services.specs.answers.Jobs.{job_ask_of}
 use Rattle.instance.specs.declared.seats.Seat.{Seat}
 use Rattle.instance.specs.Agrees.{AgreesOwn}
 use Rattle.instance.specs.Steps.{can_issue}

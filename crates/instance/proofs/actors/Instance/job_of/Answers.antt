@@ -1,4 +1,4 @@
-use Rattle.answers.specs.Jobs.{instance_of, log_in}
+use Rattle.services.specs.answers.Jobs.{instance_of, log_in}
 use Rattle.instance.specs.View.{value_of}
 use Rattle.instance.proofs.Bearing.{jobs_agree}
 use Rattle.instance.proofs.actors.Instance.job_of.Goals as goal

@@ -1,8 +1,8 @@
 use Rattle.std.proofs.Common.{subst}
 use Rattle.std.specs.Prelude.{IsTrue}
-use Rattle.answers.specs.Jobs.{instance_of, log_in}
-use Rattle.manager_rules.specs.Times.{IsEndDue}
-use Rattle.job_service.specs.Children as jobs
+use Rattle.services.specs.answers.Jobs.{instance_of, log_in}
+use Rattle.services.specs.manager_rules.Times.{IsEndDue}
+use Rattle.services.specs.job_service.Children as jobs
 use Rattle.instance.specs.Family.{OfOwn}
 use Rattle.instance.specs.View.{value_of}
 use Rattle.instance.proofs.Bearing.{jobs_agree, jobs_value}

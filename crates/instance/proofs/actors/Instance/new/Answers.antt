@@ -1,6 +1,6 @@
 use Rattle.std.proofs.Common.{All, ℕ, ◌<◌, sym, subst}
-use Rattle.workload.specs.Laws.{HasOwnLabels, IsBuilt, IsWithin, KeepsTallies}
-use Rattle.answers.specs.Jobs.{instance_of}
+use Rattle.services.specs.workload.Laws.{HasOwnLabels, IsBuilt, IsWithin, KeepsTallies}
+use Rattle.services.specs.answers.Jobs.{instance_of}
 use Rattle.instance.specs.First.{AreFirstSeats}
 use Rattle.instance.proofs.Beginning.{begin_agrees}
 use Rattle.instance.proofs.Given.{is_given}

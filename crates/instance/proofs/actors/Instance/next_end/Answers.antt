@@ -1,8 +1,8 @@
 use Rattle.std.proofs.Common.{Contains, subst}
-use Rattle.answers.specs.Jobs.{instance_of, log_in}
-use Rattle.instance_rules.specs.Family.{OfLiving}
-use Rattle.job_book.specs.Contract.{seconds_left}
-use Rattle.manager_rules.specs.Times.{seconds_ahead}
+use Rattle.services.specs.answers.Jobs.{instance_of, log_in}
+use Rattle.services.specs.instance_rules.Family.{OfLiving}
+use Rattle.services.specs.job_book.Contract.{seconds_left}
+use Rattle.services.specs.manager_rules.Times.{seconds_ahead}
 use Rattle.instance.specs.View.{value_of}
 use Rattle.instance.proofs.Bearing.{jobs_agree, jobs_value}
 use Rattle.instance.proofs.actors.Instance.next_end.Goals as goal

@@ -1,7 +1,7 @@
 use Rattle.std.proofs.Common.{◌<◌, Contains, subst}
-use Rattle.answers.specs.Jobs.{instance_of, log_in}
-use Rattle.instance_rules.specs.Family.{HasTarget}
-use Rattle.job_service.specs.Times.{targets_left}
+use Rattle.services.specs.answers.Jobs.{instance_of, log_in}
+use Rattle.services.specs.instance_rules.Family.{HasTarget}
+use Rattle.services.specs.job_service.Times.{targets_left}
 use Rattle.instance.specs.View.{value_of}
 use Rattle.instance.proofs.Bearing.{jobs_agree, jobs_value}
 use Rattle.instance.proofs.actors.Instance.next_target.Goals as goal

@@ -1,9 +1,9 @@
 use Rattle.std.proofs.Common.{◌≡◌, ◌∙◌, ◌<◌, ap, ap₂, sym, subst, true, [], ◌∷◌, ◌++◌, length}
 use Rattle.std.specs.Prelude.{Some, None, slice_get, slice_index_or}
 use Rattle.std.proofs.lemmas.Option.{slice_get-get_or}
-use Rattle.answers.specs.declared.chronicle.Entry.TheVariants as entry
-use Rattle.answers.specs.declared.chronicle.Reply.TheVariants as reply
-use Rattle.answers.specs.declared.steps.Step.TheVariants as step
+use Rattle.services.specs.answers.declared.chronicle.Entry.TheVariants as entry
+use Rattle.services.specs.answers.declared.chronicle.Reply.TheVariants as reply
+use Rattle.services.specs.answers.declared.steps.Step.TheVariants as step
 use Rattle.instance.specs.declared.seats.Waiting.TheVariants as waiting
 use Rattle.instance.specs.Agrees.{AgreesOwn}
 use Rattle.instance.specs.Makes.{Follows}

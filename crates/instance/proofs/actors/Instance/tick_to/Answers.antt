@@ -1,5 +1,5 @@
 use Rattle.std.proofs.Common.{◌<◌, ◌≤◌, ◌+◌, ◌∙◌, All, ap, sym, subst}
-use Rattle.run_limits.specs.Limits.{most_seconds}
+use Rattle.services.specs.run_limits.Limits.{most_seconds}
 use Rattle.instance.specs.Agrees.{AgreesOwn}
 use Rattle.instance.specs.Family.{birth_of, ends_left, is_due, present}
 use Rattle.instance.specs.View.{value_of}

@@ -1,7 +1,7 @@
 use Rattle.std.proofs.Common.{◌≡◌, ◌⊎◌, max, true}
 use Rattle.std.specs.List.{list_any}
 use Rattle.std.specs.Str.{bytes_eq}
-use Rattle.kvs_model.specs.Store.{Name}
+use Rattle.services.specs.kvs_model.Store.{Name}
 use Rattle.instance.specs.Floors.{floor_in}
 use Rattle.instance.proofs.floors.Floors.join.Given as goal
 

@@ -5,7 +5,7 @@ use Rattle.std.specs.Cmp.Lexicographic.{slice_cmp}
 use Rattle.std.specs.Map.{lookup}
 use Rattle.std.specs.Ordering.{nat_cmp}
 use Rattle.std.specs.Str.{bytes_eq}
-use Rattle.kvs_model.specs.Store.{Name}
+use Rattle.services.specs.kvs_model.Store.{Name}
 use Rattle.instance.specs.Floors.{Floors, floor_in}
 use Rattle.instance.proofs.floors.Floors.raise.Goals as goal
 

@@ -1,7 +1,7 @@
 use Rattle.std.proofs.Common.{◌≡◌, ap, ap₂, ◌∙◌, subst}
 use Rattle.std.specs.Prelude.{find, option_map}
 use Rattle.std.specs.List.Sorted.{IsStrictlyIncreasing}
-use Rattle.manager_rules.specs.Jobs.{ids_of}
+use Rattle.job_deeds.specs.manager_rules.Jobs.{ids_of}
 use Rattle.job_book.specs.Active.{is_to_bear}
 use Rattle.job_book.specs.Seconds.{is_bearing}
 use Rattle.job_book.proofs.Actives.{first_to_bear}

@@ -3,11 +3,11 @@ use Rattle.std.specs.Prelude.{Contains}
 use Rattle.std.specs.List.{AllByRecursion as Each, list_any}
 use Rattle.std.specs.List.Sorted.{IsStrictlyIncreasing}
 use Rattle.std.proofs.lemmas.List.{take_all}
-use Rattle.hostlist.specs.Names.{AreHostNames}
-use Rattle.resource_set.specs.Units.{host_names}
-use Rattle.manager_rules.specs.Deeds.{Deed, due_of}
-use Rattle.manager_rules.specs.Due.{MayDo}
-use Rattle.manager_rules.specs.Jobs.{ids_of}
+use Rattle.job_deeds.specs.hostlist.Names.{AreHostNames}
+use Rattle.job_deeds.specs.resource_set.Units.{host_names}
+use Rattle.job_deeds.specs.manager_rules.Deeds.{Deed, due_of}
+use Rattle.job_deeds.specs.manager_rules.Due.{MayDo}
+use Rattle.job_deeds.specs.manager_rules.Jobs.{ids_of}
 use Rattle.job_deeds.specs.Actions.{deed_of}
 use Rattle.job_book.specs.Active.{active_of}
 use Rattle.job_deeds.specs.Choices.{Chooses}

@@ -1,9 +1,9 @@
 use Rattle.std.proofs.Common.{ℕ, take}
 use Rattle.std.specs.List.{AllByRecursion as Each}
 use Rattle.std.specs.Fn.{FnReturnsAt}
-use Rattle.tap.specs.declared.Ask.{Ask}
-use Rattle.manager_rules.specs.Deeds.{Deed}
-use Rattle.manager_rules.specs.Due.{MayDo}
+use Rattle.job_deeds.specs.tap.declared.Ask.{Ask}
+use Rattle.job_deeds.specs.manager_rules.Deeds.{Deed}
+use Rattle.job_deeds.specs.manager_rules.Due.{MayDo}
 use Rattle.job_book.specs.Active.{active_of}
 use Rattle.job_deeds.specs.Choices.{SaysAs}
 use Rattle.job_book.specs.Value.{scene_of}

@@ -2,8 +2,8 @@ use Rattle.std.proofs.Common.{◌≡◌, Some, sym, subst, rules}
 use Rattle.std.specs.Prelude.{IfSome}
 use Rattle.std.specs.Option.{option_copied}
 use Rattle.std.specs.List.{AllByRecursion as Each}
-use Rattle.resource_set.specs.Valid.{IsR}
-use Rattle.manager_rules.specs.Dependencies.{job_at}
+use Rattle.job_deeds.specs.resource_set.Valid.{IsR}
+use Rattle.job_deeds.specs.manager_rules.Dependencies.{job_at}
 use Rattle.job_book.proofs.Held.{copied_valid, each_found}
 use Rattle.job_book.proofs.book.Book.r.Goals as goal
 

@@ -3,7 +3,7 @@ use Rattle.std.specs.Prelude.{◌⊎◌, All, Contains, option_map}
 use Rattle.std.specs.List.{insert}
 use Rattle.std.specs.List.{AllByRecursion as Each}
 use Rattle.std.specs.List.Sorted.{IsStrictlyIncreasing}
-use Rattle.manager_rules.specs.Jobs.{StoredJob, ids_of}
+use Rattle.job_deeds.specs.manager_rules.Jobs.{StoredJob, ids_of}
 use Rattle.job_book.specs.Active.{AreActive, AreEntriesOf, IsEntryOf, active_of, ids_in}
 use Rattle.job_book.specs.Contract.{new_job, with_new}
 use Rattle.job_book.specs.Kept.{IsBook}

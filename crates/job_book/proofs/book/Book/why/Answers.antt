@@ -1,9 +1,9 @@
 use Rattle.std.proofs.Common.{◌≡◌, None, Some, sym, ap, ◌∙◌, subst}
 use Rattle.std.specs.Prelude.{Contains, IfOk, option_map}
-use Rattle.job_rules.proofs.Among.{contains_from}
-use Rattle.job_spec.specs.Sound.{IsSpec}
-use Rattle.manager_rules.specs.Dependencies.{job_at}
-use Rattle.manager_rules.specs.Whys.{IsSaidOf, IsWhy}
+use Rattle.job_deeds.proofs.job_rules_proofs.Among.{contains_from}
+use Rattle.job_deeds.specs.job_spec.Sound.{IsSpec}
+use Rattle.job_deeds.specs.manager_rules.Dependencies.{job_at}
+use Rattle.job_deeds.specs.manager_rules.Whys.{IsSaidOf, IsWhy}
 use Rattle.job_deeds.specs.Waiting.{IsFirstOf, IsRanked}
 use Rattle.job_book.proofs.Held.{each_found}
 use Rattle.job_book.proofs.Queues.{first_of}

@@ -1,6 +1,6 @@
 use Rattle.std.proofs.Common.{◌∙◌, ◌++◌, ◌∷◌, [], ap, sym, subst}
-use Rattle.kvs_rules.specs.Log.{Asked}
-use Rattle.instance_rules.specs.Log.{service_of}
+use Rattle.job_service.specs.kvs_rules.Log.{Asked}
+use Rattle.job_service.specs.instance_rules.Log.{service_of}
 use Rattle.services.specs.Asks.{AgreesOnce, MayAsk}
 use Rattle.services.specs.View.{IsFit, value_of}
 use Rattle.services.proofs.Turning.{contents-asked, contents-fit, with_contents}

@@ -1,5 +1,5 @@
 use Rattle.std.proofs.Common.{◌∙◌, ◌++◌, ◌∷◌, [], ap, sym, subst}
-use Rattle.instance_rules.specs.Log.{Born}
+use Rattle.job_service.specs.instance_rules.Log.{Born}
 use Rattle.services.specs.Agrees.{AgreesServices}
 use Rattle.services.specs.View.{IsFit, value_of}
 use Rattle.services.proofs.Staying.{born_is}

@@ -1,7 +1,7 @@
 use Rattle.std.proofs.Common.{◌≡◌, ◌∙◌, false, ap, sym, subst}
 use Rattle.services.specs.View.{IsFit, value_of}
 use Rattle.std.specs.Prelude.{slice_get}
-use Rattle.kvs_rules.specs.declared.events.KvsStep.{KvsStep}
+use Rattle.job_service.specs.kvs_rules.declared.events.KvsStep.{KvsStep}
 use Rattle.services.specs.Order.{possible}
 use Rattle.services.specs.Steps.{can_step}
 use Rattle.services.proofs.Linking.{CoreLinked, all_linked}

@@ -1,5 +1,5 @@
 use Rattle.std.proofs.Common.{◌∙◌, ◌++◌, ◌∷◌, [], ap, sym, subst}
-use Rattle.instance_rules.specs.Log.{Issued}
+use Rattle.job_service.specs.instance_rules.Log.{Issued}
 use Rattle.job_service.specs.Agrees.{MayIssue}
 use Rattle.services.specs.Agrees.{AgreesServices}
 use Rattle.services.specs.View.{IsFit, value_of}

@@ -1,5 +1,5 @@
 use Rattle.std.proofs.Common.{[], refl}
-use Rattle.instance_rules.specs.Log.{Instance}
+use Rattle.job_service.specs.instance_rules.Log.{Instance}
 use Rattle.services.proofs.Beginning.{plain, plain_given}
 use Rattle.services.proofs.services.Services.new.Goals as goal
 

@@ -1,11 +1,11 @@
 use Rattle.std.proofs.Common.{◌≡◌, ◌∙◌, ℕ, ◌-◌, ◌++◌, List, ap, sym, subst, map, length, arith}
 use Rattle.std.specs.Prelude.{Ok, Err}
 use Rattle.std.specs.List.{filter, range_with_len}
-use Rattle.kvs_rules.specs.declared.events.KvsStep.{KvsStep}
-use Rattle.kvs_rules.specs.declared.events.KvsStep.TheVariants as kvs
+use Rattle.job_service.specs.kvs_rules.declared.events.KvsStep.{KvsStep}
+use Rattle.job_service.specs.kvs_rules.declared.events.KvsStep.TheVariants as kvs
 use Rattle.services.specs.Steps.{can_step}
-use Rattle.kvs_core.specs.Walk.{nth, deliveries}
-use Rattle.kvs_core.proofs.Walking.{behind-all, within-all}
+use Rattle.job_service.specs.kvs_core.Walk.{nth, deliveries}
+use Rattle.job_service.proofs.kvs_core_proofs.Walking.{behind-all, within-all}
 use Rattle.services.proofs.services.Services.nth_of_both.Goals as goal
 
 unfoldable services : ℕ → List KvsStep

@@ -1,13 +1,13 @@
 use Rattle.std.proofs.Common.{◌≡◌, ◌∙◌, ◌+◌, ◌-◌, ◌*◌, ◌/◌, min, refl, ap, sym, subst, map, arith}
 use Rattle.std.specs.List.{filter}
-use Rattle.kvs_rules.specs.Brokers.{parent}
-use Rattle.kvs_rules.specs.declared.events.KvsStep.TheVariants as kvs
+use Rattle.job_service.specs.kvs_rules.Brokers.{parent}
+use Rattle.job_service.specs.kvs_rules.declared.events.KvsStep.TheVariants as kvs
 use Rattle.services.specs.Steps.{can_step}
-use Rattle.kvs_core.specs.Walk.{between, nth}
+use Rattle.job_service.specs.kvs_core.Walk.{between, nth}
 use Rattle.services.specs.View.{IsFit}
 use Rattle.services.proofs.Links.{AreLinked, sent-parts}
 use Rattle.services.proofs.Linking.{CoreLinked, all_linked}
-use Rattle.kvs_core.proofs.Walking.{behind, within}
+use Rattle.job_service.proofs.kvs_core_proofs.Walking.{behind, within}
 use Rattle.services.proofs.services.Services.nth_sent.Goals as goal
 
 pub returns-in-Ok-clause-value : goal.returns-in-Ok-clause-value

@@ -1,7 +1,7 @@
 use Rattle.std.proofs.Common.{◌∙◌, IsSome, ap, sym, subst}
-use Rattle.instance_rules.specs.Log.{service_of}
-use Rattle.kvs_core.specs.Agrees.{Agrees}
-use Rattle.kvs_core.specs.Steps.{IsStill as CoreIsStill}
+use Rattle.job_service.specs.instance_rules.Log.{service_of}
+use Rattle.job_service.specs.kvs_core.Agrees.{Agrees}
+use Rattle.job_service.specs.kvs_core.Steps.{IsStill as CoreIsStill}
 use Rattle.job_service.specs.Children.{is_due}
 use Rattle.job_service.specs.Still.{awaited}
 use Rattle.job_service.specs.Times.{targets_left}

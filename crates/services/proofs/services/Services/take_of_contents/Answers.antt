@@ -1,7 +1,7 @@
 use Rattle.std.proofs.Common.{◌≡◌, ◌∙◌, ◌++◌, ◌∷◌, [], None, true, ap, sym, subst}
 use Rattle.content_service.specs.Steps.{can_take as contents_can_take}
-use Rattle.kvs_rules.specs.Log.{Happened}
-use Rattle.kvs_rules.specs.declared.events.KvsEvent.TheVariants as event
+use Rattle.job_service.specs.kvs_rules.Log.{Happened}
+use Rattle.job_service.specs.kvs_rules.declared.events.KvsEvent.TheVariants as event
 use Rattle.services.specs.Asks.{Tells}
 use Rattle.services.specs.View.{IsFit, value_of}
 use Rattle.services.proofs.Turning.{contents-fit, contents-tell, with_contents}

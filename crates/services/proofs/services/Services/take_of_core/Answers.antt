@@ -1,8 +1,8 @@
 use Rattle.std.proofs.Common.{◌≡◌, ◌∙◌, ◌++◌, ◌∷◌, [], true, ap, sym, subst}
-use Rattle.kvs_core.specs.Steps.{can_take as core_can_take}
-use Rattle.kvs_rules.specs.Log.{Happened}
-use Rattle.kvs_rules.specs.declared.events.KvsEvent.TheVariants as event
-use Rattle.instance_rules.specs.Log.{Served}
+use Rattle.job_service.specs.kvs_core.Steps.{can_take as core_can_take}
+use Rattle.job_service.specs.kvs_rules.Log.{Happened}
+use Rattle.job_service.specs.kvs_rules.declared.events.KvsEvent.TheVariants as event
+use Rattle.job_service.specs.instance_rules.Log.{Served}
 use Rattle.services.specs.Asks.{Tells}
 use Rattle.services.specs.View.{IsFit, value_of}
 use Rattle.services.proofs.Turning.{core-tells, jobs-fit, jobs-later, with_jobs}

@@ -1,5 +1,5 @@
 use Rattle.std.proofs.Common.{◌∙◌, ◌++◌, ◌∷◌, [], ap, sym, subst, refl}
-use Rattle.instance_rules.specs.Log.{Ticked}
+use Rattle.job_service.specs.instance_rules.Log.{Ticked}
 use Rattle.services.specs.Agrees.{AgreesServices}
 use Rattle.services.specs.Asks.{Keeps}
 use Rattle.services.specs.View.{IsFit, value_of}

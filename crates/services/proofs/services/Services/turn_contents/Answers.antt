@@ -1,5 +1,5 @@
 use Rattle.std.proofs.Common.{◌∙◌, ◌++◌, map, ap, subst}
-use Rattle.kvs_rules.specs.Log.{Happened}
+use Rattle.job_service.specs.kvs_rules.Log.{Happened}
 use Rattle.services.specs.Makes.{Makes}
 use Rattle.services.specs.View.{IsFit, value_of}
 use Rattle.services.proofs.Turning.{contents-fit, contents-make, with_contents}

@@ -1,5 +1,5 @@
 use Rattle.std.proofs.Common.{◌∙◌, ◌++◌, map, ap, subst}
-use Rattle.job_landings.specs.Landings.{happening}
+use Rattle.job_service.specs.job_landings.Landings.{happening}
 use Rattle.services.specs.Makes.{Makes}
 use Rattle.services.specs.View.{IsFit, value_of}
 use Rattle.services.proofs.Turning.{core-makes, jobs-fit, jobs-later, with_jobs}
