@@ -8,7 +8,7 @@ pub use Rattle.instance_rules.specs.event_log as event_log
 pub use Rattle.instance_rules.specs.fluid_ids as fluid_ids
 pub use Rattle.instance_rules.specs as instance_rules
 pub use Rattle.job_book.specs as job_book
-pub use Rattle.job_deeds.specs as job_deeds
+pub use Rattle.job_book.specs.job_deeds as job_deeds
 pub use Rattle.instance_rules.specs.job_spec as job_spec
 pub use Rattle.kvs_core.specs as kvs_core
 pub use Rattle.kvs_core.specs.kvs_model as kvs_model

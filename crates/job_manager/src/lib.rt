@@ -5,7 +5,7 @@
 // The crates below that those above reach through this one.
 pub use instance_rules::{event_log, job_spec};
 pub use job_book;
-pub use job_deeds::{fl_json, job_texts};
+pub use job_book::{fl_json, job_texts};
 pub use kvs_core;
 pub use kvs_core::{kvs_rules, kvs_space, kvs_txn, lists};
 

@@ -4,12 +4,10 @@
 #![tactic(auto)]
 
 // The crates below that those above reach through this one.
-pub use fl_json;
-pub use fluid_ids;
-pub use idset;
 pub use job_spec;
-pub use lists;
+pub use job_spec::{fl_json, fluid_ids};
 pub use resource_set;
+pub use resource_set::{idset, lists};
 
 pub mod hold;
 mod laws;
