@@ -9,6 +9,6 @@ mod playing;
 mod reading;
 
 pub use call::{Fault, Run, flux};
-pub use ending::{closing_notice, command_words, exit_status, run_without_memory};
+pub use ending::{closing_notice, command_words, exit_code, program_weights, run_without_memory};
 pub use generating::Generation;
 pub use notices::notice;

@@ -1,13 +1,17 @@
 //! The program: its words, standard input and standard output, handed to the top call.
 #![tactic(auto)]
 
-use flux::{closing_notice, command_words, exit_status, flux, run_without_memory};
+ghost use Rattle.std.specs.Prelude.{◌≡◌};
+ghost use Rattle.std.specs.Process.{exit_status};
+
+use flux::{
+    Run, closing_notice, command_words, exit_code, flux, program_weights, run_without_memory,
+};
 use outside::{StdSink, StdSource};
 use std::alloc::AllocError;
 use std::env;
 use std::io::ErrorKind;
 use std::process::ExitCode;
-use tap::Weights;
 
 /// All words that the program was started with. Words that aren't UTF-8 are no command's, and there
 /// are none then.
@@ -24,8 +28,17 @@ fn all_words(rt: &HostRuntime) -> Result<Vec<String>, AllocError> {
     Ok(words)
 }
 
-/// Carries out the command of the program's words, says on standard error why it ended otherwise
-/// than well, and gives its exit status.
+/// Says on standard error why a run ended otherwise than well, and gives the program's exit code.
+fn end(rt: &HostRuntime, run: &Run) -> ExitCode
+    ensures { exit_status result ≡ run.now.status }
+{
+    if let Ok(Some(text)) = closing_notice(rt.alloc(), run) {
+        let _ = rt.eprintln(text.as_str());
+    }
+    exit_code(run)
+}
+
+/// Carries out the command of the program's words, and ends with the status of its run.
 pub fn program(rt: &HostRuntime) -> ExitCode {
     let alloc = rt.alloc();
     let mut source = StdSource::new(rt.stdin());
@@ -36,12 +49,9 @@ pub fn program(rt: &HostRuntime) -> ExitCode {
             command_words(&words),
             &mut source,
             &mut sink,
-            Weights::URGENCY,
+            program_weights(),
         ),
         Err(_) => run_without_memory(alloc),
     };
-    if let Ok(Some(text)) = closing_notice(alloc, &run) {
-        let _ = rt.eprintln(text.as_str());
-    }
-    ExitCode::from(exit_status(&run))
+    end(rt, &run)
 }
