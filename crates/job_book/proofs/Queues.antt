@@ -12,7 +12,7 @@ use Rattle.job_deeds.specs.manager_rules.Jobs.{StoredJob, ids_of}
 use Rattle.job_deeds.specs.manager_rules.Posts.{event_done, with_event, with_job}
 use Rattle.job_deeds.specs.Waiting.{IsFirstOf, IsQueueOf, waits_with}
 use Rattle.job_deeds.proofs.Heads.{head_some}
-use Rattle.job_deeds.proofs.Lists.{none_of}
+use Rattle.job_deeds.proofs.Finding.{none_of}
 use Rattle.job_deeds.proofs.Places.{rise_among}
 use Rattle.job_deeds.proofs.Whys.{found_job}
 

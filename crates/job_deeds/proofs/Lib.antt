@@ -1,4 +1,4 @@
-pub mod Lists
+pub mod Finding
 pub mod Places
 pub mod Rest
 pub mod Chosen

@@ -7,7 +7,7 @@ use Rattle.std.proofs.lemmas.List.Sorted.{IsPartitionPoint-from_clause, IsPartit
 use Rattle.job_book.specs.Active.{ids_in}
 use Rattle.job_book.specs.declared.active.Active.{Active}
 use Rattle.job_book.proofs.Actives.{inserted_from, placed}
-use Rattle.job_deeds.proofs.Lists.{is_ok_then}
+use Rattle.job_deeds.proofs.Finding.{is_ok_then}
 use Rattle.job_deeds.proofs.Places.{each_after, each_before, rise_by}
 use Rattle.job_book.proofs.active.enter.Goals as goal
 

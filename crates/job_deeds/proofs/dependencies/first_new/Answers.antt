@@ -2,7 +2,7 @@ use Rattle.std.proofs.Common.{◌≡◌, not, false, true, sym, subst, arith, ru
 use Rattle.std.specs.Prelude.{find}
 use Rattle.manager_rules.specs.job_spec.declared.spec.Scheme.TheVariants.{After}
 use Rattle.manager_rules.specs.Dependencies.{is_added}
-use Rattle.job_deeds.proofs.Lists.{find_at, none_at}
+use Rattle.job_deeds.proofs.Finding.{find_at, none_at}
 use Rattle.job_deeds.proofs.dependencies.first_new.Goals as goal
 
 pub returns-then-not-has : goal.returns-then-not-has

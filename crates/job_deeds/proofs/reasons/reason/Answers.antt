@@ -1,7 +1,7 @@
 use Rattle.std.proofs.Common.{◌≡◌, ◌≢◌, None, Some, subst, rules}
 use Rattle.manager_rules.specs.job_states.declared.job.State.TheVariants as state
 use Rattle.job_deeds.specs.Waiting.{IsFirstOf}
-use Rattle.job_deeds.proofs.Lists.{none_of}
+use Rattle.job_deeds.proofs.Finding.{none_of}
 use Rattle.job_deeds.proofs.Whys.{waits_above}
 use Rattle.job_deeds.proofs.reasons.reason.Goals as goal
 

@@ -16,7 +16,7 @@ use Rattle.job_book.specs.Kept.{allotted}
 use Rattle.job_book.specs.Value.{scene_of}
 use Rattle.job_book.specs.Waking.{is_about}
 use Rattle.job_book.proofs.Actives.{active_length, none_active_due, sleeps_at}
-use Rattle.job_deeds.proofs.Lists.{each_next, each_past}
+use Rattle.job_deeds.proofs.Finding.{each_next, each_past}
 use Rattle.job_book.proofs.Queues.{first_of}
 use Rattle.job_book.proofs.book.Book.due.Goals as goal
 

@@ -9,7 +9,7 @@ use Rattle.job_book.specs.Contract.{new_job, with_new}
 use Rattle.job_book.specs.Kept.{IsBook}
 use Rattle.job_deeds.specs.Waiting.{IsQueueOf, waits_with}
 use Rattle.job_book.proofs.Actives.{active_rise, active_with, entries_with}
-use Rattle.job_deeds.proofs.Lists.{is_ok_then}
+use Rattle.job_deeds.proofs.Finding.{is_ok_then}
 use Rattle.job_deeds.proofs.Places.{not_among}
 use Rattle.job_book.proofs.Queues.{none_there, queue_with}
 use Rattle.job_book.proofs.Submitted.{added, book_with}
