@@ -7,7 +7,7 @@ use Rattle.instance_rules.specs.kvs_rules.declared.events.KvsEvent.TheVariants a
 use Rattle.instance_rules.specs.kvs_rules.Quiet.{AreAllTold}
 use Rattle.instance_rules.specs.kvs_rules.Sequence.{EachAfter}
 use Rattle.instance_rules.specs.manager_rules.Times.{IsIdle}
-use Rattle.instance_rules.specs.Family.{HasTarget, IsEndOf, IsFamilyIdle, IsFamilyTold, Living, MayClose, OfLiving}
+use Rattle.instance_rules.specs.Family.{HasTarget, HasToWait, IsEndOf, IsFamilyIdle, IsFamilyTold, Living, MayClose, OfLiving}
 use Rattle.instance_rules.specs.Legal.{OfDesk}
 use Rattle.instance_rules.specs.Log.{service_of}
 use Rattle.workload.specs.declared.work.Workload.{Workload}
@@ -19,8 +19,8 @@ use Rattle.answers.specs.Chronicle.{Setup, top}
 use Rattle.answers.specs.Commands.{broker_of}
 use Rattle.answers.specs.Entering.{entered}
 use Rattle.answers.specs.Jobs.{HasNoAdvance, instance_of, living_of, log_in}
-use Rattle.answers.specs.Legal.{RestsAtIssue}
-use Rattle.answers.specs.Runs.{ComesInTime, FamilyRestsAtIssue, HasFamilyRest, family_of}
+use Rattle.answers.specs.Legal.{HasSettled, SettlesFirst}
+use Rattle.answers.specs.Runs.{ComesInTime, FamilyRestsFirst, HasFamilyRest, family_of}
 use Rattle.answers.specs.Services.{setting_of}
 use Rattle.answers.specs.Stretches.{ComesBeforeReply, IsContentAt, IsReplyOf, IsStretch, IsTimeless}
 use Rattle.answers.specs.Whole.{HasComeToRest, HasToldAll, IsClosingEntry}
@@ -49,11 +49,18 @@ module _ (set : Setup) (c : List Entry) where
     idle = idle.idle (living_of set c) lives;
   }
 
-  pub family_rests : HasComeToRest set c → HasFamilyRest set c
-  family_rests h = record { told = family_told h.told; idle = family_idle h.idle }
+  pub family_rests : HasSettled set c → HasFamilyRest set c
+  family_rests h = record {
+    told = family_told h.rests.told;
+    idle = family_idle h.rests.idle;
+    waits = λ by waiting. (living_of set c, lives, h.waits by waiting);
+  }
 
-  pub rests_alone : HasFamilyRest set c → HasComeToRest set c
-  rests_alone h = one_rests h.told h.idle
+  pub rests_alone : HasFamilyRest set c → HasSettled set c
+  rests_alone h = record {
+    rests = one_rests h.told h.idle;
+    waits = λ by waiting. let w = h.waits by waiting in subst (λ l. HasToWait l by) (only (living_of set c) w.0 w.1) w.2;
+  }
 
   pub family_closes : HasComeToRest set c → HasNoAdvance set c → MayClose (family_of set c) []
   family_closes h none = record {
@@ -68,26 +75,28 @@ module _ (set : Setup) (c : List Entry) where
   pub closes_alone : MayClose (family_of set c) [] → HasComeToRest set c × HasNoAdvance set c
   closes_alone may = (one_rests may.told may.idle, λ target waits. may.advanced target (inl (living_of set c, lives, waits)))
 
--- ---- at each issue
+-- ---- before each issue and each tick
 
 each_as : {A : Type 0} {P Q : List A → A → Type 0} → ((xs : List A) (x : A) → P xs x → Q xs x) → (base more : List A) → EachAfter P base more → EachAfter Q base more
 each_as to base [] h = tt
 each_as to base (x ∷ more) h = (to base x h.0, each_as to (base ++ x ∷ []) more h.1)
 
 module _ (set : Setup) where
-  family_at_issue : (c : List Entry) (e : Entry) → RestsAtIssue set c e → FamilyRestsAtIssue set c e
-  family_at_issue c (entry.Issued actor command) h = family_rests set c h
-  family_at_issue c _ h = tt
+  family_first : (c : List Entry) (e : Entry) → SettlesFirst set c e → FamilyRestsFirst set c e
+  family_first c (entry.Issued actor command) h = family_rests set c h
+  family_first c (entry.Ticked second) h = family_rests set c h
+  family_first c _ h = tt
 
-  alone_at_issue : (c : List Entry) (e : Entry) → FamilyRestsAtIssue set c e → RestsAtIssue set c e
-  alone_at_issue c (entry.Issued actor command) h = rests_alone set c h
-  alone_at_issue c _ h = tt
+  alone_first : (c : List Entry) (e : Entry) → FamilyRestsFirst set c e → SettlesFirst set c e
+  alone_first c (entry.Issued actor command) h = rests_alone set c h
+  alone_first c (entry.Ticked second) h = rests_alone set c h
+  alone_first c _ h = tt
 
-  pub family_settled : (c : List Entry) → EachAfter (RestsAtIssue set) [] c → EachAfter (FamilyRestsAtIssue set) [] c
-  family_settled c = each_as family_at_issue [] c
+  pub family_settled : (c : List Entry) → EachAfter (SettlesFirst set) [] c → EachAfter (FamilyRestsFirst set) [] c
+  family_settled c = each_as family_first [] c
 
-  pub settled_alone : (c : List Entry) → EachAfter (FamilyRestsAtIssue set) [] c → EachAfter (RestsAtIssue set) [] c
-  settled_alone c = each_as alone_at_issue [] c
+  pub settled_alone : (c : List Entry) → EachAfter (FamilyRestsFirst set) [] c → EachAfter (SettlesFirst set) [] c
+  settled_alone c = each_as alone_first [] c
 
 -- ---- what is always in time
 
@@ -143,8 +152,7 @@ plain_events i (x ∷ events) = (plain_event i x, plain_events i events)
 
 plain_stretch : (work : Workload) (c made : List Entry) (s : Step) → IsTimeless s → IsStretch work c s made → Each IsPlain made
 plain_stretch work c made (step.Issue actor) free h =
-    let p = each_parts IsPlain h.before h.behind (each_to (plain_content top (broker_of work actor)) (h.before ++ h.behind) h.others) in
-    subst (Each IsPlain) (sym h.split) (each_joined IsPlain h.before (entry.Issued actor h.command ∷ h.behind) p.0 (tt, p.1))
+    subst (Each IsPlain) (sym h.split) (tt, each_to (plain_content top (broker_of work actor)) h.behind h.others)
 plain_stretch work c made (step.Kvs instance s) free h = subst (Each IsPlain) (sym h.split) (plain_events instance h.events)
 plain_stretch work c made (step.Answer actor) free h =
     subst (Each IsPlain) (sym h.split) (each_joined IsPlain h.before (h.reply ∷ []) (each_to (plain_before work actor) h.before h.others) (plain_reply actor h.reply h.replies, tt))

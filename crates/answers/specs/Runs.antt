@@ -1,10 +1,11 @@
 -- What a run asks beside what its instance does: rules over all instances that live.
 use Rattle.std.specs.Prelude.{List, [], ◌∷◌}
 use Rattle.instance_rules.specs.kvs_rules.Sequence.{EachAfter}
-use Rattle.instance_rules.specs.Family.{IsFamilyIdle, IsFamilyTold, Living, MayTick}
+use Rattle.instance_rules.specs.kvs_txn.declared.txn.By.{By}
+use Rattle.instance_rules.specs.Family.{HasToWaitIn, IsFamilyIdle, IsFamilyTold, Living, MayTick}
 use Rattle.answers.specs.declared.chronicle.Entry.{Entry}
 use Rattle.answers.specs.declared.chronicle.Entry.TheVariants as entry
-use Rattle.answers.specs.Chronicle.{Setup}
+use Rattle.answers.specs.Chronicle.{IsOpenCommand, Setup}
 use Rattle.answers.specs.Jobs.{living_of, second_of}
 
 -- the instances that live: the top one alone, until jobs have children
@@ -23,15 +24,18 @@ ComesInTime set c _ = Unit {0}
 abbrev pub IsInTime : Setup → List Entry → Type 0
 IsInTime set c = EachAfter (ComesInTime set) [] c
 
--- all instances rest: their brokers are told, and nothing is due
+-- all instances rest: their brokers are told, nothing is due, and each open command has to wait
 pub record HasFamilyRest (set : Setup) (c : List Entry) : Type 0 where
   pub told : IsFamilyTold (family_of set c)
   pub idle : IsFamilyIdle (family_of set c)
+  pub waits : (by : By) → IsOpenCommand by c → HasToWaitIn (family_of set c) by
 
--- they do so at each issue of a settled run
-abbrev pub FamilyRestsAtIssue : Setup → List Entry → Entry → Type 0
-FamilyRestsAtIssue set c (entry.Issued actor command) = HasFamilyRest set c
-FamilyRestsAtIssue set c _ = Unit {0}
+-- they do so where a command is issued or time goes on
+abbrev pub FamilyRestsFirst : Setup → List Entry → Entry → Type 0
+FamilyRestsFirst set c (entry.Issued actor command) = HasFamilyRest set c
+FamilyRestsFirst set c (entry.Ticked second) = HasFamilyRest set c
+FamilyRestsFirst set c _ = Unit {0}
 
+-- and before each issue and each tick of a settled run
 abbrev pub IsFamilySettled : Setup → List Entry → Type 0
-IsFamilySettled set c = EachAfter (FamilyRestsAtIssue set) [] c
+IsFamilySettled set c = EachAfter (FamilyRestsFirst set) [] c

@@ -11,7 +11,7 @@ use Rattle.answers.proofs.job_rules_proofs.Among.{Among, among_filter, any_at, a
 use Rattle.answers.specs.kvs_txn.declared.txn.By.{By}
 use Rattle.answers.specs.kvs_rules.Sequence.{EachAfter}
 use Rattle.answers.proofs.kvs_rules_proofs.Sequences.{each_joined, each_parts}
-use Rattle.answers.specs.instance_rules.Family.{HasTarget, IsEndOf, IsTarget, Living}
+use Rattle.answers.specs.instance_rules.Family.{HasTarget, IsEndOf, IsFamilyIdle, IsFamilyTold, IsTarget, Living}
 use Rattle.answers.specs.instance_rules.Log.{Log}
 use Rattle.answers.specs.workload.declared.work.Workload.{Workload}
 use Rattle.answers.specs.Chronicle.{Setup, is_issued, issues, issues_of, replies_to}
@@ -27,14 +27,15 @@ use Rattle.hierarchy.specs.Births.{Birth, birth_in, birth_of, has_home, has_livi
 use Rattle.hierarchy.specs.Closing.{EndsAs, IsAnswered, Part}
 use Rattle.hierarchy.specs.Families.{family_of, left_in, living_in, shuts_down}
 use Rattle.hierarchy.specs.Growing.{ActsAlike, GoesOn}
-use Rattle.hierarchy.specs.Legal.{AreOwnLegal, HasHomeFor, HasRunGrounds, HasRunRest, IsLegalRunEntry, is_end}
+use Rattle.hierarchy.specs.Legal.{AreOwnLegal, HasHomeFor, HasRunGrounds, IsLegalRunEntry, is_end}
 use Rattle.hierarchy.specs.Own.{own_entry, own_of, setup_in}
 use Rattle.hierarchy.specs.Whole.{HasUnbornGrounds, IsRunClosing, IsWholeRun}
 use Rattle.hierarchy.proofs.Members.{member}
 use Rattle.hierarchy.proofs.Nested.{happenings_push}
 use Rattle.hierarchy.proofs.OneEntry.{alike_push, birth_same, born_same, count_none, gone_same, label_same, lives_same, living_home, numbers_same, own_more}
 use Rattle.hierarchy.proofs.Owning.{alive, is_alive, setup_kept}
-use Rattle.hierarchy.proofs.Resting.{all_rest, left_empty}
+use Rattle.hierarchy.proofs.Homes.{all_idle}
+use Rattle.hierarchy.proofs.Resting.{all_told, left_empty}
 use Rattle.hierarchy.proofs.Steps.{command_same, home_lives, lost_home_born, not_here, replies_so, unended}
 
 -- ---- entries of the end
@@ -511,8 +512,11 @@ module _ (set : Setup) (c closings : List Entry) (k : Closings set c closings) w
 
   -- ---- the run is whole
 
-  rests : HasRunRest set whole
-  rests = all_rest set whole (λ i there. (end_whole set c closings k i there).rests)
+  told : IsFamilyTold (family_of set whole)
+  told = all_told set whole (λ i there. (end_whole set c closings k i there).rests)
+
+  idle : IsFamilyIdle (family_of set whole)
+  idle = all_idle set whole (λ i there. (end_whole set c closings k i there).rests.idle)
       (subst (λ f. (l : Living) → Contains f l → IsEndOf f l → ⊥) (sym family_so) k.stays)
 
   no_target : (target : ℕ) → IsTarget (family_of set whole) (left_in set whole) target → ⊥
@@ -535,7 +539,7 @@ module _ (set : Setup) (c closings : List Entry) (k : Closings set c closings) w
     answered = answered;
     no_other = no_other;
     own = end_whole set c closings k;
-    closes = record { idle = rests.idle; told = rests.told; advanced = no_target };
+    closes = record { idle = idle; told = told; advanced = no_target };
   }
 
   end_fits : IsLegalRunEntry set (c ++ closings) entry.Closed

@@ -5,11 +5,11 @@ use Rattle.std.specs.List.{AllByRecursion as Each}
 use Rattle.answers.specs.kvs_txn.declared.txn.By.{By}
 use Rattle.answers.specs.kvs_rules.Sequence.{EachAfter}
 use Rattle.answers.proofs.kvs_rules_proofs.Sequences.{each_along, each_push}
-use Rattle.answers.specs.instance_rules.Family.{IsFamilyIdle, IsFamilyTold, MayClose, MayTick}
+use Rattle.answers.specs.instance_rules.Family.{HasToWaitIn, IsFamilyIdle, IsFamilyTold, MayClose, MayTick}
 use Rattle.answers.specs.Chronicle.{Setup, top}
 use Rattle.answers.specs.Jobs.{second_of}
 use Rattle.answers.specs.Legal.{HasReplyGrounds, IsLegal, IsLegalEntry, IsSettled}
-use Rattle.answers.specs.Runs.{ComesInTime, FamilyRestsAtIssue, HasFamilyRest, IsFamilySettled, IsInTime, family_of as alone_in}
+use Rattle.answers.specs.Runs.{ComesInTime, FamilyRestsFirst, HasFamilyRest, IsFamilySettled, IsInTime, family_of as alone_in}
 use Rattle.answers.specs.Whole.{HasClosingGrounds, IsGrounded, IsWhole, is_closing}
 use Rattle.answers.specs.declared.chronicle.Entry.{Entry}
 use Rattle.answers.specs.declared.chronicle.Entry.TheVariants as entry
@@ -19,7 +19,7 @@ use Rattle.answers.proofs.Alone.{family_closes, settled_alone}
 use Rattle.hierarchy.specs.Births.{lives}
 use Rattle.hierarchy.specs.Families.{family_of, left_in, second_in}
 use Rattle.hierarchy.specs.Laws.{IsChildless, IsOfNoChild, IsOfTop}
-use Rattle.hierarchy.specs.Legal.{HasHomeFor, HasRunGrounds, HasRunRest, IsLegalRun, IsLegalRunEntry, IsSettledRun, RunRestsAtIssue, is_end}
+use Rattle.hierarchy.specs.Legal.{HasHomeFor, HasRunGrounds, HasRunRest, IsLegalRun, IsLegalRunEntry, IsSettledRun, RunRestsFirst, is_end}
 use Rattle.hierarchy.specs.Own.{own_of, setup_in}
 use Rattle.hierarchy.specs.Whole.{IsRunClosing, IsWholeRun}
 use Rattle.hierarchy.proofs.Alone.{IsAtTop, chronicle_same, family_same, has_living_top, has_top, no_left, only_top, second_same, setup_same, top_lives}
@@ -133,27 +133,31 @@ module _ (set : Setup) (tops : IsOfTop set) where
         (subst (λ n. MayTick (alone_in set c) n (left_in set c) second) (second_same set tops c h at)
         (subst (λ l. MayTick l (second_in set c) (left_in set c) second) (family_same set tops c h at) m))
 
-    -- ---- at an issue
+    -- ---- before an issue or a tick
 
     rest_run : HasFamilyRest set c → HasRunRest set c
     rest_run r = record {
       told = subst IsFamilyTold (sym (family_same set tops c h at)) r.told;
       idle = subst IsFamilyIdle (sym (family_same set tops c h at)) r.idle;
+      waits = λ by waiting. subst (λ l. HasToWaitIn l by) (sym (family_same set tops c h at)) (r.waits by waiting);
     }
 
     rest_alone : HasRunRest set c → HasFamilyRest set c
     rest_alone r = record {
       told = subst IsFamilyTold (family_same set tops c h at) r.told;
       idle = subst IsFamilyIdle (family_same set tops c h at) r.idle;
+      waits = λ by waiting. subst (λ l. HasToWaitIn l by) (family_same set tops c h at) (r.waits by waiting);
     }
 
-    issue_run : (e : Entry) → FamilyRestsAtIssue set c e → RunRestsAtIssue set c e
-    issue_run (entry.Issued actor command) r = rest_run r
-    issue_run _ r = tt
+    first_run : (e : Entry) → FamilyRestsFirst set c e → RunRestsFirst set c e
+    first_run (entry.Issued actor command) r = rest_run r
+    first_run (entry.Ticked second) r = rest_run r
+    first_run _ r = tt
 
-    issue_alone : (e : Entry) → RunRestsAtIssue set c e → FamilyRestsAtIssue set c e
-    issue_alone (entry.Issued actor command) r = rest_alone r
-    issue_alone _ r = tt
+    first_alone : (e : Entry) → RunRestsFirst set c e → FamilyRestsFirst set c e
+    first_alone (entry.Issued actor command) r = rest_alone r
+    first_alone (entry.Ticked second) r = rest_alone r
+    first_alone _ r = tt
 
   -- ---- one entry
 
@@ -230,17 +234,17 @@ module _ (set : Setup) (tops : IsOfTop set) where
     times_so [] c tt tt h l,
   )
 
-  rests_run : (base c : List Entry) → IsChildless base → Each IsAtTop base → IsChildless c → Each IsAtTop c → EachAfter (FamilyRestsAtIssue set) base c → EachAfter (RunRestsAtIssue set) base c
+  rests_run : (base c : List Entry) → IsChildless base → Each IsAtTop base → IsChildless c → Each IsAtTop c → EachAfter (FamilyRestsFirst set) base c → EachAfter (RunRestsFirst set) base c
   rests_run base [] hb ab h at r = tt
   rests_run base (e ∷ c) hb ab h at r = (
-    issue_run base hb ab e r.0,
+    first_run base hb ab e r.0,
     rests_run (base ++ e ∷ []) c (push_each IsOfNoChild base e hb h.0) (push_each IsAtTop base e ab at.0) h.1 at.1 r.1,
   )
 
-  rests_alone : (base c : List Entry) → IsChildless base → Each IsAtTop base → IsChildless c → Each IsAtTop c → EachAfter (RunRestsAtIssue set) base c → EachAfter (FamilyRestsAtIssue set) base c
+  rests_alone : (base c : List Entry) → IsChildless base → Each IsAtTop base → IsChildless c → Each IsAtTop c → EachAfter (RunRestsFirst set) base c → EachAfter (FamilyRestsFirst set) base c
   rests_alone base [] hb ab h at r = tt
   rests_alone base (e ∷ c) hb ab h at r = (
-    issue_alone base hb ab e r.0,
+    first_alone base hb ab e r.0,
     rests_alone (base ++ e ∷ []) c (push_each IsOfNoChild base e hb h.0) (push_each IsAtTop base e ab at.0) h.1 at.1 r.1,
   )
 

@@ -14,6 +14,7 @@ pub mod Ending
 pub mod Seconds
 pub mod Issues
 pub mod Advances
+pub mod Open
 pub mod Resting
 pub mod Finish
 pub mod Parts

@@ -1,44 +1,108 @@
--- When all living instances of a run rest, and when no advance is left behind.
-use Rattle.std.proofs.Common.{◌≡◌, ℕ, ◌+◌, ◌&&◌, inl, inr, List, [], ◌∷◌, Bool, true, false, cond, not, Option, Some, None, is_some, option_map, filter_map, refl, sym, ap₂, subst, true≢false}
+-- When a run rests with its living instances, and when no advance is left behind.
+use Rattle.std.proofs.Common.{◌≡◌, ℕ, ◌+◌, ◌&&◌, ◌⊎◌, inl, inr, List, [], ◌∷◌, Bool, true, false, cond, count_by, not, Option, Some, None, is_some, option_map, filter_map, refl, sym, ap, ap₂, ◌∙◌, subst, arith, true≢false}
 use Rattle.std.specs.Prelude.{Contains, option_and_then}
 use Rattle.std.specs.List.{cons_option}
-use Rattle.std.proofs.lemmas.Bool.{eq-eqb}
-use Rattle.answers.proofs.job_rules_proofs.Among.{Among, any_at}
+use Rattle.std.proofs.lemmas.Bool.{and_parts, eq-eqb, or_cases}
+use Rattle.std.proofs.lemmas.List.Sums.{sum_by-cons}
+use Rattle.answers.proofs.job_rules_proofs.Among.{Among, any_at, any_from}
 use Rattle.answers.specs.kvs_rules.Quiet.{AreAllTold}
 use Rattle.answers.specs.kvs_txn.declared.txn.By.{By}
-use Rattle.answers.specs.manager_rules.Times.{IsIdle}
-use Rattle.answers.specs.instance_rules.Family.{IsEndOf, IsFamilyIdle, IsFamilyTold, Living, OfLiving}
+use Rattle.answers.specs.instance_rules.Family.{HasToWait, HasToWaitIn, IsEndOf, IsFamilyTold, Living}
 use Rattle.answers.specs.instance_rules.Log.{service_of}
 use Rattle.answers.specs.workload.declared.work.Command.{Command}
-use Rattle.answers.specs.Chronicle.{IsOpenCommand, Setup, before_issue, is_issued, is_replied, issues}
+use Rattle.answers.specs.Chronicle.{IsOpenCommand, Setup, before_issue, is_issued, is_replied, issues, issues_of}
 use Rattle.answers.specs.Commands.{command_at}
+use Rattle.answers.specs.Jobs.{living_of}
+use Rattle.answers.specs.Legal.{HasSettled}
 use Rattle.answers.specs.Services.{setting_of}
 use Rattle.answers.specs.Whole.{HasComeToRest}
 use Rattle.answers.specs.declared.chronicle.Entry.{Entry}
 use Rattle.answers.specs.declared.chronicle.Entry.TheVariants as entry
 use Rattle.answers.proofs.JobLogs.{service_kept}
-use Rattle.hierarchy.specs.Births.{has_lost_home, lives}
-use Rattle.hierarchy.specs.Families.{family_of, left_by, left_in, second_in, seconds_asked}
+use Rattle.hierarchy.specs.Births.{has_home, has_lost_home, is_at, is_born, is_gone, label_of, lives, numbers}
+use Rattle.hierarchy.specs.Families.{family_of, left_by, left_in, living_in, second_in, seconds_asked}
+use Rattle.hierarchy.specs.Growing.{GoesOn}
 use Rattle.hierarchy.specs.Legal.{HasRunRest}
 use Rattle.hierarchy.specs.Own.{own_of, setup_in}
+use Rattle.hierarchy.proofs.Homes.{all_idle, lost_so}
 use Rattle.hierarchy.proofs.Members.{member}
+use Rattle.hierarchy.proofs.Nested.{in_family}
+use Rattle.hierarchy.proofs.Open.{open_in}
+use Rattle.hierarchy.proofs.Owning.{is_alive}
 
-module _ (set : Setup) (c : List Entry) (rests : (i : ℕ) → lives c i ≡ true → HasComeToRest (setup_in set c i) (own_of set c i))
-    (stays : (l : Living) → Contains (family_of set c) l → IsEndOf (family_of set c) l → ⊥) where
-  told : IsFamilyTold (family_of set c)
-  told l here =
+module _ (set : Setup) (c : List Entry) (rests : (i : ℕ) → lives c i ≡ true → HasComeToRest (setup_in set c i) (own_of set c i)) where
+  pub all_told : IsFamilyTold (family_of set c)
+  all_told l here =
       let m = member set c l here in
       subst (λ x. AreAllTold x.inst.service (service_of x.log)) (sym m.is)
       (subst (AreAllTold (setting_of (setup_in set c l.number))) (sym (service_kept (setup_in set c l.number).work (own_of set c l.number))) (rests l.number m.lives_so).told)
 
-  idle : IsFamilyIdle (family_of set c)
-  idle = record {
-    idle = λ l here. let m = member set c l here in subst (λ x. OfLiving x IsIdle) (sym m.is) (rests l.number m.lives_so).idle;
-    stays = stays;
-  }
+-- ---- open commands
 
-  pub all_rest : HasRunRest set c
-  all_rest = record { told = told; idle = idle }
+-- what a command waits for is a matter of its instance and its log alone
+waits_as : (l m : Living) (by : By) → m.inst ≡ l.inst → m.log ≡ l.log → HasToWait l by → HasToWait m by
+waits_as l m by inst log w =
+    subst (λ i. HasToWait (record { number = m.number; inst = i; log = m.log; from = m.from; shuts = m.shuts }) by) (sym inst)
+    (subst (λ g. HasToWait (record { number = m.number; inst = l.inst; log = g; from = m.from; shuts = m.shuts }) by) (sym log) (of w))
+  where
+    of : HasToWait l by → HasToWait (record { number = m.number; inst = l.inst; log = l.log; from = m.from; shuts = m.shuts }) by
+    of (inl r) = inl (record { request = r.request; asks = r.asks; waits = r.waits; left = r.left })
+    of (inr (inl a)) = inr (inl (record { seconds = a.seconds; asks = a.asks; waits = a.waits; ahead = a.ahead }))
+    of (inr (inr (where_, r))) = inr (inr (where_, record {
+      label = r.label;
+      asks = r.asks;
+      waits = r.waits;
+      store = r.store;
+      standing = r.standing;
+      jobs = r.jobs;
+      are = r.are;
+      j = r.j;
+      known = r.known;
+      names = r.names;
+      is = r.is;
+      goes_on = r.goes_on;
+    }))
+
+none_counted : (by : By) (c : List Entry) → count_by (issues_of by.actor) c ≡ 0 → is_issued by c ≡ true → ⊥
+none_counted by [] none issued = true≢false (sym issued)
+none_counted by (e ∷ c) none issued = of e (or_cases (issues by e) (is_issued by c) issued)
+  where
+    both : count_by (issues_of by.actor) (e ∷ c) ≡ cond (issues_of by.actor e) 1 0 + count_by (issues_of by.actor) c
+    both = sum_by-cons (λ x. cond (issues_of by.actor x) 1 0) e c
+
+    here : (x : Entry) → issues by x ≡ true → issues_of by.actor x ≡ true
+    here (entry.Issued actor command) is = (and_parts _ _ is).0
+    here _ is = absurd (true≢false (sym is))
+
+    of : (x : Entry) → (issues by e ≡ true) ⊎ (is_issued by c ≡ true) → ⊥
+    of x (inl is) = let one : ◌≡◌ {A = ℕ} (cond (issues_of by.actor e) 1 0) 1 = ap (λ b. cond b 1 0) (here e is) in absurd (omega (arith, both, none, one))
+    of x (inr more) = none_counted by c (omega (arith, both, none)) more
+
+module _ (set : Setup) (c : List Entry) (on : GoesOn set c) (settled : (i : ℕ) → lives c i ≡ true → HasSettled (setup_in set c i) (own_of set c i))
+    (lost : (by : By) → has_lost_home set.work.actors c by.actor ≡ true → IsOpenCommand by c → ⊥) where
+  -- it is one of an actor whose instance lives
+  all_wait : (by : By) → IsOpenCommand by c → HasToWaitIn (family_of set c) by
+  all_wait by waiting = at (has_home set.work.actors c by.actor) refl
+    where
+      in_home : (i : ℕ) → is_born c i ≡ true → is_at set.work.actors (label_of c i) by.actor ≡ true → (b : Bool) → is_gone c i ≡ b → HasToWaitIn (family_of set c) by
+      in_home i born here true gone = absurd (lost by (lost_so set c on i by.actor gone here) waiting)
+      in_home i born here false stays =
+          let alive = is_alive c i born stays in
+          (living_in set c i, in_family set c i alive, waits_as (living_of (setup_in set c i) (own_of set c i)) (living_in set c i) by refl refl ((settled i alive).waits by (open_in set c i by on alive here waiting)))
+
+      at : (b : Bool) → has_home set.work.actors c by.actor ≡ b → HasToWaitIn (family_of set c) by
+      at false none = absurd (none_counted by c (on.quiet by.actor none).issued waiting.0)
+      at true has =
+          let f = any_from (λ n. is_born c n && is_at set.work.actors (label_of c n) by.actor) (numbers c) has in
+          let p = and_parts (is_born c f.0) (is_at set.work.actors (label_of c f.0) by.actor) f.2 in
+          in_home f.0 p.0 p.1 (is_gone c f.0) refl
+
+  pub all_rest : ((l : Living) → Contains (family_of set c) l → IsEndOf (family_of set c) l → ⊥) → HasRunRest set c
+  all_rest stays = record {
+    told = all_told set c (λ i alive. (settled i alive).rests);
+    idle = all_idle set c (λ i alive. (settled i alive).rests.idle) stays;
+    waits = all_wait;
+  }
 
 -- ---- advances left behind
 

@@ -72,10 +72,11 @@ pub record GoesOnBy (set : Setup) (c : List Entry) (e : Entry) : Type 0 where
   pub legal : IsLegalRunEntry set c e
   pub on : GoesOn set (c ++ e ∷ [])
 
--- an entry issues no command
-abbrev pub IssuesNothing : Entry → Type 0
-IssuesNothing (entry.Issued actor command) = ⊥
-IssuesNothing _ = Unit {0}
+-- an entry neither issues a command nor lets time go on
+abbrev pub StartsNothing : Entry → Type 0
+StartsNothing (entry.Issued actor command) = ⊥
+StartsNothing (entry.Ticked second) = ⊥
+StartsNothing _ = Unit {0}
 
 -- the parent of the instance that an entry ends is ended among these
 abbrev pub ParentGoes : List Entry → Entry → Type 0

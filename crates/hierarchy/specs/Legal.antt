@@ -8,7 +8,7 @@ use Rattle.answers.specs.kvs_txn.declared.txn.By.{By}
 use Rattle.answers.specs.manager_rules.Jobs.{AreJobsOf, StoredJob}
 use Rattle.answers.specs.resource_set.declared.node.Resources.{Resources}
 use Rattle.answers.specs.instance_rules.Desks.{Names}
-use Rattle.answers.specs.instance_rules.Family.{IsBirthIn, IsFamilyIdle, IsFamilyTold, Living, MayGo, MayTick}
+use Rattle.answers.specs.instance_rules.Family.{HasToWaitIn, IsBirthIn, IsFamilyIdle, IsFamilyTold, Living, MayGo, MayTick}
 use Rattle.answers.specs.instance_rules.Log.{service_of}
 use Rattle.answers.specs.Chronicle.{IsOpenCommand, Setup}
 use Rattle.answers.specs.Legal.{IsLegal, IsLegalIssue}
@@ -112,15 +112,19 @@ IsLegalRun set c = EachAfter (IsLegalRunEntry set) [] c
 
 -- ---- at rest
 
--- all living instances rest: their brokers are told, and nothing is due
+-- all living instances rest: their brokers are told, nothing is due, and each open command has to
+-- wait in one of them
 pub record HasRunRest (set : Setup) (c : List Entry) : Type 0 where
   pub told : IsFamilyTold (family_of set c)
   pub idle : IsFamilyIdle (family_of set c)
+  pub waits : (by : By) → IsOpenCommand by c → HasToWaitIn (family_of set c) by
 
-abbrev pub RunRestsAtIssue : Setup → List Entry → Entry → Type 0
-RunRestsAtIssue set c (entry.Issued actor command) = HasRunRest set c
-RunRestsAtIssue set c _ = Unit {0}
+-- they do so where a command is issued or time goes on
+abbrev pub RunRestsFirst : Setup → List Entry → Entry → Type 0
+RunRestsFirst set c (entry.Issued actor command) = HasRunRest set c
+RunRestsFirst set c (entry.Ticked second) = HasRunRest set c
+RunRestsFirst set c _ = Unit {0}
 
--- a settled run: it has come to rest at each issue
+-- a settled run: it has come to rest before each issue and each tick
 abbrev pub IsSettledRun : Setup → List Entry → Type 0
-IsSettledRun set c = EachAfter (RunRestsAtIssue set) [] c
+IsSettledRun set c = EachAfter (RunRestsFirst set) [] c

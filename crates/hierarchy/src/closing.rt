@@ -6,22 +6,26 @@ ghost use Rattle.answers.specs.instance_rules.Family.{IsEndOf, Living};
 ghost use Rattle.answers.specs.workload.declared.work.Workload.{Workload};
 ghost use Rattle.answers.specs.Chronicle.{IsOpenCommand, Setup, replies_to};
 ghost use Rattle.answers.specs.Commands.{commands_of};
-ghost use Rattle.answers.specs.Whole.{HasComeToRest};
+ghost use Rattle.answers.specs.Legal.{HasSettled};
 ghost use Rattle.answers.specs.declared.chronicle.Entry.{Entry};
 ghost use Rattle.answers.specs.declared.chronicle.Entry.TheVariants as entry;
 ghost use Rattle.answers.specs.declared.steps.Step.TheVariants as step;
 ghost use Rattle.hierarchy.specs.Births.{has_lost_home, lives};
 ghost use Rattle.hierarchy.specs.Closing.{IsAnswered, MayEnd, Part, run_closings};
 ghost use Rattle.hierarchy.specs.Families.{family_of, left_in};
+ghost use Rattle.hierarchy.specs.Growing.{GoesOn};
 ghost use Rattle.hierarchy.specs.Legal.{HasRunRest, IsLegalRunEntry};
 ghost use Rattle.hierarchy.specs.Own.{own_of, setup_in};
 ghost use Rattle.hierarchy.specs.Stretches.{IsRunStretch};
 ghost use Rattle.hierarchy.specs.Whole.{IsWholeRun};
 
-/// A run rests where each living instance has come to rest and no end is due.
+/// A run rests where each living instance has settled, no command is open of an actor whose instance
+/// has gone, and no end is due.
 pub fn a_run_rests_with_its_instances()
-    ensures { (set : Setup) (c : List Entry)
-        → ((i : ℕ) → IsTrue (lives c i) → HasComeToRest (setup_in set c i) (own_of set c i))
+    ensures { (set : Setup) (c : List Entry) → GoesOn set c
+        → ((i : ℕ) → IsTrue (lives c i) → HasSettled (setup_in set c i) (own_of set c i))
+        → ((by : By) → IsTrue (has_lost_home set.work.actors c by.actor)
+        → IsOpenCommand by c → ⊥)
         → ((l : Living) → Contains (family_of set c) l → IsEndOf (family_of set c) l → ⊥)
         → HasRunRest set c }
 {}

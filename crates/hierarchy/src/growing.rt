@@ -7,7 +7,7 @@ ghost use Rattle.answers.specs.workload.Actors.{are_together};
 ghost use Rattle.answers.specs.workload.Laws.{HasOwnLabels};
 ghost use Rattle.answers.specs.instance_rules.Family.{MayTick};
 ghost use Rattle.answers.specs.Chronicle.{IsOpenCommand, Setup, top};
-ghost use Rattle.answers.specs.Legal.{IsLegalEntry, IsLegalIssue, RestsAtIssue};
+ghost use Rattle.answers.specs.Legal.{IsLegalEntry, IsLegalIssue};
 ghost use Rattle.answers.specs.Stretches.{IsIssueStretch};
 ghost use Rattle.answers.specs.Whole.{IsEarlierEntry};
 ghost use Rattle.answers.specs.declared.chronicle.Entry.{Entry};
@@ -15,8 +15,8 @@ ghost use Rattle.answers.specs.declared.chronicle.Entry.TheVariants as entry;
 ghost use Rattle.answers.specs.declared.chronicle.Reply.TheVariants as reply;
 ghost use Rattle.hierarchy.specs.Births.{has_lost_home, is_born, label_of, lives};
 ghost use Rattle.hierarchy.specs.Families.{family_of, left_in, second_in};
-ghost use Rattle.hierarchy.specs.Growing.{GoesOn, GoesOnBy, GrowsBy, IsMadeIn, IssuesNothing, ParentGoes};
-ghost use Rattle.hierarchy.specs.Legal.{HasRunGrounds, HasRunRest, IsLegalBirth, IsLegalRunEntry, RunRestsAtIssue};
+ghost use Rattle.hierarchy.specs.Growing.{GoesOn, GoesOnBy, GrowsBy, IsMadeIn, ParentGoes, StartsNothing};
+ghost use Rattle.hierarchy.specs.Legal.{HasRunGrounds, HasRunRest, IsLegalBirth, IsLegalRunEntry, RunRestsFirst};
 ghost use Rattle.hierarchy.specs.Own.{child_setup, own_of, setup_in};
 ghost use Rattle.hierarchy.specs.Stretches.{entered_in};
 
@@ -34,18 +34,14 @@ pub fn what_an_instance_makes_is_legal()
         → GrowsBy set c i own }
 {}
 
-/// A run that rests where an instance issues a command stays settled, as the instance does; and so
-/// does one where nothing is issued.
+/// A run that rests where an instance issues a command stays settled, and so does one where nothing
+/// is issued and time stands.
 pub fn a_run_stays_settled()
-    ensures issues { (set : Setup) (c : List Entry) (i actor : ℕ) (own : List Entry) → GoesOn set c
-        → IsTrue (lives c i) → HasRunRest set c
-        → IsIssueStretch (setup_in set c i).work actor own
-        → EachAfter (IsLegalEntry (setup_in set c i)) (own_of set c i) own
-        → Each (IsMadeIn set.work.actors (label_of c i)) own → Each IsEarlierEntry own
-        → EachAfter (RestsAtIssue (setup_in set c i)) (own_of set c i) own
-        → EachAfter (RunRestsAtIssue set) c (map (entered_in i) own) }
-    ensures others { (set : Setup) (c more : List Entry) → Each IssuesNothing more
-        → EachAfter (RunRestsAtIssue set) c more }
+    ensures issues { (set : Setup) (c : List Entry) (i actor : ℕ) (own : List Entry)
+        → HasRunRest set c → IsIssueStretch (setup_in set c i).work actor own
+        → EachAfter (RunRestsFirst set) c (map (entered_in i) own) }
+    ensures others { (set : Setup) (c more : List Entry) → Each StartsNothing more
+        → EachAfter (RunRestsFirst set) c more }
 {}
 
 /// Time goes on to a second where the family lets it and each living instance does.

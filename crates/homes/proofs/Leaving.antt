@@ -10,7 +10,7 @@ use Rattle.hierarchy.specs.answers.declared.chronicle.Entry.{Entry}
 use Rattle.hierarchy.specs.answers.declared.chronicle.Entry.TheVariants as entry
 use Rattle.hierarchy.specs.Births.{Birth, birth_of, is_born, is_gone, lives}
 use Rattle.hierarchy.specs.Families.{living_in}
-use Rattle.hierarchy.specs.Growing.{IssuesNothing}
+use Rattle.hierarchy.specs.Growing.{StartsNothing}
 use Rattle.hierarchy.specs.Inside.{AreMarked, GoesWithAll, end_in, ends_within, inside_of, is_parent_marked, marked_below}
 use Rattle.hierarchy.specs.Legal.{IsLegalRun}
 use Rattle.hierarchy.specs.Own.{own_of, setup_in}
@@ -86,8 +86,8 @@ ends_each P set c is (k ∷ ks) = by (birth_of c k) (ends_each P set c is ks)
     by None more = more
     by (Some b) more = (is k b.parent b.job (living_in set c k).shuts, more)
 
-pub ends_issue_nothing : (set : Setup) (c : List Entry) (number : ℕ) → Each IssuesNothing (ends_within set c number)
-ends_issue_nothing set c number = ends_each IssuesNothing set c (λ child parent job shut. tt) (inside_of c number)
+pub ends_issue_nothing : (set : Setup) (c : List Entry) (number : ℕ) → Each StartsNothing (ends_within set c number)
+ends_issue_nothing set c number = ends_each StartsNothing set c (λ child parent job shut. tt) (inside_of c number)
 
 pub ends_are_silent : (set : Setup) (c : List Entry) (number actor : ℕ) → AreSilent actor (ends_within set c number)
 ends_are_silent set c number actor = all_silent actor (ends_within set c number)

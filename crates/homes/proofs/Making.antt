@@ -22,7 +22,7 @@ use Rattle.hierarchy.specs.answers.declared.chronicle.Entry.TheVariants as entry
 use Rattle.hierarchy.specs.answers.declared.chronicle.Reply.{Reply}
 use Rattle.hierarchy.specs.Births.{is_at}
 use Rattle.hierarchy.specs.Families.{shuts_down}
-use Rattle.hierarchy.specs.Growing.{IsMadeIn, IssuesNothing}
+use Rattle.hierarchy.specs.Growing.{IsMadeIn, StartsNothing}
 use Rattle.hierarchy.specs.Stretches.{entered_in}
 use Rattle.homes.proofs.Placing.{AreSilent, IsSilent, all_silent, by_of, counts_joined}
 
@@ -50,7 +50,7 @@ count_one p i before behind e one other =
 pub record IsQuiet (actors : List Actor) (label : Option (List ℕ)) (e : Entry) : Type 0 where
   pub made : IsMadeIn actors label e
   pub silent : (i actor : ℕ) → IsSilent actor (entered_in i e)
-  pub nothing : IssuesNothing e
+  pub nothing : StartsNothing e
 
 module _ (actors : List Actor) (label : Option (List ℕ)) where
   made_each : (es : List Entry) → Each (IsQuiet actors label) es → Each (IsMadeIn actors label) es
@@ -61,7 +61,7 @@ module _ (actors : List Actor) (label : Option (List ℕ)) where
   silent_each i actor [] h = tt
   silent_each i actor (e ∷ es) h = (h.0.silent i actor, silent_each i actor es h.1)
 
-  nothing_each : (es : List Entry) → Each (IsQuiet actors label) es → Each IssuesNothing es
+  nothing_each : (es : List Entry) → Each (IsQuiet actors label) es → Each StartsNothing es
   nothing_each [] h = tt
   nothing_each (e ∷ es) h = (h.0.nothing, nothing_each es h.1)
 
@@ -128,12 +128,12 @@ module _ (actors : List Actor) (label : Option (List ℕ)) (own : List Entry) (q
   pub all_quiet : (i actor : ℕ) → AreSilent actor (map (entered_in i) own)
   all_quiet i actor = all_silent actor (map (entered_in i) own) (silent_each actors label i actor own quiet)
 
-  pub nothing_issued : Each IssuesNothing own
+  pub nothing_issued : Each StartsNothing own
   nothing_issued = nothing_each actors label own quiet
 
 -- ---- what issues nothing
 
-entered_nothing : (i : ℕ) (e : Entry) → IssuesNothing e → IssuesNothing (entered_in i e)
+entered_nothing : (i : ℕ) (e : Entry) → StartsNothing e → StartsNothing (entered_in i e)
 entered_nothing i (entry.Issued a k) h = absurd h
 entered_nothing i (entry.Landed n space number authors groups) h = tt
 entered_nothing i (entry.Denied n space authors group refusal) h = tt
@@ -147,7 +147,7 @@ entered_nothing i (entry.Born child parent job name second grant) h = tt
 entered_nothing i (entry.Gone child parent job shut) h = tt
 entered_nothing i entry.Closed h = tt
 
-unshut_by : (work : Workload) (e : Entry) → IssuesNothing e → shuts_down work e ≡ false
+unshut_by : (work : Workload) (e : Entry) → StartsNothing e → shuts_down work e ≡ false
 unshut_by work (entry.Issued a k) h = absurd h
 unshut_by work (entry.Landed i space number authors groups) h = refl
 unshut_by work (entry.Denied i space authors group refusal) h = refl
@@ -162,12 +162,12 @@ unshut_by work (entry.Gone child parent job shut) h = refl
 unshut_by work entry.Closed h = refl
 
 -- in the run they issue nothing either
-pub all_nothing : (i : ℕ) (es : List Entry) → Each IssuesNothing es → Each IssuesNothing (map (entered_in i) es)
+pub all_nothing : (i : ℕ) (es : List Entry) → Each StartsNothing es → Each StartsNothing (map (entered_in i) es)
 all_nothing i [] h = tt
 all_nothing i (e ∷ es) h = (entered_nothing i e h.0, all_nothing i es h.1)
 
 -- and none shuts down
-pub unshut : (work : Workload) (es : List Entry) → Each IssuesNothing es → list_any (shuts_down work) es ≡ false
+pub unshut : (work : Workload) (es : List Entry) → Each StartsNothing es → list_any (shuts_down work) es ≡ false
 unshut work [] h = refl
 unshut work (e ∷ es) h = ap₂ (λ a b. a || b) (unshut_by work e h.0) (unshut work es h.1)
 
@@ -182,7 +182,7 @@ content_unissued actor broker [] h = refl
 content_unissued actor broker (e ∷ es) h =
     sum_by-cons (λ x. cond (issues_of actor x) 1 0) e es ∙ ap₂ (λ b n. cond b 1 0 + n) (content_unissued_by actor broker e h.0) (content_unissued actor broker es h.1)
 
-pub content_nothing : (broker : ℕ) (es : List Entry) → Each (IsContentAt top broker) es → Each IssuesNothing es
+pub content_nothing : (broker : ℕ) (es : List Entry) → Each (IsContentAt top broker) es → Each StartsNothing es
 content_nothing broker es h = nothing_each [] None es (quiet_contents [] None broker es h)
 
 -- ---- a reply
@@ -228,7 +228,7 @@ pub record IsReplyIn (actors : List Actor) (label : Option (List ℕ)) (actor i 
   pub command : ℕ
   pub replied : count_by (replies_to (by_of actor command)) (map (entered_in i) own) ≡ 1
   pub others : (other : ℕ) → (other ≡ actor → ⊥) → AreSilent other (map (entered_in i) own)
-  pub nothing : Each IssuesNothing own
+  pub nothing : Each StartsNothing own
 
 same_number : (n : ℕ) → (n == n) ≡ true
 same_number n = eq-eqb n n refl
@@ -250,7 +250,7 @@ reply_stretch actors label work actor i home own h =
         replies = λ k. count_one (replies_to (by_of other k)) i h.before [] e ((all_quiet actors label h.before quiet i other).replies k) refl
             ∙ ap (λ a. cond (a && (k == it.0)) 1 0) (ne_eqb other actor ne);
       };
-      nothing = each_append IssuesNothing h.before (e ∷ []) (nothing_issued actors label h.before quiet) (tt, tt);
+      nothing = each_append StartsNothing h.before (e ∷ []) (nothing_issued actors label h.before quiet) (tt, tt);
     })
 
 -- ---- an issue

@@ -8,7 +8,7 @@ use Rattle.homes.specs.answers.declared.chronicle.Entry.{Entry}
 use Rattle.homes.specs.answers.declared.steps.Step.{Step}
 use Rattle.homes.specs.hierarchy.Births.{birth_of, is_born, label_of, lives, numbers}
 use Rattle.homes.specs.hierarchy.Families.{living_in}
-use Rattle.homes.specs.hierarchy.Growing.{IsMadeIn, IssuesNothing}
+use Rattle.homes.specs.hierarchy.Growing.{IsMadeIn, StartsNothing}
 use Rattle.homes.specs.hierarchy.Grows.{GrowsByOwn}
 use Rattle.homes.specs.hierarchy.Own.{own_of, setup_in}
 use Rattle.homes.specs.hierarchy.Stretches.{entered_in}
@@ -60,7 +60,7 @@ module _ (v : WorldValue) (sound : IsSound v) (runs : v.closed ≡ false) where
         grown = own_grown v.set v.chronicle i own (sound.runs runs).on home_lives f.legal made early
 
         -- nobody shuts down where nothing is issued
-        pub shuts_same : Each IssuesNothing own → h.shuts ≡ (living_in v.set (v.chronicle ++ map (entered_in i) own) i).shuts
+        pub shuts_same : Each StartsNothing own → h.shuts ≡ (living_in v.set (v.chronicle ++ map (entered_in i) own) i).shuts
         shuts_same none =
             (home_is.lives living).shuts
             ∙ sym (grown.mine.shuts
