@@ -1,14 +1,15 @@
 -- What open commands wait for where nothing can go on.
-use Rattle.std.proofs.Common.{◌≡◌, ◌≢◌, ℕ, ◌+◌, ◌-◌, ◌<◌, ◌≤◌, ◌⊎◌, inl, inr, List, [], ◌∷◌, ◌++◌, map, Bool, true, false, ◌&&◌, ◌||◌, not, Option, Some, None, IsSome, Contains, cond, refl, sym, ap, ◌∙◌, subst, arith, true≢false}
+use Rattle.std.proofs.Common.{◌≡◌, ◌≢◌, ℕ, ◌+◌, ◌-◌, ◌<◌, ◌≤◌, ◌⊎◌, inl, inr, List, [], ◌∷◌, ◌++◌, map, Bool, true, false, ◌&&◌, ◌||◌, not, Option, Some, None, IsSome, Contains, cond, refl, sym, ap, ap₂, ◌∙◌, subst, arith, true≢false}
 use Rattle.std.specs.Prelude.{filter_map, find, is_some, nat_le, option_and_then, option_map, unwrap_or}
 use Rattle.std.specs.List.{list_any}
 use Rattle.std.specs.Option.{option_map_or}
-use Rattle.std.proofs.lemmas.Bool.{and_from, eqb-false, le-leb, or_parts}
+use Rattle.std.proofs.lemmas.Bool.{and_from, cases_lt, eqb-false, le-leb, or_parts}
 use Rattle.answers.specs.instance_rules.Desks.{HasBegun}
+use Rattle.answers.specs.instance_rules.Family.{IsLeftAdvance, Living}
 use Rattle.answers.specs.instance_rules.Log as rules
-use Rattle.answers.specs.instance_rules.Log.{Instance, IsOpen, JobAsk as Asks, Key as Part, Log, service_of}
-use Rattle.job_clock.proofs.Targets.{target_is, target_of_row, to_kept}
-use Rattle.job_clock.specs.Targets.{targets_of}
+use Rattle.answers.specs.instance_rules.Log.{Instance, IsOpen, JobAsk as Asks, Key as Part, Log, before_issue, now_of, service_of}
+use Rattle.job_clock.proofs.Targets.{to_kept}
+use Rattle.job_clock.specs.Standing.{IsLiving}
 use Rattle.job_commands.proofs.Desks.{there_and_back}
 use Rattle.job_commands.proofs.Logs.{same_self}
 use Rattle.job_commands.proofs.Tables.{found, not_found}
@@ -25,7 +26,7 @@ use Rattle.job_commands.specs.declared.row.Row.{Row}
 use Rattle.job_commands.specs.declared.row.Stage.{Stage}
 use Rattle.job_commands.specs.declared.row.Stage.TheVariants as stage
 use Rattle.job_replies.specs.Ready.{fits, has_run, is_answered, is_ending, is_inactive, is_late_raise, is_ready, is_ready_at, job_in}
-use Rattle.answers.proofs.job_rules_proofs.Among.{Among, all_at, among_from, among_left, contains_from}
+use Rattle.answers.proofs.job_rules_proofs.Among.{Among, among_from, among_left, contains_from}
 use Rattle.answers.specs.job_states.Table.{is_state}
 use Rattle.answers.specs.job_states.declared.job.State.{State}
 use Rattle.answers.specs.job_states.declared.job.State.TheVariants as state
@@ -54,12 +55,11 @@ use Rattle.job_service.specs.Judged.{CanBeMade, WasRefused}
 use Rattle.job_service.specs.Refusals.{fault_for, is_refusal_of, row_in}
 use Rattle.job_service.specs.Replies.{is_ready_in, is_undone}
 use Rattle.job_service.specs.Still.{IsStill, awaited, awaited_by, unless_over}
-use Rattle.job_service.specs.Times.{targets_left}
 use Rattle.job_service.specs.Value.{JobServiceValue}
 use Rattle.job_service.specs.View.{IsFit}
 use Rattle.job_submissions.specs.Made.{Submits}
 use Rattle.job_service.proofs.Calls.{rank_within}
-use Rattle.job_service.proofs.Resting.{IsNamedBy, all_reached, job_named}
+use Rattle.job_service.proofs.Resting.{IsNamedBy, job_named}
 use Rattle.job_service.proofs.Ticking.{free_parts}
 
 -- ---- numbers of landings
@@ -142,7 +142,7 @@ unanswered labels jobs x label e = at (job_in labels jobs label) refl e
 still_over : (s : State) → is_inactive s ≡ false → IsSome (unless_over s)
 still_over s e = subst (λ b. IsSome (cond b None (Some s))) (sym e) refl
 
-module _ (v : JobServiceValue) (i : IsFit v) (inst : Instance) (log : Log) (a : AgreesJobs v inst log) (still : IsStill v) (late : targets_left v ≡ []) where
+module _ (v : JobServiceValue) (i : IsFit v) (inst : Instance) (log : Log) (a : AgreesJobs v inst log) (still : IsStill v) where
   unposted : v.manager.posted ≡ None
   unposted = (free_parts v still.due).0
 
@@ -185,14 +185,18 @@ module _ (v : JobServiceValue) (i : IsFit v) (inst : Instance) (log : Log) (a : 
         same : {x y : ℕ} → Some x ≡ Some y → x ≡ y
         same e = cc
 
+    -- the job whose result is asked for isn't over, or the second of an advance hasn't come
+    abbrev IsLeftBy : Row → JobAsk → Type 0
+    IsLeftBy row x = IsSome (awaited_by labels jobs x) ⊎ ((seconds : ℕ) × (x ≡ ask.Advance seconds) × (v.second < row.issued + seconds))
+
     -- what is asked and not carried out
-    waiting_left : (row : Row) → Contains v.commands.rows row → (x : JobAsk) → row.ask ≡ x → row.stage ≡ stage.Waits → is_some (fault_for v.refused row.by) ≡ false → is_ready_at labels v.manager v.second (record row { ask = x }) stage.Waits ≡ false → IsSome (awaited_by labels jobs x)
+    waiting_left : (row : Row) → Contains v.commands.rows row → (x : JobAsk) → row.ask ≡ x → row.stage ≡ stage.Waits → is_some (fault_for v.refused row.by) ≡ false → is_ready_at labels v.manager v.second (record row { ask = x }) stage.Waits ≡ false → IsLeftBy row x
     waiting_left row known (ask.Submit label urgency named text) e w unrefused unready = at (i.judged row urgency named text known asks)
       where
         asks : Submits row urgency named text
         asks = record { waits = w; label = label; asks = e }
 
-        at : WasRefused v.refused row.by ⊎ CanBeMade labels jobs named text → IsSome (awaited_by labels jobs (ask.Submit label urgency named text))
+        at : WasRefused v.refused row.by ⊎ CanBeMade labels jobs named text → IsLeftBy row (ask.Submit label urgency named text)
         at (inl r) = absurd (true≢false (sym (refused_found row.by v.refused r.one (among_from v.refused r.one r.known) r.named) ∙ unrefused))
         at (inr m) = absurd (nothing.0 row known urgency named text m.spec m.needs asks m.accepted)
     waiting_left row known (ask.Cancel label) e w unrefused unready =
@@ -210,14 +214,14 @@ module _ (v : JobServiceValue) (i : IsFit v) (inst : Instance) (log : Log) (a : 
     waiting_left row known (ask.Why label) e w unrefused unready = absurd (true≢false (unanswered labels jobs (ask.Why label) label unready).fails)
     waiting_left row known (ask.ResultOf label) e w unrefused unready =
         let u = unanswered labels jobs (ask.ResultOf label) label unready in
-        subst (λ o. IsSome (option_and_then unless_over (option_map (λ j. j.job.state) o))) (sym u.there) (still_over u.j.job.state u.fails)
-    waiting_left row known (ask.Advance seconds) e w unrefused unready =
-        let target : Contains (targets_of v.commands) (row.issued + seconds) = target_of_row v.commands row (row.issued + seconds) (among_from v.commands.rows row known) (target_is row seconds e w) in
-        let low : row.issued + seconds ≤ v.second = all_at (λ t. t ≤ v.second) (targets_of v.commands) (row.issued + seconds) (all_reached v late) (among_from (targets_of v.commands) (row.issued + seconds) target) in
-        absurd (true≢false (sym (and_from (nat_le row.issued v.second) (nat_le seconds (v.second - row.issued)) (le-leb row.issued v.second (omega (arith, low))) (le-leb seconds (v.second - row.issued) (omega (arith, low)))) ∙ unready))
+        inl (subst (λ o. IsSome (option_and_then unless_over (option_map (λ j. j.job.state) o))) (sym u.there) (still_over u.j.job.state u.fails))
+    waiting_left row known (ask.Advance seconds) e w unrefused unready = inr (seconds, refl, elim (cases_lt v.second (row.issued + seconds)) [
+      | inl ahead ↦ ahead
+      | inr low ↦ absurd (true≢false (sym (and_from (nat_le row.issued v.second) (nat_le seconds (v.second - row.issued)) (le-leb row.issued v.second (omega (arith, low))) (le-leb seconds (v.second - row.issued) (omega (arith, low)))) ∙ unready))
+    ])
 
     -- what a landing has carried out
-    landed_left : (row : Row) → Contains v.commands.rows row → (number : ℕ) (x : JobAsk) → row.ask ≡ x → StageAgrees log row.by x (stage.Landed number) → is_ready_at labels v.manager v.second (record row { ask = x }) (stage.Landed number) ≡ false → IsSome (awaited_by labels jobs x)
+    landed_left : (row : Row) → Contains v.commands.rows row → (number : ℕ) (x : JobAsk) → row.ask ≡ x → StageAgrees log row.by x (stage.Landed number) → is_ready_at labels v.manager v.second (record row { ask = x }) (stage.Landed number) ≡ false → IsLeftBy row x
     landed_left row known number (ask.Submit label urgency named text) e staged unready =
         let r = a.commands.rows row known in
         let begun : HasBegun log row.by staged.1.0 number = staged.1.1 in
@@ -235,10 +239,10 @@ module _ (v : JobServiceValue) (i : IsFit v) (inst : Instance) (log : Log) (a : 
     landed_left row known number (ask.ResultOf label) e staged unready = absurd staged.1
     landed_left row known number (ask.Advance seconds) e staged unready = absurd staged.1
 
-    row_left : (row : Row) → Contains v.commands.rows row → is_some (fault_for v.refused row.by) ≡ false → is_ready labels v.manager v.second row ≡ false → IsSome (awaited_by labels jobs row.ask)
+    row_left : (row : Row) → Contains v.commands.rows row → is_some (fault_for v.refused row.by) ≡ false → is_ready labels v.manager v.second row ≡ false → IsLeftBy row row.ask
     row_left row known unrefused unready = at row.stage refl (a.commands.rows row known).staged unready
       where
-        at : (s : Stage) → row.stage ≡ s → StageAgrees log row.by row.ask s → is_ready_at labels v.manager v.second row s ≡ false → IsSome (awaited_by labels jobs row.ask)
+        at : (s : Stage) → row.stage ≡ s → StageAgrees log row.by row.ask s → is_ready_at labels v.manager v.second row s ≡ false → IsLeftBy row row.ask
         at stage.Waits w staged unready = waiting_left row known row.ask refl w unrefused unready
         at (stage.Landed number) w staged unready = landed_left row known number row.ask refl staged unready
 
@@ -269,22 +273,38 @@ module _ (v : JobServiceValue) (i : IsFit v) (inst : Instance) (log : Log) (a : 
     asked_as (rules.Advance seconds) other = record { asked = ask.Advance seconds; is = refl }
     asked_as rules.Shutdown other = absurd (other refl)
 
-    open_left : (by : By) (x : Asks) → inst.asks by ≡ Some x → x ≢ rules.Shutdown → IsOpen by log → IsSome (awaited v by)
-    open_left by x asks other waits = at (row_in v.commands by) refl (neither by)
-      where
-        at : (o : Option Row) → row_in v.commands by ≡ o → (is_some (fault_for v.refused by) || option_map_or (is_ready labels v.manager v.second) o false) ≡ false → IsSome (option_and_then (λ row. awaited_by labels jobs row.ask) o)
-        at None e none =
-            let t = asked_as x other in
-            let row = a.commands.all by t.asked (asks ∙ ap Some (sym t.is)) waits in
-            absurd (not_found by v.commands.rows e row.0 row.1 row.2)
-        at (Some row) e none =
-            let known = found by v.commands.rows row e in
-            let both = or_parts (is_some (fault_for v.refused by)) (is_ready labels v.manager v.second row) none in
-            row_left row known.0 (subst (λ b. is_some (fault_for v.refused b) ≡ false) (sym known.1) both.0) both.1
+    module _ (l : Living) (lives : IsLiving inst log l) where
+      open_left : (by : By) (x : Asks) → inst.asks by ≡ Some x → x ≢ rules.Shutdown → IsOpen by log → IsSome (awaited v by) ⊎ IsLeftAdvance l by
+      open_left by x asks other waits = at (row_in v.commands by) refl (neither by)
+        where
+          advance_left : (row : Row) → Contains v.commands.rows row → row.by ≡ by → IsLeftBy row row.ask → IsSome (awaited_by labels jobs row.ask) ⊎ IsLeftAdvance l by
+          advance_left row known same (inl over) = inl over
+          advance_left row known same (inr (seconds, is, ahead)) =
+              let r = a.commands.rows row known in
+              let second = a.second in
+              let issued : row.issued ≡ now_of inst (before_issue by log) = r.issued ∙ ap (λ b. now_of inst (before_issue b log)) same in
+              let now : now_of l.inst l.log ≡ now_of inst log = ap₂ now_of lives.is lives.logged in
+              let at_issue : now_of l.inst (before_issue by l.log) ≡ now_of inst (before_issue by log) = ap₂ (λ i g. now_of i (before_issue by g)) lives.is lives.logged in
+              inr (record {
+                seconds = seconds;
+                asks = ap (λ i. i.asks by) lives.is ∙ subst (λ b. inst.asks b ≡ Some (rules.Advance seconds)) same (r.asks ∙ ap (λ y. Some (told y)) is);
+                waits = subst (IsOpen by) (sym lives.logged) waits;
+                ahead = omega (arith, second, issued, now, at_issue, ahead);
+              })
 
-    pub left_open : (by : By) → IsSome (inst.asks by) → inst.asks by ≢ Some rules.Shutdown → IsOpen by log → IsSome (awaited v by)
-    left_open by some other waits = at (inst.asks by) refl
-      where
-        at : (o : Option Asks) → inst.asks by ≡ o → IsSome (awaited v by)
-        at None e = absurd (true≢false (sym (subst IsSome e some)))
-        at (Some x) e = open_left by x e (λ same. other (e ∙ ap Some same)) waits
+          at : (o : Option Row) → row_in v.commands by ≡ o → (is_some (fault_for v.refused by) || option_map_or (is_ready labels v.manager v.second) o false) ≡ false → IsSome (option_and_then (λ row. awaited_by labels jobs row.ask) o) ⊎ IsLeftAdvance l by
+          at None e none =
+              let t = asked_as x other in
+              let row = a.commands.all by t.asked (asks ∙ ap Some (sym t.is)) waits in
+              absurd (not_found by v.commands.rows e row.0 row.1 row.2)
+          at (Some row) e none =
+              let known = found by v.commands.rows row e in
+              let both = or_parts (is_some (fault_for v.refused by)) (is_ready labels v.manager v.second row) none in
+              advance_left row known.0 known.1 (row_left row known.0 (subst (λ b. is_some (fault_for v.refused b) ≡ false) (sym known.1) both.0) both.1)
+
+      pub left_open : (by : By) → IsSome (inst.asks by) → inst.asks by ≢ Some rules.Shutdown → IsOpen by log → IsSome (awaited v by) ⊎ IsLeftAdvance l by
+      left_open by some other waits = at (inst.asks by) refl
+        where
+          at : (o : Option Asks) → inst.asks by ≡ o → IsSome (awaited v by) ⊎ IsLeftAdvance l by
+          at None e = absurd (true≢false (sym (subst IsSome e some)))
+          at (Some x) e = open_left by x e (λ same. other (e ∙ ap Some same)) waits

@@ -1,7 +1,7 @@
 //! The jobs of an instance.
-ghost use Rattle.std.specs.Prelude.{◌≡◌, ◌≢◌, ◌↔◌, ◌<◌, ◌≤◌, ◌+◌, ◌^◌, ◌++◌, ◌∷◌, [], true, false, ℕ, Some, IsSome, Contains, IsTrue, is_some, None, IfNone, IfOk, IfSome, OnErr, OnOk, option_map};
+ghost use Rattle.std.specs.Prelude.{◌≡◌, ◌≢◌, ◌↔◌, ◌⊎◌, ◌<◌, ◌≤◌, ◌+◌, ◌^◌, ◌++◌, ◌∷◌, [], true, false, ℕ, Some, IsSome, Contains, IsTrue, is_some, None, IfNone, IfOk, IfSome, OnErr, OnOk, option_map};
 ghost use Rattle.answers.specs.instance_rules.Desks.{Names, is_submission};
-ghost use Rattle.answers.specs.instance_rules.Family.{HasTarget, IsLeftResult, IsTarget, Living, OfLiving};
+ghost use Rattle.answers.specs.instance_rules.Family.{HasTarget, IsLeftAdvance, IsLeftResult, IsTarget, Living, OfLiving};
 ghost use Rattle.answers.specs.instance_rules.Log.{Born, Gone, Instance, IsOpen, Issued, Log, Served, Shutdown, Ticked, service_of};
 ghost use Rattle.answers.specs.instance_rules.Legal.{IsLegalMoment, OfDesk};
 ghost use Rattle.job_commands.specs.Asks.{told};
@@ -571,8 +571,9 @@ impl JobService {
 
     /// Where nothing but time can go on, nothing is due by the log of the instance. Where no target
     /// is left besides, none of its advances is; and where all brokers are told, a job command that
-    /// is left waits for the result of a job that isn't over; shutdowns are another's. Nothing is
-    /// due where the core is still, nothing is to be posted and no child is to be born.
+    /// is left waits for the result of a job that isn't over, or for its second; shutdowns are
+    /// another's. Nothing is due where the core is still, nothing is to be posted and no child is
+    /// to be born.
     pub fn still(&self)
         requires { self.now.spent ≡ false }
         ensures idle { (inst : Instance) (log : Log) → AgreesJobs self.now inst log
@@ -585,11 +586,11 @@ impl JobService {
             → (target : ℕ) → IsTarget (l ∷ []) [] target → ⊥ }
         ensures free { CoreIsStill self.now.manager.core → self.now.found ≡ None
             → self.now.bearing ≡ None → is_due self.now ≡ false }
-        ensures left { (inst : Instance) (log : Log) → AgreesJobs self.now inst log
-            → IsStill self.now → targets_left self.now ≡ []
+        ensures left { (inst : Instance) (log : Log) (l : Living) → AgreesJobs self.now inst log
+            → IsStill self.now → IsLiving inst log l
             → AreAllTold inst.service (service_of log) → (by : Command)
             → IsSome (inst.asks by) → inst.asks by ≢ Some Shutdown → IsOpen by log
-            → IsSome (awaited self.now by) }
+            → IsSome (awaited self.now by) ⊎ IsLeftAdvance l by }
         ensures results { (inst : Instance) (log : Log) (l : Living) → AgreesJobs self.now inst log
             → IsLiving inst log l → (by : Command) (where_ : StateValue)
             → awaited self.now by ≡ Some where_ → IsLeftResult l by where_ }

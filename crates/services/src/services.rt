@@ -1,12 +1,12 @@
 //! The services.
-ghost use Rattle.std.specs.Prelude.{◌≡◌, ◌≢◌, ◌<◌, ◌≤◌, ◌+◌, ◌^◌, ◌++◌, ◌∷◌, [], ℕ, true, false, None, Some, is_some, slice_get, IsSome, IfOk, IfSome, OnErr, OnOk};
+ghost use Rattle.std.specs.Prelude.{◌≡◌, ◌≢◌, ◌⊎◌, ◌<◌, ◌≤◌, ◌+◌, ◌^◌, ◌++◌, ◌∷◌, [], ℕ, true, false, None, Some, is_some, slice_get, IsSome, IfOk, IfSome, OnErr, OnOk};
 ghost use Rattle.job_service.specs.kvs_model.Store.{Name};
 ghost use Rattle.job_service.specs.kvs_rules.Namespaces.{is_live};
 ghost use Rattle.job_service.specs.kvs_rules.Quiet.{IsQuiet};
 ghost use Rattle.job_service.specs.kvs_rules.Brokers.{heard};
 ghost use Rattle.content_service.specs.Asks.{is_content};
 ghost use Rattle.job_service.specs.instance_rules.Desks.{is_submission};
-ghost use Rattle.job_service.specs.instance_rules.Family.{HasTarget, IsLeftResult, Living};
+ghost use Rattle.job_service.specs.instance_rules.Family.{HasTarget, IsLeftAdvance, IsLeftResult, Living};
 ghost use Rattle.job_service.specs.instance_rules.Legal.{IsLegalMoment, OfDesk};
 ghost use Rattle.job_service.specs.instance_rules.Log.{Born, Gone, Instance, IsOpen, Issued, Log, Shutdown, Ticked, service_of};
 ghost use Rattle.job_service.specs.job_clock.Standing.{IsLiving};
@@ -438,10 +438,10 @@ impl Services {
     }
 
     /// Where nothing but time can go on, each broker has heard the last landing and of each live
-    /// namespace, and nothing is due. Where no target is left besides, no advance is, and a command
-    /// waits for a number that hasn't landed, for members of a fence that haven't come, or for the
-    /// result of a job that isn't over. Nothing is due where no step of the key-value service can
-    /// be made, nothing is to be posted and no child is to be born.
+    /// namespace, nothing is due, and a command waits for a number that hasn't landed, for members
+    /// of a fence that haven't come, for a second that hasn't, or for the result of a job that
+    /// isn't over. Where no target is left besides, no advance is. Nothing is due where no step of
+    /// the key-value service can be made, nothing is to be posted and no child is to be born.
     pub fn still(&self)
         requires { self.now.spent ≡ false }
         ensures quiet { (inst : Instance) (log : Log) → AgreesServices self.now inst log
@@ -458,10 +458,10 @@ impl Services {
         ensures free { ((step : KvsStep) → can_step self.now step ≡ false)
             → ((by : Command) → can_take self.now by ≡ false) → self.now.jobs.found ≡ None
             → self.now.jobs.bearing ≡ None → is_due self.now.jobs ≡ false }
-        ensures left { (inst : Instance) (log : Log) → AgreesServices self.now inst log
-            → IsStill self.now → targets_left self.now.jobs ≡ [] → (by : Command)
-            → IsSome (inst.asks by) → inst.asks by ≢ Some Shutdown → IsOpen by log
-            → IsSome (awaited self.now.jobs by) }
+        ensures left { (inst : Instance) (log : Log) (l : Living)
+            → AgreesServices self.now inst log → IsStill self.now → IsLiving inst log l
+            → (by : Command) → IsSome (inst.asks by) → inst.asks by ≢ Some Shutdown
+            → IsOpen by log → IsSome (awaited self.now.jobs by) ⊎ IsLeftAdvance l by }
         ensures results { (inst : Instance) (log : Log) (l : Living)
             → AgreesServices self.now inst log → IsLiving inst log l → (by : Command)
             (where_ : State) → awaited self.now.jobs by ≡ Some where_ → IsLeftResult l by where_ }

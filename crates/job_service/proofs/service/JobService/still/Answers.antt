@@ -1,4 +1,5 @@
-use Rattle.std.proofs.Common.{◌≡◌, ◌∙◌, ◌<◌, ℕ, [], Some, IsSome, sym, ap, subst}
+use Rattle.std.proofs.Common.{◌≡◌, ◌∙◌, ◌<◌, ◌⊎◌, ℕ, [], Some, IsSome, sym, ap, subst}
+use Rattle.answers.specs.instance_rules.Family.{IsLeftAdvance}
 use Rattle.answers.specs.instance_rules.Log.{service_of}
 use Rattle.job_manager.specs.kvs_core.Agrees.{Agrees}
 use Rattle.job_manager.specs.kvs_core.Posted.{newest_of, posted}
@@ -54,13 +55,13 @@ returns-clause-free c = λ core unfound unborn.
     sym (ap is_due c.self.view_is) ∙ none_now v unposted (ap (λ w. w.found) c.self.view_is ∙ unfound) (ap (λ w. w.bearing) c.self.view_is ∙ unborn)
 
 pub returns-clause-left : goal.returns-clause-left
-returns-clause-left c = λ inst log a rest late told by some other waits.
+returns-clause-left c = λ inst log l a rest lives told by some other waits.
     let held = c.self.invariant (ap (λ v. v.spent) c.self.view_is ∙ c.requires) in
     let v = value_of c.self.inside in
     let still = subst IsStill (sym c.self.view_is) rest in
     let b = subst (λ w. AgreesJobs w inst log) (sym c.self.view_is) a in
     let hears = subst (λ k. (broker : ℕ) → broker < k.size → heard (service_of log) broker primary ≡ Some (primary_heard k broker)) c.core.ensures (c.standing.ensures.heard inst.service (service_of log) (subst (λ k. Agrees k inst.service (service_of log)) (sym c.core.ensures) b.core)) in
-    subst (λ w. IsSome (awaited w by)) c.self.view_is (left_open v held.fit inst log b still (ap targets_left c.self.view_is ∙ late) told hears by some other waits)
+    subst (λ w. IsSome (awaited w by) ⊎ IsLeftAdvance l by) c.self.view_is (left_open v held.fit inst log b still told hears l lives by some other waits)
 
 pub returns-clause-results : goal.returns-clause-results
 returns-clause-results c = λ inst log l a lives by where_ e.

@@ -1,4 +1,5 @@
-use Rattle.std.proofs.Common.{◌∙◌, IsSome, ap, sym, subst}
+use Rattle.std.proofs.Common.{◌∙◌, ◌⊎◌, IsSome, ap, sym, subst}
+use Rattle.job_service.specs.instance_rules.Family.{IsLeftAdvance}
 use Rattle.job_service.specs.instance_rules.Log.{service_of}
 use Rattle.job_service.specs.kvs_core.Agrees.{Agrees}
 use Rattle.job_service.specs.kvs_core.Steps.{IsStill as CoreIsStill}
@@ -44,10 +45,10 @@ returns-clause-free c = λ steps answers unfound unborn.
     sym (ap (λ v. is_due v.jobs) c.self.view_is) ∙ c.still-3.ensures.free core (ap (λ v. v.jobs.found) c.self.view_is ∙ unfound) (ap (λ v. v.jobs.bearing) c.self.view_is ∙ unborn)
 
 pub returns-clause-left : goal.returns-clause-left
-returns-clause-left c = λ inst log a₀ still₀ late by some other waits.
+returns-clause-left c = λ inst log l a₀ still₀ lives by some other waits.
     let a = subst (λ v. AgreesServices v inst log) (sym c.self.view_is) a₀ in
-    subst (λ v. IsSome (awaited v.jobs by)) c.self.view_is
-    (c.still-3.ensures.left inst log a.jobs (jobs_still (value_of c.self.inside) (subst IsStill (sym c.self.view_is) still₀)) (ap (λ v. targets_left v.jobs) c.self.view_is ∙ late) (returns-clause-quiet c inst log a₀ still₀).told by some other waits)
+    subst (λ v. IsSome (awaited v.jobs by) ⊎ IsLeftAdvance l by) c.self.view_is
+    (c.still-3.ensures.left inst log l a.jobs (jobs_still (value_of c.self.inside) (subst IsStill (sym c.self.view_is) still₀)) lives (returns-clause-quiet c inst log a₀ still₀).told by some other waits)
 
 pub returns-clause-results : goal.returns-clause-results
 returns-clause-results c = λ inst log l a₀ top by where_ is.
