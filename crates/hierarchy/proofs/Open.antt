@@ -1,5 +1,5 @@
 -- An open command of a run is open in the own chronicle of its actor's instance.
-use Rattle.std.proofs.Common.{◌≡◌, ℕ, ◌+◌, ◌<◌, ◌≤◌, ◌==◌, ◌&&◌, ◌||◌, ◌⊎◌, inl, inr, List, [], ◌∷◌, ◌++◌, Bool, true, false, cond, count_by, refl, sym, ap, ap₂, ◌∙◌, subst, arith, true≢false}
+use Rattle.std.proofs.Common.{◌≡◌, ℕ, ◌+◌, ◌<◌, ◌≤◌, ◌&&◌, ◌||◌, ◌⊎◌, inl, inr, List, [], ◌∷◌, ◌++◌, Bool, true, false, cond, count_by, refl, sym, ap, ap₂, ◌∙◌, subst, arith, true≢false}
 use Rattle.std.specs.List.{list_any}
 use Rattle.std.proofs.lemmas.Bool.{and_parts, cases_lt, eq-eqb, eqb-true, or_cases, or_left, or_right}
 use Rattle.std.proofs.lemmas.List.Folds.{list_any-append}
@@ -7,7 +7,7 @@ use Rattle.std.proofs.lemmas.List.Sums.{sum_by-append}
 use Rattle.answers.specs.kvs_txn.declared.txn.By.{By}
 use Rattle.answers.specs.kvs_rules.Sequence.{EachAfter}
 use Rattle.answers.proofs.kvs_rules_proofs.Sequences.{each_along}
-use Rattle.answers.specs.Chronicle.{IsOpenCommand, Setup, is_issued, is_replied, issues, issues_of}
+use Rattle.answers.specs.Chronicle.{IsOpenCommand, Setup, is_issued, issues, issues_of}
 use Rattle.answers.specs.Legal.{IsLegal, IsLegalEntry}
 use Rattle.answers.specs.declared.chronicle.Entry.{Entry}
 use Rattle.answers.specs.declared.chronicle.Entry.TheVariants as entry

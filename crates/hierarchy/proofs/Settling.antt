@@ -1,5 +1,5 @@
 -- How a run stays settled.
-use Rattle.std.proofs.Common.{◌≡◌, ℕ, List, [], ◌∷◌, ◌++◌, sym, subst, map}
+use Rattle.std.proofs.Common.{ℕ, List, [], ◌∷◌, ◌++◌, sym, subst, map}
 use Rattle.std.specs.List.{AllByRecursion as Each}
 use Rattle.answers.specs.kvs_rules.Sequence.{EachAfter}
 use Rattle.answers.specs.Chronicle.{Setup, top}

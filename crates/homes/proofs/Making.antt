@@ -142,7 +142,7 @@ entered_nothing i (entry.Got n b reference) h = tt
 entered_nothing i (entry.Dropped n b reference) h = tt
 entered_nothing i (entry.Replied a k given number) h = tt
 entered_nothing i (entry.Told from to) h = tt
-entered_nothing i (entry.Ticked second) h = tt
+entered_nothing i (entry.Ticked second) h = absurd h
 entered_nothing i (entry.Born child parent job name second grant) h = tt
 entered_nothing i (entry.Gone child parent job shut) h = tt
 entered_nothing i entry.Closed h = tt
@@ -265,17 +265,15 @@ pub record IsIssueIn (actors : List Actor) (label : Option (List ℕ)) (actor i 
 pub issue_stretch : (actors : List Actor) (label : Option (List ℕ)) (work : Workload) (actor i : ℕ) → is_at actors label actor ≡ true → (own : List Entry) → IsIssueStretch work actor own → IsIssueIn actors label actor i own
 issue_stretch actors label work actor i home own h =
     let e = entry.Issued actor h.command in
-    let parts = each_apart (IsContentAt top (broker_of work actor)) h.before h.behind h.others in
-    let one = quiet_contents actors label (broker_of work actor) h.before parts.0 in
-    let two = quiet_contents actors label (broker_of work actor) h.behind parts.1 in
+    let quiet = quiet_contents actors label (broker_of work actor) h.behind h.others in
     subst (IsIssueIn actors label actor i) (sym h.split) (record {
-      made = each_append (IsMadeIn actors label) h.before (e ∷ h.behind) (made_quietly actors label h.before one) (home, made_quietly actors label h.behind two);
-      issued = count_one (issues_of actor) i h.before h.behind e (all_quiet actors label h.before one i actor).issues (all_quiet actors label h.behind two i actor).issues
+      made = (home, made_quietly actors label h.behind quiet);
+      issued = count_one (issues_of actor) i [] h.behind e refl (all_quiet actors label h.behind quiet i actor).issues
           ∙ ap (λ b. cond b 1 0) (same_number actor);
-      unreplied = λ k. count_one (replies_to (by_of actor k)) i h.before h.behind e ((all_quiet actors label h.before one i actor).replies k) ((all_quiet actors label h.behind two i actor).replies k);
+      unreplied = λ k. count_one (replies_to (by_of actor k)) i [] h.behind e refl ((all_quiet actors label h.behind quiet i actor).replies k);
       others = λ other ne. record {
-        issues = count_one (issues_of other) i h.before h.behind e (all_quiet actors label h.before one i other).issues (all_quiet actors label h.behind two i other).issues
+        issues = count_one (issues_of other) i [] h.behind e refl (all_quiet actors label h.behind quiet i other).issues
             ∙ ap (λ b. cond b 1 0) (ne_eqb other actor ne);
-        replies = λ k. count_one (replies_to (by_of other k)) i h.before h.behind e ((all_quiet actors label h.before one i other).replies k) ((all_quiet actors label h.behind two i other).replies k);
+        replies = λ k. count_one (replies_to (by_of other k)) i [] h.behind e refl ((all_quiet actors label h.behind quiet i other).replies k);
       };
     })

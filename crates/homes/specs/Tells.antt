@@ -1,7 +1,7 @@
 -- What living instances say of their own chronicles, and what a tick leaves of them.
 use Rattle.std.specs.Prelude.{◌≡◌, ◌↔◌, ◌<◌, ◌≤◌, ◌+◌, ℕ, List, Bool, false, All, Contains, IsTrue, Some, None, length, slice_get}
 use Rattle.hierarchy.specs.answers.Chronicle.{Setup}
-use Rattle.hierarchy.specs.answers.Whole.{HasComeToRest}
+use Rattle.hierarchy.specs.answers.Legal.{HasSettled}
 use Rattle.hierarchy.specs.answers.declared.chronicle.Entry.{Entry}
 use Rattle.instance.specs.Agrees.{AgreesOwn}
 use Rattle.instance.specs.Family.{LivesAs, OfOwn, bearing, birth_of, ends_left, is_due, is_end_due, present, targets_left}
@@ -51,11 +51,11 @@ pub record TellsEndIn (homes : List Home) (h : Home) : Type 0 where
   pub due : (o : Origin) (parent : Home) → h.origin ≡ Some o
       → slice_get homes o.parent ≡ Some parent → TellsEnd parent o.job h.shuts
 
--- it has come to rest where nothing can be made, and nothing is due where nothing is to be posted
+-- it has settled where nothing can be made, and nothing is due where nothing is to be posted
 -- and no child is to be born
 pub record TellsRest (h : Home) : Type 0 where
   pub rests : (set : Setup) (own : List Entry) → AgreesOwn h.instance set own → IsAtRest h.instance
-      → HasComeToRest set own
+      → HasSettled set own
   pub free : (set : Setup) (own : List Entry) → AgreesOwn h.instance set own
       → ((s : KvsStep) → can_step h.instance.services s ≡ false)
       → ((actor : ℕ) → can_answer h.instance actor ≡ false)

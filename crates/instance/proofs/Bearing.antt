@@ -31,7 +31,7 @@ use Rattle.instance.specs.Agrees.{ActorStands, AgreesOwn, IsTallied, command_of}
 use Rattle.instance.specs.Family.{birth_of, ends_left, is_due, present}
 use Rattle.instance.specs.Makes.{Follows}
 use Rattle.instance.specs.Value.{InstanceValue}
-use Rattle.instance.proofs.Families.{legal_tick, made_tick, rests_at_tick}
+use Rattle.instance.proofs.Families.{legal_tick, made_tick, settled_tick}
 use Rattle.instance.proofs.Going.{unended}
 use Rattle.instance.proofs.Lining.{same_lines, tallied_on}
 use Rattle.instance.proofs.Listing.{each_append}
@@ -187,7 +187,7 @@ passes_follow v h second services p =
     record {
       made = made_tick v.set.work v.chronicle second;
       legal = (legal, tt);
-      settled = λ told. rests_at_tick v.set v.chronicle second;
+      settled = λ told. settled_tick v.set v.chronicle second (told tt);
       agrees = apart_agrees v h (entry.Ticked second) (rules.Ticked second) (ticked_apart v.set v.chronicle second) services
           (tallied_on v.instance (stepped v.instance.seats services) v.set.work.lines p.keeps.counts (same_lines v.instance.seats) h.tallied)
           legal (p.agrees (instance_of v.set) (log_in v.set.work v.chronicle) h.agrees);

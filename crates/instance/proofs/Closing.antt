@@ -16,7 +16,7 @@ use Rattle.services.specs.kvs_model.Store.{Name}
 use Rattle.services.specs.kvs_rules.declared.events.KvsStep.{KvsStep}
 use Rattle.services.specs.kvs_rules.Quiet.{IsQuiet, IsShortFence}
 use Rattle.services.specs.manager_rules.Times.{IsIdle}
-use Rattle.services.specs.instance_rules.Family.{HasTarget, IsLeftResult, Living}
+use Rattle.services.specs.instance_rules.Family.{HasTarget, IsLeftAdvance, IsLeftResult, Living}
 use Rattle.services.specs.instance_rules.Legal.{OfDesk}
 use Rattle.services.specs.instance_rules.Log as rules
 use Rattle.services.specs.instance_rules.Log.{Instance, Log as InstanceLog, service_of}
@@ -102,7 +102,7 @@ moment_answers work c (entry.Born child parent job label second grant) by h = ab
 moment_answers work c (entry.Gone child parent job shut) by h = absurd (true≢false (sym h))
 moment_answers work c entry.Closed by h = absurd (true≢false (sym h))
 
-answered_replied : (work : Workload) (by : By) (c xs : List Entry) → list_any (answers_now by) (moments_after work top c xs) ≡ true → list_any (replies_to by) xs ≡ true
+pub answered_replied : (work : Workload) (by : By) (c xs : List Entry) → list_any (answers_now by) (moments_after work top c xs) ≡ true → list_any (replies_to by) xs ≡ true
 answered_replied work by c [] h = h
 answered_replied work by c (e ∷ xs) h = on (or_cases _ _ (sym (any_answers by (moment_of work top c e) _) ∙ h)) (answered_replied work by (c ++ e ∷ []) xs)
   where
@@ -551,7 +551,7 @@ pub record IsStillSo (v : Own) : Type 0 where
   pub heard : (i : Instance) (l : InstanceLog) → AgreesServices v.instance.services i l → IsStill v.instance.services → (broker : ℕ) (space : Name) → broker < i.service.size → is_live (service_of l) space ≡ true → IsSome (heard (service_of l) broker space)
   pub idle : (i : Instance) (l : InstanceLog) → AgreesServices v.instance.services i l → IsStill v.instance.services → OfDesk i l IsIdle
   pub advanced : (i : Instance) (l : InstanceLog) (living : Living) → AgreesServices v.instance.services i l → IsStill v.instance.services → targets_left v.instance ≡ [] → IsLiving i l living → (target : ℕ) → HasTarget living target → ⊥
-  pub left : (i : Instance) (l : InstanceLog) → AgreesServices v.instance.services i l → IsStill v.instance.services → targets_left v.instance ≡ [] → (by : By) → IsSome (i.asks by) → i.asks by ≢ Some rules.Shutdown → rules.IsOpen by l → IsSome (awaited v.instance.services.jobs by)
+  pub left : (i : Instance) (l : InstanceLog) (living : Living) → AgreesServices v.instance.services i l → IsStill v.instance.services → IsLiving i l living → (by : By) → IsSome (i.asks by) → i.asks by ≢ Some rules.Shutdown → rules.IsOpen by l → IsSome (awaited v.instance.services.jobs by) ⊎ IsLeftAdvance living by
   pub results : (i : Instance) (l : InstanceLog) (living : Living) → AgreesServices v.instance.services i l → IsLiving i l living → (by : By) (where_ : State) → awaited v.instance.services.jobs by ≡ Some where_ → IsLeftResult living by where_
 
 module _ (v : Own) (h : DoesAgree v) (rest : CanDoNothing v.instance) (promise : IsStillSo v) where
@@ -577,8 +577,12 @@ module _ (v : Own) (h : DoesAgree v) (rest : CanDoNothing v.instance) (promise :
 
   -- the job commands that are open wait for results
   pub results_so : targets_left v.instance ≡ [] → AreResults v h
-  results_so late by asks waits = on (awaited v.instance.services.jobs by) refl (promise.left (instance_of v.set) (log_in v.set.work v.chronicle) h.agrees still_here late by asks (left_open v h by asks waits (rest.answers by.actor)).1 waits)
+  results_so late by asks waits = of (promise.left (instance_of v.set) (log_in v.set.work v.chronicle) (living_of v.set v.chronicle) h.agrees still_here (is_living v.set v.chronicle) by asks (left_open v h by asks waits (rest.answers by.actor)).1 waits)
     where
+      of : IsSome (awaited v.instance.services.jobs by) ⊎ IsLeftAdvance (living_of v.set v.chronicle) by → IsStuckResult v by
+      of (inl some) = on (awaited v.instance.services.jobs by) refl some
+      of (inr a) = absurd (advanced_so late _ (record { by = by; seconds = a.seconds; asks = a.asks; waits = a.waits; is = refl }))
+
       on : (o : Option State) → awaited v.instance.services.jobs by ≡ o → IsSome o → IsStuckResult v by
       on None e some = absurd (true≢false (sym some))
       on (Some where_) e some = record {

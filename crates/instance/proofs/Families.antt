@@ -13,7 +13,7 @@ use Rattle.services.specs.answers.declared.chronicle.Entry.TheVariants as entry
 use Rattle.services.specs.answers.declared.steps.Step.TheVariants as step
 use Rattle.services.specs.answers.Chronicle.{Setup, top}
 use Rattle.services.specs.answers.Jobs.{HasNoAdvance, instance_of, living_of, log_in}
-use Rattle.services.specs.answers.Legal.{IsLegalEntry, RestsAtIssue}
+use Rattle.services.specs.answers.Legal.{HasSettled, IsLegalEntry, SettlesFirst}
 use Rattle.services.specs.answers.Services.{log_of, setting_of}
 use Rattle.services.specs.answers.Stretches.{IsStretch}
 use Rattle.services.specs.answers.Whole.{HasComeToRest, IsClosingEntry, has_ended}
@@ -71,5 +71,5 @@ legal_tick set c second goes_on legal = record { goes_on = goes_on; grounds = le
 pub made_tick : (work : Workload) (c : List Entry) (second : ℕ) → IsStretch work c step.Tick (entry.Ticked second ∷ [])
 made_tick work c second = record { second = second; split = refl }
 
-pub rests_at_tick : (set : Setup) (c : List Entry) (second : ℕ) → EachAfter (RestsAtIssue set) c (entry.Ticked second ∷ [])
-rests_at_tick set c second = (tt, tt)
+pub settled_tick : (set : Setup) (c : List Entry) (second : ℕ) → HasSettled set c → EachAfter (SettlesFirst set) c (entry.Ticked second ∷ [])
+settled_tick set c second settled = (settled, tt)

@@ -538,7 +538,7 @@ module _ (v : Own) (h : DoesAgree v) (a : ℕ) (seat : Seat) (is : IsIssuing v a
             ((i : Instance) (l : InstanceLog) → AgreesServices middle i l → IsNewOrder i l by seat.broker job → AgreesServices services i (l ++ orders_of by job)) →
             Follows v.set v.chronicle (step.Issue a) (issued_instance services) (e ∷ [])
         issue_follows_so middle services keeps counts asks orders = record {
-          made = record { before = []; command = seat.issued; behind = []; split = refl; others = tt };
+          made = record { command = seat.issued; behind = []; split = refl; others = tt };
           legal = (legal_issue, tt);
           settled = λ told. (told tt, tt);
           agrees = record {

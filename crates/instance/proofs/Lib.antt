@@ -23,6 +23,7 @@ mod Ranges
 mod Leaving
 mod Ending
 mod Closing
+mod Settling
 mod Ordering
 mod Beginning
 mod Numbering

@@ -19,7 +19,7 @@ use Rattle.services.specs.workload.declared.work.Workload.{Workload}
 use Rattle.services.specs.answers.Chronicle.{Setup, top, issues_of, replies_to, issues}
 use Rattle.services.specs.answers.Entering.{entered}
 use Rattle.services.specs.answers.Floors.{floor, raised}
-use Rattle.services.specs.answers.Legal.{IsLegalEntry, HasEntryGrounds, RestsAtIssue}
+use Rattle.services.specs.answers.Legal.{IsLegalEntry, HasEntryGrounds, SettlesFirst}
 use Rattle.services.specs.answers.Services.{setting_of, log_of}
 use Rattle.services.specs.answers.Whole.{IsEarlierEntry}
 use Rattle.services.specs.answers.Jobs.{instance_of, log_in}
@@ -189,7 +189,7 @@ actor_news set log c es n a None h = stands_news log c es n a 0 0 h
 actor_news set log c es n a (Some seat) h = (stands_news log c es n a _ _ h.0, seat_news set log c es n a seat h.1)
 
 -- news issue nothing, so they leave a chronicle settled
-pub settled_news : (set : Setup) (c : List Entry) (es : List KvsEvent) → Each IsNews es → EachAfter (RestsAtIssue set) c (map (entered 0) es)
+pub settled_news : (set : Setup) (c : List Entry) (es : List KvsEvent) → Each IsNews es → EachAfter (SettlesFirst set) c (map (entered 0) es)
 settled_news set c [] n = tt
 settled_news set c (event.Landed space number authors groups ∷ es) n = (tt, settled_news set _ es n.1)
 settled_news set c (event.Denied space authors group refusal ∷ es) n = (tt, settled_news set _ es n.1)

@@ -35,7 +35,7 @@ use Rattle.services.specs.answers.Commands.{command_at, subject_at}
 use Rattle.services.specs.answers.Entering.{reply_of}
 use Rattle.services.specs.answers.Floors.{floor}
 use Rattle.services.specs.answers.Jobs.{happening_of, instance_of, job_ask_at, job_reply_of, log_in, state_by}
-use Rattle.services.specs.answers.Legal.{HasReplyGrounds, IsLegal, IsLegalEntry, IsLegalIn, RestsAtIssue}
+use Rattle.services.specs.answers.Legal.{HasReplyGrounds, IsLegal, IsLegalEntry, IsLegalIn, SettlesFirst}
 use Rattle.services.specs.answers.Stretches.{ComesBeforeReply}
 use Rattle.services.specs.answers.Services.{setting_of, log_of, moment_of}
 use Rattle.services.specs.kvs_rules.Answers.{IsLegalEvent}
@@ -404,7 +404,7 @@ pub record IsReady (v : Own) (a : ℕ) (c : List Entry) (seats : List Seat) : Ty
   pub split : c ≡ v.chronicle ++ before
   pub others : Each (ComesBeforeReply v.set.work a) before
   pub legal_before : EachAfter (IsLegalEntry v.set) v.chronicle before
-  pub quiet : EachAfter (RestsAtIssue v.set) v.chronicle before
+  pub quiet : EachAfter (SettlesFirst v.set) v.chronicle before
   pub legal : IsLegal v.set c
   pub early : Each IsEarlierEntry c
   pub seated : length seats ≡ length v.instance.seats
@@ -519,7 +519,7 @@ module _ (v : Own) (a : ℕ) (c : List Entry) (seats : List Seat) (r : IsReady v
       made = record { before = r.before; reply = e; split = refl; replies = refl; others = r.others };
       legal = each_joined (IsLegalEntry v.set) v.chronicle r.before (e ∷ []) r.legal_before (subst (λ x. IsLegalEntry v.set x e) r.split legal_here, tt);
       agrees = subst (AgreesOwn (replied a seats seat services floors) v.set) whole reply_agrees;
-      settled = λ told. each_joined (RestsAtIssue v.set) v.chronicle r.before (e ∷ []) r.quiet (tt, tt);
+      settled = λ told. each_joined (SettlesFirst v.set) v.chronicle r.before (e ∷ []) r.quiet (tt, tt);
     })
 
 -- what is known of a reply that is handed over

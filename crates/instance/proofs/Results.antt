@@ -36,7 +36,7 @@ use Rattle.services.specs.answers.declared.chronicle.Reply.TheVariants as reply
 use Rattle.services.specs.answers.declared.steps.Step.TheVariants as step
 use Rattle.services.specs.answers.Chronicle.{Setup, is_issued}
 use Rattle.services.specs.answers.Jobs.{instance_of, job_ask_at, job_reply_of, living_of, log_in}
-use Rattle.services.specs.answers.Legal.{HasReplyGrounds, IsLegalEntry, IsUncarried, RestsAtIssue}
+use Rattle.services.specs.answers.Legal.{HasReplyGrounds, IsLegalEntry, IsUncarried, SettlesFirst}
 use Rattle.services.specs.answers.Stretches.{IsStretch}
 use Rattle.services.specs.answers.Whole.{HasClosingGrounds, has_ended, is_closing}
 use Rattle.services.specs.workload.declared.work.Workload.{Workload}
@@ -99,7 +99,7 @@ module _ (set : Setup) (c : List Entry) (new : ServicesValue) (by : By) (given :
 pub reply_made : (work : Workload) (c : List Entry) (by : By) (given : Reply) (number : Option ℕ) → IsStretch work c (step.Answer by.actor) (entry.Replied by.actor by.command given number ∷ [])
 reply_made work c by given number = record { before = []; reply = entry.Replied by.actor by.command given number; split = refl; replies = refl; others = tt }
 
-pub reply_rests : (set : Setup) (c : List Entry) (by : By) (given : Reply) (number : Option ℕ) → EachAfter (RestsAtIssue set) c (entry.Replied by.actor by.command given number ∷ [])
+pub reply_rests : (set : Setup) (c : List Entry) (by : By) (given : Reply) (number : Option ℕ) → EachAfter (SettlesFirst set) c (entry.Replied by.actor by.command given number ∷ [])
 reply_rests set c by given number = (tt, tt)
 
 -- ---- commands that no landing carried out

@@ -9,22 +9,22 @@ use Rattle.services.specs.answers.declared.steps.Step.{Step}
 use Rattle.services.specs.answers.declared.steps.Step.TheVariants as step
 use Rattle.services.specs.resource_set.declared.node.Resources.{Resources}
 use Rattle.services.specs.answers.Chronicle.{Setup, top}
-use Rattle.services.specs.answers.Legal.{IsLegalEntry, RestsAtIssue}
+use Rattle.services.specs.answers.Legal.{HasSettled, IsLegalEntry, SettlesFirst}
 use Rattle.services.specs.answers.Stretches.{IsStretch}
-use Rattle.services.specs.answers.Whole.{HasComeToRest, IsClosingEntry, IsWhole}
+use Rattle.services.specs.answers.Whole.{IsClosingEntry, IsWhole}
 use Rattle.instance.specs.Agrees.{AgreesOwn}
-use Rattle.instance.specs.Steps.{IsIssue}
+use Rattle.instance.specs.Steps.{IsStart}
 use Rattle.instance.specs.Value.{InstanceValue}
 
 -- the entries are those that the step may make after the chronicle, each is legal, and the instance
--- agrees with both; they keep a chronicle settled, if the run has come to rest where the step
--- issues a command
+-- agrees with both; they keep a chronicle settled, if the instance has settled where the step
+-- issues a command or lets time go on
 pub record Follows (set : Setup) (own : List Entry)
     (s : Step) (new : InstanceValue) (entries : List Entry) : Type 0 where
   pub made : IsStretch set.work own s entries
   pub legal : EachAfter (IsLegalEntry set) own entries
   pub agrees : AgreesOwn new set (own ++ entries)
-  pub settled : (IsIssue s → HasComeToRest set own) → EachAfter (RestsAtIssue set) own entries
+  pub settled : (IsStart s → HasSettled set own) → EachAfter (SettlesFirst set) own entries
 
 -- the entries follow every chronicle that agrees
 abbrev pub Makes : InstanceValue → Step → InstanceValue → List Entry → Type 0

@@ -53,7 +53,8 @@ pub record IsOver (lines : List Line) (v : InstanceValue) : Type 0 where
   pub targets : targets_left v ≡ []
   pub issues : (actor : ℕ) → can_issue lines v actor ≡ false
 
--- the step issues a command
-abbrev pub IsIssue : Step → Type 0
-IsIssue (step.Issue actor) = Unit {0}
-IsIssue _ = ⊥
+-- the step issues a command, or lets time go on
+abbrev pub IsStart : Step → Type 0
+IsStart (step.Issue actor) = Unit {0}
+IsStart step.Tick = Unit {0}
+IsStart _ = ⊥

@@ -1,11 +1,11 @@
 //! An instance.
-ghost use Rattle.std.specs.Prelude.{◌≡◌, ◌<◌, ◌≤◌, ◌+◌, ◌^◌, ◌++◌, [], ◌∷◌, ℕ, true, false, All, List, None, map, slice_get, slice_index_or, IfOk, IfSome, OnErr, OnOk};
+ghost use Rattle.std.specs.Prelude.{◌≡◌, ◌<◌, ◌≤◌, ◌+◌, ◌^◌, [], ◌∷◌, ℕ, true, false, All, List, None, map, slice_get, slice_index_or, IfOk, IfSome, OnErr, OnOk};
 ghost use Rattle.services.specs.workload.Laws.{HasOwnLabels, IsBuilt, IsWithin, KeepsTallies};
 ghost use Rattle.services.specs.answers.declared.chronicle.Entry.{Entry as EntryValue};
 ghost use Rattle.services.specs.answers.Chronicle.{Setup, top};
 ghost use Rattle.services.specs.answers.Entering.{entered};
+ghost use Rattle.services.specs.answers.Legal.{HasSettled};
 ghost use Rattle.services.specs.answers.Services.{log_of};
-ghost use Rattle.services.specs.answers.Whole.{HasComeToRest};
 ghost use Rattle.services.specs.job_service.Still.{awaited};
 ghost use Rattle.services.specs.kvs_model.Store.{Name};
 ghost use Rattle.services.specs.resource_set.Valid.{IsR};
@@ -447,12 +447,13 @@ impl Instance {
     }
 
     /// Where no step of the services and no reply can be made and nothing is posted or due, the
-    /// instance has come to rest: all its brokers are told, and nothing is due by its chronicle.
-    /// Nothing is due either where nothing is to be posted and no child is to be born.
+    /// instance has settled: all its brokers are told, nothing is due by its chronicle, and each
+    /// open command has to wait. Nothing is due either where nothing is to be posted and no child
+    /// is to be born.
     pub fn still(&self)
         requires { self.now.spent ≡ false }
         ensures rests { (set : Setup) (own : List EntryValue) → AgreesOwn self.now set own
-            → IsAtRest self.now → HasComeToRest set own }
+            → IsAtRest self.now → HasSettled set own }
         ensures free { (set : Setup) (own : List EntryValue) → AgreesOwn self.now set own
             → ((step : KvsStep) → can_step self.now.services step ≡ false)
             → ((actor : ℕ) → can_answer self.now actor ≡ false)

@@ -16,11 +16,11 @@ use Rattle.homes.specs.answers.declared.steps.Step.{Step}
 use Rattle.homes.specs.answers.declared.steps.Step.TheVariants as step
 use Rattle.homes.specs.hierarchy.Births.{has_lost_home, is_at, label_of, numbers}
 use Rattle.homes.specs.hierarchy.Grows.{GrowsByLost}
-use Rattle.homes.specs.hierarchy.Legal.{HasRunRest, IsLegalRun, IsLegalRunEntry, RunRestsAtIssue}
+use Rattle.homes.specs.hierarchy.Legal.{HasRunRest, IsLegalRun, IsLegalRunEntry, RunRestsFirst}
 use Rattle.homes.specs.hierarchy.Stretches.{IsRunStretch}
 use Rattle.homes.proofs.hierarchy_proofs.Growth.{issue_grown, reply_grown}
 use Rattle.homes.proofs.hierarchy_proofs.Homes.{lost_so}
-use Rattle.homes.specs.instance.Steps.{IsIssue}
+use Rattle.homes.specs.instance.Steps.{IsStart}
 use Rattle.world.specs.Advances.{Advances}
 use Rattle.homes.specs.Homes.{IsNextLine, IsPlace, answered, home_in}
 use Rattle.world.specs.Sound.{IsSound}
@@ -126,7 +126,7 @@ module _ (v : WorldValue) (sound : IsSound v) (runs : v.closed ≡ false) (actor
           places = places_behind v.set v.chronicle (e ∷ []) g.so.numbered g.so.births v.places (sound.runs runs).places actor p new standing others stands;
         })
 
-    left_advances : ((IsIssue t → HasRunRest v.set v.chronicle) → RunRestsAtIssue v.set v.chronicle e) → Advances v t (stepped v c steps ends v.homes (slice_set v.places actor new))
+    left_advances : ((IsStart t → HasRunRest v.set v.chronicle) → RunRestsFirst v.set v.chronicle e) → Advances v t (stepped v c steps ends v.homes (slice_set v.places actor new))
     left_advances rests = step_advances v t (e ∷ []) stretch c steps ends v.homes (slice_set v.places actor new) ec es ee (λ told. (rests told, tt))
 
   -- ---- it is told
@@ -226,7 +226,7 @@ module _ (v : WorldValue) (sound : IsSound v) (runs : v.closed ≡ false) (actor
         born = home_born v sound runs i h here;
         own = issued ∷ [];
         entered = refl;
-        allowed = record { before = []; command = p.issued; behind = []; split = refl; others = tt };
+        allowed = record { command = p.issued; behind = []; split = refl; others = tt };
       };
     }
 

@@ -1,13 +1,16 @@
--- Where the first step that can be made issues a command, the run has come to rest.
-use Rattle.std.proofs.Common.{◌≡◌, ◌∙◌, inl, inr, ℕ, ◌+◌, ◌<◌, List, [], ◌∷◌, ◌++◌, Bool, true, false, not, ◌&&◌, ◌||◌, length, map, Option, refl, sym, ap, ap₂, subst, true≢false, arith}
+-- Where the first step that can be made issues a command or lets time go on, the run has come to
+-- rest.
+use Rattle.std.proofs.Common.{◌≡◌, ◌∙◌, inl, inr, ℕ, ◌+◌, ◌<◌, ◌==◌, List, [], ◌∷◌, ◌++◌, Bool, true, false, not, ◌&&◌, ◌||◌, length, map, Option, refl, sym, ap, ap₂, subst, true≢false, arith}
 use Rattle.std.specs.Prelude.{Ok, Some, None, Contains, IsTrue, flat_map, is_some, slice_get, option_map, if◌then◌else◌}
 use Rattle.std.specs.List.{cons_option, enumerate_from, range_with_len}
 use Rattle.std.specs.Option.{option_map_or}
-use Rattle.std.proofs.lemmas.Bool.{and_parts}
+use Rattle.std.proofs.lemmas.Bool.{and_parts, eq-eqb}
 use Rattle.std.proofs.lemmas.Option.{slice_get_within}
+use Rattle.homes.specs.kvs_txn.declared.txn.By.{By}
+use Rattle.homes.specs.answers.Chronicle.{IsOpenCommand}
 use Rattle.homes.specs.answers.declared.steps.Step.{Step}
 use Rattle.homes.specs.answers.declared.steps.Step.TheVariants as step
-use Rattle.homes.specs.hierarchy.Births.{Birth, birth_of, is_born, is_gone, lives}
+use Rattle.homes.specs.hierarchy.Births.{Birth, birth_of, has_lost_home, is_born, is_gone, lives}
 use Rattle.homes.specs.hierarchy.Families.{family_of, living_in}
 use Rattle.homes.specs.hierarchy.Legal.{HasRunRest}
 use Rattle.homes.specs.hierarchy.Own.{own_of, setup_in}
@@ -17,7 +20,7 @@ use Rattle.homes.proofs.hierarchy_proofs.Resting.{all_rest}
 use Rattle.homes.specs.instance.Family.{OfOwn, bearing, is_due, is_end_due, may_end}
 use Rattle.homes.specs.instance.Order.{answers}
 use Rattle.homes.specs.instance.Seats.{has_come, last_command}
-use Rattle.homes.specs.instance.Steps.{IsIssue, can_answer, can_post}
+use Rattle.homes.specs.instance.Steps.{IsStart, can_answer, can_post}
 use Rattle.homes.specs.instance.Value.{InstanceValue}
 use Rattle.homes.specs.instance.declared.seats.Seat.{Seat}
 use Rattle.homes.specs.instance_rules.Family.{IsEndOf, Living, OfLiving}
@@ -27,7 +30,7 @@ use Rattle.homes.specs.kvs_core.Walk.{nth}
 use Rattle.homes.specs.manager_rules.Times.{IsEndDue}
 use Rattle.homes.specs.services.Order.{possible}
 use Rattle.homes.specs.Homes.{ListTurns}
-use Rattle.world.specs.Order.{left_in, only_if, steps_at, steps_in, steps_left, steps_of}
+use Rattle.world.specs.Order.{left_in, only_if, steps_at, steps_in, steps_left, steps_of, waits_in}
 use Rattle.world.specs.Sound.{IsSound}
 use Rattle.homes.specs.Times.{may_go}
 use Rattle.homes.specs.Tells.{EachLiving, TellsEndIn, TellsRest}
@@ -35,9 +38,11 @@ use Rattle.world.specs.Value.{WorldValue}
 use Rattle.world.specs.Walks.{by_instances, kinds}
 use Rattle.homes.specs.declared.homes.Home.{Home}
 use Rattle.homes.specs.declared.homes.Origin.{Origin}
+use Rattle.homes.specs.declared.homes.Place.{Place}
 use Rattle.world.specs.declared.run.drawing.Kind.{Kind}
 use Rattle.world.specs.declared.run.drawing.Kind.TheVariants as kind
 use Rattle.homes.proofs.Members.{in_enumerated, in_range}
+use Rattle.world.proofs.Answered.{still_waits}
 use Rattle.world.proofs.Ordering.{says_some}
 use Rattle.world.proofs.Running.{home_agrees}
 use Rattle.homes.proofs.Standing.{item_at}
@@ -74,41 +79,41 @@ flat_among f (z ∷ xs) x y i j = elim i [
 
 -- ---- the steps of instances issue nothing
 
-only_plain : (can : Bool) (s t : Step) → (IsIssue s → ⊥) → Among t (only_if can s) → IsIssue t → ⊥
-only_plain true s t plain i issue = elim i [ inl e ↦ plain (subst IsIssue (sym e) issue) | inr none ↦ absurd none ]
+only_plain : (can : Bool) (s t : Step) → (IsStart s → ⊥) → Among t (only_if can s) → IsStart t → ⊥
+only_plain true s t plain i issue = elim i [ inl e ↦ plain (subst IsStart (sym e) issue) | inr none ↦ absurd none ]
 only_plain false s t plain i issue = absurd i
 
-born_plain : (i : ℕ) (o : Option ℕ) (t : Step) → Among t (cons_option (option_map (step.Birth i) o) []) → IsIssue t → ⊥
+born_plain : (i : ℕ) (o : Option ℕ) (t : Step) → Among t (cons_option (option_map (step.Birth i) o) []) → IsStart t → ⊥
 born_plain i None t a issue = absurd a
-born_plain i (Some job) t a issue = elim a [ inl e ↦ subst IsIssue (sym e) issue | inr none ↦ absurd none ]
+born_plain i (Some job) t a issue = elim a [ inl e ↦ subst IsStart (sym e) issue | inr none ↦ absurd none ]
 
 module _ (v : WorldValue) where
-  in_plain : (k : Kind) (i : ℕ) (h : Home) (t : Step) → Among t (steps_in v k i h) → IsIssue t → ⊥
-  in_plain kind.Turn i h t a issue = (let m = among_map (step.Kvs i) (possible h.instance.services) t a in subst IsIssue (sym m.2) issue)
-  in_plain kind.Reply i h t a issue = (let m = among_map step.Answer (answers h.instance) t a in subst IsIssue (sym m.2) issue)
+  in_plain : (k : Kind) (i : ℕ) (h : Home) (t : Step) → Among t (steps_in v k i h) → IsStart t → ⊥
+  in_plain kind.Turn i h t a issue = (let m = among_map (step.Kvs i) (possible h.instance.services) t a in subst IsStart (sym m.2) issue)
+  in_plain kind.Reply i h t a issue = (let m = among_map step.Answer (answers h.instance) t a in subst IsStart (sym m.2) issue)
   in_plain kind.Post i h t a issue = only_plain (can_post h.instance) (step.Post i) t (λ bad. bad) a issue
   in_plain kind.Birth i h t a issue = born_plain i (bearing h.instance) t a issue
   in_plain kind.End i h t a issue = only_plain (may_go v.homes h) (step.End i) t (λ bad. bad) a issue
 
-  left_plain : (k : Kind) (i : ℕ) (t : Step) → Among t (steps_left v k i) → IsIssue t → ⊥
+  left_plain : (k : Kind) (i : ℕ) (t : Step) → Among t (steps_left v k i) → IsStart t → ⊥
   left_plain kind.Turn i t a issue = absurd a
-  left_plain kind.Reply i t a issue = (let m = among_map step.Answer (left_in v.places i) t a in subst IsIssue (sym m.2) issue)
+  left_plain kind.Reply i t a issue = (let m = among_map step.Answer (left_in v.places i) t a in subst IsStart (sym m.2) issue)
   left_plain kind.Post i t a issue = absurd a
   left_plain kind.Birth i t a issue = absurd a
   left_plain kind.End i t a issue = absurd a
 
-  at_plain : (k : Kind) (i : ℕ) (h : Home) (t : Step) (b : Bool) → Among t (if b then steps_left v k i else steps_in v k i h) → IsIssue t → ⊥
+  at_plain : (k : Kind) (i : ℕ) (h : Home) (t : Step) (b : Bool) → Among t (if b then steps_left v k i else steps_in v k i h) → IsStart t → ⊥
   at_plain k i h t true a issue = left_plain k i t a issue
   at_plain k i h t false a issue = in_plain k i h t a issue
 
-  all_plain : (t : Step) → Among t (by_instances v) → IsIssue t → ⊥
+  all_plain : (t : Step) → Among t (by_instances v) → IsStart t → ⊥
   all_plain t a issue =
       let m = among_flat (steps_of v) kinds t a in
       let n = among_flat (steps_at v m.0) (enumerate_from 0 v.homes) t m.2 in
       at_plain m.0 n.0.0 n.0.1 t n.0.1.gone n.2 issue
 
   -- so where the first step issues a command they have none
-  pub nothing_else : (rest : List Step) (s : Step) → IsIssue s → nth (by_instances v ++ rest) 0 ≡ Ok s → by_instances v ≡ []
+  pub nothing_else : (rest : List Step) (s : Step) → IsStart s → nth (by_instances v ++ rest) 0 ≡ Ok s → by_instances v ≡ []
   nothing_else rest s issue e = by (by_instances v) refl
     where
       by : (steps : List Step) → by_instances v ≡ steps → by_instances v ≡ []
@@ -116,7 +121,7 @@ module _ (v : WorldValue) where
       by (t ∷ more) is =
           let first : nth ((t ∷ more) ++ rest) 0 ≡ Ok s = ap (λ xs. nth (xs ++ rest) 0) (sym is) ∙ e in
           let same : t ≡ s = cc in
-          absurd (all_plain t (subst (Among t) (sym is) (inl refl)) (subst IsIssue (sym same) issue))
+          absurd (all_plain t (subst (Among t) (sym is) (inl refl)) (subst IsStart (sym same) issue))
 
   module _ (none : by_instances v ≡ []) where
     kind_none : (k : Kind) → Among k kinds → (i : ℕ) (h : Home) → slice_get v.homes i ≡ Some h → h.gone ≡ false → steps_in v k i h ≡ []
@@ -125,6 +130,15 @@ module _ (v : WorldValue) where
         let here : Among (i, h) (enumerate_from 0 v.homes) = subst (λ n. Among (n, h) (enumerate_from 0 v.homes)) zeroth (among_from (enumerate_from 0 v.homes) (0 + i, h) (in_enumerated 0 v.homes i h e)) in
         sym (ap (λ b. if b then steps_left v k i else steps_in v k i h) living)
         ∙ flat_none (steps_at v k) (enumerate_from 0 v.homes) (i, h) here (flat_none (steps_of v) kinds k known none)
+
+    -- no actor waits whose instance has gone
+    none_left : (i : ℕ) (h : Home) → slice_get v.homes i ≡ Some h → h.gone ≡ true → left_in v.places i ≡ []
+    none_left i h e gone =
+        let zeroth : 0 + i ≡ i = omega arith in
+        let here : Among (i, h) (enumerate_from 0 v.homes) = subst (λ n. Among (n, h) (enumerate_from 0 v.homes)) zeroth (among_from (enumerate_from 0 v.homes) (0 + i, h) (in_enumerated 0 v.homes i h e)) in
+        map_none step.Answer (left_in v.places i)
+        (sym (ap (λ b. if b then steps_left v kind.Reply i else steps_in v kind.Reply i h) gone)
+        ∙ flat_none (steps_at v kind.Reply) (enumerate_from 0 v.homes) (i, h) here (flat_none (steps_of v) kinds kind.Reply (inr (inl refl)) none))
 
     module _ (i : ℕ) (h : Home) (e : slice_get v.homes i ≡ Some h) (living : h.gone ≡ false) where
       no_turn : possible h.instance.services ≡ []
@@ -227,14 +241,27 @@ module _ (v : WorldValue) (sound : IsSound v) (runs : v.closed ≡ false) where
 
   -- the run has come to rest where no instance can make a step
   pub rested : ListTurns v.homes → EachLiving TellsRest v.homes → EachLiving (TellsEndIn v.homes) v.homes → by_instances v ≡ [] → HasRunRest v.set v.chronicle
-  rested listed rest goes none = all_rest v.set v.chronicle
+  rested listed rest goes none = all_rest v.set v.chronicle (sound.runs runs).on
       (λ i alive. let h = living_home i alive in (rest i h.0 h.1 h.2).rests (setup_in v.set v.chronicle i) (own_of v.set v.chronicle i) (home_agrees v sound runs i h.0 h.1 h.2) (record {
         steps = listed i h.0 h.1 (no_turn v none i h.0 h.1 h.2);
         answers = no_answer v none i h.0 h.1 h.2;
         due = free i h.0 h.1 h.2;
       }))
+      answered
       (no_end free (no_going v none) goes)
     where
       free : EachLiving (λ h. is_due h.instance ≡ false) v.homes
       free i h e living = (rest i h e living).free (setup_in v.set v.chronicle i) (own_of v.set v.chronicle i) (home_agrees v sound runs i h e living)
           (listed i h e (no_turn v none i h e living)) (no_answer v none i h e living) (no_post v none i h e living) (no_birth v none i h e living)
+
+      answered : (by : By) → has_lost_home v.set.work.actors v.chronicle by.actor ≡ true → IsOpenCommand by v.chronicle → ⊥
+      answered by lost waiting =
+          let w = still_waits v sound runs by lost waiting in
+          let low = slice_get_within v.places by.actor w.p w.standing in
+          let waits : waits_in v.places w.i by.actor ≡ true =
+          ap (λ o. option_map_or (λ (p : Place). p.waits && option_map_or (λ home. home == w.i) p.home false) o false) w.standing
+          ∙ ap₂ (λ b o. b && option_map_or (λ home. home == w.i) o false) w.waits w.home
+          ∙ eq-eqb w.i w.i refl in
+          let there = among_kept (waits_in v.places w.i) (range_with_len 0 (length v.places)) by.actor
+          (among_from (range_with_len 0 (length v.places)) by.actor (in_range 0 (length v.places) by.actor (omega arith) (omega (arith, low)))) waits in
+          absurd (subst (Among by.actor) (none_left v none w.i w.h w.here w.gone) there)

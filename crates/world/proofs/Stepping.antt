@@ -10,10 +10,10 @@ use Rattle.homes.specs.answers.declared.chronicle.Entry.{Entry}
 use Rattle.homes.specs.answers.declared.steps.Step.{Step}
 use Rattle.homes.specs.hierarchy.Births.{birth_of, is_born}
 use Rattle.homes.specs.hierarchy.Grows.{LivesSo}
-use Rattle.homes.specs.hierarchy.Legal.{HasRunRest, IsLegalRunEntry, IsSettledRun, RunRestsAtIssue}
+use Rattle.homes.specs.hierarchy.Legal.{HasRunRest, IsLegalRunEntry, IsSettledRun, RunRestsFirst}
 use Rattle.homes.specs.hierarchy.Own.{child_setup, work_for}
 use Rattle.homes.specs.hierarchy.Stretches.{AreRunStretches, IsRunStretch}
-use Rattle.homes.specs.instance.Steps.{IsIssue}
+use Rattle.homes.specs.instance.Steps.{IsStart}
 use Rattle.homes.specs.instance_rules.Log.{IsInstance}
 use Rattle.world.specs.Advances.{Advances}
 use Rattle.homes.specs.Homes.{AreValid}
@@ -60,7 +60,7 @@ module _ (v : WorldValue) (s : Step) (made : List Entry) (stretch : IsRunStretch
         ended = λ closed. absurd (true≢false (sym closed ∙ runs));
       })
 
-  pub step_advances : ((IsIssue s → HasRunRest v.set v.chronicle) → EachAfter (RunRestsAtIssue v.set) v.chronicle made) → Advances v s (stepped v c steps ends homes places)
+  pub step_advances : ((IsStart s → HasRunRest v.set v.chronicle) → EachAfter (RunRestsFirst v.set) v.chronicle made) → Advances v s (stepped v c steps ends homes places)
   step_advances settled = record {
     ready = refl;
     set = refl;
@@ -69,5 +69,5 @@ module _ (v : WorldValue) (s : Step) (made : List Entry) (stretch : IsRunStretch
     told = ec;
     stretch = stretch;
     ends = ee;
-    settled = λ was told. subst (IsSettledRun v.set) (sym ec) (each_joined (RunRestsAtIssue v.set) [] v.chronicle made was (settled told));
+    settled = λ was told. subst (IsSettledRun v.set) (sym ec) (each_joined (RunRestsFirst v.set) [] v.chronicle made was (settled told));
   }

@@ -1,52 +1,41 @@
 -- Time goes on to the next second.
-use Rattle.std.proofs.Common.{◌≡◌, ◌∙◌, ◌⊎◌, inl, inr, ℕ, zero, suc, ◌+◌, ◌<◌, ◌≤◌, List, [], ◌∷◌, ◌++◌, Bool, true, false, not, ◌&&◌, ◌||◌, length, Option, cond, count_by, refl, sym, ap, subst, true≢false, arith}
-use Rattle.std.specs.Prelude.{Some, None, ◌-◌, Contains, flat_map, option_and_then, is_some, nat_lt, slice_get, if◌then◌else◌}
+use Rattle.std.proofs.Common.{◌≡◌, ◌∙◌, inl, inr, ℕ, zero, suc, ◌+◌, ◌<◌, ◌≤◌, List, [], ◌∷◌, ◌++◌, Bool, true, false, not, ◌&&◌, ◌||◌, length, refl, sym, ap, ap₂, subst, true≢false, arith}
+use Rattle.std.specs.Prelude.{Some, None, ◌-◌, Contains, flat_map, is_some, nat_lt, slice_get, if◌then◌else◌}
 use Rattle.std.specs.List.{list_any}
 use Rattle.std.specs.Option.{option_map_or}
-use Rattle.std.proofs.lemmas.Bool.{and_parts, eqb-true, lt-ltb, ltb-true}
-use Rattle.std.proofs.lemmas.List.Folds.{list_any-append}
+use Rattle.std.proofs.lemmas.Bool.{and_parts, ltb-true}
 use Rattle.std.proofs.lemmas.Option.{slice_get_within}
-use Rattle.homes.proofs.kvs_rules_proofs.Sequences.{each_along}
 use Rattle.homes.specs.kvs_txn.declared.txn.By.{By}
-use Rattle.homes.specs.answers.Chronicle.{IsOpenCommand, Setup, is_issued, issues, issues_of, replies_to, top}
-use Rattle.homes.specs.workload.Actors.{are_together}
-use Rattle.homes.specs.workload.declared.work.Actor.{Actor}
+use Rattle.homes.specs.answers.Chronicle.{IsOpenCommand, issues}
 use Rattle.homes.specs.answers.declared.chronicle.Entry.{Entry}
 use Rattle.homes.specs.answers.declared.chronicle.Entry.TheVariants as entry
 use Rattle.homes.specs.answers.declared.steps.Step.{Step}
 use Rattle.homes.specs.answers.declared.steps.Step.TheVariants as step
-use Rattle.homes.specs.hierarchy.Births.{birth_of, has_lost_home, is_at, is_born, is_gone, label_of}
+use Rattle.homes.specs.hierarchy.Births.{birth_of, has_lost_home}
 use Rattle.homes.specs.hierarchy.Families.{family_of, left_in, living_in, second_in}
 use Rattle.homes.specs.hierarchy.Grows.{GrowsBySecond}
-use Rattle.homes.specs.hierarchy.Legal.{IsLegalRun, IsLegalRunEntry}
 use Rattle.homes.specs.hierarchy.Own.{child_setup, own_of, setup_in, work_for}
 use Rattle.homes.proofs.hierarchy_proofs.Advances.{next_within}
 use Rattle.homes.proofs.hierarchy_proofs.Growth.{second_grown}
-use Rattle.homes.proofs.hierarchy_proofs.Homes.{all_idle, in_family_only, left_so}
-use Rattle.homes.proofs.hierarchy_proofs.Members.{gone_was_born}
+use Rattle.homes.proofs.hierarchy_proofs.Homes.{all_idle, in_family_only}
 use Rattle.homes.proofs.hierarchy_proofs.Nested.{in_family}
-use Rattle.homes.proofs.hierarchy_proofs.Numbering.{born_exactly, top_lives}
-use Rattle.homes.proofs.hierarchy_proofs.OneEntry.{one_home}
 use Rattle.homes.proofs.hierarchy_proofs.Resting.{left_answered}
 use Rattle.homes.proofs.hierarchy_proofs.Seconds.{at_once}
-use Rattle.homes.proofs.hierarchy_proofs.Settling.{nothing_issued}
 use Rattle.homes.specs.instance.Family.{LivesAs, ends_left, is_due, present, targets_left}
 use Rattle.homes.specs.instance_rules.Family.{EndsIn, HasTarget, IsAhead, IsTarget, Living, MayTick, OfLiving}
 use Rattle.homes.proofs.job_rules_proofs.Among.{Among, all_at, all_from, among_append, among_filter, among_from, among_left, among_right, any_at, contains_from}
 use Rattle.homes.specs.manager_rules.Times.{IsLeast, seconds_ahead, seconds_of}
 use Rattle.world.specs.Advances.{Advances}
-use Rattle.homes.specs.Homes.{AreHomes, ArePlaces, IsHome, answered}
+use Rattle.homes.specs.Homes.{AreHomes, ArePlaces, IsHome}
 use Rattle.world.specs.Sound.{IsSound}
 use Rattle.homes.specs.Times.{all_ends, all_targets, has_due, is_left, may_go, of_living}
 use Rattle.world.specs.Steps.{can_tick, keeps_time}
 use Rattle.homes.specs.Tells.{EachLiving, HasPassedTo, HavePassedTo, MayPassTo, TellAll}
 use Rattle.world.specs.Value.{WorldValue}
 use Rattle.homes.specs.declared.homes.Home.{Home}
-use Rattle.homes.specs.declared.homes.Place.{Place}
-use Rattle.world.proofs.Housing.{home_is}
-use Rattle.homes.proofs.Placing.{all_silent, counts_joined, places_stay}
+use Rattle.world.proofs.Answered.{still_waits}
+use Rattle.homes.proofs.Placing.{all_silent, places_stay}
 use Rattle.world.proofs.Resting.{among_flat, flat_among, living_home, no_end}
-use Rattle.homes.proofs.Seating.{any_counted}
 use Rattle.world.proofs.Running.{home_agrees, home_lives, known}
 use Rattle.homes.proofs.Standing.{grown_home, homes_told, item_at, stays_home}
 use Rattle.world.proofs.Stepping.{step_advances, step_sound, stepped, valid_so}
@@ -81,16 +70,6 @@ not_so : (b : Bool) → not b ≡ true → b ≡ false
 not_so true e = cc
 not_so false e = refl
 
-none_past : {X : Type 0} (xs : List X) (i : ℕ) → slice_get xs i ≡ None → length xs ≤ i
-none_past [] i e = omega arith
-none_past (x ∷ xs) zero e = cc
-none_past (x ∷ xs) (suc i) e = (let more = none_past xs i e in omega (arith, more))
-
-past_none : {X : Type 0} (xs : List X) (i : ℕ) → length xs ≤ i → slice_get xs i ≡ None
-past_none [] i past = refl
-past_none (x ∷ xs) zero past = absurd (omega arith)
-past_none (x ∷ xs) (suc i) past = past_none xs i (omega (arith, past))
-
 -- ---- of the living ones
 
 module _ (homes : List Home) (of : Home → List ℕ) where
@@ -107,84 +86,18 @@ module _ (homes : List Home) (of : Home → List ℕ) where
   living_among : (n i : ℕ) (h : Home) → slice_get homes i ≡ Some h → h.gone ≡ false → Among n (of h) → Among n (flat_map (of_living of) homes)
   living_among n i h e living a = flat_among (of_living of) homes h n (among_item homes i h e) (subst (λ b. Among n (if b then [] else of h)) (sym living) a)
 
-and_true : (b : Bool) → (b && true) ≡ b
-and_true true = refl
-and_true false = refl
-
--- ---- commands that are issued
-
-or_cases : (a b : Bool) → (a || b) ≡ true → (a ≡ true) ⊎ (b ≡ true)
-or_cases true b e = inl refl
-or_cases false b e = inr e
-
-IssuedBelow : List Entry → Type 0
-IssuedBelow c = (by : By) → is_issued by c ≡ true → by.command < count_by (issues_of by.actor) c
-
-issued_next : (set : Setup) (c : List Entry) (e : Entry) (by : By) → IsLegalRunEntry set c e → issues by e ≡ true → (issues_of by.actor e ≡ true) × (by.command ≡ count_by (issues_of by.actor) c)
-issued_next set c (entry.Issued actor command) by h i =
-    let parts = and_parts _ _ i in
-    let same_actor : by.actor ≡ actor = eqb-true by.actor actor parts.0 in
-    let same_number : by.command ≡ command = eqb-true by.command command parts.1 in
-    (parts.0, same_number ∙ h.grounds.0.next ∙ ap (λ a. count_by (issues_of a) c) (sym same_actor))
-issued_next set c _ by h i = absurd (true≢false (sym i))
-
-issued_step : (set : Setup) (c : List Entry) (e : Entry) → IsLegalRunEntry set c e → IssuedBelow c → IssuedBelow (c ++ e ∷ [])
-unfolding IssuedBelow
-issued_step set c e legal below by issued = elim (or_cases (is_issued by c) (issues by e || false) (sym (list_any-append (issues by) c (e ∷ [])) ∙ issued)) [
-  | inl old ↦ (let low = below by old in omega (arith, counted, low))
-  | inr new ↦
-      let is = issued_next set c e by legal (elim (or_cases (issues by e) false new) [ inl this ↦ this | inr none ↦ absurd (true≢false (sym none)) ]) in
-      let one : count_by (issues_of by.actor) (e ∷ []) ≡ 1 = ap (λ (b : Bool). 0 + cond {A = ℕ} b 1 0) is.0 in
-      omega (arith, counted, one, is.1)
-]
-  where
-    counted : count_by (issues_of by.actor) (c ++ e ∷ []) ≡ count_by (issues_of by.actor) c + count_by (issues_of by.actor) (e ∷ [])
-    counted = counts_joined (issues_of by.actor) c (e ∷ [])
-
--- in a legal run a command that is issued is one of the first
-issued_below : (set : Setup) (c : List Entry) → IsLegalRun set c → (by : By) → is_issued by c ≡ true → by.command < count_by (issues_of by.actor) c
-unfolding IssuedBelow
-issued_below set c h = each_along (IsLegalRunEntry set) IssuedBelow (λ xs y _ legal old. issued_step set xs y legal old) [] c tt h (λ by i. absurd (true≢false (sym i)))
-
 -- ---- nobody is left
 
 module _ (v : WorldValue) (sound : IsSound v) (runs : v.closed ≡ false) where
   -- an actor whose instance has gone waits for nothing where none is left
-  module _ (none : list_any (is_left v.homes) v.places ≡ false) (by : By) (lost : has_lost_home v.set.work.actors v.chronicle by.actor ≡ true) (waiting : IsOpenCommand by v.chronicle) where
-    answered_at : (o : Option Place) → slice_get v.places by.actor ≡ o → ⊥
-    answered_at None e =
-        let running = sound.runs runs in
-        let found = left_so v.set v.chronicle by.actor lost in
-        let past : length v.set.work.actors ≤ by.actor = subst (λ n. n ≤ by.actor) running.places.all (none_past v.places by.actor e) in
-        let home : slice_get v.set.work.actors by.actor ≡ None = past_none v.set.work.actors by.actor past in
-        let alive = top_lives v.set v.chronicle sound.legal in
-        let parts = and_parts (is_born v.chronicle top) (not (is_gone v.chronicle top)) alive in
-        let there : is_at v.set.work.actors (label_of v.chronicle top) by.actor ≡ true = ap (λ o. are_together (option_and_then (λ (a : Actor). a.of) o) None) home in
-        let same = one_home v.set.work.actors v.chronicle running.on.labelled found.0 top by.actor (gone_was_born v.set v.chronicle sound.legal found.0 found.1) parts.0 found.2 there in
-        true≢false (sym found.1 ∙ ap (is_gone v.chronicle) same ∙ not_so (is_gone v.chronicle top) parts.1)
-    answered_at (Some p) e =
-        let running = sound.runs runs in
-        let found = left_so v.set v.chronicle by.actor lost in
-        let i = found.0 in
-        let below = (born_exactly v.set v.chronicle i sound.legal).0 (gone_was_born v.set v.chronicle sound.legal i found.1) in
-        let h = item_at v.homes i (subst (λ n. i < n) (sym running.homes.all) below) in
-        let place = running.places.each by.actor p e in
-        let home : p.home ≡ Some i = place.home ∙ home_is v.set v.chronicle running.on i by.actor below found.2 in
-        let gone : h.0.gone ≡ true = (running.homes.each i h.0 h.1).gone ∙ found.1 in
-        let waits : p.waits ≡ false =
-        sym (and_true p.waits)
-        ∙ sym (ap (λ o. option_map_or (λ i. option_map_or (λ (h : Home). p.waits && h.gone) (slice_get v.homes i) false) o false) home
-        ∙ ap (λ o. option_map_or (λ (h : Home). p.waits && h.gone) o false) h.1
-        ∙ ap (λ b. p.waits && b) gone)
-        ∙ any_off (is_left v.homes) v.places by.actor p none e in
-        let low = issued_below v.set v.chronicle sound.legal by waiting.0 in
-        let issued = place.issued in
-        let all : answered p ≡ p.issued = ap (λ b. if b then p.issued - 1 else p.issued) waits in
-        let one : count_by (replies_to by) v.chronicle ≡ 1 = place.replied by.command ∙ ap (λ b. if b then 1 else 0) (lt-ltb by.command (answered p) (omega (arith, low, issued, all))) in
-        true≢false (sym (any_counted (replies_to by) v.chronicle (omega (arith, one))) ∙ waiting.1)
-
-    pub answered_so : ⊥
-    answered_so = answered_at (slice_get v.places by.actor) refl
+  answered_so : list_any (is_left v.homes) v.places ≡ false → (by : By) → has_lost_home v.set.work.actors v.chronicle by.actor ≡ true → IsOpenCommand by v.chronicle → ⊥
+  answered_so none by lost waiting =
+      let w = still_waits v sound runs by lost waiting in
+      true≢false
+      (sym (ap (λ o. option_map_or (λ i. option_map_or (λ (h : Home). w.p.waits && h.gone) (slice_get v.homes i) false) o false) w.home
+      ∙ ap (λ o. option_map_or (λ (h : Home). w.p.waits && h.gone) o false) w.here
+      ∙ ap₂ (λ a b. a && b) w.waits w.gone)
+      ∙ any_off (is_left v.homes) v.places by.actor w.p none w.standing)
 
   -- what the walks tell where time can go on
   record MayPass : Type 0 where
@@ -201,7 +114,7 @@ module _ (v : WorldValue) (sound : IsSound v) (runs : v.closed ≡ false) where
       record {
         free = λ i h e living. sym (ap (λ b. not b && is_due h.instance) living) ∙ any_off has_due v.homes i h both.0 e;
         stays = λ i h e living. any_off (may_go v.homes) v.homes i h both.1 e;
-        left = left_answered v.set v.chronicle (λ by lost waiting. answered_so off.1 by lost waiting);
+        left = left_answered v.set v.chronicle (answered_so off.1);
         some = ltb-true 0 (length (all_targets v.homes)) parts.1;
       }
 
@@ -371,4 +284,4 @@ module _ (v : WorldValue) (sound : IsSound v) (runs : v.closed ≡ false) where
             (valid_so v.set c made grown.so sound.valid) (record { on = grown.on; homes = homes_now; places = places_now })
 
         pub tick_advances : Advances v step.Tick (stepped v d steps ends new v.places)
-        tick_advances = step_advances v step.Tick made (record { second = second; split = refl }) d steps ends new v.places ed es ee (λ _. nothing_issued v.set made c (tt, tt))
+        tick_advances = step_advances v step.Tick made (record { second = second; split = refl }) d steps ends new v.places ed es ee (λ told. (told tt, tt))

@@ -4,7 +4,7 @@ use Rattle.homes.specs.answers.declared.chronicle.Entry.{Entry}
 use Rattle.homes.specs.answers.declared.steps.Step.{Step}
 use Rattle.homes.specs.hierarchy.Legal.{HasRunRest, IsSettledRun}
 use Rattle.homes.specs.hierarchy.Stretches.{IsRunStretch}
-use Rattle.homes.specs.instance.Steps.{IsIssue}
+use Rattle.homes.specs.instance.Steps.{IsStart}
 use Rattle.world.specs.Value.{WorldValue}
 
 -- the step is kept with the entries that it made, which stand behind all that had happened;
@@ -18,4 +18,4 @@ pub record Advances (old : WorldValue) (s : Step) (new : WorldValue) : Type 0 wh
   pub stretch : IsRunStretch old.set old.chronicle s made
   pub ends : new.ends ≡ old.ends ++ length new.chronicle ∷ []
   pub settled : IsSettledRun old.set old.chronicle
-      → (IsIssue s → HasRunRest old.set old.chronicle) → IsSettledRun new.set new.chronicle
+      → (IsStart s → HasRunRest old.set old.chronicle) → IsSettledRun new.set new.chronicle

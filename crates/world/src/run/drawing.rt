@@ -3,7 +3,7 @@ ghost use Rattle.std.specs.Prelude.{◌≡◌, ◌≤◌, ◌<◌, ◌↔◌, �
 ghost use Rattle.std.specs.List.{cons_option};
 ghost use Rattle.std.specs.Option.{option_map_or};
 ghost use Rattle.homes.specs.hierarchy.Legal.{HasRunRest};
-ghost use Rattle.homes.specs.instance.Steps.{IsIssue};
+ghost use Rattle.homes.specs.instance.Steps.{IsStart};
 ghost use Rattle.homes.specs.kvs_core.Walk.{nth};
 ghost use Rattle.homes.specs.Homes.{living_at};
 ghost use Rattle.world.specs.Order.{before_end, issues, left_in, possible_steps, steps_at, steps_in, steps_of};
@@ -227,7 +227,7 @@ impl World {
         ensures first { result ≡ slice_get (possible_steps self.now) 0 }
         ensures some { IfSome result (λ step. CanMake self.now step) }
         ensures none { (result ≡ None) ↔ (self.now.closed ≡ true) }
-        ensures told { IfSome result (λ step. IsIssue step
+        ensures told { IfSome result (λ step. IsStart step
             → HasRunRest self.now.set self.now.chronicle) }
     {
         if self.closed {

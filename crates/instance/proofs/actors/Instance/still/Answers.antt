@@ -4,8 +4,9 @@ use Rattle.instance.specs.Agrees.{AgreesOwn}
 use Rattle.instance.specs.Family.{bearing, is_due}
 use Rattle.instance.specs.Steps.{can_answer, can_post}
 use Rattle.instance.specs.View.{value_of}
-use Rattle.instance.proofs.Closing.{IsStillSo, free_so, rest_so}
+use Rattle.instance.proofs.Closing.{IsStillSo, free_so}
 use Rattle.instance.proofs.Owning.{own_of}
+use Rattle.instance.proofs.Settling.{settled_so}
 use Rattle.instance.proofs.actors.Instance.still.Goals as goal
 
 pub returns : goal.returns
@@ -19,7 +20,7 @@ returns c = record {
         left = c.still.ensures.left;
         results = c.still.ensures.results;
       } in
-      rest_so (own_of c.args.self.now set own) agrees
+      settled_so (own_of c.args.self.now set own) agrees
       (record { steps = rest.steps; answers = rest.answers; due = rest.due })
       (subst (λ v. IsStillSo (own_of v set own)) c.self.view_is promise);
   free = λ set own agrees steps answers posts unborn.
