@@ -1,24 +1,28 @@
 -- What no settled chronicle can hold: an issue or a tick while a command is open that can be told
 -- something.
-use Rattle.std.proofs.Common.{◌≡◌, inl, inr, List, [], ◌∷◌, Option, Some, None, refl, codes}
+use Rattle.std.proofs.Common.{◌≡◌, ℕ, inl, inr, List, [], ◌∷◌, Option, Some, None, refl, subst, arith, codes}
 use Rattle.instance_rules.specs.fl_digest.declared.Hash.TheVariants as hash
-use Rattle.instance_rules.specs.kvs_model.Store.{Path}
+use Rattle.instance_rules.specs.kvs_model.Store.{Name, Path}
 use Rattle.instance_rules.specs.kvs_rules.Log.{Log as ServiceLog}
 use Rattle.instance_rules.specs.kvs_rules.Namespaces.{Request, Setting, primary}
-use Rattle.instance_rules.specs.kvs_rules.Quiet.{IsLeft}
+use Rattle.instance_rules.specs.kvs_rules.Quiet.{IsLeft, IsMember, IsShortFence}
 use Rattle.instance_rules.specs.kvs_rules.declared.events.KvsAsk.TheVariants as ask
 use Rattle.instance_rules.specs.kvs_txn.declared.answers.Query.TheVariants as query
+use Rattle.instance_rules.specs.kvs_txn.declared.txn.Author.TheVariants as author
 use Rattle.instance_rules.specs.kvs_txn.declared.txn.By.{By}
+use Rattle.instance_rules.specs.kvs_txn.declared.txn.Txn.{Txn}
 use Rattle.instance_rules.specs.resource_set.declared.node.Resources.{Resources}
 use Rattle.instance_rules.specs.tap.declared.weights.Weights.{Weights}
 use Rattle.instance_rules.specs.Log as rules
-use Rattle.instance_rules.specs.Log.{JobAsk}
+use Rattle.instance_rules.specs.Log.{JobAsk, service_of}
 use Rattle.workload.specs.declared.work.Command.TheVariants as command
 use Rattle.workload.specs.declared.work.Workload.{Workload}
 use Rattle.answers.specs.declared.chronicle.Entry.{Entry}
 use Rattle.answers.specs.declared.chronicle.Entry.TheVariants as entry
 use Rattle.answers.specs.Chronicle.{Setup}
+use Rattle.answers.specs.Jobs.{log_in}
 use Rattle.answers.specs.Legal.{HasSettled, IsSettled}
+use Rattle.answers.specs.Services.{setting_of}
 
 abbrev key : Path
 key = codes "k" ∷ []
@@ -50,14 +54,16 @@ reading = record {
 
 -- a read isn't left
 no_read : (set : Setting) (log : ServiceLog) (r : Request) → Some (record { broker = 0; namespace = primary; ask = ask.Read query.Get key }) ≡ Some r → IsLeft set log r.namespace r.ask → ⊥
-no_read set log r e left = cc
+no_read set log r e left =
+    let same : r ≡ record { broker = 0; namespace = primary; ask = ask.Read query.Get key } = cc in
+    subst (λ (x : Request). IsLeft set log x.namespace x.ask) same left
 
 no_job : {ask : JobAsk} → ◌≡◌ {A = Option JobAsk} None (Some ask) → ⊥
 no_job e = cc
 
 unread : HasSettled (given reading) (entry.Issued 0 0 ∷ []) → ⊥
 unread h = elim (h.waits first (refl, refl)) [
-  | inl r ↦ no_read _ _ r.request r.asks r.left
+  | inl r ↦ no_read (setting_of (given reading)) (service_of (log_in reading (entry.Issued 0 0 ∷ []))) r.request r.asks r.left
   | inr other ↦ elim other [ inl a ↦ no_job a.asks | inr r ↦ no_job r.1.asks ]
 ]
 
@@ -83,12 +89,61 @@ unasked h = elim (h.waits first (refl, refl)) [
     no_request : {r : Request} → ◌≡◌ {A = Option Request} None (Some r) → ⊥
     no_request e = cc
 
-    no_advance : {seconds : _} → ◌≡◌ {A = Option JobAsk} (Some (rules.StateOf (codes "j"))) (Some (rules.Advance seconds)) → ⊥
+    no_advance : {seconds : ℕ} → ◌≡◌ {A = Option JobAsk} (Some (rules.StateOf (codes "j"))) (Some (rules.Advance seconds)) → ⊥
     no_advance e = cc
 
-    no_result : {label : _} → ◌≡◌ {A = Option JobAsk} (Some (rules.StateOf (codes "j"))) (Some (rules.ResultOf label)) → ⊥
+    no_result : {label : List ℕ} → ◌≡◌ {A = Option JobAsk} (Some (rules.StateOf (codes "j"))) (Some (rules.ResultOf label)) → ⊥
     no_result e = cc
 
 -- no tick comes before its reply
-no_early_tick : (second : _) (more : List Entry) → IsSettled (given asking) (entry.Issued 0 0 ∷ entry.Ticked second ∷ more) → ⊥
+no_early_tick : (second : ℕ) (more : List Entry) → IsSettled (given asking) (entry.Issued 0 0 ∷ entry.Ticked second ∷ more) → ⊥
 no_early_tick second more h = unasked h.1.0
+
+-- ---- a fence
+
+abbrev fence : Name
+fence = codes "f"
+
+abbrev no_ops : ℕ → Txn
+no_ops actor = record { author = author.User actor; ops = [] }
+
+abbrev fencing : Workload
+fencing = record {
+  actors = record { name = codes "a"; rank = 0; of = None } ∷ record { name = codes "b"; rank = 0; of = None } ∷ record { name = codes "c"; rank = 0; of = None } ∷ [];
+  lines =
+      record { actor = 0; command = command.Fence fence 3 }
+      ∷ record { actor = 1; command = command.Fence fence 2 }
+      ∷ record { actor = 2; command = command.Fence fence 2 }
+      ∷ [];
+  grant = None;
+}
+
+abbrev both_open : List Entry
+both_open = entry.Issued 0 0 ∷ entry.Issued 1 0 ∷ []
+
+abbrev second : By
+second = record { actor = 1; command = 0 }
+
+-- the first one's member is open, and has another count
+first_open : IsMember (setting_of (given fencing)) (service_of (log_in fencing both_open)) primary fence 3 first
+first_open = (
+  record { waits = record { asked = refl; unanswered = refl }; unlanded = refl; undenied = refl },
+  (no_ops 0, record { request = record { broker = 0; namespace = primary; ask = ask.Fence fence 3 (no_ops 0) }; made = refl; inside = refl; asked = refl }),
+)
+
+not_left : (r : Request) → Some (record { broker = 0; namespace = primary; ask = ask.Fence fence 2 (no_ops 1) }) ≡ Some r → IsLeft (setting_of (given fencing)) (service_of (log_in fencing both_open)) r.namespace r.ask → ⊥
+not_left r e left =
+    let same : r ≡ record { broker = 0; namespace = primary; ask = ask.Fence fence 2 (no_ops 1) } = cc in
+    let short : IsShortFence (setting_of (given fencing)) (service_of (log_in fencing both_open)) primary fence 2 = subst (λ (x : Request). IsLeft (setting_of (given fencing)) (service_of (log_in fencing both_open)) x.namespace x.ask) same left in
+    let counts : 3 ≡ 2 = short.agreed first 3 first_open in
+    absurd (omega (arith, counts))
+
+unfenced : HasSettled (given fencing) both_open → ⊥
+unfenced h = elim (h.waits second (refl, refl)) [
+  | inl r ↦ not_left r.request r.asks r.left
+  | inr other ↦ elim other [ inl a ↦ no_job a.asks | inr r ↦ no_job r.1.asks ]
+]
+
+-- so no two members of one count make a fence while the first one waits with another
+no_rival_fence : (more : List Entry) → IsSettled (given fencing) (entry.Issued 0 0 ∷ entry.Issued 1 0 ∷ entry.Issued 2 0 ∷ more) → ⊥
+no_rival_fence more h = unfenced h.1.1.0
