@@ -6,3 +6,4 @@ pub mod Ended
 pub mod Sizes
 pub mod Commands
 pub mod Jobspecs
+pub mod Spelled
