@@ -9,7 +9,7 @@ use Rattle.std.proofs.lemmas.List.{length-append}
 use Rattle.std.proofs.lemmas.Str.{IsAscii-append}
 use Rattle.std.proofs.lemmas.Str.Ascii.{IsAscii-nil, IsAscii-cons}
 use Rattle.workload_generator.specs.Drawn.{asked, drawn, submissions}
-use Rattle.workload_generator.specs.Texts.{command_line, command_text, jobspec, line_text}
+use Rattle.workload_generator.specs.Texts.{actor_line, command_line, command_text, jobspec, line_text}
 use Rattle.workload_generator.specs.declared.drawn.Drawn.{Drawn}
 use Rattle.workload_generator.specs.declared.drawn.Kind.{Kind}
 use Rattle.workload_generator.specs.declared.drawn.Kind.TheVariants as kind
@@ -78,6 +78,18 @@ pub line_ends : (place : ℕ) (wanted : Kind) (words : Drawn) (rest : List ℕ) 
 unfolding line_text
 line_ends place wanted words rest = append_assoc (bare_line place wanted words) (10 ∷ []) rest
 
+-- the same of the line of an actor
+abbrev pub bare_actor : ℕ → List ℕ
+bare_actor n = codes "actor a" ++ decimal n ++ codes " " ++ decimal (n % 7)
+
+pub actor_piece : (n : ℕ) → n < 8 → IsPiece 60 (bare_actor n)
+actor_piece n low = wider 60 (omega arith)
+    (then (then (numbered 10 (codes "actor a") n refl refl (omega (arith, low))) (word 5 (codes " ") refl refl)) (number (n % 7) (omega arith)))
+
+pub actor_ends : (n : ℕ) (more rest : List ℕ) → (actor_line n ++ more) ++ rest ≡ bare_actor n ++ 10 ∷ (more ++ rest)
+unfolding actor_line
+actor_ends n more rest = append_assoc (bare_actor n ++ 10 ∷ []) more rest ∙ append_assoc (bare_actor n) (10 ∷ []) (more ++ rest)
+
 -- ---- whole texts
 
 -- an ASCII text of at most so many bytes
@@ -100,3 +112,12 @@ commands_small seed (suc n) place few =
     let more = commands_small seed n (place + 1) (omega (arith, few)) in
     let whole = ended 350 (bare_line place wanted words) rest (351 * n) (line_piece place wanted words (omega (arith, few))) more in
     subst (IsSmall (351 * suc n)) (sym (line_ends place wanted words rest)) (record { ascii = whole.ascii; short = omega (arith, whole.short) })
+
+pub actors_small : (rest : List ℕ) (most : ℕ) → IsSmall most rest → (n a : ℕ) → a + n ≤ 8
+    → IsSmall (61 * n + most) (flat_map actor_line (range_with_len a n) ++ rest)
+actors_small rest most h zero a few = record { ascii = h.ascii; short = omega (arith, h.short) }
+actors_small rest most h (suc n) a few =
+    let lines = flat_map actor_line (range_with_len (a + 1) n) in
+    let more = actors_small rest most h n (a + 1) (omega (arith, few)) in
+    let whole = ended 60 (bare_actor a) (lines ++ rest) (61 * n + most) (actor_piece a (omega (arith, few))) more in
+    subst (IsSmall (61 * suc n + most)) (sym (actor_ends a lines rest)) (record { ascii = whole.ascii; short = omega (arith, whole.short) })
