@@ -26,6 +26,13 @@ run_draws_nothing (word ∷ seed ∷ count ∷ []) o g runs draws = by (bytes_eq
     by false e runs' = cc
 run_draws_nothing (word ∷ seed ∷ count ∷ more ∷ words) o g runs draws = cc
 
+pub run_is_undrawn : (words : List (List ℕ)) (o : Options) → run_options words ≡ Some o → generation_of words ≡ None
+run_is_undrawn words o runs = by (generation_of words) refl
+  where
+    by : (found : Option Generation) → generation_of words ≡ found → found ≡ None
+    by None draws = refl
+    by (Some g) draws = absurd (run_draws_nothing words o g runs draws)
+
 -- the words that draw a workload are no tool's
 pub drawn_is_no_tool : (words : List (List ℕ)) (g : Generation) → generation_of words ≡ Some g → asked words ≡ None
 drawn_is_no_tool [] g draws = cc

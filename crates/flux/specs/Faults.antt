@@ -6,9 +6,6 @@ use Rattle.workload_reader.specs.Reading.{first_fault}
 use Rattle.flux.specs.declared.call.Fault.{Fault}
 use Rattle.flux.specs.declared.call.Fault.TheVariants as fault
 use Rattle.run_options.specs.declared.Options.{Options}
-use Rattle.workload_generator.specs.Texts.{generated}
-use Rattle.flux.specs.declared.generating.Generation.{Generation}
-use Rattle.flux.specs.Generated.{generated_options, generation_of}
 use Rattle.flux.specs.Runs.{run_options}
 use Rattle.flux.specs.Sides.{Side, HasFailed, IsRead, IsWritten}
 use Rattle.flux_tools.specs.Tools.{IsRefused as RefusesTool}
@@ -29,16 +26,6 @@ pub record HasFirstFault (size : ℕ) (input : Side) (fault : LineFault) : Type 
   pub read : IsRead input text
   pub first : first_fault size text ≡ Some fault
 
--- why a text gives no workload for so many brokers: its first fault, or want of memory
-abbrev pub IsTextFault : ℕ → List ℕ → Fault → Type 0
-IsTextFault size text (fault.Line f) = first_fault size text ≡ Some f
-IsTextFault size text fault.Memory = Unit {0}
-IsTextFault size text _ = ⊥
-
--- why no workload is drawn
-abbrev pub IsDrawnFault : Generation → Fault → Type 0
-IsDrawnFault g = IsTextFault generated_options.size (generated g.seed g.count)
-
 -- why the source gave no workload: its text is none, it failed, or there was no memory
 abbrev pub HasReadCause : ℕ → Side → Fault → Type 0
 HasReadCause size input (fault.Line f) = HasFirstFault size input f
@@ -58,11 +45,10 @@ abbrev pub IsToolFault : List (List ℕ) → Side → Fault → Type 0
 IsToolFault words input (fault.Tool f) = RefusesTool words input.before input.after f
 IsToolFault words input _ = ⊥
 
--- the text that a run reads, or the one that is drawn for it, has this first fault
+-- the text that a run reads has this first fault
 abbrev pub IsRefusedText : List (List ℕ) → Side → LineFault → Type 0
 IsRefusedText words input f =
-    ((o : Options) × (run_options words ≡ Some o) × HasFirstFault o.size input f)
-    ⊎ ((g : Generation) × (generation_of words ≡ Some g) × IsDrawnFault g (fault.Line f))
+    (o : Options) × (run_options words ≡ Some o) × HasFirstFault o.size input f
 
 -- why a command was refused: a run's text is no workload's, or a tool refuses the text that it is
 -- given
@@ -74,3 +60,7 @@ IsRefused words input fault = IsToolFault words input fault
 abbrev pub IsComplete : Side → Side → ℕ → Type 0
 IsComplete input output status =
     ¬ HasFailed input → ¬ HasFailed output → (status ≡ 0) ⊎ (status ≡ 1) ⊎ (status ≡ 4)
+
+-- a command that is never refused ends well, or lacks memory, or the sink failed
+abbrev pub IsUnrefused : ℕ → Type 0
+IsUnrefused status = (status ≡ 0) ⊎ (status ≡ 4) ⊎ (status ≡ 5)

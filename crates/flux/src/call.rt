@@ -2,11 +2,12 @@
 ghost use Rattle.std.specs.Prelude.{◌≡◌, ◌≢◌, ◌≤◌, ◌↔◌, map, string_bytes, List, ℕ, Ok, IfSome};
 ghost use Rattle.run_options.specs.Given.{AreWithin};
 ghost use Rattle.flux_tools.specs.Tools.{AreReaderWords, AreToolWords, HasAnswer};
+ghost use Rattle.world.specs.workload.Limits.{most_commands};
 ghost use Rattle.flux.specs.Sides.{side, FailsAt, IsWritten};
 ghost use Rattle.flux.specs.Runs.{AreRunWords, HasRun, run_options};
-ghost use Rattle.flux.specs.Generated.{HasSummary};
+ghost use Rattle.flux.specs.Generated.{AreDrawnWords, HasSummary};
 ghost use Rattle.flux.specs.Commands.{AreWords, IsOutput};
-ghost use Rattle.flux.specs.Faults.{status_of, HasReadCause, IsComplete, IsDrawnFault, IsRefused, IsTaken, IsToolFault};
+ghost use Rattle.flux.specs.Faults.{status_of, HasReadCause, IsComplete, IsRefused, IsTaken, IsToolFault, IsUnrefused};
 
 use crate::generating::{Generation, drawn_work, generation_of, play_drawn};
 use crate::playing::{Played, play};
@@ -153,20 +154,18 @@ fn run_workload<S: Source, K: Sink>(
 
 /// Runs the workload that is drawn, and writes the summary of its run.
 fn run_drawn<K: Sink>(alloc: Global, weights: Weights, generation: Generation, sink: &mut K) -> Run
+    requires { generation.count ≤ most_commands }
     ensures status { result.status ≡ status_of result.fault }
-    ensures known { result.status ≢ 2 }
+    ensures unrefused { IsUnrefused result.status }
     ensures done { result.status ≡ 0 → (text : List ℕ) × HasSummary weights generation result text
         × IsWritten (side K.held K.faults sink.old sink.new) text }
     ensures cut { result.status ≡ 5 → (text : List ℕ) × HasSummary weights generation result text
         × IsTaken (side K.held K.faults sink.old sink.new) text result.fault }
-    ensures refused { result.status ≡ 1 → IsDrawnFault generation result.fault }
-    ensures read { result.status ≢ 3 }
     ensures sink { FailsAt 5 (side K.held K.faults sink.old sink.new) result.status }
     ensures unwritten { (1 ≤ result.status) → (result.status ≤ 4) → sink.new ≡ sink.old }
 {
-    let work = match drawn_work(alloc, generation) {
-        Ok(work) => work,
-        Err(fault) => return Run::without_steps(alloc, fault),
+    let Ok(work) = drawn_work(alloc, generation) else {
+        return Run::without_steps(alloc, Fault::Memory);
     };
     let Ok(Played { text, ended: left }) = play_drawn(alloc, weights, work) else {
         return Run::without_steps(alloc, Fault::Memory);
@@ -287,6 +286,8 @@ pub fn flux<S: Source, K: Sink>(
         (side S.left S.faults source.old source.new)
         (side K.held K.faults sink.old sink.new)
         result.status }
+    // a workload that a seed draws is never refused
+    ensures unrefused { AreDrawnWords (map string_bytes words.now) → IsUnrefused result.status }
 {
     if let Some(options) = options_of_run(words) {
         return run_workload(alloc, weights, options, source, sink);

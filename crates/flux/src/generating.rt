@@ -1,20 +1,20 @@
 //! Workloads that a seed draws, and the summaries of their runs.
-ghost use Rattle.std.specs.Prelude.{◌≡◌, ◌≤◌, ℕ, List, true, false, map, string_bytes, All, IfErr, IfOk};
+ghost use Rattle.std.specs.Prelude.{◌≡◌, ◌≤◌, ℕ, List, true, false, map, string_bytes, All, IfOk, IfSome};
 ghost use Rattle.world.specs.workload.Laws.{HasOwnLabels, IsBuilt, IsWithin, KeepsTallies};
+ghost use Rattle.world.specs.workload.Limits.{most_commands};
 ghost use Rattle.world.specs.homes.Grant.{grant_text};
 ghost use Rattle.world.specs.hierarchy.Headline.{ChildrenStayNested, IsTrueRun, JobsStaySoundInAll, LogsOnlyGrowInAll};
 ghost use Rattle.world.specs.hierarchy.Stretches.{AreRunStretches};
 ghost use Rattle.summaries.specs.Summary.{IsSummary};
 ghost use Rattle.flux.specs.Runs.{setup_of};
 ghost use Rattle.flux.specs.Generated.{generated_options, generation_of, IsDrawn};
-ghost use Rattle.flux.specs.Faults.{IsDrawnFault};
 
-use crate::call::Fault;
 use crate::playing::{Played, play};
 use run_options::Options;
 use std::alloc::{AllocError, Global};
 use summaries::summary;
 use workload_generator::generate;
+use workload_generator::laws::drawn_workloads_have_no_fault;
 use workload_reader::laws::{
     spelled_commands_are_built, spelled_labels_are_their_own, spelled_tallies_are_kept,
     spelled_workloads_are_within,
@@ -50,7 +50,8 @@ const OPTIONS: Options = Options {
 
 /// What the words `gen SEED N` draw a workload from.
 pub fn generation_of(words: &[String]) -> Option<Generation>
-    ensures { result ≡ generation_of (map string_bytes words.now) }
+    ensures value { result ≡ generation_of (map string_bytes words.now) }
+    ensures few { IfSome result (λ generation. generation.count ≤ most_commands) }
 {
     match words {
         [word, seed, count] if word.as_str() == "gen" => Some(Generation {
@@ -61,18 +62,17 @@ pub fn generation_of(words: &[String]) -> Option<Generation>
     }
 }
 
-/// The workload that is drawn.
-pub fn drawn_work(alloc: Global, generation: Generation) -> Result<Workload, Fault>
+/// The workload that is drawn: its text has no fault.
+pub fn drawn_work(alloc: Global, generation: Generation) -> Result<Workload, AllocError>
+    requires { generation.count ≤ most_commands }
     ensures work { IfOk result (λ work. IsDrawn generation work) }
     ensures within { IfOk result (λ work. IsWithin 7 work) }
     ensures built { IfOk result (λ work. All (λ line. IsBuilt line.command) work.lines) }
     ensures labels { IfOk result (λ work. HasOwnLabels work.lines) }
     ensures few { IfOk result (λ work. KeepsTallies work.lines) }
-    ensures cause { IfErr result (IsDrawnFault generation) }
 {
-    let Ok(text) = generate(alloc, generation.seed, generation.count) else {
-        return Err(Fault::Memory);
-    };
+    drawn_workloads_have_no_fault();
+    let text = generate(alloc, generation.seed, generation.count)?;
     match read(alloc, text.as_slice(), OPTIONS.size) {
         Ok(work) => {
             spelled_workloads_are_within();
@@ -81,8 +81,8 @@ pub fn drawn_work(alloc: Global, generation: Generation) -> Result<Workload, Fau
             spelled_tallies_are_kept();
             Ok(work)
         }
-        Err(LineFault::NoMemory) => Err(Fault::Memory),
-        Err(fault) => Err(Fault::Line(fault)),
+        Err(LineFault::NoMemory) => Err(AllocError),
+        Err(_) => unreachable!(),
     }
 }
 

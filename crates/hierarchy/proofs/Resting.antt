@@ -48,20 +48,23 @@ waits_as l m by inst log w =
     of : HasToWait l by → HasToWait (record { number = m.number; inst = l.inst; log = l.log; from = m.from; shuts = m.shuts }) by
     of (inl r) = inl (record { request = r.request; asks = r.asks; waits = r.waits; left = r.left })
     of (inr (inl a)) = inr (inl (record { seconds = a.seconds; asks = a.asks; waits = a.waits; ahead = a.ahead }))
-    of (inr (inr (where_, r))) = inr (inr (where_, record {
-      label = r.label;
-      asks = r.asks;
-      waits = r.waits;
-      store = r.store;
-      standing = r.standing;
-      jobs = r.jobs;
-      are = r.are;
-      j = r.j;
-      known = r.known;
-      names = r.names;
-      is = r.is;
-      goes_on = r.goes_on;
-    }))
+    of (inr (inr (where_, r))) = inr (inr (
+      where_,
+      record {
+        label = r.label;
+        asks = r.asks;
+        waits = r.waits;
+        store = r.store;
+        standing = r.standing;
+        jobs = r.jobs;
+        are = r.are;
+        j = r.j;
+        known = r.known;
+        names = r.names;
+        is = r.is;
+        goes_on = r.goes_on;
+      },
+    ))
 
 none_counted : (by : By) (c : List Entry) → count_by (issues_of by.actor) c ≡ 0 → is_issued by c ≡ true → ⊥
 none_counted by [] none issued = true≢false (sym issued)

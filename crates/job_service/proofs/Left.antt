@@ -215,10 +215,14 @@ module _ (v : JobServiceValue) (i : IsFit v) (inst : Instance) (log : Log) (a : 
     waiting_left row known (ask.ResultOf label) e w unrefused unready =
         let u = unanswered labels jobs (ask.ResultOf label) label unready in
         inl (subst (λ o. IsSome (option_and_then unless_over (option_map (λ j. j.job.state) o))) (sym u.there) (still_over u.j.job.state u.fails))
-    waiting_left row known (ask.Advance seconds) e w unrefused unready = inr (seconds, refl, elim (cases_lt v.second (row.issued + seconds)) [
-      | inl ahead ↦ ahead
-      | inr low ↦ absurd (true≢false (sym (and_from (nat_le row.issued v.second) (nat_le seconds (v.second - row.issued)) (le-leb row.issued v.second (omega (arith, low))) (le-leb seconds (v.second - row.issued) (omega (arith, low)))) ∙ unready))
-    ])
+    waiting_left row known (ask.Advance seconds) e w unrefused unready = inr (
+      seconds,
+      refl,
+      elim (cases_lt v.second (row.issued + seconds)) [
+        | inl ahead ↦ ahead
+        | inr low ↦ absurd (true≢false (sym (and_from (nat_le row.issued v.second) (nat_le seconds (v.second - row.issued)) (le-leb row.issued v.second (omega (arith, low))) (le-leb seconds (v.second - row.issued) (omega (arith, low)))) ∙ unready))
+      ],
+    )
 
     -- what a landing has carried out
     landed_left : (row : Row) → Contains v.commands.rows row → (number : ℕ) (x : JobAsk) → row.ask ≡ x → StageAgrees log row.by x (stage.Landed number) → is_ready_at labels v.manager v.second (record row { ask = x }) (stage.Landed number) ≡ false → IsLeftBy row x

@@ -6,6 +6,7 @@ ghost use Rattle.std.specs.Prelude.{◌≡◌, IfOk};
 ghost use Rattle.workload_generator.specs.Texts.{actor_lines, generated};
 
 mod drawn;
+pub mod laws;
 mod lines;
 
 pub use drawn::{Drawn, Kind};

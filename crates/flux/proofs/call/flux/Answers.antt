@@ -2,7 +2,7 @@ use Rattle.std.proofs.Common.{◌≡◌, rules, map, string_bytes}
 use Rattle.std.specs.Prelude.{None, Some}
 use Rattle.flux.specs.Generated.{generation_of}
 use Rattle.flux.specs.Runs.{run_options}
-use Rattle.flux.proofs.Apart.{run_draws_nothing}
+use Rattle.flux.proofs.Apart.{run_draws_nothing, run_is_undrawn}
 use Rattle.flux.proofs.call.flux.Goals as goal
 
 -- the words of a tool aren't a run's, so that the tool's part is all of the output
@@ -25,6 +25,11 @@ returns-in-Some-clause-cut g c = λ five.
     let h = c.run_workload.ensures.cut five in
     let runs : run_options (map string_bytes c.args.words.now) ≡ Some c.in-Some.options = search rules in
     (h.0, record { answers = search rules; summary = λ drawn is. absurd (run_draws_nothing (map string_bytes c.args.words.now) c.in-Some.options drawn runs is); line = search rules }, h.2)
+
+pub returns-in-Some-clause-unrefused : goal.returns-in-Some-clause-unrefused
+returns-in-Some-clause-unrefused g c = λ drawn.
+    let runs : run_options (map string_bytes c.args.words.now) ≡ Some c.in-Some.options = search rules in
+    absurd (drawn (run_is_undrawn (map string_bytes c.args.words.now) c.in-Some.options runs))
 
 -- nor are words that draw a workload
 pub returns-in-Some-generation_of-clause-cut : goal.returns-in-Some-generation_of-clause-cut
