@@ -2,13 +2,15 @@
 #![tactic(auto)]
 
 mod call;
-mod ending;
 mod generating;
 mod notices;
 mod playing;
+mod process;
 mod reading;
 
 pub use call::{Fault, Run, flux};
-pub use ending::{closing_notice, command_words, exit_code, program_weights, run_without_memory};
 pub use generating::Generation;
 pub use notices::notice;
+pub use process::{
+    closing_notice, command_words, exit_code, program, program_weights, run_without_memory,
+};

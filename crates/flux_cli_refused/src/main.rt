@@ -1,7 +1,7 @@
 //! The program once more, with a stored run whose text is refused.
 #![tactic(auto)]
 
-use flux_program::program;
+use flux::program;
 use std::process::ExitCode;
 
 fn main(rt: HostRuntime) -> ExitCode {

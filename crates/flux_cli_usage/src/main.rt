@@ -1,7 +1,7 @@
 //! The program once more, with a stored run whose words are no command's.
 #![tactic(auto)]
 
-use flux_program::program;
+use flux::program;
 use std::process::ExitCode;
 
 fn main(rt: HostRuntime) -> ExitCode {

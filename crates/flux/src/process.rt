@@ -1,4 +1,5 @@
-//! The words that the program was started with, and how it ends.
+//! The program as a process: its words, its weights, standard input and output, the notice in the
+//! end and the exit code.
 ghost use Rattle.std.specs.Prelude.{◌≡◌, IfOk, drop, max, min, option_map, string_bytes};
 ghost use Rattle.std.specs.Process.{exit_status};
 ghost use Rattle.flux.specs.Notices.{closing_text};
@@ -6,9 +7,12 @@ ghost use Rattle.flux.specs.declared.call.Fault.TheVariants.{Memory};
 ghost use Rattle.world.specs.tap.Factors.{priority_by};
 ghost use Rattle.world.specs.tap.declared.Ask.{Ask};
 
-use crate::call::{Fault, Run};
+use crate::call::{Fault, Run, flux};
 use crate::notices::notice;
+use outside::{StdSink, StdSource};
 use std::alloc::{AllocError, Global};
+use std::env;
+use std::io::ErrorKind;
 use std::process::ExitCode;
 use world::tap::Weights;
 
@@ -54,4 +58,47 @@ pub fn closing_notice(alloc: Global, run: &Run) -> Result<Option<String>, AllocE
         return Ok(None);
     }
     Ok(Some(notice(alloc, &run.fault)?))
+}
+
+/// All words that the program was started with. Words that aren't UTF-8 are no command's, and there
+/// are none then.
+fn all_words(rt: &HostRuntime) -> Result<Vec<String>, AllocError> {
+    let mut words = Vec::new(rt.alloc());
+    let args = match env::args(rt) {
+        Ok(args) => args,
+        Err(fault) if fault.kind() == ErrorKind::OutOfMemory => return Err(AllocError),
+        Err(_) => return Ok(words),
+    };
+    for word in args {
+        words.push(word)?;
+    }
+    Ok(words)
+}
+
+/// Says on standard error why a run ended otherwise than well, and gives the program's exit code.
+fn end(rt: &HostRuntime, run: &Run) -> ExitCode
+    ensures { exit_status result ≡ run.now.status }
+{
+    if let Ok(Some(text)) = closing_notice(rt.alloc(), run) {
+        let _ = rt.eprintln(text.as_str());
+    }
+    exit_code(run)
+}
+
+/// Carries out the command of the program's words, and ends with the status of its run.
+pub fn program(rt: &HostRuntime) -> ExitCode {
+    let alloc = rt.alloc();
+    let mut source = StdSource::new(rt.stdin());
+    let mut sink = StdSink::new(rt.stdout());
+    let run = match all_words(rt) {
+        Ok(words) => flux(
+            alloc,
+            command_words(&words),
+            &mut source,
+            &mut sink,
+            program_weights(),
+        ),
+        Err(_) => run_without_memory(alloc),
+    };
+    end(rt, &run)
 }
