@@ -43,12 +43,12 @@ fn read_case(alloc: Global, text: &str) -> Result<Case<'_>, AllocError> {
     Ok(case)
 }
 
-/// The words of a case, each behind a space: `''` is the empty word.
+/// The words of a case, each behind a space: `''` is the empty word, and `␣` stands for a space.
 fn words_of(alloc: Global, line: &str) -> Result<Vec<String>, AllocError> {
     let mut words = Vec::new(alloc);
     for word in line.split(' ').skip(1) {
         let word = if word == "''" { "" } else { word };
-        words.push(String::from_str(alloc, word)?)?;
+        words.push(word.replace(alloc, '␣', " ")?)?;
     }
     Ok(words)
 }
