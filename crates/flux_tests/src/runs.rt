@@ -129,8 +129,12 @@ fn the_longest_lines_and_the_most_actors(rt: HostRuntime) -> Result<(), Fail> {
             "a255 put {name} {text}\na255 commit\na0 get {name}\n"
         )?.as_str())?;
     }
+    input.push_str(format!(in alloc;
+        "a0 append {key} v\na0 commit\na0 submit j {{{value}}}\n"
+    )?.as_str())?;
     let output = format!(in alloc;
-        "staged\ncommitted 1\nvalue 1 {value}\nstaged\ncommitted 2\nvalue 2 {key}\n"
+        "staged\ncommitted 1\nvalue 1 {value}\nstaged\ncommitted 2\nvalue 2 {key}\nstaged\n\
+            refused 1 ValueFull\nBadSpec 7\n"
     )?;
     answers(&rt, alloc, input.as_str(), output.as_str())
 }
