@@ -1,8 +1,8 @@
 //! Runs the examples in data/, and says of each whether its answers are those that stand beside it,
-//! and whether each of its commands is answered in twenty drawn orders, or even so answered in each.
+//! and whether each of its commands is answered in twenty drawn orders.
 //!
-//! Each word of the program is an example's name, and behind it the options of its run, or it names
-//! a file of cases.
+//! Each word of the program is an example's name, and behind it the options of its run; `always`
+//! before it asks for the same answers in each drawn order. Or it names a file of cases.
 #![tactic(auto)]
 
 mod cases;
@@ -102,32 +102,32 @@ fn is_answered(alloc: Global, example: &Example<'_>) -> Result<bool, AllocError>
     Ok(all)
 }
 
-/// What is said of an example in drawn orders.
-fn told_of_orders(
-    alloc: Global,
-    example: &Example<'_>,
-) -> Result<Option<&'static str>, AllocError> {
-    if is_always_so(alloc, example)? {
-        return Ok(Some("the same in 20 drawn orders"));
+/// What is said of an example in drawn orders, of which it holds or not.
+fn words_of_orders(always: bool, holds: bool) -> &'static str {
+    match (always, holds) {
+        (true, true) => "the same in 20 drawn orders",
+        (false, true) => "answered in 20 drawn orders",
+        (true, false) => "another in a drawn order",
+        (false, false) => "left in a drawn order",
     }
-    Ok(if is_answered(alloc, example)? {
-        Some("answered in 20 drawn orders")
-    } else {
-        None
-    })
 }
 
 /// Runs an example, prints what is said of it, and tells whether all is as it should be.
 fn run_example(rt: &HostRuntime, word: &str) -> io::Result<bool> {
-    let example = read_example(rt, word)?;
+    let always = word.starts_with("always ");
+    let example = read_example(rt, word.strip_prefix("always ").unwrap_or(word))?;
     let same = is_as_told(rt.alloc(), &example, None)?;
-    let orders = told_of_orders(rt.alloc(), &example)?;
+    let holds = if always {
+        is_always_so(rt.alloc(), &example)?
+    } else {
+        is_answered(rt.alloc(), &example)?
+    };
     println!(rt;
         "{word}: {}, {}",
         if same { "as told" } else { "other answers" },
-        orders.unwrap_or("left in a drawn order")
+        words_of_orders(always, holds)
     )?;
-    Ok(same && orders.is_some())
+    Ok(same && holds)
 }
 
 fn main(rt: HostRuntime) -> io::Result<ExitCode> {

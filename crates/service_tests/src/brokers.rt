@@ -140,7 +140,7 @@ fn take_all(alloc: Global, core: &mut Core, text: &mut Vec<u8>) -> Result<(), Fa
         if core.can_take(by) {
             let held = core.take(by);
             let number = held.number.unwrap_or(0);
-            let word = match held.answer {
+            let word = match &held.answer {
                 KvsAnswer::Committed => "committed",
                 _ => "other",
             };

@@ -3,7 +3,6 @@ ghost use Rattle.std.specs.Prelude.{◌≡◌};
 
 use hostlist::{HostList, HostName, is_host_name};
 use std::alloc::Global;
-use std::test::Fail;
 
 /// The hosts of a text that spells some.
 fn hosts_of(alloc: Global, text: &str) -> HostList {

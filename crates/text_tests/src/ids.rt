@@ -1,6 +1,5 @@
 //! FLUIDs (Flux RFC 19) that are drawn.
 use fluid_ids::generator::Generator;
-use std::test::Fail;
 
 #[test]
 fn ids_are_drawn_in_their_order(rt: HostRuntime) {
