@@ -1,8 +1,11 @@
 //! Runs the examples in data/, and says of each whether its answers are those that stand beside it,
 //! and whether each of its commands is answered in twenty drawn orders.
 //!
-//! Each word of the program is an example's name, and behind it the options of its run.
+//! Each word of the program is an example's name, and behind it the options of its run; `always`
+//! before it asks for the same answers in each drawn order. Or it names a file of cases.
 #![tactic(auto)]
+
+mod cases;
 
 use flux::flux;
 use outside::{MemSink, MemSource};
@@ -62,10 +65,22 @@ fn answers_of(
     Ok(if run.status == 0 { Some(sink) } else { None })
 }
 
-/// Whether an example's answers are those that stand beside it.
-fn is_as_told(alloc: Global, example: &Example<'_>) -> Result<bool, AllocError> {
-    let sink = answers_of(alloc, example, None)?;
+/// Whether an example's answers are those that stand beside it, in a drawn order where there is a
+/// seed.
+fn is_as_told(alloc: Global, example: &Example<'_>, seed: Option<u64>) -> Result<bool, AllocError> {
+    let sink = answers_of(alloc, example, seed)?;
     Ok(sink.is_some_and(|sink| sink.taken() == example.answers.as_slice()))
+}
+
+/// Whether an example's answers are those that stand beside it in each order that a seed from 1 to
+/// 20 draws.
+fn is_always_so(alloc: Global, example: &Example<'_>) -> Result<bool, AllocError> {
+    for seed in 1..21 {
+        if !is_as_told(alloc, example, Some(seed))? {
+            return Ok(false);
+        }
+    }
+    Ok(true)
 }
 
 /// How many answers a text has: a line each, up to the journal.
@@ -87,22 +102,43 @@ fn is_answered(alloc: Global, example: &Example<'_>) -> Result<bool, AllocError>
     Ok(all)
 }
 
+/// What is said of an example in drawn orders, of which it holds or not.
+fn words_of_orders(always: bool, holds: bool) -> &'static str {
+    match (always, holds) {
+        (true, true) => "the same in 20 drawn orders",
+        (false, true) => "answered in 20 drawn orders",
+        (true, false) => "another in a drawn order",
+        (false, false) => "left in a drawn order",
+    }
+}
+
+/// Runs an example, prints what is said of it, and tells whether all is as it should be.
+fn run_example(rt: &HostRuntime, word: &str) -> io::Result<bool> {
+    let always = word.starts_with("always ");
+    let example = read_example(rt, word.strip_prefix("always ").unwrap_or(word))?;
+    let same = is_as_told(rt.alloc(), &example, None)?;
+    let holds = if always {
+        is_always_so(rt.alloc(), &example)?
+    } else {
+        is_answered(rt.alloc(), &example)?
+    };
+    println!(rt;
+        "{word}: {}, {}",
+        if same { "as told" } else { "other answers" },
+        words_of_orders(always, holds)
+    )?;
+    Ok(same && holds)
+}
+
 fn main(rt: HostRuntime) -> io::Result<ExitCode> {
     let mut all = true;
     for word in env::args(&rt)?.skip(1) {
-        let example = read_example(&rt, word.as_str())?;
-        let same = is_as_told(rt.alloc(), &example)?;
-        let answered = is_answered(rt.alloc(), &example)?;
-        all = all && same && answered;
-        println!(rt;
-            "{word}: {}, {}",
-            if same { "as told" } else { "other answers" },
-            if answered {
-                "answered in 20 drawn orders"
-            } else {
-                "left in a drawn order"
-            }
-        )?;
+        let right = if word.as_str().ends_with(".cases") {
+            cases::run_cases(&rt, word.as_str())?
+        } else {
+            run_example(&rt, word.as_str())?
+        };
+        all = all && right;
     }
     Ok(ExitCode::from(if all { 0 } else { 1 }))
 }

@@ -1,17 +1,18 @@
-//! Tests of `flux`: workloads with their options, and what the program says of them.
+//! Tests of what goes into a run and what comes of it: of `workload`, `workload_reader`,
+//! `workload_generator`, `run_options`, `answers`, `world` and `flux`.
 #![tactic(auto)]
 
 #[cfg(test)]
-mod children;
+mod generated;
 #[cfg(test)]
-mod drawn;
-#[cfg(test)]
-mod jobs;
+mod options;
 #[cfg(test)]
 mod orders;
+#[cfg(test)]
+mod printed;
 #[cfg(test)]
 mod priorities;
 #[cfg(test)]
 mod runs;
 #[cfg(test)]
-mod tools;
+mod workloads;

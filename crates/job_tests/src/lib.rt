@@ -1,13 +1,19 @@
-//! Tests of jobs and what tells what is due for them: of `shells`, `tap`, `job_states`,
-//! `job_queue`, `job_texts`, `job_book` and `job_watch`.
+//! Tests of jobs and of what they are given: of `resource_set`, `job_spec`, `child_grant`,
+//! `graph_match`, `shells`, `tap`, `job_states`, `job_queue`, `job_texts` and `job_watch`.
 #![tactic(auto)]
 
 #[cfg(test)]
-mod books;
+mod children;
 #[cfg(test)]
 mod endings;
 #[cfg(test)]
+mod first_fit;
+#[cfg(test)]
+mod jobspecs;
+#[cfg(test)]
 mod queues;
+#[cfg(test)]
+mod resources;
 #[cfg(test)]
 mod states;
 #[cfg(test)]

@@ -268,11 +268,6 @@ const UP_AND_DOWN: [(Act, u32, &str); 35] = [
     (Act::From(2), 6, "- +6"),
 ];
 
-#[test]
-fn a_content_goes_up_and_comes_down(rt: HostRuntime) -> Result<(), Fail> {
-    walk(&rt, rt.alloc(), &UP_AND_DOWN)
-}
-
 /// Rank 0 keeps the bytes that came first. The others are refused on their way and told by the next
 /// flush.
 const CLASH: [(Act, u32, &str); 24] = [
@@ -302,11 +297,6 @@ const CLASH: [(Act, u32, &str); 24] = [
     (Act::Load(Text::Other), 0, "one"),
 ];
 
-#[test]
-fn other_bytes_under_a_reference_are_refused(rt: HostRuntime) -> Result<(), Fail> {
-    walk(&rt, rt.alloc(), &CLASH)
-}
-
 /// Where both meet below rank 0, the one that is kept is accepted and the other refused, on its way
 /// up and at a broker that has the first one clean.
 const MEETING: [(Act, u32, &str); 20] = [
@@ -332,11 +322,6 @@ const MEETING: [(Act, u32, &str); 20] = [
     (Act::Load(Text::One), 6, "other"),
 ];
 
-#[test]
-fn the_bytes_that_are_kept_are_accepted_alone(rt: HostRuntime) -> Result<(), Fail> {
-    walk(&rt, rt.alloc(), &MEETING)
-}
-
 /// A clean content comes down to a broker that has stored it since, and is waited for there.
 const CROSSING: [(Act, u32, &str); 17] = [
     (Act::Store(Text::Abc), 0, "stored +0"),
@@ -359,208 +344,9 @@ const CROSSING: [(Act, u32, &str); 17] = [
 ];
 
 #[test]
-fn a_content_comes_down_where_it_is_dirty(rt: HostRuntime) -> Result<(), Fail> {
+fn contents_go_up_and_come_down(rt: HostRuntime) -> Result<(), Fail> {
+    walk(&rt, rt.alloc(), &UP_AND_DOWN)?;
+    walk(&rt, rt.alloc(), &CLASH)?;
+    walk(&rt, rt.alloc(), &MEETING)?;
     walk(&rt, rt.alloc(), &CROSSING)
-}
-
-/// What was asked in a drawn run, and how many loads were told bytes, that there are none, or bytes
-/// of another reference.
-#[derive(Drop)]
-struct Tally {
-    asked: Vec<BlobRef>,
-    count: u32,
-    found: u32,
-    missing: u32,
-    wrong: u32,
-}
-
-impl Tally {
-    /// The command of the next load.
-    fn next(&mut self, reference: BlobRef) -> Result<By, Fail> {
-        let command = self.count;
-        self.count = self.count.saturating_add(1);
-        self.asked.push(reference)?;
-        Ok(By { actor: 0, command })
-    }
-
-    /// A load is told.
-    fn note(&mut self, by: By, bytes: &Option<Bytes>) {
-        let count = match bytes {
-            None => &mut self.missing,
-            Some(bytes) => {
-                let named = BlobRef::of(Hash::Sha1, bytes.as_slice());
-                if self.asked.get(by.command as usize).copied() == Some(named) {
-                    &mut self.found
-                } else {
-                    &mut self.wrong
-                }
-            }
-        };
-        *count = count.saturating_add(1);
-    }
-}
-
-/// A number behind another one, which looks drawn, below a bound.
-fn drawn(seed: &mut u64, bound: u64) -> u64
-    requires { 0 < bound }
-    ensures { result < bound }
-{
-    *seed = seed
-        .wrapping_mul(6364136223846793005)
-        .wrapping_add(1442695040888963407);
-    (*seed >> 33) % bound
-}
-
-/// A store, a load or a drop at a broker, as it is drawn.
-fn act_drawn(
-    alloc: Global,
-    contents: &mut Contents,
-    tally: &mut Tally,
-    seed: &mut u64,
-) -> Result<(), Fail>
-    requires sound { IsSoundContent contents.old }
-    requires size { size_of contents.old ≡ 7 }
-    ensures sound { OnOk result (IsSoundContent contents.new) }
-    ensures size { OnOk result (size_of contents.new ≡ size_of contents.old) }
-{
-    let broker = drawn(seed, 7) as u32;
-    let number = drawn(seed, 5);
-    let bytes = Bytes::of(alloc, &[number as u8])?;
-    match drawn(seed, 8) {
-        0..=2 => {
-            let _ = contents.store(broker, bytes)?;
-            Ok(())
-        }
-        3..=6 => {
-            let reference = BlobRef::of(Hash::Sha1, bytes.as_slice());
-            let by = tally.next(reference)?;
-            let Loaded { load, events: _ } = contents.load(by, broker, reference)?;
-            if let Load::Told(bytes) = load {
-                tally.note(by, &bytes);
-            }
-            Ok(())
-        }
-        _ => {
-            let _ = contents.drop_clean(broker)?;
-            Ok(())
-        }
-    }
-}
-
-/// Delivers the oldest message on a link, if there is one, and says whether there was.
-fn deliver_next(
-    contents: &mut Contents,
-    tally: &mut Tally,
-    from: u32,
-    to: u32,
-) -> Result<bool, Fail>
-    requires sound { IsSoundContent contents.old }
-    ensures sound { OnOk result (IsSoundContent contents.new) }
-    ensures size { OnOk result (size_of contents.new ≡ size_of contents.old) }
-{
-    if !contents.can_deliver(from, to) {
-        return Ok(false);
-    }
-    let Delivery { answer, events: _ } = contents.deliver(from, to)?;
-    if let Some(answer) = answer {
-        tally.note(answer.by, &answer.bytes);
-    }
-    Ok(true)
-}
-
-/// Delivers on each link once, from a drawn one on, and says whether there was a message.
-fn deliver_round(contents: &mut Contents, tally: &mut Tally, seed: &mut u64) -> Result<bool, Fail>
-    requires sound { IsSoundContent contents.old }
-    ensures sound { OnOk result (IsSoundContent contents.new) }
-    ensures size { OnOk result (size_of contents.new ≡ size_of contents.old) }
-{
-    let start = drawn(seed, 12) as u32;
-    let mut some = false;
-    for link in start..start + 12 {
-        let child = link % 6 + 1;
-        let above = (child - 1) / FANOUT;
-        let (from, to) = if link % 12 < 6 {
-            (child, above)
-        } else {
-            (above, child)
-        };
-        some |= deliver_next(contents, tally, from, to)?;
-    }
-    Ok(some)
-}
-
-/// Delivers all there is.
-fn deliver_all(contents: &mut Contents, tally: &mut Tally, seed: &mut u64) -> Result<(), Fail>
-    requires sound { IsSoundContent contents.old }
-    ensures sound { OnOk result (IsSoundContent contents.new) }
-    ensures size { OnOk result (size_of contents.new ≡ size_of contents.old) }
-{
-    for turn in 0..1_000 {
-        let _ = turn;
-        if !deliver_round(contents, tally, seed)? {
-            return Ok(());
-        }
-    }
-    Ok(())
-}
-
-/// Makes a drawn run of acts and deliveries up to its end.
-fn run_drawn(
-    alloc: Global,
-    contents: &mut Contents,
-    tally: &mut Tally,
-    start: u64,
-) -> Result<(), Fail>
-    requires sound { IsSoundContent contents.old }
-    requires size { size_of contents.old ≡ 7 }
-    ensures sound { OnOk result (IsSoundContent contents.new) }
-    ensures size { OnOk result (size_of contents.new ≡ 7) }
-{
-    let mut seed = start;
-    for act in 0..40 {
-        act_drawn(alloc, contents, tally, &mut seed)?;
-        if act % 4 == 3 {
-            let _ = deliver_round(contents, tally, &mut seed)?;
-        }
-    }
-    deliver_all(contents, tally, &mut seed)
-}
-
-/// No broker has a dirty content, or is told of one that was refused.
-fn assert_flushed(rt: &impl Abort, contents: &mut Contents)
-    requires sound { IsSoundContent contents.old }
-    requires size { size_of contents.old ≡ 7 }
-{
-    for broker in 0..SIZE {
-        assert!(rt; contents.is_flushed(broker));
-        assert!(rt; contents.flush(broker) == Flush::Flushed);
-    }
-}
-
-/// Each load was told bytes of its reference, or that there are none.
-fn assert_told(rt: &impl Abort, contents: &Contents, tally: &Tally) {
-    assert_eq!(rt; tally.found.saturating_add(tally.missing), tally.count);
-    assert_eq!(rt; tally.wrong, 0);
-    for command in 0..tally.count {
-        assert!(rt; !contents.is_waiting(By { actor: 0, command }));
-    }
-}
-
-#[test]
-fn every_run_comes_to_rest(rt: HostRuntime) -> Result<(), Fail> {
-    let alloc = rt.alloc();
-    for start in 0..4 {
-        let mut contents = begin(alloc)?;
-        let mut tally = Tally {
-            asked: Vec::new(alloc),
-            count: 0,
-            found: 0,
-            missing: 0,
-            wrong: 0,
-        };
-        run_drawn(alloc, &mut contents, &mut tally, start)?;
-        assert_flushed(&rt, &mut contents);
-        assert_told(&rt, &contents, &tally);
-    }
-    Ok(())
 }

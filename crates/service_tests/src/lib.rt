@@ -1,9 +1,17 @@
-//! Tests of the services of an instance: of `kvs_content`, `content_service` and `services`.
+//! Tests of what no command shows of the services of an instance: steps of `kvs_core` and of the
+//! requests on its links, of `kvs_content` and `content_service`, and of `job_clock` and
+//! `job_landings`.
 #![tactic(auto)]
 
 #[cfg(test)]
-mod both_services;
+mod brokers;
+#[cfg(test)]
+mod clocks;
 #[cfg(test)]
 mod content_commands;
 #[cfg(test)]
 mod contents;
+#[cfg(test)]
+mod landings;
+#[cfg(test)]
+mod requests;

@@ -1,6 +1,5 @@
-//! Tests of the text formats, of digests and streams, and of the tools: of `idset`, `hostlist`,
-//! `fluid_ids`, `fl_json`,
-//! `event_log`, `fl_digest`, `outside` and `flux_tools`.
+//! Tests of the text formats, of digests and streams: of `idset`, `hostlist`, `fluid_ids`,
+//! `fl_json`, `event_log`, `fl_digest` and `outside`.
 #![tactic(auto)]
 
 #[cfg(test)]
@@ -15,7 +14,5 @@ mod references;
 mod sets;
 #[cfg(test)]
 mod streams;
-#[cfg(test)]
-mod tools;
 #[cfg(test)]
 mod values;

@@ -1,52 +1,8 @@
-//! Idsets (Flux RFC 22).
+//! What idsets (Flux RFC 22) say of their ids, and sets that are made of others.
 use idset::faults::IdFault;
 use idset::set::IdSet;
 use std::alloc::Global;
 use std::test::Fail;
-
-/// A text, and the canonical text of the set that it spells.
-const SPELLINGS: [(&str, &str); 14] = [
-    ("[7,1-3,2]", "1-3,7"),
-    ("", ""),
-    ("[]", ""),
-    ("1,2", "1-2"),
-    ("0", "0"),
-    ("007", "7"),
-    ("[0-3]", "0-3"),
-    ("5,4,3", "3-5"),
-    ("0-65535", "0-65535"),
-    ("65535", "65535"),
-    ("1,3,5-7", "1,3,5-7"),
-    ("3-3", "3"),
-    ("[2-4,1-8,6-9]", "1-9"),
-    ("00000000000000000000000000000000000000001-2", "1-2"),
-];
-
-const REFUSED: [(&str, IdFault); 20] = [
-    ("5-1", IdFault::Backwards { place: 0 }),
-    ("70000", IdFault::TooLarge { place: 0 }),
-    ("65536", IdFault::TooLarge { place: 0 }),
-    ("1,2-65536", IdFault::TooLarge { place: 4 }),
-    ("x,70000", IdFault::BadText { place: 0 }),
-    ("70000x", IdFault::TooLarge { place: 0 }),
-    ("1x", IdFault::BadText { place: 1 }),
-    ("1,", IdFault::BadText { place: 2 }),
-    (",1", IdFault::BadText { place: 0 }),
-    ("1-", IdFault::BadText { place: 2 }),
-    ("-1", IdFault::BadText { place: 0 }),
-    ("1-2-3", IdFault::BadText { place: 3 }),
-    (" 1", IdFault::BadText { place: 0 }),
-    ("[", IdFault::BadText { place: 1 }),
-    ("[1", IdFault::BadText { place: 2 }),
-    ("[1]2", IdFault::BadText { place: 3 }),
-    ("1]", IdFault::BadText { place: 1 }),
-    ("[1,]", IdFault::BadText { place: 3 }),
-    ("70000-5", IdFault::Backwards { place: 0 }),
-    (
-        "99999999999999999999-99999999999999999998",
-        IdFault::Backwards { place: 0 },
-    ),
-];
 
 fn set(alloc: Global, text: &str) -> Result<IdSet, IdFault> {
     IdSet::read(alloc, text.as_bytes())
@@ -55,27 +11,6 @@ fn set(alloc: Global, text: &str) -> Result<IdSet, IdFault> {
 fn prints(set: &IdSet, text: &str) -> Result<bool, Fail> {
     let printed = set.print()?;
     Ok(printed.as_slice() == text.as_bytes())
-}
-
-/// Whether the set that a text spells prints so.
-fn reads_as(alloc: Global, text: &str, canonical: &str) -> Result<bool, Fail> {
-    let read = set(alloc, text)?;
-    prints(&read, canonical)
-}
-
-#[test]
-fn texts_are_read_and_printed(rt: HostRuntime) -> Result<(), Fail> {
-    for (text, canonical) in &SPELLINGS {
-        assert!(rt; reads_as(rt.alloc(), text, canonical)?, "{text}");
-    }
-    Ok(())
-}
-
-#[test]
-fn other_texts_have_their_faults(rt: HostRuntime) {
-    for (text, fault) in &REFUSED {
-        assert_eq!(rt; set(rt.alloc(), text).err(), Some(*fault), "{text}");
-    }
 }
 
 /// Whether two sets have this union.

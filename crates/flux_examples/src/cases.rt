@@ -1,0 +1,85 @@
+//! Files of cases: short runs and tools, each with its words, its input and what it comes to.
+//!
+//! A case begins with a line of a dollar sign and its words. Behind it stand the lines of its
+//! input, each behind `< `, the lines of its output behind `> `, and, where its status isn't 0,
+//! that and its notice behind `! `. Every other line is a note.
+use flux::{flux, notice};
+use outside::{MemSink, MemSource};
+use std::alloc::{AllocError, Global};
+use std::{fs, io, str};
+use tap::Weights;
+
+/// What stands behind a mark, and what is to come of it.
+#[derive(Drop)]
+struct Case<'a> {
+    words: &'a str,
+    input: String,
+    output: String,
+    fault: &'a str,
+}
+
+/// Reads a case, which begins behind its dollar sign.
+fn read_case(alloc: Global, text: &str) -> Result<Case<'_>, AllocError> {
+    let (words, rest) = text.split_once('\n').unwrap_or((text, ""));
+    let mut case = Case {
+        words,
+        input: String::new(alloc),
+        output: String::new(alloc),
+        fault: "0 done",
+    };
+    for line in rest.split('\n') {
+        if let Some(line) = line.strip_prefix("< ") {
+            case.input.push_str(line)?;
+            case.input.push('\n')?;
+        } else if let Some(part) = line.strip_prefix("<- ") {
+            case.input.push_str(part)?;
+        } else if let Some(line) = line.strip_prefix("> ") {
+            case.output.push_str(line)?;
+            case.output.push('\n')?;
+        } else if let Some(fault) = line.strip_prefix("! ") {
+            case.fault = fault;
+        }
+    }
+    Ok(case)
+}
+
+/// The words of a case, each behind a space: `''` is the empty word, and `␣` stands for a space.
+fn words_of(alloc: Global, line: &str) -> Result<Vec<String>, AllocError> {
+    let mut words = Vec::new(alloc);
+    for word in line.split(' ').skip(1) {
+        let word = if word == "''" { "" } else { word };
+        words.push(word.replace(alloc, '␣', " ")?)?;
+    }
+    Ok(words)
+}
+
+/// Whether a case comes to what it says.
+fn is_so(alloc: Global, case: &Case<'_>) -> Result<bool, AllocError> {
+    let words = words_of(alloc, case.words)?;
+    let input = Vec::from_slice(alloc, case.input.as_bytes())?;
+    let mut source = MemSource::new(input, 4096, Vec::new(alloc));
+    let mut sink = MemSink::new(alloc, 65_536, 4096, Vec::new(alloc))?;
+    let run = flux(alloc, &words, &mut source, &mut sink, Weights::URGENCY);
+    let told = notice(alloc, &run.fault)?;
+    let fault = format!(in alloc; "{} {told}", run.status)?;
+    Ok(fault.as_str() == case.fault && sink.taken() == case.output.as_bytes())
+}
+
+/// Runs the cases of a file, prints those that come to something else and how many come to what
+/// they say, and tells whether all do.
+pub(crate) fn run_cases(rt: &HostRuntime, name: &str) -> io::Result<bool> {
+    let bytes = fs::read(rt, name)?;
+    let text = str::from_utf8(bytes.as_slice()).ok().unwrap_or("");
+    let (mut right, mut wrong) = (0u64, 0u64);
+    for part in text.split("\n$").skip(1) {
+        let case = read_case(rt.alloc(), part)?;
+        if is_so(rt.alloc(), &case)? {
+            right = right.saturating_add(1);
+        } else {
+            println!(rt; "{name}:{} comes to something else", case.words)?;
+            wrong = wrong.saturating_add(1);
+        }
+    }
+    println!(rt; "{name}: {right} as told")?;
+    Ok(wrong == 0)
+}

@@ -1,5 +1,0 @@
-//! Tests of `instance`: stories of its actors.
-#![tactic(auto)]
-
-#[cfg(test)]
-mod stories;

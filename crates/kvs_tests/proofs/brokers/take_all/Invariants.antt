@@ -1,5 +1,0 @@
-use Rattle.std.proofs.Common.{◌≡◌, false}
-use Rattle.kvs_tests.proofs.brokers.take_all.Given as goal
-
-abbrev pub invariant-actors : goal.invariant-actors
-invariant-actors l = l.core.spent ≡ false

@@ -1,3 +1,0 @@
-mod Submitted
-mod Issued
-mod Passing
