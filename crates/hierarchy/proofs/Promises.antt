@@ -1,5 +1,6 @@
 -- A legal and whole run keeps its promises.
-use Rattle.std.proofs.Common.{◌≡◌, ◌≢◌, ◌∙◌, ℕ, ◌≤◌, ◌==◌, inl, inr, List, [], ◌∷◌, ◌++◌, Bool, true, false, ◌&&◌, Option, Some, None, IsSomeAnd, IfSome, option_map, unwrap_or, refl, sym, ap, subst, eq-eqb}
+use Rattle.std.proofs.Common.{◌≡◌, ◌≢◌, ◌∙◌, ℕ, ◌≤◌, ◌==◌, inl, inr, List, [], ◌∷◌, ◌++◌, Bool, true, false, ◌&&◌, Option, Some, None, IsSomeAnd, IfSome, option_map, unwrap_or, refl, sym, ap, subst, eq-eqb, true≢false}
+use Rattle.std.specs.Prelude.{Contains}
 use Rattle.std.specs.List.{cons_option}
 use Rattle.std.specs.Cmp.Lexicographic.{bytes_decides}
 use Rattle.std.proofs.lemmas.Bool.{and_parts}
@@ -108,7 +109,7 @@ module _ (s : Setup) (own : List Entry) (by : By) where
   committed reply.Fenced number is g = heard_of g.1.request g.1.made number g.1.grounds.1
   committed reply.Created number is g = heard_of g.1.request g.1.made number g.1.grounds.1
   committed reply.Removed number is g = heard_of g.1.request g.1.made number g.1.grounds.1
-  committed _ number is g = cc
+  committed _ number is g = absurd (true≢false (sym is))
 
 -- ---- a run
 
@@ -204,7 +205,7 @@ module _ (set : Setup) (c : List Entry) (legal : IsLegalRun set c) where
       living_home reply.Fenced number is g = g
       living_home reply.Created number is g = g
       living_home reply.Removed number is g = g
-      living_home _ number is g = cc
+      living_home _ number is g = absurd (true≢false (sym is))
 
   pub all_fresh : ReadsAreFresh set c
   all_fresh past more actor command (reply.Read found) number split =

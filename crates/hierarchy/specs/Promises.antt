@@ -3,6 +3,8 @@
 use Rattle.std.specs.Prelude.{◌≡◌, ◌≢◌, ℕ, suc, ◌≤◌, ◌⊎◌, List, [], ◌∷◌, ◌++◌, Bool, true, false, Option, Some, IfSome, IsNone, IsSome, IsSomeAnd, IsTrue, Contains, count_by, unwrap_or}
 use Rattle.std.specs.List.{AllByRecursion as Each}
 use Rattle.answers.specs.instance_rules.Desks.{AreDueFrom}
+use Rattle.answers.specs.instance_rules.Family.{AreNested}
+use Rattle.answers.specs.instance_rules.Legal.{IsSound}
 use Rattle.answers.specs.kvs_model.History.{after_groups}
 use Rattle.answers.specs.kvs_model.Store.{Name, Path, Store}
 use Rattle.answers.specs.kvs_model.Walk.{walk}
@@ -25,9 +27,10 @@ use Rattle.answers.specs.declared.chronicle.Entry.{Entry}
 use Rattle.answers.specs.declared.chronicle.Entry.TheVariants as entry
 use Rattle.answers.specs.declared.chronicle.Reply.{Reply}
 use Rattle.answers.specs.declared.chronicle.Reply.TheVariants as reply
-use Rattle.run_laws.specs.Jobs.{store_of}
+use Rattle.run_laws.specs.Jobs.{LogsOnlyGrow, store_of}
 use Rattle.hierarchy.specs.Births.{is_at, label_of, lives}
-use Rattle.hierarchy.specs.Headline.{ChildrenStayNested, JobsStaySoundInAll, LogsOnlyGrowInAll}
+use Rattle.hierarchy.specs.Families.{family_of}
+use Rattle.hierarchy.specs.Legal.{is_end}
 use Rattle.hierarchy.specs.Own.{own_of, setup_in}
 
 -- ---- whose a fact is
@@ -135,6 +138,30 @@ EventsAreDue set c = (past more : List Entry) (i : ℕ) (space : Name) (number :
     → IsTrue (is_primary space)
     → InLiving set past i (λ s own. (st : Store) × (store_of s own ≡ Some st)
     × AreDueFrom (instance_of s) (log_in s.work own) groups st)
+
+-- and up to each entry no event of a job of a living instance is lost or changed. Ends come with
+-- those of the instances within, and are told behind them all
+abbrev pub LogsOnlyGrowInAll : Setup → List Entry → Type 0
+LogsOnlyGrowInAll set c = (past : List Entry) (e : Entry) (more : List Entry)
+    → c ≡ past ++ e ∷ more → is_end e ≡ false → (i : ℕ) → IsTrue (lives (past ++ e ∷ []) i)
+    → LogsOnlyGrow (setup_in set (past ++ e ∷ []) i) (own_of set (past ++ e ∷ []) i)
+
+-- ---- live allocations are disjoint, satisfying and within the grant
+
+-- after each first part the logs of each living instance's jobs replay, and its live jobs hold
+-- units of its grant that satisfy them, no two of them one in common
+abbrev pub JobsStaySoundInAll : Setup → List Entry → Type 0
+JobsStaySoundInAll set c = (past more : List Entry) → c ≡ past ++ more
+    → (i : ℕ) → IsTrue (lives past i)
+    → IsSound (instance_of (setup_in set past i))
+    (log_in (setup_in set past i).work (own_of set past i))
+
+-- ---- the grant of each living child lies within what a live job of its living parent holds
+
+-- after each first part the grant of each living child has the units of such a job's resources
+abbrev pub ChildrenStayNested : Setup → List Entry → Type 0
+ChildrenStayNested set c = (past more : List Entry) → c ≡ past ++ more
+    → AreNested (family_of set past)
 
 -- ---- every command has its one reply
 
