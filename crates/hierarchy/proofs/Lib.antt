@@ -27,7 +27,7 @@ pub mod Within
 pub mod Inside
 pub mod Marks
 pub mod Throughout
-pub mod Promises
+pub mod Keeping
 -- what lies below, for the crates that stand on this one
 pub use Rattle.answers.proofs as answers_proofs
 pub use Rattle.answers.proofs.hostlist_proofs as hostlist_proofs

@@ -1,4 +1,4 @@
-use Rattle.hierarchy.proofs.Promises.{all_due, all_fresh, all_heard, all_plain}
+use Rattle.hierarchy.proofs.Keeping.{all_due, all_fresh, all_heard, all_plain}
 use Rattle.hierarchy.proofs.Throughout.{all_grow, all_nested, all_sound}
 use Rattle.hierarchy.proofs.promises.a_true_run_keeps_its_promises.Goals as goal
 
