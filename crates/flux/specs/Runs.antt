@@ -9,7 +9,8 @@ use Rattle.workload_reader.specs.Reading.{first_fault, spelled}
 use Rattle.world.specs.answers.Chronicle.{Setup}
 use Rattle.world.specs.declared.order.Schedule.{Schedule}
 use Rattle.world.specs.declared.order.Schedule.TheVariants as schedule
-use Rattle.world.specs.hierarchy.Headline.{ChildrenStayNested, IsTrueRun, JobsStaySoundInAll, LogsOnlyGrowInAll}
+use Rattle.world.specs.hierarchy.Headline.{IsTrueRun}
+use Rattle.world.specs.hierarchy.Promises.{KeepsItsPromises}
 use Rattle.world.specs.hierarchy.Stretches.{AreRunStretches}
 use Rattle.world.specs.homes.Grant.{first_resources, grant_text}
 use Rattle.flux.specs.declared.call.Run.{Run}
@@ -63,18 +64,14 @@ pub record IsSpelled (size : ℕ) (input : Side) (work : Workload) : Type 0 wher
   pub ended : IsAtEnd input.after
   pub spelled_so : IsWorkOf size text work
 
--- the chronicle of the workload is a legal and whole one, settled where no drawn order is asked
--- for, the text prints it, and the steps made tell the whole of it; after each first part of it the
--- jobs of each living instance stand well in its grant, that of a child lies in what a job of its
--- parent holds, and no event of a job is lost or changed
+-- the chronicle of the workload keeps what a run promises; it is legal and whole, settled where no
+-- drawn order is asked for, the text prints it, and the steps made tell the whole of it
 pub record IsRunOf (weights : Weights) (o : Options) (work : Workload)
     (run : Run) (text : List ℕ) : Type 0 where
+  pub promises : KeepsItsPromises (setup_of weights o work) run.chronicle
   pub true_run : IsTrueRun (setup_of weights o work) (is_settled o) o.journal run.chronicle text
   pub stretches : AreRunStretches (setup_of weights o work) run.steps.items run.ends.items
       run.chronicle
-  pub sound : JobsStaySoundInAll (setup_of weights o work) run.chronicle
-  pub nested : ChildrenStayNested (setup_of weights o work) run.chronicle
-  pub grows : LogsOnlyGrowInAll (setup_of weights o work) run.chronicle
 
 -- the source was read to its end, its text is a workload's, and this is a run of that workload,
 -- which the text prints

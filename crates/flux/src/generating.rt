@@ -3,7 +3,8 @@ ghost use Rattle.std.specs.Prelude.{◌≡◌, ◌≤◌, ℕ, List, true, false
 ghost use Rattle.world.specs.workload.Laws.{HasOwnLabels, IsBuilt, IsWithin, KeepsTallies};
 ghost use Rattle.world.specs.workload.Limits.{most_commands};
 ghost use Rattle.world.specs.homes.Grant.{grant_text};
-ghost use Rattle.world.specs.hierarchy.Headline.{ChildrenStayNested, IsTrueRun, JobsStaySoundInAll, LogsOnlyGrowInAll};
+ghost use Rattle.world.specs.hierarchy.Headline.{IsTrueRun};
+ghost use Rattle.world.specs.hierarchy.Promises.{KeepsItsPromises};
 ghost use Rattle.world.specs.hierarchy.Stretches.{AreRunStretches};
 ghost use Rattle.summaries.specs.Summary.{IsSummary};
 ghost use Rattle.flux.specs.Runs.{setup_of};
@@ -111,12 +112,8 @@ pub fn play_drawn(alloc: Global, weights: Weights, work: Workload) -> Result<Pla
     ensures stretches { IfOk result (λ played. AreRunStretches
         (setup_of weights generated_options work)
         played.ended.steps.items played.ended.ends.items played.ended.chronicle) }
-    ensures sound { IfOk result (λ played.
-        JobsStaySoundInAll (setup_of weights generated_options work) played.ended.chronicle) }
-    ensures nested { IfOk result (λ played.
-        ChildrenStayNested (setup_of weights generated_options work) played.ended.chronicle) }
-    ensures grows { IfOk result (λ played.
-        LogsOnlyGrowInAll (setup_of weights generated_options work) played.ended.chronicle) }
+    ensures promises { IfOk result (λ played.
+        KeepsItsPromises (setup_of weights generated_options work) played.ended.chronicle) }
     ensures summary { IfOk result (λ played. IsSummary
         (setup_of weights generated_options work) played.ended.chronicle played.text.items) }
 {

@@ -3,9 +3,10 @@ ghost use Rattle.std.specs.Prelude.{◌≡◌, [], false, true, All, IfOk, OnOk}
 ghost use Rattle.run_options.specs.Given.{AreWithin};
 ghost use Rattle.world.specs.workload.Laws.{HasOwnLabels, IsBuilt, IsWithin, KeepsTallies};
 ghost use Rattle.world.specs.answers.Headline.{output_text};
-ghost use Rattle.world.specs.hierarchy.Headline.{ChildrenStayNested, IsTrueRun, JobsStaySoundInAll, LogsOnlyGrowInAll};
+ghost use Rattle.world.specs.hierarchy.Headline.{IsTrueRun};
 ghost use Rattle.world.specs.hierarchy.Laws.{AreValid};
 ghost use Rattle.world.specs.hierarchy.Legal.{IsSettledRun};
+ghost use Rattle.world.specs.hierarchy.Promises.{KeepsItsPromises};
 ghost use Rattle.world.specs.hierarchy.Stretches.{AreRunStretches};
 ghost use Rattle.world.specs.Choice.{order_of};
 ghost use Rattle.world.specs.declared.order.Order.TheVariants as order;
@@ -14,7 +15,7 @@ ghost use Rattle.flux.specs.Runs.{is_settled, schedule_of, setup_of};
 use run_options::Options;
 use std::alloc::{AllocError, Global};
 use world::answers::{Chronicle, print_answers, print_journal};
-use world::hierarchy::a_run_stays_sound;
+use world::hierarchy::a_true_run_keeps_its_promises;
 use world::kvs_core::CoreFault;
 use world::run_laws::time_stays_within;
 use world::tap::Weights;
@@ -145,8 +146,7 @@ fn run(
     }
 }
 
-/// Runs a workload to its end. In each of its instances jobs stay sound, and their logs only grow;
-/// children stay within what jobs of their parents hold.
+/// Runs a workload to its end, and keeps what a run promises.
 pub fn play(
     alloc: Global,
     weights: Weights,
@@ -162,14 +162,10 @@ pub fn play(
         (is_settled options) options.journal played.ended.chronicle played.text.items) }
     ensures stretches { IfOk result (λ played. AreRunStretches (setup_of weights options work)
         played.ended.steps.items played.ended.ends.items played.ended.chronicle) }
-    ensures sound { IfOk result
-        (λ played. JobsStaySoundInAll (setup_of weights options work) played.ended.chronicle) }
-    ensures nested { IfOk result
-        (λ played. ChildrenStayNested (setup_of weights options work) played.ended.chronicle) }
-    ensures grows { IfOk result
-        (λ played. LogsOnlyGrowInAll (setup_of weights options work) played.ended.chronicle) }
+    ensures promises { IfOk result
+        (λ played. KeepsItsPromises (setup_of weights options work) played.ended.chronicle) }
 {
     time_stays_within();
-    a_run_stays_sound();
+    a_true_run_keeps_its_promises();
     run(alloc, weights, options, work)
 }

@@ -28,6 +28,7 @@ pub mod Within
 pub mod Inside
 pub mod Marks
 pub mod Throughout
+pub mod Keeping
 -- what lies below, for the crates that stand on this one
 pub use Rattle.answers.proofs as answers_proofs
 pub use Rattle.answers.proofs.hostlist_proofs as hostlist_proofs

@@ -11,10 +11,10 @@ use Rattle.answers.specs.Chronicle.{Setup}
 use Rattle.answers.specs.Jobs.{instance_of}
 use Rattle.answers.specs.declared.chronicle.Entry.{Entry}
 use Rattle.hierarchy.specs.Births.{birth_of, is_born, is_gone, lives}
-use Rattle.hierarchy.specs.Headline.{ChildrenStayNested, JobsStaySoundInAll, LogsOnlyGrowInAll}
 use Rattle.hierarchy.specs.Laws.{AreValid, IsKept}
 use Rattle.hierarchy.specs.Legal.{IsLegalRun, IsLegalRunEntry}
 use Rattle.hierarchy.specs.Own.{child_setup, own_of, setup_in, work_for}
+use Rattle.hierarchy.specs.Promises.{ChildrenStayNested, JobsStaySoundInAll, LogsOnlyGrowInAll}
 use Rattle.hierarchy.proofs.Advances.{timely}
 use Rattle.hierarchy.proofs.Nested.{are_nested}
 use Rattle.hierarchy.proofs.Owning.{birth_kept, born_kept}

@@ -5,6 +5,7 @@ pub mod Legal
 pub mod Whole
 pub mod Stretches
 pub mod Headline
+pub mod Promises
 pub mod Growing
 pub mod Laws
 pub mod Closing

@@ -14,10 +14,10 @@ ghost use Rattle.answers.specs.Runs.{IsFamilySettled, IsInTime, family_of as alo
 ghost use Rattle.answers.specs.Whole.{IsWhole};
 ghost use Rattle.hierarchy.specs.Births.{births, is_gone, lives};
 ghost use Rattle.hierarchy.specs.Families.{family_of, left_in, second_in};
-ghost use Rattle.hierarchy.specs.Headline.{ChildrenStayNested, JobsStaySoundInAll, LogsOnlyGrowInAll};
 ghost use Rattle.hierarchy.specs.Laws.{AreValid, IsChildless, IsKept, IsOfOthers, IsOfTop};
 ghost use Rattle.hierarchy.specs.Legal.{AreOwnLegal, IsLegalRun, IsSettledRun, is_end};
 ghost use Rattle.hierarchy.specs.Own.{own_of, setup_in};
+ghost use Rattle.hierarchy.specs.Promises.{ChildrenStayNested, JobsStaySoundInAll, LogsOnlyGrowInAll};
 ghost use Rattle.hierarchy.specs.Whole.{IsWholeRun};
 
 /// Where all actors are of the top and nothing is born, a run is legal, whole and settled exactly

@@ -17,6 +17,7 @@ pub mod family;
 pub mod growing;
 pub mod grown;
 pub mod laws;
+pub mod promises;
 pub mod workloads;
 
 pub use laws::{
@@ -24,3 +25,4 @@ pub use laws::{
     children_stay_nested, jobs_stay_sound_in_all, logs_only_grow_in_all, time_stays_within_the_run,
     what_has_gone_stays_gone,
 };
+pub use promises::a_true_run_keeps_its_promises;

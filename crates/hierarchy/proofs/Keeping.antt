@@ -1,0 +1,236 @@
+-- A legal and whole run keeps its promises.
+use Rattle.std.proofs.Common.{◌≡◌, ◌≢◌, ◌∙◌, ℕ, ◌≤◌, ◌==◌, inl, inr, List, [], ◌∷◌, ◌++◌, Bool, true, false, ◌&&◌, Option, Some, None, IsSomeAnd, IfSome, option_map, unwrap_or, refl, sym, ap, subst, eq-eqb, true≢false}
+use Rattle.std.specs.Prelude.{Contains}
+use Rattle.std.specs.List.{cons_option}
+use Rattle.std.specs.Cmp.Lexicographic.{bytes_decides}
+use Rattle.std.proofs.lemmas.Bool.{and_parts}
+use Rattle.answers.proofs.Floors.{asked_so, some_none}
+use Rattle.answers.proofs.JobLogs.{service_kept}
+use Rattle.answers.proofs.Reaching.{reaches}
+use Rattle.answers.proofs.Services.{service_legal}
+use Rattle.answers.proofs.job_rules_proofs.Among.{any_from}
+use Rattle.answers.proofs.kvs_rules_proofs.Sequences.{each_at, each_parts}
+use Rattle.answers.specs.instance_rules.Log.{service_of}
+use Rattle.answers.specs.kvs_model.Store.{Name, Store}
+use Rattle.answers.specs.kvs_rules.Answers as service_rules
+use Rattle.answers.specs.kvs_rules.Answers.{InFreshStore, IsLegalLog}
+use Rattle.answers.specs.kvs_rules.Brokers.{HasHeard, heard}
+use Rattle.answers.specs.kvs_rules.Landings.{IsAdvance, IsLegalLanding, IsOpening, IsRemoval}
+use Rattle.answers.specs.kvs_rules.Log.{Happened, Log, before_asked}
+use Rattle.answers.specs.kvs_rules.Namespaces.{Request, Setting, is_primary, landed, primary, store_after}
+use Rattle.answers.specs.kvs_rules.declared.events.KvsAsk.{KvsAsk}
+use Rattle.answers.specs.kvs_rules.declared.events.KvsAnswer.TheVariants as answer
+use Rattle.answers.specs.kvs_rules.declared.events.KvsEvent.TheVariants as event
+use Rattle.answers.specs.kvs_txn.declared.txn.By.{By}
+use Rattle.answers.specs.kvs_txn.declared.txn.Group.{Group}
+use Rattle.answers.specs.Chronicle.{Setup, before_issue, top}
+use Rattle.answers.specs.Commands.{ask_at, broker_of, subject_at}
+use Rattle.answers.specs.Jobs.{instance_of, log_in}
+use Rattle.answers.specs.Legal.{HasReplyGrounds, IsLegal, IsLegalEntry}
+use Rattle.answers.specs.Services.{log_of, request_of, setting_of}
+use Rattle.answers.specs.declared.chronicle.Entry.{Entry}
+use Rattle.answers.specs.declared.chronicle.Entry.TheVariants as entry
+use Rattle.answers.specs.declared.chronicle.Reply.{Reply}
+use Rattle.answers.specs.declared.chronicle.Reply.TheVariants as reply
+use Rattle.run_laws.proofs.Newest.{newest_of}
+use Rattle.hierarchy.specs.Births.{birth_in, has_living_home, is_at, label_of, lives, numbers}
+use Rattle.hierarchy.specs.Legal.{HasHomeFor, IsLegalRun, IsLegalRunEntry, is_end}
+use Rattle.hierarchy.specs.Own.{only_if, own_entry, own_of, setup_in}
+use Rattle.hierarchy.specs.Promises.{AtHome, CommittersHaveHeard, EventsAreDue, InLiving, IsHeardOf, IsNoOlder, IsPublished, ReadsAreFresh, RootsArePlain, SeesNoOlder, SeesStore, is_committed}
+use Rattle.hierarchy.proofs.OneEntry.{lives_same, own_more}
+use Rattle.hierarchy.proofs.Owning.{alive, setup_kept}
+
+-- ---- what a landing says
+
+-- a landing of transactions is an advance
+advances : (set : Setting) (log : Log) (space : Name) (number : ℕ) (authors : List (Option By)) (groups : List Group) → IsLegalLanding set log space number authors groups → groups ≢ []
+    → IsAdvance set log space number authors groups
+advances set log space number authors groups l some = elim l.form [
+  | inl opening ↦ absurd (some opening.empty)
+  | inr more ↦ elim more [
+    | inl removal ↦ absurd (some removal.empty)
+    | inr advance ↦ advance
+  ]
+]
+
+published : (set : Setting) (log : Log) (space : Name) (number : ℕ) (authors : List (Option By)) (groups : List Group) → IsLegalLanding set log space number authors groups → groups ≢ []
+    → IsPublished set log space number authors groups
+published set log space number authors groups l some =
+    let a = advances set log space number authors groups l some in
+    record { once = l.fresh; whole = a.kinds; next = a.next; old = a.old; standing = a.standing; new = a.new; made = a.made }
+
+-- ---- what a reply says
+
+-- the request of a command asks what the command does
+ask_so : (broker : ℕ) (space : Name) (o : Option KvsAsk) (r : Request) → option_map (λ a. record { broker = broker; namespace = space; ask = a }) o ≡ Some r → o ≡ Some r.ask
+ask_so broker space None r e = cc
+ask_so broker space (Some a) r e =
+    let same : ◌≡◌ {A = Request} (record { broker = broker; namespace = space; ask = a }) r = cc in
+    ap (λ x. Some x.ask) same
+
+module _ (s : Setup) (own : List Entry) (by : By) where
+  abbrev log : Log
+  log = log_of s.work top own
+
+  module _ (r : Request) (made : request_of s.work by ≡ Some r) where
+    at_broker : r.broker ≡ broker_of s.work by.actor
+    at_broker = (asked_so (broker_of s.work by.actor) (subject_at s.work by) (ask_at s.work by) r made).0
+
+    about : r.namespace ≡ subject_at s.work by
+    about = (asked_so (broker_of s.work by.actor) (subject_at s.work by) (ask_at s.work by) r made).1
+
+    asks : ask_at s.work by ≡ Some r.ask
+    asks = ask_so (broker_of s.work by.actor) (subject_at s.work by) (ask_at s.work by) r made
+
+    sees : IsLegal s own → (given : Reply) (P : Store → Type 0) (number : Option ℕ) → HasReplyGrounds s own by number given
+        → IsSomeAnd number (InFreshStore (setting_of s) log by r P) → IsSomeAnd number (SeesStore s own by P)
+    sees legal given P None g h = absurd h
+    sees legal given P (Some n) g h = record {
+      seen = reaches s own legal by n given g;
+      known = subst (λ b. unwrap_or (heard (before_asked by log) b (subject_at s.work by)) 0 ≤ n) at_broker
+          (subst (λ space. unwrap_or (heard (before_asked by log) r.broker space) 0 ≤ n) about h.fresh.known);
+      store = h.store;
+      standing = subst (λ space. store_after (setting_of s) log space n ≡ Some h.store) about h.standing;
+      held = h.held;
+    }
+
+    heard_of : (number : Option ℕ) → IsSomeAnd number (service_rules.IsCarriedOut log by r) → IsSomeAnd number (IsHeardOf s own by)
+    heard_of None h = absurd h
+    heard_of (Some n) h = record {
+      authors = h.authors;
+      groups = h.groups;
+      landing = subst (λ space. Contains log (Happened (event.Landed space n h.authors h.groups))) about h.landing;
+      named = h.named;
+      told = subst (λ b. HasHeard log b (subject_at s.work by) n) at_broker (subst (λ space. HasHeard log r.broker space n) about h.told);
+    }
+
+  committed : (given : Reply) (number : Option ℕ) → is_committed given ≡ true → HasReplyGrounds s own by number given → IsSomeAnd number (IsHeardOf s own by)
+  committed reply.Committed number is g = heard_of g.1.request g.1.made number g.1.grounds.1
+  committed reply.Fenced number is g = heard_of g.1.request g.1.made number g.1.grounds.1
+  committed reply.Created number is g = heard_of g.1.request g.1.made number g.1.grounds.1
+  committed reply.Removed number is g = heard_of g.1.request g.1.made number g.1.grounds.1
+  committed _ number is g = absurd (true≢false (sym is))
+
+-- ---- a run
+
+-- a reply with a number is one to an actor whose instance lives
+lives_there : (set : Setup) (c : List Entry) (by : By) (n : ℕ) (given : Reply) → HasHomeFor set c by (Some n) given → has_living_home set.work.actors c by.actor ≡ true
+lives_there set c by n reply.Gone g = some_none n g.0
+lives_there set c by n reply.UnfinishedUnborn g = some_none n g.0
+lives_there set c by n reply.NotReached g = some_none n g.0
+lives_there set c by n given g = g
+
+module _ (set : Setup) (past : List Entry) where
+  -- what an entry is to an instance is legal there, behind a legal chronicle
+  pub record IsOwn (i : ℕ) (f : Entry) : Type 0 where
+    pub before : IsLegal (setup_in set past i) (own_of set past i)
+    pub now : IsLegalEntry (setup_in set past i) (own_of set past i) f
+
+  own_legal : (e : Entry) → birth_in e ≡ None → (plain : is_end e ≡ false) → IsLegalRunEntry set past e → (i : ℕ) → lives past i ≡ true
+      → (f : Entry) → own_entry set.work.actors (label_of past i) i e ≡ Some f → IsOwn i f
+  own_legal e unborn plain l i h f is =
+      let s = setup_in set past i in
+      let behind : IsLegal s (own_of set (past ++ e ∷ []) i) =
+      subst (λ s. IsLegal s (own_of set (past ++ e ∷ []) i)) (setup_kept set past (e ∷ []) i (alive past i h).0) (l.own plain i (lives_same past e unborn plain i ∙ h)) in
+      let pushed : IsLegal s (own_of set past i ++ f ∷ []) =
+      subst (IsLegal s) (own_more set past e unborn plain i h ∙ ap (λ o. own_of set past i ++ cons_option o []) is) behind in
+      let parts = each_parts (IsLegalEntry s) [] (own_of set past i) (f ∷ []) pushed in
+      record { before = parts.0; now = parts.1.0 }
+
+  -- a landing is one of its instance
+  landed_in : (i : ℕ) (space : Name) (number : ℕ) (authors : List (Option By)) (groups : List Group) → IsLegalRunEntry set past (entry.Landed i space number authors groups)
+      → IsOwn i (entry.Landed top space number authors groups)
+  landed_in i space number authors groups l =
+      own_legal (entry.Landed i space number authors groups) refl refl l i l.grounds (entry.Landed top space number authors groups)
+      (ap (λ b. only_if b (entry.Landed top space number authors groups)) (eq-eqb i i refl))
+
+  -- a reply is one of its actor's instance
+  pub record IsAtHome (actor : ℕ) (f : Entry) : Type 0 where
+    pub home : ℕ
+    pub living : lives past home ≡ true
+    pub theirs : is_at set.work.actors (label_of past home) actor ≡ true
+    pub own : IsOwn home f
+
+  replied_in : (actor command : ℕ) (given : Reply) (number : Option ℕ) → IsLegalRunEntry set past (entry.Replied actor command given number)
+      → has_living_home set.work.actors past actor ≡ true → IsAtHome actor (entry.Replied actor command given number)
+  replied_in actor command given number l home =
+      let found = any_from (λ i. lives past i && is_at set.work.actors (label_of past i) actor) (numbers past) home in
+      let parts = and_parts (lives past found.0) (is_at set.work.actors (label_of past found.0) actor) found.2 in
+      let e : Entry = entry.Replied actor command given number in
+      record { home = found.0; living = parts.0; theirs = parts.1; own = own_legal e refl refl l found.0 parts.0 e (ap (λ b. only_if b e) parts.1) }
+
+  at_home : (actor : ℕ) (f : Entry) (h : IsAtHome actor f) (P : Setup → List Entry → Type 0) → P (setup_in set past h.home) (own_of set past h.home) → AtHome set past actor P
+  at_home actor f h P p = record { home = h.home; theirs = h.theirs; held = (h.living, p) }
+
+  numbered : (actor command : ℕ) (given : Reply) (number : Option ℕ) → IsLegalRunEntry set past (entry.Replied actor command given number)
+      → IfSome number (λ n. AtHome set past actor (λ s own. IsNoOlder s own (record { actor = actor; command = command }) n))
+  numbered actor command given None l = tt
+  numbered actor command given (Some n) l =
+      let by : By = record { actor = actor; command = command } in
+      let h = replied_in actor command given (Some n) l (lives_there set past by n given l.grounds) in
+      at_home actor (entry.Replied actor command given (Some n)) h (λ s own. IsNoOlder s own by n)
+      (reaches (setup_in set past h.home) (own_of set past h.home) h.own.before by n given h.own.now.grounds)
+
+module _ (set : Setup) (c : List Entry) (legal : IsLegalRun set c) where
+  -- the entry between two parts follows the first
+  at : (past : List Entry) (e : Entry) (more : List Entry) → c ≡ past ++ e ∷ more → IsLegalRunEntry set past e
+  at past e more split = each_at (IsLegalRunEntry set) past e more (subst (IsLegalRun set) split legal)
+
+  pub all_plain : RootsArePlain set c
+  all_plain past more i space number authors groups split some =
+      let l = at past (entry.Landed i space number authors groups) more split in
+      let s = setup_in set past i in
+      (l.grounds, published (setting_of s) (log_of s.work top (own_of set past i)) space number authors groups (landed_in set past i space number authors groups l).now.grounds.0.1 some)
+
+  pub all_due : EventsAreDue set c
+  all_due past more i space number authors groups split here =
+      let l = at past (entry.Landed i space number authors groups) more split in
+      let s = setup_in set past i in
+      let own = own_of set past i in
+      let o = landed_in set past i space number authors groups l in
+      let log : IsLegalLog (setting_of s) (service_of (log_in s.work own)) = subst (IsLegalLog (setting_of s)) (sym (service_kept s.work own)) (service_legal s own o.before) in
+      let newest = newest_of (setting_of s) (service_of (log_in s.work own)) log in
+      (l.grounds, newest.store, newest.stands, o.now.grounds.2 here newest.store newest.stands)
+
+  pub all_heard : CommittersHaveHeard set c
+  all_heard past more actor command given number split is =
+      let by : By = record { actor = actor; command = command } in
+      let l = at past (entry.Replied actor command given number) more split in
+      let h = replied_in set past actor command given number l (living_home given number is l.grounds) in
+      at_home set past actor (entry.Replied actor command given number) h (λ s own. IsSomeAnd number (IsHeardOf s own by))
+      (committed (setup_in set past h.home) (own_of set past h.home) by given number is h.own.now.grounds)
+    where
+      living_home : (given : Reply) (number : Option ℕ) → is_committed given ≡ true → HasHomeFor set past (record { actor = actor; command = command }) number given → has_living_home set.work.actors past actor ≡ true
+      living_home reply.Committed number is g = g
+      living_home reply.Fenced number is g = g
+      living_home reply.Created number is g = g
+      living_home reply.Removed number is g = g
+      living_home _ number is g = absurd (true≢false (sym is))
+
+  pub all_fresh : ReadsAreFresh set c
+  all_fresh past more actor command (reply.Read found) number split =
+      let by : By = record { actor = actor; command = command } in
+      let given : Reply = reply.Read found in
+      let l = at past (entry.Replied actor command given number) more split in
+      let h = replied_in set past actor command given number l l.grounds in
+      let s = setup_in set past h.home in
+      let own = own_of set past h.home in
+      let a = h.own.now.grounds.1 in
+      let g = a.grounds in
+      record {
+        home = h.home;
+        theirs = h.theirs;
+        held = (h.living, g.0, g.1, asks s own by a.request a.made ∙ ap Some g.2, sees s own by a.request a.made h.own.before given _ number h.own.now.grounds g.3);
+      }
+  all_fresh past more actor command (reply.Root reference) number split =
+      let by : By = record { actor = actor; command = command } in
+      let given : Reply = reply.Root reference in
+      let l = at past (entry.Replied actor command given number) more split in
+      let h = replied_in set past actor command given number l l.grounds in
+      let a = h.own.now.grounds.1 in
+      record {
+        home = h.home;
+        theirs = h.theirs;
+        held = (h.living, sees (setup_in set past h.home) (own_of set past h.home) by a.request a.made h.own.before given _ number h.own.now.grounds a.grounds.1);
+      }
+  all_fresh past more actor command given number split = numbered set past actor command given number (at past (entry.Replied actor command given number) more split)
