@@ -56,7 +56,7 @@ fn event_ops(alloc: Global, due: &Due) -> Result<OpList, AllocError>
 }
 
 /// The transaction of a post.
-#[tactic(auto, unfolding(instance_rules::specs::manager_rules::Posts::txn_of))]
+#[tactic(auto, unfolding(manager_rules::specs::Posts::txn_of))]
 pub fn txn_of(alloc: Global, post: &Post) -> Result<Txn, AllocError>
     ensures { IfOk result (λ txn. txn ≡ txn_of (post_of post.now)) }
 {
