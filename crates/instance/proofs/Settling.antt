@@ -29,7 +29,7 @@ use Rattle.instance.proofs.Logs.{log_open, served_log}
 use Rattle.instance.proofs.Owning.{DoesAgree, Own}
 
 module _ (v : Own) (h : DoesAgree v) (rest : CanDoNothing v.instance) (promise : IsStillSo v) where
-  now : InstanceLog
+  abbrev now : InstanceLog
   now = log_in v.set.work v.chronicle
 
   module _ (by : By) (open : IsOpenCommand by v.chronicle) where
@@ -44,7 +44,6 @@ module _ (v : Own) (h : DoesAgree v) (rest : CanDoNothing v.instance) (promise :
 
     -- it has asked the service something
     by_service : is_asked by (log_of v.set.work top v.chronicle) ≡ true → HasToWait (living_of v.set v.chronicle) by
-    unfolding now
     by_service asked =
         let served = served_log v.set.work v.chronicle in
         let waits : IsOpen by (log_of v.set.work top v.chronicle) = record { asked = asked; unanswered = unanswered } in
@@ -68,7 +67,6 @@ module _ (v : Own) (h : DoesAgree v) (rest : CanDoNothing v.instance) (promise :
 
     -- it asks something of jobs or of time
     by_jobs : IsSome (job_ask_at v.set.work by) → job_ask_at v.set.work by ≢ Some Shutdown → HasToWait (living_of v.set v.chronicle) by
-    unfolding now
     by_jobs asks other =
         of (promise.left (instance_of v.set) now (living_of v.set v.chronicle) h.agrees (still_so v h rest) (is_living v.set v.chronicle) by asks other (log_open v.set.work by v.chronicle asks open.0 unreplied))
       where

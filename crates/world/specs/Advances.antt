@@ -8,7 +8,8 @@ use Rattle.homes.specs.instance.Steps.{IsStart}
 use Rattle.world.specs.Value.{WorldValue}
 
 -- the step is kept with the entries that it made, which stand behind all that had happened;
--- a settled chronicle stays settled, if the run has come to rest where the step issues a command
+-- a settled chronicle stays settled, if the run has come to rest where the step issues a command or
+-- lets time go on
 pub record Advances (old : WorldValue) (s : Step) (new : WorldValue) : Type 0 where
   pub ready : new.spent ≡ false
   pub set : new.set ≡ old.set

@@ -234,7 +234,8 @@ impl World {
             return None;
         }
         let homes = self.homes.as_slice();
-        // nothing that can be made is missed, and the run is at rest where a command is issued
+        // nothing that can be made is missed, and the run is at rest where a command is issued or
+        // time goes on
         turns_are_listed(homes);
         rest(homes);
         match self.nth(0) {
