@@ -125,7 +125,7 @@ issue_made : IsRunStretch setup born (step.Issue 1) (entry.Issued 1 2 ∷ [])
 issue_made = record {
   home = 1;
   is = refl;
-  stretch = record { born = refl; own = entry.Issued 1 2 ∷ []; entered = refl; allowed = record { before = []; command = 2; behind = []; split = refl; others = tt } };
+  stretch = record { born = refl; own = entry.Issued 1 2 ∷ []; entered = refl; allowed = record { command = 2; behind = []; split = refl; others = tt } };
 }
 
 -- ---- what the end leaves

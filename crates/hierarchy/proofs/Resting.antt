@@ -66,20 +66,18 @@ waits_as l m by inst log w =
       },
     ))
 
+issues_its : (by : By) (e : Entry) → issues by e ≡ true → issues_of by.actor e ≡ true
+issues_its by (entry.Issued actor command) is = (and_parts _ _ is).0
+issues_its by _ is = absurd (true≢false (sym is))
+
 none_counted : (by : By) (c : List Entry) → count_by (issues_of by.actor) c ≡ 0 → is_issued by c ≡ true → ⊥
 none_counted by [] none issued = true≢false (sym issued)
-none_counted by (e ∷ c) none issued = of e (or_cases (issues by e) (is_issued by c) issued)
-  where
-    both : count_by (issues_of by.actor) (e ∷ c) ≡ cond (issues_of by.actor e) 1 0 + count_by (issues_of by.actor) c
-    both = sum_by-cons (λ x. cond (issues_of by.actor x) 1 0) e c
-
-    here : (x : Entry) → issues by x ≡ true → issues_of by.actor x ≡ true
-    here (entry.Issued actor command) is = (and_parts _ _ is).0
-    here _ is = absurd (true≢false (sym is))
-
-    of : (x : Entry) → (issues by e ≡ true) ⊎ (is_issued by c ≡ true) → ⊥
-    of x (inl is) = let one : ◌≡◌ {A = ℕ} (cond (issues_of by.actor e) 1 0) 1 = ap (λ b. cond b 1 0) (here e is) in absurd (omega (arith, both, none, one))
-    of x (inr more) = none_counted by c (omega (arith, both, none)) more
+none_counted by (e ∷ c) none issued =
+    let both : count_by (issues_of by.actor) (e ∷ c) ≡ cond (issues_of by.actor e) 1 0 + count_by (issues_of by.actor) c = sum_by-cons (λ x. cond (issues_of by.actor x) 1 0) e c in
+    elim (or_cases (issues by e) (is_issued by c) issued) [
+      | inl is ↦ let one : ◌≡◌ {A = ℕ} (cond (issues_of by.actor e) 1 0) 1 = ap (λ b. cond b 1 0) (issues_its by e is) in absurd (omega (arith, both, none, one))
+      | inr more ↦ none_counted by c (omega (arith, both, none)) more
+    ]
 
 module _ (set : Setup) (c : List Entry) (on : GoesOn set c) (settled : (i : ℕ) → lives c i ≡ true → HasSettled (setup_in set c i) (own_of set c i))
     (lost : (by : By) → has_lost_home set.work.actors c by.actor ≡ true → IsOpenCommand by c → ⊥) where

@@ -32,15 +32,15 @@ module _ (v : Own) (h : DoesAgree v) (rest : CanDoNothing v.instance) (promise :
   abbrev now : InstanceLog
   now = log_in v.set.work v.chronicle
 
-  module _ (by : By) (open : IsOpenCommand by v.chronicle) where
+  module _ (by : By) (waiting_now : IsOpenCommand by v.chronicle) where
     unreplied : count_by (replies_to by) v.chronicle ≡ 0
     unreplied = elim (cases_lt 0 (count_by (replies_to by) v.chronicle)) [
-      | inl some ↦ absurd (true≢false (sym (any_counted (replies_to by) v.chronicle some) ∙ open.1))
+      | inl some ↦ absurd (true≢false (sym (any_counted (replies_to by) v.chronicle some) ∙ waiting_now.1))
       | inr none ↦ omega (arith, none)
     ]
 
     issued_low : by.command < count_by (issues_of by.actor) v.chronicle
-    issued_low = issued_below v.set v.chronicle h.legal by open.0
+    issued_low = issued_below v.set v.chronicle h.legal by waiting_now.0
 
     -- it has asked the service something
     by_service : is_asked by (log_of v.set.work top v.chronicle) ≡ true → HasToWait (living_of v.set v.chronicle) by
@@ -68,7 +68,7 @@ module _ (v : Own) (h : DoesAgree v) (rest : CanDoNothing v.instance) (promise :
     -- it asks something of jobs or of time
     by_jobs : IsSome (job_ask_at v.set.work by) → job_ask_at v.set.work by ≢ Some Shutdown → HasToWait (living_of v.set v.chronicle) by
     by_jobs asks other =
-        of (promise.left (instance_of v.set) now (living_of v.set v.chronicle) h.agrees (still_so v h rest) (is_living v.set v.chronicle) by asks other (log_open v.set.work by v.chronicle asks open.0 unreplied))
+        of (promise.left (instance_of v.set) now (living_of v.set v.chronicle) h.agrees (still_so v h rest) (is_living v.set v.chronicle) by asks other (log_open v.set.work by v.chronicle asks waiting_now.0 unreplied))
       where
         result : (o : Option State) → awaited v.instance.services.jobs by ≡ o → IsSome o → HasToWait (living_of v.set v.chronicle) by
         result None is some = absurd (true≢false (sym some))
