@@ -57,7 +57,7 @@ published : (set : Setting) (log : Log) (space : Name) (number : ℕ) (authors :
     → IsPublished set log space number authors groups
 published set log space number authors groups l some =
     let a = advances set log space number authors groups l some in
-    record { once = l.fresh; whole = a.kinds; next = a.next; old = a.old; standing = a.standing; new = a.new; made = a.made }
+    record { named = a.named; once = l.fresh; whole = a.kinds; next = a.next; old = a.old; standing = a.standing; new = a.new; made = a.made }
 
 -- ---- what a reply says
 

@@ -9,7 +9,7 @@ use Rattle.answers.specs.kvs_model.History.{after_groups}
 use Rattle.answers.specs.kvs_model.Store.{Name, Path, Store}
 use Rattle.answers.specs.kvs_model.Walk.{walk}
 use Rattle.answers.specs.kvs_rules.Brokers.{HasHeard, heard}
-use Rattle.answers.specs.kvs_rules.Landings.{AreFresh, IsManagers, IsUsers, commands_of}
+use Rattle.answers.specs.kvs_rules.Landings.{AreFresh, IsManagers, IsUsers, commands_of, names_of}
 use Rattle.answers.specs.kvs_rules.Log.{Happened, Log, before_asked}
 use Rattle.answers.specs.kvs_rules.Namespaces.{Setting, is_primary, landed, newest_store, scope_of, store_after}
 use Rattle.answers.specs.kvs_rules.declared.events.KvsAsk.TheVariants as ask
@@ -52,6 +52,7 @@ pub record AtHome (set : Setup) (c : List Entry) (actor : ℕ) (P : Setup → Li
 -- Each is a whole one: a commit, all members of a fence, or a post of the job manager
 pub record IsPublished (set : Setting) (log : Log) (space : Name)
     (number : ℕ) (authors : List (Option By)) (groups : List Group) : Type 0 where
+  pub named : authors ≡ names_of groups
   pub once : AreFresh set log (commands_of authors)
   pub whole : Each (λ group. IsUsers set space group ⊎ IsManagers set space group) groups
   pub next : number ≡ suc (landed log space)
