@@ -1,8 +1,7 @@
 -- A legal and whole run keeps its promises.
-use Rattle.std.proofs.Common.{◌≡◌, ◌≢◌, ◌∙◌, ℕ, ◌≤◌, ◌==◌, inl, inr, List, [], ◌∷◌, ◌++◌, Bool, true, false, ◌&&◌, Option, Some, None, IsSomeAnd, IfSome, option_map, unwrap_or, refl, sym, ap, subst, eq-eqb, true≢false}
+use Rattle.std.proofs.Common.{◌≡◌, ◌≢◌, ◌∙◌, ℕ, ◌≤◌, inl, inr, List, [], ◌∷◌, ◌++◌, true, false, ◌&&◌, Option, Some, None, IsSomeAnd, IfSome, option_map, unwrap_or, refl, sym, ap, subst, eq-eqb, true≢false}
 use Rattle.std.specs.Prelude.{Contains}
 use Rattle.std.specs.List.{cons_option}
-use Rattle.std.specs.Cmp.Lexicographic.{bytes_decides}
 use Rattle.std.proofs.lemmas.Bool.{and_parts}
 use Rattle.answers.proofs.Floors.{asked_so, some_none}
 use Rattle.answers.proofs.JobLogs.{service_kept}
@@ -15,17 +14,16 @@ use Rattle.answers.specs.kvs_model.Store.{Name, Store}
 use Rattle.answers.specs.kvs_rules.Answers as service_rules
 use Rattle.answers.specs.kvs_rules.Answers.{InFreshStore, IsLegalLog}
 use Rattle.answers.specs.kvs_rules.Brokers.{HasHeard, heard}
-use Rattle.answers.specs.kvs_rules.Landings.{IsAdvance, IsLegalLanding, IsOpening, IsRemoval}
+use Rattle.answers.specs.kvs_rules.Landings.{IsAdvance, IsLegalLanding}
 use Rattle.answers.specs.kvs_rules.Log.{Happened, Log, before_asked}
-use Rattle.answers.specs.kvs_rules.Namespaces.{Request, Setting, is_primary, landed, primary, store_after}
+use Rattle.answers.specs.kvs_rules.Namespaces.{Request, Setting, store_after}
 use Rattle.answers.specs.kvs_rules.declared.events.KvsAsk.{KvsAsk}
-use Rattle.answers.specs.kvs_rules.declared.events.KvsAnswer.TheVariants as answer
 use Rattle.answers.specs.kvs_rules.declared.events.KvsEvent.TheVariants as event
 use Rattle.answers.specs.kvs_txn.declared.txn.By.{By}
 use Rattle.answers.specs.kvs_txn.declared.txn.Group.{Group}
-use Rattle.answers.specs.Chronicle.{Setup, before_issue, top}
+use Rattle.answers.specs.Chronicle.{Setup, top}
 use Rattle.answers.specs.Commands.{ask_at, broker_of, subject_at}
-use Rattle.answers.specs.Jobs.{instance_of, log_in}
+use Rattle.answers.specs.Jobs.{log_in}
 use Rattle.answers.specs.Legal.{HasReplyGrounds, IsLegal, IsLegalEntry}
 use Rattle.answers.specs.Services.{log_of, request_of, setting_of}
 use Rattle.answers.specs.declared.chronicle.Entry.{Entry}
@@ -36,7 +34,7 @@ use Rattle.run_laws.proofs.Newest.{newest_of}
 use Rattle.hierarchy.specs.Births.{birth_in, has_living_home, is_at, label_of, lives, numbers}
 use Rattle.hierarchy.specs.Legal.{HasHomeFor, IsLegalRun, IsLegalRunEntry, is_end}
 use Rattle.hierarchy.specs.Own.{only_if, own_entry, own_of, setup_in}
-use Rattle.hierarchy.specs.Promises.{AtHome, CommittersHaveHeard, EventsAreDue, InLiving, IsHeardOf, IsNoOlder, IsPublished, ReadsAreFresh, RootsArePlain, SeesNoOlder, SeesStore, is_committed}
+use Rattle.hierarchy.specs.Promises.{AtHome, CommittersHaveHeard, EventsAreDue, IsHeardOf, IsNoOlder, IsPublished, ReadsAreFresh, RootsArePlain, SeesStore, is_committed}
 use Rattle.hierarchy.proofs.OneEntry.{lives_same, own_more}
 use Rattle.hierarchy.proofs.Owning.{alive, setup_kept}
 
