@@ -188,7 +188,7 @@ module _ (set : Setup) (c : List Entry) (legal : IsLegalRun set c) where
       let o = landed_in set past i space number authors groups l in
       let log : IsLegalLog (setting_of s) (service_of (log_in s.work own)) = subst (IsLegalLog (setting_of s)) (sym (service_kept s.work own)) (service_legal s own o.before) in
       let newest = newest_of (setting_of s) (service_of (log_in s.work own)) log in
-      (l.grounds, newest.store, newest.stands, o.now.grounds.2 here newest.store newest.stands)
+      (l.grounds, (newest.store, newest.stands, o.now.grounds.2 here newest.store newest.stands))
 
   pub all_heard : CommittersHaveHeard set c
   all_heard past more actor command given number split is =
@@ -218,7 +218,7 @@ module _ (set : Setup) (c : List Entry) (legal : IsLegalRun set c) where
       record {
         home = h.home;
         theirs = h.theirs;
-        held = (h.living, g.0, g.1, asks s own by a.request a.made ∙ ap Some g.2, sees s own by a.request a.made h.own.before given _ number h.own.now.grounds g.3);
+        held = (h.living, (g.0, g.1, asks s own by a.request a.made ∙ ap Some g.2, sees s own by a.request a.made h.own.before given _ number h.own.now.grounds g.3));
       }
   all_fresh past more actor command (reply.Root reference) number split =
       let by : By = record { actor = actor; command = command } in
