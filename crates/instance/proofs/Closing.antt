@@ -1,5 +1,5 @@
 -- When a run can end, it is whole.
-use Rattle.std.proofs.Common.{◌≡◌, ◌≢◌, ℕ, zero, suc, ◌-◌, ◌<◌, ◌≤◌, ◌==◌, ◌⊎◌, inl, inr, List, [], ◌∷◌, ◌++◌, length, Bool, true, false, ◌&&◌, ◌||◌, cond, refl, sym, ap, ◌∙◌, subst, arith, count_by, Option, Some, None, get_or, true≢false}
+use Rattle.std.proofs.Common.{◌≡◌, ◌≢◌, ℕ, zero, suc, ◌+◌, ◌-◌, ◌<◌, ◌≤◌, ◌==◌, ◌⊎◌, inl, inr, List, [], ◌∷◌, ◌++◌, length, Bool, true, false, ◌&&◌, ◌||◌, cond, refl, sym, ap, ◌∙◌, subst, arith, count_by, Option, Some, None, get_or, true≢false}
 use Rattle.std.specs.Prelude.{slice_get, nat_lt, option_and_then, if◌then◌else◌, IsTrue, IsSome}
 use Rattle.std.specs.Str.{bytes_eq}
 use Rattle.std.specs.Option.{option_map, option_map_or, is_some}
@@ -581,7 +581,7 @@ module _ (v : Own) (h : DoesAgree v) (rest : CanDoNothing v.instance) (promise :
     where
       of : IsSome (awaited v.instance.services.jobs by) ⊎ IsLeftAdvance (living_of v.set v.chronicle) by → IsStuckResult v by
       of (inl some) = on (awaited v.instance.services.jobs by) refl some
-      of (inr a) = absurd (advanced_so late _ (record { by = by; seconds = a.seconds; asks = a.asks; waits = a.waits; is = refl }))
+      of (inr a) = absurd (advanced_so late (rules.now_of (instance_of v.set) (rules.before_issue by (log_in v.set.work v.chronicle)) + a.seconds) (record { by = by; seconds = a.seconds; asks = a.asks; waits = a.waits; is = refl }))
 
       on : (o : Option State) → awaited v.instance.services.jobs by ≡ o → IsSome o → IsStuckResult v by
       on None e some = absurd (true≢false (sym some))
