@@ -579,10 +579,6 @@ module _ (v : Own) (h : DoesAgree v) (rest : CanDoNothing v.instance) (promise :
   pub results_so : targets_left v.instance ≡ [] → AreResults v h
   results_so late by asks waits = of (promise.left (instance_of v.set) (log_in v.set.work v.chronicle) (living_of v.set v.chronicle) h.agrees still_here (is_living v.set v.chronicle) by asks (left_open v h by asks waits (rest.answers by.actor)).1 waits)
     where
-      of : IsSome (awaited v.instance.services.jobs by) ⊎ IsLeftAdvance (living_of v.set v.chronicle) by → IsStuckResult v by
-      of (inl some) = on (awaited v.instance.services.jobs by) refl some
-      of (inr a) = absurd (advanced_so late (rules.now_of (instance_of v.set) (rules.before_issue by (log_in v.set.work v.chronicle)) + a.seconds) (record { by = by; seconds = a.seconds; asks = a.asks; waits = a.waits; is = refl }))
-
       on : (o : Option State) → awaited v.instance.services.jobs by ≡ o → IsSome o → IsStuckResult v by
       on None e some = absurd (true≢false (sym some))
       on (Some where_) e some = record {
@@ -590,3 +586,7 @@ module _ (v : Own) (h : DoesAgree v) (rest : CanDoNothing v.instance) (promise :
         awaits = e;
         left = promise.results (instance_of v.set) (log_in v.set.work v.chronicle) (living_of v.set v.chronicle) h.agrees (is_living v.set v.chronicle) by where_ e;
       }
+
+      of : IsSome (awaited v.instance.services.jobs by) ⊎ IsLeftAdvance (living_of v.set v.chronicle) by → IsStuckResult v by
+      of (inl some) = on (awaited v.instance.services.jobs by) refl some
+      of (inr a) = absurd (advanced_so late (rules.now_of (instance_of v.set) (rules.before_issue by (log_in v.set.work v.chronicle)) + a.seconds) (record { by = by; seconds = a.seconds; asks = a.asks; waits = a.waits; is = refl }))
