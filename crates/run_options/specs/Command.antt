@@ -1,0 +1,28 @@
+-- The command whose options clap reads.
+use Rattle.std.specs.Prelude.{List, ℕ, Bool, true, Some, codes}
+use Rattle.std.specs.Str.{bytes_eq}
+use Rattle.clap.specs.Words.{App, Rule, Text, new_app, new_rule, with_rule}
+use Rattle.clap.specs.Simple.{on_top}
+use Rattle.clap.specs.declared.builder.ArgAction.TheVariants.{Set, SetTrue}
+
+-- an option with a value
+abbrev pub valued : Text → Rule
+valued name = record (new_rule name) { long = Some name; action = Some Set }
+
+-- an option without one
+abbrev pub flag : Text → Rule
+flag name = record (new_rule name) { long = Some name; action = Some SetTrue }
+
+-- its words stand without the name of the program, and it adds no option of its own
+abbrev pub bare : App
+bare = on_top (λ s. record s { no_binary_name = true; disable_help_flag = true })
+    (new_app (codes "run"))
+
+abbrev pub run_app : App
+run_app = with_rule (with_rule (with_rule (with_rule (with_rule bare (valued (codes "size")))
+    (valued (codes "fanout"))) (valued (codes "hash"))) (valued (codes "shuffle")))
+    (flag (codes "journal"))
+
+-- `--`, which is no option
+abbrev pub is_dashes : List ℕ → Bool
+is_dashes word = bytes_eq word (codes "--")
