@@ -85,12 +85,14 @@ abbrev rows_of_words : List Text → List Row
 rows_of_words words = left (at [] None) words
 
 pub fault_is : (words : List Text) → fault_of run_app words ≡ fault (at [] None) words
+unfolding run_app
 fault_is words =
     leaf_fault (record { top = run_shape; subs = [] }) nothing_held words refl
     ∙ ap (λ ds. or_else (walk_fault run_shape [] (at [] None) words) (or_else (settle_fault run_rules false (walk run_rules [] nothing_held words).held) (or_else ds []))) (defaults_pass (rows_of_words words))
     ∙ ap (or_else (walk_fault run_shape [] (at [] None) words)) (right_nil (settle_fault run_rules false (walk run_rules [] nothing_held words).held))
 
 matches_are : (words : List Text) → matches_of run_app words ≡ with_default (rows_of_words words) journal_rule
+unfolding run_app
 matches_are words = finish (rows_of_words words)
 
 -- what the matches' rows give
@@ -139,6 +141,7 @@ rows_taken words other passes = go (spelled_first words other)
 -- the same of the matches themselves
 pub taken : (words : List Text) (f : Found) → rows_of f ≡ matches_of run_app words → list_any is_dashes words ≡ false → fault_of run_app words ≡ []
     → with_words nothing words ≡ given_in f
+unfolding given_in
 taken words f rows other passes =
     let texts : (id : Text) → first_of id (matches_of run_app words) ≡ first_value f id = λ id. ap (first_of id) (sym rows) ∙ sym (first_value-rows f id) in
     rows_taken words other passes

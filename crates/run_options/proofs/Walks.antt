@@ -4,10 +4,10 @@ use Rattle.std.specs.Prelude.{option_and_then, if◌then◌else◌}
 use Rattle.std.specs.List.{list_any}
 use Rattle.std.specs.Option.{option_map_or}
 use Rattle.clap.specs.Walk.{Held, Row, Rule, Text, Walk, Waiting, idle, option, plain, after_flag, arg_by_id, arg_by_long, arg_by_index, bundle_met, bundle_step, has_row, long_or_other, short_or_plain, reacted, settled_rows, trailing, used, walk, walked, with_default}
-use Rattle.clap.specs.Simple.{App, Shape, built, new_rule, new_shape}
+use Rattle.clap.specs.Simple.{App, Shape, is_simple, built, new_rule, new_shape}
 use Rattle.clap.specs.Lexer.{long_of, short_of, strip_byte}
 use Rattle.clap.specs.Kinds.{Kinds, or_else}
-use Rattle.clap.specs.Faults.{bundle_fault, bundle_step_fault, flag_word_fault, flags_fault, long_fault, react_fault, settle_fault, step_fault, turn_fault, use_fault, walk_fault, repeat_fault}
+use Rattle.clap.specs.Faults.{bundle_fault, bundle_step_fault, flag_word_fault, flags_fault, long_fault, react_fault, settle_fault, is_simple_and_free, step_fault, turn_fault, use_fault, walk_fault, repeat_fault}
 use Rattle.clap.specs.declared.builder.value_parser.ValueParser.TheVariants as vp
 use Rattle.run_options.specs.Command.{flag, run_app, valued}
 
@@ -55,7 +55,16 @@ run_shape = record (new_shape (codes "run")) {
 }
 
 pub built_is : built run_app ≡ record { top = run_shape; subs = [] }
+unfolding run_app
 built_is = refl
+
+pub simple_app : is_simple run_app ≡ true
+unfolding run_app
+simple_app = refl
+
+pub free_app : is_simple_and_free run_app ≡ true
+unfolding run_app
+free_app = refl
 
 -- between two words
 abbrev pub holding : List Row → Option (Text × List Text) → Held

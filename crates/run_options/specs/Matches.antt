@@ -35,7 +35,7 @@ abbrev pub flag_of : Option (List ℕ) → Bool
 flag_of text = option_map_or (λ t. bytes_eq t (codes "true")) text false
 
 -- what the matches give
-abbrev pub given_in : Found → Option Given
+unfoldable pub given_in : Found → Option Given
 given_in f = given_by (first_value f (codes "size")) (first_value f (codes "fanout"))
     (first_value f (codes "hash")) (first_value f (codes "shuffle"))
     (flag_of (one_text f (codes "journal")))

@@ -1,11 +1,12 @@
 //! The command that clap reads, and what its matches give.
-ghost use Rattle.std.specs.Prelude.{◌≡◌, IfOk, IfSome, codes, false, map, string_bytes};
-ghost use Rattle.clap.specs.Words.{app_of, fault_of, first_value, found_of, matches_of, one_text, rows_of, rule_of, FailsBy};
-ghost use Rattle.run_options.specs.Command.{flag, run_app, valued};
+ghost use Rattle.std.specs.Prelude.{◌≡◌, ◌≢◌, IfOk, IfSome, codes, false, map, string_bytes};
+ghost use Rattle.clap.specs.Words.{app_of, first_value, found_of, kind_of, one_text, rule_of};
+ghost use Rattle.run_options.specs.Command.{flag, run_app, valued, IsParse};
 ghost use Rattle.run_options.specs.Given.{brokers_of, hash_of, number_of, IsBrokers, IsWithin};
 ghost use Rattle.run_options.specs.Matches.{field, given_in, IsFlag};
 
 use crate::given::{Given, brokers, hash, number_of};
+use clap::error::ErrorKind;
 use clap::{Arg, ArgAction, ArgMatches, Command, Error};
 use fl_digest::Hash;
 use std::alloc::{AllocError, Global};
@@ -41,13 +42,26 @@ fn command<'a>(alloc: Global) -> Result<Command<'a>, AllocError>
     Ok(run)
 }
 
-/// What clap finds in the words.
-pub fn parse<'a>(alloc: Global, words: &'a [String]) -> Result<ArgMatches<'a>, Error>
-    ensures kinds { FailsBy (fault_of run_app (map string_bytes words.now)) result }
-    ensures rows { IfOk result (λ matches.
-        rows_of (found_of matches) ≡ matches_of run_app (map string_bytes words.now)) }
+/// Whether there was no memory for a parse.
+fn lacks_memory(error: &Error) -> bool
+    ensures { result ≡ false → kind_of error.now ≢ ErrorKind.OutOfMemory }
 {
-    command(alloc)?.try_get_matches_from(words)
+    error.kind() == ErrorKind::OutOfMemory
+}
+
+/// What clap finds in the words, if it takes them.
+pub fn parse<'a>(alloc: Global, words: &'a [String]) -> Result<Option<ArgMatches<'a>>, AllocError>
+    ensures { IfOk result (IsParse (map string_bytes words.now)) }
+{
+    let run = command(alloc)?;
+    match run.try_get_matches_from(words) {
+        Ok(matches) => Ok(Some(matches)),
+        Err(error) => if lacks_memory(&error) {
+            Err(AllocError)
+        } else {
+            Ok(None)
+        },
+    }
 }
 
 /// The number of brokers that an option gives, if it stands there.
@@ -82,16 +96,20 @@ fn seed_in(matches: &ArgMatches<'_>) -> Option<Option<u64>>
 }
 
 /// What the matches give, if each value is one of its option's.
-pub fn given(matches: &ArgMatches<'_>) -> Option<Given>
+pub fn given_in(matches: &ArgMatches<'_>) -> Option<Given>
     requires { IsFlag (one_text (found_of matches.now) (codes "journal")) }
     ensures value { result ≡ given_in (found_of matches.now) }
     ensures within { IfSome result IsWithin }
 {
+    let size = brokers_in(matches, "size")?;
+    let fanout = brokers_in(matches, "fanout")?;
+    let hash = hash_in(matches)?;
+    let shuffle = seed_in(matches)?;
     Some(Given {
-        size: brokers_in(matches, "size")?,
-        fanout: brokers_in(matches, "fanout")?,
-        hash: hash_in(matches)?,
-        shuffle: seed_in(matches)?,
+        size,
+        fanout,
+        hash,
+        shuffle,
         journal: matches.get_flag("journal"),
     })
 }

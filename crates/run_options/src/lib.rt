@@ -8,14 +8,15 @@
 ghost use Rattle.std.specs.Prelude.{◌≡◌, IfOk, IfSome, map, string_bytes};
 ghost use Rattle.std.specs.List.{list_any};
 ghost use Rattle.run_options.specs.Command.{is_dashes};
-ghost use Rattle.run_options.specs.Given.{AreWithin};
-ghost use Rattle.run_options.specs.Words.{options_of};
+ghost use Rattle.run_options.specs.Given.{AreWithin, IsWithin, nothing};
+ghost use Rattle.run_options.specs.Words.{options_of, with_words};
 
 mod command;
 mod given;
 
-use clap::error::ErrorKind;
+use command::{given_in, parse};
 use fl_digest::Hash;
+use given::Given;
 use std::alloc::{AllocError, Global};
 
 /// What a run is asked for.
@@ -40,23 +41,28 @@ fn has_dashes(words: &[String]) -> bool
     words.iter().any(|word| word.as_str() == "--")
 }
 
+/// What the words give, if they spell options.
+fn spelled(alloc: Global, words: &[String]) -> Result<Option<Given>, AllocError>
+    ensures value { IfOk result (λ given.
+        given ≡ with_words nothing (map string_bytes words.now)) }
+    ensures within { IfOk result (λ given. IfSome given IsWithin) }
+{
+    if has_dashes(words) {
+        return Ok(None);
+    }
+    match parse(alloc, words)? {
+        Some(matches) => Ok(given_in(&matches)),
+        None => Ok(None),
+    }
+}
+
 /// The options that the words behind `run` spell, if they spell any.
 pub fn read_options(alloc: Global, words: &[String]) -> Result<Option<Options>, AllocError>
     ensures value { IfOk result (λ options.
         options ≡ options_of (map string_bytes words.now)) }
     ensures within { IfOk result (λ options. IfSome options AreWithin) }
 {
-    if has_dashes(words) {
-        return Ok(None);
-    }
-    let matches = match command::parse(alloc, words) {
-        Ok(matches) => matches,
-        Err(error) => return match error.kind() {
-            ErrorKind::OutOfMemory => Err(AllocError),
-            _ => Ok(None),
-        },
-    };
-    match command::given(&matches) {
+    match spelled(alloc, words)? {
         Some(given) => Ok(Some(given.with_defaults())),
         None => Ok(None),
     }

@@ -1,9 +1,10 @@
 use Rattle.std.proofs.Common.{◌≡◌, ◌∙◌, ap₂, rules}
 use Rattle.clap.specs.Words.{app_of, with_rule}
-use Rattle.run_options.specs.Command.{bare}
+use Rattle.run_options.specs.Command.{bare, run_app}
 use Rattle.run_options.proofs.command.command.Goals as goal
 
 pub returns : goal.returns
+unfolding run_app
 returns c =
     let bare_is : app_of c.disable_help_flag-run.result ≡ bare = search rules in
     let size = c.in_ok-run.ensures.shape c.valued.ensures.own ∙ ap₂ with_rule bare_is c.valued.ensures.rule in
