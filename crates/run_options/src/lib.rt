@@ -34,11 +34,18 @@ pub struct Options {
     pub journal: bool,
 }
 
+/// Whether a word is `--`.
+fn is_dashes(word: &str) -> bool
+    ensures { result ≡ is_dashes word.now }
+{
+    word == "--"
+}
+
 /// Whether `--` stands among the words.
 fn has_dashes(words: &[String]) -> bool
-    ensures { result ≡ list_any is_dashes (map string_bytes words.now) }
+    ensures { result ≡ list_any (λ word. is_dashes (string_bytes word)) words.now }
 {
-    words.iter().any(|word| word.as_str() == "--")
+    words.iter().any(|word| is_dashes(word.as_str()))
 }
 
 /// What the words give, if they spell options.
