@@ -1,13 +1,12 @@
 -- What clap answers of the command's words, and what the reference says of them.
-use Rattle.std.proofs.Common.{◌≡◌, ◌≢◌, ◌∙◌, ◌++◌, ◌⊎◌, ◌&&◌, ◌||◌, cond, ℕ, Bool, true, false, not, List, [], ◌∷◌, Option, Some, None, is_some, find, refl, sym, ap, inl, inr, codes, fold, bytes_eq, subst, true≢false}
-use Rattle.std.specs.Prelude.{option_and_then, option_map, if◌then◌else◌}
+use Rattle.std.proofs.Common.{◌≡◌, ◌≢◌, ◌∙◌, ◌++◌, ◌||◌, cond, Bool, true, false, List, [], ◌∷◌, Option, Some, None, is_some, refl, sym, ap, inl, inr, codes, fold, bytes_eq, subst, true≢false}
+use Rattle.std.specs.Prelude.{option_and_then, if◌then◌else◌}
 use Rattle.std.specs.List.{list_any}
-use Rattle.std.specs.Option.{option_map_or}
 use Rattle.clap.specs.Walk.{Row, Rule, Text, first_of, has_row, one_of, row_text, rows_of, with_default}
 use Rattle.clap.specs.Words.{matches_of, fault_of}
 use Rattle.clap.specs.Kinds.{Kinds, or_else}
-use Rattle.clap.specs.Faults.{check_fault, given_default_fault, default_fault, defaults_fault, settle_fault, walk_fault, built_fault, level_fault}
-use Rattle.clap.specs.Walk.{finished, nothing_held, walk, walk_from}
+use Rattle.clap.specs.Faults.{given_default_fault, default_fault, defaults_fault, settle_fault, walk_fault}
+use Rattle.clap.specs.Walk.{nothing_held, walk}
 use Rattle.clap.specs.declared.builder.value_parser.Reading.TheVariants as reading
 use Rattle.clap.specs.declared.parser.matches.ValueSource.TheVariants.{DefaultValue}
 use Rattle.clap.specs.Walk.{at_row, more_values}
@@ -22,7 +21,7 @@ use Rattle.run_options.specs.Words.{wants_value, with_word, with_words}
 use Rattle.run_options.proofs.Steps.{alone, paired, unpaired}
 use Rattle.run_options.specs.Command.{is_dashes, run_app}
 use Rattle.run_options.specs.Matches.{IsFlag, flag_of, given_by, given_in}
-use Rattle.run_options.proofs.Rows.{Sound, absent, at_none, value_in, find_old, has_find, read, find_new, same_given}
+use Rattle.run_options.proofs.Rows.{Sound, absent, at_none, value_in, find_old, read, find_new, same_given}
 use Rattle.run_options.proofs.Whole.{Ends, fault, left, walk_tie}
 use Rattle.run_options.proofs.Walks.{Name, by_size, by_fanout, by_hash, by_shuffle, at, journal_rule, rule, run_rules, run_shape, text}
 

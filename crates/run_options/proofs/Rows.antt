@@ -1,14 +1,12 @@
 -- The rows of clap's matches, one a use, and what they give.
-use Rattle.std.proofs.Common.{◌≡◌, ◌∙◌, ◌++◌, ◌&&◌, ◌||◌, cond, ℕ, Bool, true, false, not, List, [], ◌∷◌, Option, Some, None, is_some, option_map, refl, sym, ap, codes, find, slice_get, bytes_eq, true≢false}
+use Rattle.std.proofs.Common.{◌≡◌, ◌∙◌, ◌++◌, ◌||◌, cond, Bool, true, false, List, [], ◌∷◌, Option, Some, None, is_some, refl, sym, ap, codes, find, slice_get, bytes_eq, true≢false}
 use Rattle.std.specs.Prelude.{option_and_then, if◌then◌else◌}
-use Rattle.std.specs.List.{list_any}
 use Rattle.clap.specs.Walk.{Row, Text, at_row, first_of, has_row, more_values, one_of, row_text, used}
 use Rattle.clap.specs.declared.builder.value_parser.Reading.TheVariants as reading
 use Rattle.clap.specs.declared.parser.matches.ValueSource.TheVariants.{CommandLine}
 use Rattle.run_options.specs.declared.given.Given.{Given}
-use Rattle.fl_digest.specs.declared.Hash.{Hash}
-use Rattle.run_options.specs.Given.{brokers_of, hash_of, number_of, with_fanout, with_hash, with_journal, with_shuffle, with_size, with_value}
-use Rattle.run_options.specs.Matches.{combined, field, given_by}
+use Rattle.run_options.specs.Given.{brokers_of, hash_of, number_of, with_journal, with_value}
+use Rattle.run_options.specs.Matches.{field, given_by}
 use Rattle.run_options.proofs.Walks.{Name, by_size, by_fanout, by_hash, by_shuffle, dashed, journal_rule, rule, text}
 use Rattle.run_options.proofs.Sets.{fanout_again, fanout_new, hash_again, hash_new, journal_again, journal_new, shuffle_again, shuffle_new, size_again, size_new}
 

@@ -1,10 +1,9 @@
 -- The options that texts give, each at most once.
-use Rattle.std.proofs.Common.{◌≡◌, ◌∙◌, ◌++◌, ℕ, Bool, true, false, List, [], ◌∷◌, Option, Some, None, is_some, option_map, refl, sym, ap, codes, bytes_eq}
+use Rattle.std.proofs.Common.{◌≡◌, ℕ, Bool, true, false, Option, Some, None, option_map, refl}
 use Rattle.std.specs.Prelude.{option_and_then}
-use Rattle.run_options.specs.declared.given.Given.{Given}
 use Rattle.fl_digest.specs.declared.Hash.{Hash}
 use Rattle.run_options.specs.Matches.{combined}
-use Rattle.run_options.specs.Given.{brokers_of, hash_of, number_of, with_fanout, with_hash, with_journal, with_shuffle, with_size, with_value}
+use Rattle.run_options.specs.Given.{with_fanout, with_hash, with_journal, with_shuffle, with_size}
 
 pub nothing_then : {X Y : Type 0} (o : Option X) → option_and_then {U = Y} (λ x. None) o ≡ None
 nothing_then None = refl

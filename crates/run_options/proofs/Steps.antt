@@ -1,6 +1,6 @@
 -- One option more.
-use Rattle.std.proofs.Common.{◌≡◌, ◌∙◌, ℕ, List, [], ◌∷◌, Bool, true, false, ap, refl, sym, map, string_bytes, cond}
-use Rattle.std.specs.Prelude.{Option, Some, None, String, option_and_then}
+use Rattle.std.proofs.Common.{◌≡◌, ◌∙◌, ℕ, List, [], ◌∷◌, true, false, ap, refl, cond}
+use Rattle.std.specs.Prelude.{Option, Some, None, option_and_then}
 use Rattle.run_options.specs.declared.given.Given.{Given}
 use Rattle.run_options.specs.Given.{with_value}
 use Rattle.run_options.specs.Words.{wants_value, with_word, with_words}

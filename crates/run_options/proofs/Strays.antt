@@ -1,17 +1,17 @@
 -- Words at which clap's walk fails, and a word behind `--NAME`.
-use Rattle.std.proofs.Common.{◌≡◌, ◌≢◌, ◌∙◌, ◌++◌, ◌⊎◌, ◌&&◌, ◌||◌, cond, ℕ, Bool, true, false, not, List, [], ◌∷◌, length, Option, Some, None, is_some, option_map, refl, sym, ap, inl, inr, codes, zero, suc, find, fold, slice_get, bytes_eq, chars, subst, eqb, true≢false, ◌==◌}
+use Rattle.std.proofs.Common.{◌≡◌, ◌≢◌, ◌∙◌, ◌⊎◌, ◌&&◌, ◌||◌, cond, ℕ, Bool, true, false, not, List, [], ◌∷◌, length, Option, Some, None, is_some, refl, sym, ap, inl, inr, codes, suc, slice_get, bytes_eq, chars, subst, true≢false, ◌==◌}
 use Rattle.std.specs.Prelude.{option_and_then, if◌then◌else◌}
 use Rattle.std.specs.List.{after_first, list_any, before_first}
 use Rattle.std.specs.Option.{option_map_or}
 use Rattle.std.proofs.lemmas.Slice.Eq.{bytes_eq-Decides}
-use Rattle.clap.specs.Walk.{Held, Row, Rule, Text, Walk, Waiting, Outcome, idle, option, plain, after_flag, arg_by_id, arg_by_long, arg_by_index, bundle_met, bundle_step, long_or_other, plain_word, short_or_plain, takes_values, trailing, walked}
+use Rattle.clap.specs.Walk.{Held, Row, Rule, Text, Walk, Waiting, idle, option, plain, after_flag, arg_by_long, bundle_met, bundle_step, long_or_other, short_or_plain, takes_values, trailing, walked}
 use Rattle.clap.specs.Lexer.{long_of, long_of_rest, name_and_value, short_of, short_of_rest, strip_byte}
 use Rattle.clap.specs.Kinds.{Kinds, or_else}
-use Rattle.clap.specs.Faults.{bundle_fault, bundle_step_fault, flag_word_fault, flags_fault, long_fault, option_fault, react_fault, settle_fault, step_fault, turn_fault, walk_fault}
+use Rattle.clap.specs.Faults.{bundle_fault, bundle_step_fault, flag_word_fault, flags_fault, long_fault, option_fault, react_fault, settle_fault, step_fault, turn_fault}
 use Rattle.clap.specs.declared.error.kind.ErrorKind.TheVariants as kind
 use Rattle.std.proofs.lemmas.Bool.Decides.{nat_tests}
 use Rattle.std.specs.List.{position_or_len}
-use Rattle.std.specs.Prelude.{take, drop, ◌+◌}
+use Rattle.std.specs.Prelude.{take, ◌+◌}
 use Rattle.std.proofs.Common.{arith}
 use Rattle.clap.specs.Walk.{Step, after_step}
 use Rattle.run_options.proofs.Walks.{Name, by_size, by_fanout, by_hash, by_shuffle, at, dashed, holding, journal_rule, run_rules, run_shape, text, waits, rule}

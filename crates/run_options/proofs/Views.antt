@@ -1,12 +1,11 @@
 -- What a word is, as the reference reads it.
-use Rattle.std.proofs.Common.{◌≡◌, ◌≢◌, ◌∙◌, ◌++◌, ◌⊎◌, ◌&&◌, ◌||◌, ◌+◌, ◌==◌, cond, ℕ, suc, Bool, true, false, not, List, [], ◌∷◌, length, Option, Some, None, is_some, refl, sym, ap, inl, inr, codes, bytes_eq, subst, true≢false, arith, take, drop}
+use Rattle.std.proofs.Common.{◌≡◌, ◌∙◌, ◌++◌, ◌⊎◌, ◌&&◌, ◌||◌, ◌+◌, ◌==◌, cond, ℕ, suc, Bool, true, false, not, List, [], ◌∷◌, length, Option, Some, None, refl, sym, ap, inl, inr, codes, bytes_eq, true≢false, arith, take, drop}
 use Rattle.std.specs.Prelude.{option_and_then, if◌then◌else◌, nat_le, nat_lt, ◌^◌}
 use Rattle.std.specs.List.{list_any, before_first, after_first, position_or_len}
 use Rattle.std.proofs.lemmas.Slice.Eq.{bytes_eq-Decides}
 use Rattle.std.proofs.lemmas.Bool.Decides.{nat_tests}
 use Rattle.run_options.specs.declared.given.Given.{Given}
-use Rattle.fl_digest.specs.declared.Hash.{Hash}
-use Rattle.workload.specs.Words.{is_number, number_value}
+use Rattle.workload.specs.Words.{number_value}
 use Rattle.run_options.specs.Given.{as_brokers, brokers_of, hash_of, most_digits, number_of, with_fanout, with_hash, with_journal, with_shuffle, with_size, with_value}
 use Rattle.run_options.specs.Words.{wants_value, with_word, with_words}
 use Rattle.run_options.proofs.Steps.{alone, paired, unpaired}

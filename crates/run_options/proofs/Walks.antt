@@ -1,13 +1,9 @@
 -- What clap's walk makes of one word.
-use Rattle.std.proofs.Common.{◌≡◌, ◌≢◌, ◌∙◌, ◌++◌, ◌⊎◌, ◌&&◌, ℕ, Bool, true, false, not, List, [], ◌∷◌, length, Option, Some, None, is_some, option_map, refl, sym, ap, inl, inr, arith, codes, zero, suc, find, fold, slice_get, bytes_eq, chars}
-use Rattle.std.specs.Prelude.{option_and_then, if◌then◌else◌}
-use Rattle.std.specs.List.{list_any}
-use Rattle.std.specs.Option.{option_map_or}
-use Rattle.clap.specs.Walk.{Held, Row, Rule, Text, Walk, Waiting, idle, option, plain, after_flag, arg_by_id, arg_by_long, arg_by_index, bundle_met, bundle_step, has_row, long_or_other, short_or_plain, reacted, settled_rows, trailing, used, walk, walked, with_default}
-use Rattle.clap.specs.Simple.{App, Shape, is_simple, built, new_rule, new_shape}
-use Rattle.clap.specs.Lexer.{long_of, short_of, strip_byte}
-use Rattle.clap.specs.Kinds.{Kinds, or_else}
-use Rattle.clap.specs.Faults.{bundle_fault, bundle_step_fault, flag_word_fault, flags_fault, long_fault, react_fault, settle_fault, is_simple_and_free, step_fault, turn_fault, use_fault, walk_fault, repeat_fault}
+use Rattle.std.proofs.Common.{◌≡◌, ◌++◌, true, false, List, [], ◌∷◌, Option, Some, None, refl, codes}
+use Rattle.clap.specs.Walk.{Held, Row, Rule, Text, Walk, idle, option, settled_rows, used, walked}
+use Rattle.clap.specs.Simple.{Shape, is_simple, built, new_shape}
+use Rattle.clap.specs.Kinds.{or_else}
+use Rattle.clap.specs.Faults.{react_fault, settle_fault, is_simple_and_free, turn_fault}
 use Rattle.clap.specs.declared.builder.value_parser.ValueParser.TheVariants as vp
 use Rattle.run_options.specs.Command.{flag, run_app, valued}
 

@@ -1,5 +1,5 @@
 -- clap takes the words, none of which is `--`, where each spells an option that is not given yet.
-use Rattle.std.proofs.Common.{◌≡◌, ◌≢◌, ◌∙◌, ◌++◌, ◌⊎◌, ◌&&◌, ◌||◌, ℕ, Bool, true, false, not, List, [], ◌∷◌, Option, Some, None, is_some, refl, sym, ap, inl, inr, codes, fold, bytes_eq, subst, true≢false}
+use Rattle.std.proofs.Common.{◌≡◌, ◌≢◌, ◌∙◌, ◌++◌, ◌⊎◌, ◌&&◌, ◌||◌, Bool, true, false, not, List, [], ◌∷◌, Option, Some, None, refl, sym, ap, inl, inr, codes, fold, subst, true≢false}
 use Rattle.std.specs.Prelude.{option_and_then, if◌then◌else◌}
 use Rattle.std.specs.List.{list_any}
 use Rattle.clap.specs.Walk.{Held, Row, Rule, Text, Walk, has_row, settled_rows, used, walked}
@@ -8,12 +8,12 @@ use Rattle.clap.specs.Faults.{react_fault, settle_fault, turn_fault, use_fault, 
 use Rattle.clap.specs.declared.error.kind.ErrorKind.TheVariants as kind
 use Rattle.run_options.specs.declared.given.Given.{Given}
 use Rattle.run_options.specs.Given.{with_journal, with_value}
-use Rattle.run_options.specs.Words.{wants_value, with_word, with_words}
+use Rattle.run_options.specs.Words.{with_words}
 use Rattle.run_options.specs.Command.{is_dashes}
 use Rattle.run_options.proofs.Rows.{Sound, flagged_again, flagged_new, given_again, given_new, journal_row, made, read, sound_journal, sound_new, used_journal, used_new}
 use Rattle.run_options.proofs.Sets.{nothing_then, then_in_turn, then_same}
 use Rattle.run_options.proofs.Steps.{alone, ended, paired, unpaired}
-use Rattle.run_options.proofs.Strays.{HasHyphen, IsValueOf, first_fails, late_turn, missing, some_fault, then_fails, unknown_turn, waits_turn}
+use Rattle.run_options.proofs.Strays.{HasHyphen, IsValueOf, first_fails, late_turn, missing, some_fault, unknown_turn, waits_turn}
 use Rattle.run_options.proofs.Views.{IsStray, View, hyphen_refused, journal, named, named_wants, stray, view, whole, whole_wants, whole_word}
 use Rattle.run_options.proofs.Walks.{Name, by_size, by_fanout, by_hash, by_shuffle, at, dashed, holding, journal_rule, journal_turn, journal_walk, named_turn, named_walk, rule, run_rules, run_shape, text, waits, whole_turn, whole_walk}
 

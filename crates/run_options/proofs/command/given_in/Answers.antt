@@ -23,8 +23,8 @@ flags f = flag_of (one_text f (codes "journal"))
 
 -- the flag, as `get_flag` reads it
 flag_read : (o : Option (List ℕ)) (r : Bool) → IsFlag o → (o ≡ Some (codes "true") → r ≡ true) → (o ≡ Some (codes "false") → r ≡ false) → r ≡ flag_of o
-flag_read o r (inl e) yes no = yes e ∙ sym (ap flag_of e)
-flag_read o r (inr e) yes no = no e ∙ sym (ap flag_of e)
+flag_read o r (inl e) on off = on e ∙ sym (ap flag_of e)
+flag_read o r (inr e) on off = off e ∙ sym (ap flag_of e)
 
 pub returns-in_err-size-clause-value : goal.returns-in_err-size-clause-value
 unfolding given_in
