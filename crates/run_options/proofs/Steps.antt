@@ -1,6 +1,6 @@
 -- One option more.
-use Rattle.std.proofs.Common.{◌≡◌, ◌∙◌, ℕ, List, [], ◌∷◌, Bool, true, false, ap, refl, sym, map, string_bytes, cond}
-use Rattle.std.specs.Prelude.{Option, Some, None, String, option_and_then}
+use Rattle.std.proofs.Common.{◌≡◌, ◌∙◌, ℕ, List, [], ◌∷◌, true, false, ap, refl, cond}
+use Rattle.std.specs.Prelude.{Option, Some, None, option_and_then}
 use Rattle.run_options.specs.declared.given.Given.{Given}
 use Rattle.run_options.specs.Given.{with_value}
 use Rattle.run_options.specs.Words.{wants_value, with_word, with_words}
@@ -26,3 +26,8 @@ pub alone : (g : Given) (word : List ℕ) (words : List (List ℕ)) → wants_va
 unfolding with_words
 alone g word [] wants = ap (λ b. cond b None (with_word g word)) wants ∙ kept (with_word g word)
 alone g word (value ∷ words) wants = ap (λ b. cond b (option_and_then (λ more. with_words more words) (with_value g word value)) (option_and_then (λ more. with_words more (value ∷ words)) (with_word g word))) wants
+
+-- no option more
+pub ended : (g : Given) → with_words g [] ≡ Some g
+unfolding with_words
+ended g = refl
