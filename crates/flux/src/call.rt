@@ -1,5 +1,5 @@
 //! The call that `main` makes.
-ghost use Rattle.std.specs.Prelude.{◌≡◌, ◌≢◌, ◌≤◌, ◌↔◌, map, string_bytes, List, ℕ, Ok, IfSome};
+ghost use Rattle.std.specs.Prelude.{◌≡◌, ◌≢◌, ◌≤◌, ◌⊎◌, map, string_bytes, List, ℕ, Ok, IfOk, IfSome};
 ghost use Rattle.run_options.specs.Given.{AreWithin};
 ghost use Rattle.flux_tools.specs.Tools.{AreReaderWords, AreToolWords, HasAnswer};
 ghost use Rattle.world.specs.workload.Limits.{most_commands};
@@ -15,7 +15,7 @@ use crate::reading::read_work;
 use flux_tools::{ToolFault, is_tool, tool};
 use outside::{ReadFault, Sink, Source, write_all};
 use run_options::{Options, read_options};
-use std::alloc::Global;
+use std::alloc::{AllocError, Global};
 use workload_reader::LineFault;
 use world::answers::{Chronicle, Step};
 use world::lists::ListOf;
@@ -81,17 +81,18 @@ fn status(fault: &Fault) -> u8
 }
 
 /// The options of a run, where the words are a run's.
-fn options_of_run(words: &[String]) -> Option<Options>
-    ensures value { result ≡ run_options (map string_bytes words.now) }
-    ensures within { IfSome result AreWithin }
+fn options_of_run(alloc: Global, words: &[String]) -> Result<Option<Options>, AllocError>
+    ensures value { IfOk result (λ options.
+        options ≡ run_options (map string_bytes words.now)) }
+    ensures within { IfOk result (λ options. IfSome options AreWithin) }
 {
     match words {
         [word, options @ ..] => if word.as_str() == "run" {
-            read_options(options)
+            read_options(alloc, options)
         } else {
-            None
+            Ok(None)
         },
-        [] => None,
+        [] => Ok(None),
     }
 }
 
@@ -237,8 +238,9 @@ fn run_tool<S: Source, K: Sink>(
 /// have their priorities by the weights.
 ///
 /// The status is 0 where all went well; 1 where the text was read whole, or is too long, and is
-/// refused; 2 exactly where the words are no command's, and then nothing was read; 3 where the
-/// source failed; 4 for want of memory; 5 where the sink failed.
+/// refused; 2 where the words are no command's, and then nothing was read; 3 where the source
+/// failed; 4 for want of memory, which the words of a run may meet before they are known; 5 where
+/// the sink failed.
 pub fn flux<S: Source, K: Sink>(
     alloc: Global,
     words: &[String],
@@ -265,7 +267,10 @@ pub fn flux<S: Source, K: Sink>(
         result
         text
         × IsTaken (side K.held K.faults sink.old sink.new) text result.fault }
-    ensures words { (result.status ≡ 2) ↔ ¬ AreWords (map string_bytes words.now) }
+    // status 2 comes only where the words are no command's, and always there but for want of memory
+    ensures words { result.status ≡ 2 → ¬ AreWords (map string_bytes words.now) }
+    ensures stray { ¬ AreWords (map string_bytes words.now)
+        → (result.status ≡ 2) ⊎ (result.status ≡ 4) }
     ensures unread { ¬ AreRunWords (map string_bytes words.now)
         → ¬ AreReaderWords (map string_bytes words.now)
         → source.new ≡ source.old }
@@ -289,7 +294,10 @@ pub fn flux<S: Source, K: Sink>(
     // a workload that a seed draws is never refused
     ensures unrefused { AreDrawnWords (map string_bytes words.now) → IsUnrefused result.status }
 {
-    if let Some(options) = options_of_run(words) {
+    let Ok(options) = options_of_run(alloc, words) else {
+        return Run::without_steps(alloc, Fault::Memory);
+    };
+    if let Some(options) = options {
         return run_workload(alloc, weights, options, source, sink);
     }
     if let Some(generation) = generation_of(words) {

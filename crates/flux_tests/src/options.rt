@@ -19,7 +19,7 @@ struct Case {
     options: Option<Options>,
 }
 
-const CASES: [Case; 58] = [
+const CASES: [Case; 83] = [
     Case {
         words: &[],
         options: Some(DEFAULT),
@@ -287,6 +287,123 @@ const CASES: [Case; 58] = [
         words: &["=4"],
         options: None,
     },
+    Case {
+        words: &[
+            "--fanout",
+            "3",
+            "--shuffle=12",
+            "--size",
+            "7",
+            "--hash",
+            "sha256",
+        ],
+        options: Some(Options {
+            size: 7,
+            fanout: 3,
+            hash: Hash::Sha256,
+            shuffle: Some(12),
+            ..DEFAULT
+        }),
+    },
+    Case {
+        words: &["--shuffle", "00000000000000000020"],
+        options: Some(Options {
+            shuffle: Some(20),
+            ..DEFAULT
+        }),
+    },
+    Case {
+        words: &["--shuffle", "000000000000000000020"],
+        options: None,
+    },
+    Case {
+        words: &["--size", "-"],
+        options: None,
+    },
+    Case {
+        words: &["-"],
+        options: None,
+    },
+    Case {
+        words: &["--size", "--fanout", "2"],
+        options: None,
+    },
+    Case {
+        words: &["--size", "--fanout=2"],
+        options: None,
+    },
+    Case {
+        words: &["--hash", "--"],
+        options: None,
+    },
+    Case {
+        words: &["--hash", "--", "sha1"],
+        options: None,
+    },
+    Case {
+        words: &["--size", "4", "--"],
+        options: None,
+    },
+    Case {
+        words: &["--size=--"],
+        options: None,
+    },
+    Case {
+        words: &["--=4"],
+        options: None,
+    },
+    Case {
+        words: &["--size", "4", ""],
+        options: None,
+    },
+    Case {
+        words: &["", "--size", "4"],
+        options: None,
+    },
+    Case {
+        words: &["--size==4"],
+        options: None,
+    },
+    Case {
+        words: &["--hash=sha1", "--hash=sha256"],
+        options: None,
+    },
+    Case {
+        words: &["--journal", "--size", "4", "--journal"],
+        options: None,
+    },
+    Case {
+        words: &["--journal=", "--size", "4"],
+        options: None,
+    },
+    Case {
+        words: &["-size", "4"],
+        options: None,
+    },
+    Case {
+        words: &["-é"],
+        options: None,
+    },
+    Case {
+        words: &["--size", "é"],
+        options: None,
+    },
+    Case {
+        words: &["--size", "４"],
+        options: None,
+    },
+    Case {
+        words: &["--version"],
+        options: None,
+    },
+    Case {
+        words: &["-V"],
+        options: None,
+    },
+    Case {
+        words: &["--size", "4", "run"],
+        options: None,
+    },
 ];
 
 /// These words, each a string.
@@ -301,7 +418,7 @@ fn strings(alloc: Global, words: &[&str]) -> Result<Vec<String>, Fail> {
 /// Whether the words of a case spell its options.
 fn spells(alloc: Global, case: &Case) -> Result<bool, Fail> {
     let words = strings(alloc, case.words)?;
-    Ok(read_options(&words) == case.options)
+    Ok(read_options(alloc, &words)? == case.options)
 }
 
 #[test]

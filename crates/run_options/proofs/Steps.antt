@@ -26,3 +26,8 @@ pub alone : (g : Given) (word : List ℕ) (words : List (List ℕ)) → wants_va
 unfolding with_words
 alone g word [] wants = ap (λ b. cond b None (with_word g word)) wants ∙ kept (with_word g word)
 alone g word (value ∷ words) wants = ap (λ b. cond b (option_and_then (λ more. with_words more words) (with_value g word value)) (option_and_then (λ more. with_words more (value ∷ words)) (with_word g word))) wants
+
+-- no option more
+pub ended : (g : Given) → with_words g [] ≡ Some g
+unfolding with_words
+ended g = refl

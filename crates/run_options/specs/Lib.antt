@@ -1,2 +1,4 @@
 pub mod Given
 pub mod Words
+pub mod Command
+pub mod Matches

@@ -1,18 +1,23 @@
 //! The options of a run of a workload, as the words behind `run` spell them.
 //!
 //! Options stand in any order, each at most once. An option with a value is two words, `--name
-//! value`, or one,
-//! `--name=value`. The words are read without memory, so that what they are never depends on it.
+//! value`, or one, `--name=value`. clap reads the words. That `--` is none of them, and which
+//! texts are numbers and names of hashes, are tests of this crate.
 #![tactic(auto)]
 
-ghost use Rattle.std.specs.Prelude.{◌≡◌, IfSome, map, string_bytes};
+ghost use Rattle.std.specs.Prelude.{◌≡◌, IfOk, IfSome, map, string_bytes};
+ghost use Rattle.std.specs.List.{list_any};
+ghost use Rattle.run_options.specs.Command.{is_dashes};
 ghost use Rattle.run_options.specs.Given.{AreWithin, IsWithin, nothing};
 ghost use Rattle.run_options.specs.Words.{options_of, with_words};
 
+mod command;
 mod given;
 
+use command::{given_in, parse};
 use fl_digest::Hash;
-use given::{Given, wants_value};
+use given::Given;
+use std::alloc::{AllocError, Global};
 
 /// What a run is asked for.
 #[derive(Clone, Copy, Debug, PartialEq, Eq)]
@@ -29,30 +34,36 @@ pub struct Options {
     pub journal: bool,
 }
 
-/// What the words say beside each other, if each is an option's and none is given twice.
-fn all_given(words: &[String]) -> Option<Given>
-    ensures value { result ≡ with_words nothing (map string_bytes words.now) }
-    ensures within { IfSome result IsWithin }
+/// Whether `--` stands among the words.
+fn has_dashes(words: &[String]) -> bool
+    ensures { result ≡ list_any is_dashes (map string_bytes words.now) }
 {
-    let mut given = Given::nothing();
-    let mut rest = words;
-    while let Some((word, behind)) = rest.split_first() {
-        if wants_value(word.as_str()) {
-            let (value, further) = behind.split_first()?;
-            given = given.with_value(word.as_str(), value.as_str())?;
-            rest = further;
-        } else {
-            given = given.with_word(word.as_str())?;
-            rest = behind;
-        }
+    words.iter().any(|word| word.as_str() == "--")
+}
+
+/// What the words give, if they spell options.
+fn spelled(alloc: Global, words: &[String]) -> Result<Option<Given>, AllocError>
+    ensures value { IfOk result (λ given.
+        given ≡ with_words nothing (map string_bytes words.now)) }
+    ensures within { IfOk result (λ given. IfSome given IsWithin) }
+{
+    if has_dashes(words) {
+        return Ok(None);
     }
-    Some(given)
+    match parse(alloc, words)? {
+        Some(matches) => Ok(given_in(&matches)),
+        None => Ok(None),
+    }
 }
 
 /// The options that the words behind `run` spell, if they spell any.
-pub fn read_options(words: &[String]) -> Option<Options>
-    ensures value { result ≡ options_of (map string_bytes words.now) }
-    ensures within { IfSome result AreWithin }
+pub fn read_options(alloc: Global, words: &[String]) -> Result<Option<Options>, AllocError>
+    ensures value { IfOk result (λ options.
+        options ≡ options_of (map string_bytes words.now)) }
+    ensures within { IfOk result (λ options. IfSome options AreWithin) }
 {
-    Some(all_given(words)?.with_defaults())
+    match spelled(alloc, words)? {
+        Some(given) => Ok(Some(given.with_defaults())),
+        None => Ok(None),
+    }
 }

@@ -1,0 +1,189 @@
+-- What a word is, as the reference reads it.
+use Rattle.std.proofs.Common.{◌≡◌, ◌≢◌, ◌∙◌, ◌++◌, ◌⊎◌, ◌&&◌, ◌||◌, ◌+◌, ◌==◌, cond, ℕ, suc, Bool, true, false, not, List, [], ◌∷◌, length, Option, Some, None, is_some, refl, sym, ap, inl, inr, codes, bytes_eq, subst, true≢false, arith, take, drop}
+use Rattle.std.specs.Prelude.{option_and_then, if◌then◌else◌, nat_le, nat_lt, ◌^◌}
+use Rattle.std.specs.List.{list_any, before_first, after_first, position_or_len}
+use Rattle.std.proofs.lemmas.Slice.Eq.{bytes_eq-Decides}
+use Rattle.std.proofs.lemmas.Bool.Decides.{nat_tests}
+use Rattle.run_options.specs.declared.given.Given.{Given}
+use Rattle.fl_digest.specs.declared.Hash.{Hash}
+use Rattle.workload.specs.Words.{is_number, number_value}
+use Rattle.run_options.specs.Given.{as_brokers, brokers_of, hash_of, most_digits, number_of, with_fanout, with_hash, with_journal, with_shuffle, with_size, with_value}
+use Rattle.run_options.specs.Words.{wants_value, with_word, with_words}
+use Rattle.run_options.proofs.Steps.{alone, paired, unpaired}
+use Rattle.run_options.proofs.Strays.{IsUnknown, HasHyphen, before_more}
+use Rattle.run_options.proofs.Walks.{Name, by_size, by_fanout, by_hash, by_shuffle, dashed}
+
+abbrev Text : Type 0
+Text = List ℕ
+
+-- ---- a word that the reference refuses
+
+by_names : (a b c d : Bool) (x y z w : Option Given) → a ≡ false → b ≡ false → c ≡ false → d ≡ false
+    → (if a then x else if b then y else if c then z else if d then w else None) ≡ None
+by_names false false false false x y z w ea eb ec ed = refl
+by_names true b c d x y z w ea eb ec ed = absurd (true≢false ea)
+by_names false true c d x y z w ea eb ec ed = absurd (true≢false eb)
+by_names false false true d x y z w ea eb ec ed = absurd (true≢false ec)
+by_names false false false true x y z w ea eb ec ed = absurd (true≢false ed)
+
+no_value : (g : Given) (name value : Text) → ((n : Name) → bytes_eq name (dashed n) ≡ false) → with_value g name value ≡ None
+no_value g name value other = by_names (bytes_eq name (dashed by_size)) (bytes_eq name (dashed by_fanout)) (bytes_eq name (dashed by_hash)) (bytes_eq name (dashed by_shuffle))
+    (option_and_then (with_size g) (brokers_of value)) (option_and_then (with_fanout g) (brokers_of value)) (option_and_then (with_hash g) (hash_of value)) (option_and_then (with_shuffle g) (number_of value))
+    (other by_size) (other by_fanout) (other by_hash) (other by_shuffle)
+
+pub record IsStray (word : Text) : Type 0 where
+  pub unknown : IsUnknown word
+  pub refused : (g : Given) (words : List Text) → with_words g (word ∷ words) ≡ None
+
+-- ---- `=` in a word
+
+any_head : (a b : Bool) → (a || b) ≡ false → (a ≡ false) × (b ≡ false)
+any_head false b e = (refl, e)
+any_head true b e = absurd (true≢false e)
+
+uncut : (word : Text) → list_any (λ b. b == 61) word ≡ false → before_first (λ b. b == 61) word ≡ word
+uncut [] none = refl
+uncut (b ∷ rest) none = let parts = any_head (b == 61) (list_any (λ c. c == 61) rest) none in
+    before_more b rest parts.0 ∙ ap (λ t. b ∷ t) (uncut rest parts.1)
+
+after_more : (b : ℕ) (xs : Text) → (b == 61) ≡ false → after_first (λ c. c == 61) (b ∷ xs) ≡ after_first (λ c. c == 61) xs
+after_more b xs other =
+    let next : 1 + position_or_len (λ c. c == 61) xs + 1 ≡ suc (position_or_len (λ c. c == 61) xs + 1) = omega arith in
+    ap (λ t. drop (cond (not t) (1 + position_or_len (λ c. c == 61) xs) 0 + 1) (b ∷ xs)) other ∙ ap (λ k. drop k (b ∷ xs)) next
+
+at_equals : (rest : Text) (b : ℕ) → (b == 61) ≡ true → b ∷ rest ≡ before_first (λ c. c == 61) (b ∷ rest) ++ 61 ∷ after_first (λ c. c == 61) (b ∷ rest)
+at_equals rest b e =
+    let is : b ≡ 61 = grind (arith, nat_tests) in
+    ap (λ c. c ∷ rest) is ∙ ap (λ t. take (cond (not t) (1 + position_or_len (λ c. c == 61) rest) 0) (b ∷ rest) ++ 61 ∷ drop (cond (not t) (1 + position_or_len (λ c. c == 61) rest) 0 + 1) (b ∷ rest)) (sym e)
+
+cut : (word : Text) → list_any (λ b. b == 61) word ≡ true → word ≡ before_first (λ b. b == 61) word ++ 61 ∷ after_first (λ b. b == 61) word
+cut [] some = absurd (true≢false (sym some))
+cut (b ∷ rest) some = go (b == 61) refl (cut rest)
+  where
+    go : (t : Bool) → (b == 61) ≡ t
+        → (list_any (λ c. c == 61) rest ≡ true → rest ≡ before_first (λ c. c == 61) rest ++ 61 ∷ after_first (λ c. c == 61) rest)
+        → b ∷ rest ≡ before_first (λ c. c == 61) (b ∷ rest) ++ 61 ∷ after_first (λ c. c == 61) (b ∷ rest)
+    go true e more = at_equals rest b e
+    go false e more =
+        let later : list_any (λ c. c == 61) rest ≡ true = ap (λ t. t || list_any (λ c. c == 61) rest) (sym e) ∙ some in
+        ap (λ t. b ∷ t) (more later) ∙ ap (λ t. t ++ 61 ∷ after_first (λ c. c == 61) rest) (sym (before_more b rest e))
+        ∙ ap (λ t. before_first (λ c. c == 61) (b ∷ rest) ++ 61 ∷ t) (sym (after_more b rest e))
+
+-- ---- what a word is
+
+pub data View (word : Text) : Type 0 where
+  journal : word ≡ codes "--journal" → View word
+  named : (n : Name) → word ≡ dashed n → View word
+  whole : (n : Name) (v : Text) → word ≡ dashed n ++ 61 ∷ v → View word
+  stray : IsStray word → View word
+
+-- the name is an option's, or none's
+abbrev Names : Text → Type 0
+Names name = ((n : Name) × (name ≡ dashed n)) ⊎ ((n : Name) → bytes_eq name (dashed n) ≡ false)
+
+names : (name : Text) → Names name
+names name = go (bytes_eq name (dashed by_size)) (bytes_eq name (dashed by_fanout)) (bytes_eq name (dashed by_hash)) (bytes_eq name (dashed by_shuffle)) refl refl refl refl
+  where
+    none : bytes_eq name (dashed by_size) ≡ false → bytes_eq name (dashed by_fanout) ≡ false → bytes_eq name (dashed by_hash) ≡ false → bytes_eq name (dashed by_shuffle) ≡ false
+        → (n : Name) → bytes_eq name (dashed n) ≡ false
+    none ea eb ec ed by_size = ea
+    none ea eb ec ed by_fanout = eb
+    none ea eb ec ed by_hash = ec
+    none ea eb ec ed by_shuffle = ed
+
+    go : (a b c d : Bool) → bytes_eq name (dashed by_size) ≡ a → bytes_eq name (dashed by_fanout) ≡ b → bytes_eq name (dashed by_hash) ≡ c → bytes_eq name (dashed by_shuffle) ≡ d → Names name
+    go true b c d ea eb ec ed = inl (by_size, (bytes_eq-Decides name (dashed by_size)).0 ea)
+    go false true c d ea eb ec ed = inl (by_fanout, (bytes_eq-Decides name (dashed by_fanout)).0 eb)
+    go false false true d ea eb ec ed = inl (by_hash, (bytes_eq-Decides name (dashed by_hash)).0 ec)
+    go false false false true ea eb ec ed = inl (by_shuffle, (bytes_eq-Decides name (dashed by_shuffle)).0 ed)
+    go false false false false ea eb ec ed = inr (none ea eb ec ed)
+
+wants : (word : Text) (a b : Bool) → bytes_eq word (codes "--journal") ≡ a → list_any (λ c. c == 61) word ≡ b → wants_value word ≡ (not a && not b)
+wants word a b ea eb = ap (λ x. not x && not (list_any (λ c. c == 61) word)) ea ∙ ap (λ y. not a && not y) eb
+
+-- a word with `=` that names no option
+stray_whole : (word : Text) → bytes_eq word (codes "--journal") ≡ false → list_any (λ c. c == 61) word ≡ true
+    → ((n : Name) → bytes_eq (before_first (λ c. c == 61) word) (dashed n) ≡ false) → IsStray word
+stray_whole word other some none = record {
+  unknown = record { names = none; flag = λ e. some };
+  refused = λ g words. alone g word words (wants word false true other some)
+      ∙ ap (option_and_then (λ more. with_words more words)) (alone_word g);
+}
+  where
+    alone_word : (g : Given) → with_word g word ≡ None
+    alone_word g = ap (λ a. if a then with_journal g else if list_any (λ c. c == 61) word then with_value g (before_first (λ c. c == 61) word) (after_first (λ c. c == 61) word) else None) other
+        ∙ ap (λ b. if b then with_value g (before_first (λ c. c == 61) word) (after_first (λ c. c == 61) word) else None) some
+        ∙ no_value g (before_first (λ c. c == 61) word) (after_first (λ c. c == 61) word) none
+
+-- a word without `=` that names no option
+stray_named : (word : Text) → bytes_eq word (codes "--journal") ≡ false → list_any (λ c. c == 61) word ≡ false
+    → ((n : Name) → bytes_eq word (dashed n) ≡ false) → IsStray word
+stray_named word other plain none = record {
+  unknown = record {
+    names = λ n. ap (λ t. bytes_eq t (dashed n)) (uncut word plain) ∙ none n;
+    flag = λ e. absurd (true≢false (sym e ∙ ap (λ t. bytes_eq t (codes "--journal")) (uncut word plain) ∙ other));
+  };
+  refused = refused;
+}
+  where
+    refused : (g : Given) (words : List Text) → with_words g (word ∷ words) ≡ None
+    refused g [] = unpaired g word (wants word false false other plain)
+    refused g (value ∷ words) = paired g word value words (wants word false false other plain)
+        ∙ ap (option_and_then (λ more. with_words more words)) (no_value g word value none)
+
+pub view : (word : Text) → View word
+view word = one (bytes_eq word (codes "--journal")) refl
+  where
+    cut_at : bytes_eq word (codes "--journal") ≡ false → list_any (λ c. c == 61) word ≡ true → Names (before_first (λ c. c == 61) word) → View word
+    cut_at other some (inl n) = whole n.0 (after_first (λ c. c == 61) word) (cut word some ∙ ap (λ t. t ++ 61 ∷ after_first (λ c. c == 61) word) n.1)
+    cut_at other some (inr none) = stray (stray_whole word other some none)
+
+    plain_as : bytes_eq word (codes "--journal") ≡ false → list_any (λ c. c == 61) word ≡ false → Names word → View word
+    plain_as other plain (inl n) = named n.0 n.1
+    plain_as other plain (inr none) = stray (stray_named word other plain none)
+
+    two : bytes_eq word (codes "--journal") ≡ false → (b : Bool) → list_any (λ c. c == 61) word ≡ b → View word
+    two other true some = cut_at other some (names (before_first (λ c. c == 61) word))
+    two other false plain = plain_as other plain (names word)
+
+    one : (a : Bool) → bytes_eq word (codes "--journal") ≡ a → View word
+    one true e = journal ((bytes_eq-Decides word (codes "--journal")).0 e)
+    one false other = two other (list_any (λ c. c == 61) word) refl
+
+-- ---- the words of an option, to the reference
+
+pub whole_wants : (n : Name) (v : Text) → wants_value (dashed n ++ 61 ∷ v) ≡ false
+whole_wants by_size v = refl
+whole_wants by_fanout v = refl
+whole_wants by_hash v = refl
+whole_wants by_shuffle v = refl
+
+pub whole_word : (n : Name) (v : Text) (g : Given) → with_word g (dashed n ++ 61 ∷ v) ≡ with_value g (dashed n) v
+whole_word by_size v g = refl
+whole_word by_fanout v g = refl
+whole_word by_hash v g = refl
+whole_word by_shuffle v g = refl
+
+pub named_wants : (n : Name) → wants_value (dashed n) ≡ true
+named_wants by_size = refl
+named_wants by_fanout = refl
+named_wants by_hash = refl
+named_wants by_shuffle = refl
+
+-- no value begins with a hyphen
+no_number : (rest : Text) (a b c : Bool) → (if a && (b && false && c) then Some (number_value (45 ∷ rest)) else None) ≡ None
+no_number rest true true c = refl
+no_number rest true false c = refl
+no_number rest false b c = refl
+
+hyphen_number : (rest : Text) → number_of (45 ∷ rest) ≡ None
+hyphen_number rest = no_number rest (nat_le (length (45 ∷ rest)) most_digits) (not (length (45 ∷ rest) == 0)) (nat_lt (number_value (45 ∷ rest)) (2 ^ 64))
+
+hyphen_value : (n : Name) (g : Given) (rest : Text) → with_value g (dashed n) (45 ∷ rest) ≡ None
+hyphen_value by_size g rest = ap (λ o. option_and_then (with_size g) (option_and_then as_brokers o)) (hyphen_number rest)
+hyphen_value by_fanout g rest = ap (λ o. option_and_then (with_fanout g) (option_and_then as_brokers o)) (hyphen_number rest)
+hyphen_value by_hash g rest = refl
+hyphen_value by_shuffle g rest = ap (option_and_then (with_shuffle g)) (hyphen_number rest)
+
+pub hyphen_refused : (n : Name) (g : Given) (word : Text) → HasHyphen word → with_value g (dashed n) word ≡ None
+hyphen_refused n g word h = ap (with_value g (dashed n)) h.1 ∙ hyphen_value n g h.0

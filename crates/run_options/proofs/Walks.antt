@@ -1,0 +1,116 @@
+-- What clap's walk makes of one word.
+use Rattle.std.proofs.Common.{◌≡◌, ◌≢◌, ◌∙◌, ◌++◌, ◌⊎◌, ◌&&◌, ℕ, Bool, true, false, not, List, [], ◌∷◌, length, Option, Some, None, is_some, option_map, refl, sym, ap, inl, inr, arith, codes, zero, suc, find, fold, slice_get, bytes_eq, chars}
+use Rattle.std.specs.Prelude.{option_and_then, if◌then◌else◌}
+use Rattle.std.specs.List.{list_any}
+use Rattle.std.specs.Option.{option_map_or}
+use Rattle.clap.specs.Walk.{Held, Row, Rule, Text, Walk, Waiting, idle, option, plain, after_flag, arg_by_id, arg_by_long, arg_by_index, bundle_met, bundle_step, has_row, long_or_other, short_or_plain, reacted, settled_rows, trailing, used, walk, walked, with_default}
+use Rattle.clap.specs.Simple.{App, Shape, is_simple, built, new_rule, new_shape}
+use Rattle.clap.specs.Lexer.{long_of, short_of, strip_byte}
+use Rattle.clap.specs.Kinds.{Kinds, or_else}
+use Rattle.clap.specs.Faults.{bundle_fault, bundle_step_fault, flag_word_fault, flags_fault, long_fault, react_fault, settle_fault, is_simple_and_free, step_fault, turn_fault, use_fault, walk_fault, repeat_fault}
+use Rattle.clap.specs.declared.builder.value_parser.ValueParser.TheVariants as vp
+use Rattle.run_options.specs.Command.{flag, run_app, valued}
+
+-- the options with a value
+pub data Name : Type 0 where
+  by_size : Name
+  by_fanout : Name
+  by_hash : Name
+  by_shuffle : Name
+
+abbrev pub text : Name → Text
+text by_size = codes "size"
+text by_fanout = codes "fanout"
+text by_hash = codes "hash"
+text by_shuffle = codes "shuffle"
+
+abbrev pub dashed : Name → Text
+dashed n = 45 ∷ 45 ∷ text n
+
+-- the rules of the command as it is built
+abbrev pub rule : Name → Rule
+rule n = record (valued (text n)) {
+  parser = Some vp.String;
+  range = Some (record { start_inclusive = 1; end_inclusive = 1 });
+}
+
+abbrev pub journal_rule : Rule
+journal_rule = record (flag (codes "journal")) {
+  defaults = codes "false" ∷ [];
+  missing = codes "true" ∷ [];
+  parser = Some vp.Bool;
+  range = Some (record { start_inclusive = 0; end_inclusive = 0 });
+}
+
+abbrev pub run_rules : List Rule
+run_rules = rule by_size ∷ rule by_fanout ∷ rule by_hash ∷ rule by_shuffle ∷ journal_rule ∷ []
+
+abbrev pub run_shape : Shape
+run_shape = record (new_shape (codes "run")) {
+  rules = run_rules;
+  no_binary_name = true;
+  disable_help_flag = true;
+  disable_help_subcommand = true;
+  is_built = true;
+}
+
+pub built_is : built run_app ≡ record { top = run_shape; subs = [] }
+unfolding run_app
+built_is = refl
+
+pub simple_app : is_simple run_app ≡ true
+unfolding run_app
+simple_app = refl
+
+pub free_app : is_simple_and_free run_app ≡ true
+unfolding run_app
+free_app = refl
+
+-- between two words
+abbrev pub holding : List Row → Option (Text × List Text) → Held
+holding rows p = record { rows = rows; pending = p; skip = 0 }
+
+abbrev pub at : List Row → Option (Text × List Text) → Walk
+at rows p = record { held = holding rows p; waiting = idle; position = 1; is_trailing = false; stopped = None }
+
+abbrev pub waits : Name → List Row → Walk
+waits n rows = record (at rows (Some (text n, []))) { waiting = option (text n) }
+
+pub whole_turn : (n : Name) (v : Text) (rows : List Row) (p : Option (Text × List Text))
+    → turn_fault run_shape [] (at rows p) (dashed n ++ 61 ∷ v) ≡ or_else (react_fault run_rules false (rule n) (v ∷ []) (holding rows p)) []
+whole_turn by_size v rows p = refl
+whole_turn by_fanout v rows p = refl
+whole_turn by_hash v rows p = refl
+whole_turn by_shuffle v rows p = refl
+
+pub whole_walk : (n : Name) (v : Text) (rows : List Row) (p : Option (Text × List Text))
+    → walked run_rules [] (at rows p) (dashed n ++ 61 ∷ v) ≡ at (used (rule n) (v ∷ []) (settled_rows run_rules p rows)) None
+unfolding walked
+whole_walk by_size v rows p = refl
+whole_walk by_fanout v rows p = refl
+whole_walk by_hash v rows p = refl
+whole_walk by_shuffle v rows p = refl
+
+pub named_turn : (n : Name) (rows : List Row) (p : Option (Text × List Text))
+    → turn_fault run_shape [] (at rows p) (dashed n) ≡ or_else (settle_fault run_rules false (holding rows p)) []
+named_turn by_size rows p = refl
+named_turn by_fanout rows p = refl
+named_turn by_hash rows p = refl
+named_turn by_shuffle rows p = refl
+
+pub named_walk : (n : Name) (rows : List Row) (p : Option (Text × List Text))
+    → walked run_rules [] (at rows p) (dashed n) ≡ waits n (settled_rows run_rules p rows)
+unfolding walked
+named_walk by_size rows p = refl
+named_walk by_fanout rows p = refl
+named_walk by_hash rows p = refl
+named_walk by_shuffle rows p = refl
+
+pub journal_turn : (rows : List Row) (p : Option (Text × List Text))
+    → turn_fault run_shape [] (at rows p) (codes "--journal") ≡ or_else (react_fault run_rules false journal_rule [] (holding rows p)) []
+journal_turn rows p = refl
+
+pub journal_walk : (rows : List Row) (p : Option (Text × List Text))
+    → walked run_rules [] (at rows p) (codes "--journal") ≡ at (used journal_rule [] (settled_rows run_rules p rows)) None
+unfolding walked
+journal_walk rows p = refl
