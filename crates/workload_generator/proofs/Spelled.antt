@@ -1,18 +1,17 @@
 -- A drawn text is read without a fault, line by line.
-use Rattle.std.proofs.Common.{◌≡◌, ℕ, zero, suc, ◌+◌, ◌*◌, ◌^◌, ◌%◌, ◌<◌, ◌≤◌, ◌==◌, ◌||◌, not, Bool, true, false, List, [], ◌∷◌, ◌++◌, length, refl, sym, ap, ap₂, ◌∙◌, subst, arith, cond, drop, eqb, count_by, true≢false}
-use Rattle.std.specs.Prelude.{nat_le, nat_lt, codes, decimal, flat_map, map, Option, Some, None, option_map, sum_by, if◌then◌else◌}
+use Rattle.std.proofs.Common.{◌≡◌, ℕ, zero, suc, ◌+◌, ◌*◌, ◌^◌, ◌%◌, ◌<◌, ◌≤◌, ◌==◌, Bool, true, false, List, [], ◌∷◌, ◌++◌, length, refl, sym, ap, ap₂, ◌∙◌, arith, cond, drop, true≢false}
+use Rattle.std.specs.Prelude.{nat_le, nat_lt, codes, decimal, flat_map, map, None, option_map, if◌then◌else◌}
 use Rattle.std.specs.Fmt.{digits}
 use Rattle.std.specs.List.{range_with_len}
 use Rattle.std.specs.Option.{option_to_list}
 use Rattle.std.specs.Str.{is_utf8}
-use Rattle.std.proofs.lemmas.Bool.{eqb-true}
 use Rattle.std.proofs.lemmas.Bool.Decides.{nat_tests}
 use Rattle.std.proofs.lemmas.Fmt.{decimal_injective}
-use Rattle.std.proofs.lemmas.List.{length-append, length_push}
+use Rattle.std.proofs.lemmas.List.{length_push}
 use Rattle.std.proofs.lemmas.List.Folds.{list_any-append}
 use Rattle.std.proofs.lemmas.List.Sums.{sum_by_push}
 use Rattle.std.proofs.lemmas.Slice.Eq.{bytes_eq-Decides}
-use Rattle.std.proofs.lemmas.Str.{IsAscii-append, IsUtf8-from_ascii, is_utf8-from_IsUtf8}
+use Rattle.std.proofs.lemmas.Str.{IsUtf8-from_ascii, is_utf8-from_IsUtf8}
 use Rattle.std.specs.Str.{bytes_eq}
 use Rattle.job_spec.specs.outcomes.Outcomes.{first_of, or_else}
 use Rattle.run_limits.specs.Limits.{most_submits, most_text}
@@ -21,14 +20,13 @@ use Rattle.workload.specs.Limits.{most_commands, most_line}
 use Rattle.workload.specs.Tallies.{declares, is_declared, seconds_in, seconds_of, submits, submits_in}
 use Rattle.workload.specs.declared.work.Command.{Command}
 use Rattle.workload.specs.declared.work.Line.{Line}
-use Rattle.workload.specs.declared.work.Workload.{Workload}
-use Rattle.workload_reader.specs.Lines.{TextLine, last_line, lines_of}
+use Rattle.workload_reader.specs.Lines.{TextLine, lines_of}
 use Rattle.workload_reader.specs.Reading.{command_of, fault_in, first_fault, line_faults, verb_faults, with_line}
 use Rattle.workload_reader.specs.declared.faults.LineFault.{LineFault}
 use Rattle.workload_reader.specs.declared.faults.LineFault.TheVariants as line_fault
 use Rattle.workload_reader.specs.declared.faults.Which.TheVariants as which
 use Rattle.workload_generator.specs.Drawn.{asked, drawn, is_submission, kind_at, submissions, within}
-use Rattle.workload_generator.specs.Texts.{actor_line, actor_lines, command_line, generated}
+use Rattle.workload_generator.specs.Texts.{actor_line, command_line, generated}
 use Rattle.workload_generator.specs.declared.drawn.Drawn.{Drawn}
 use Rattle.workload_generator.specs.declared.drawn.Kind.{Kind}
 use Rattle.workload_generator.specs.declared.drawn.Kind.TheVariants as kind
