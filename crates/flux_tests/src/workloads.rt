@@ -67,10 +67,8 @@ fn has_its_fault(alloc: Global, case: &Long) -> Result<bool, Fail> {
     Ok(found == fault_in(line, told))
 }
 
-const AT_THE_LIMITS: [Long; 27] = [
+const AT_THE_LIMITS: [Long; 25] = [
     (&[255], b"", 0, b"", 0, Told::NotUtf8),
-    (b"", b"\n", MOST_TEXT, b"", 0, Told::Fine),
-    (b"", b"\n", MOST_TEXT, b"\n", 0, Told::TooLong),
     (b"grant", b" ", MOST_LINE - 5, b"", 1, Told::Unformed),
     (
         b"grant",
@@ -197,6 +195,19 @@ fn texts_at_the_limits_have_their_faults(rt: HostRuntime) -> Result<(), Fail> {
             case.1,
             case.2
         );
+    }
+    Ok(())
+}
+
+const LONGEST: [Long; 2] = [
+    (b"", b"\n", MOST_TEXT, b"", 0, Told::Fine),
+    (b"", b"\n", MOST_TEXT, b"\n", 0, Told::TooLong),
+];
+
+#[test]
+fn the_longest_texts_have_their_faults(rt: HostRuntime) -> Result<(), Fail> {
+    for case in &LONGEST {
+        assert!(rt; has_its_fault(rt.alloc(), case)?, "{} lines", case.2);
     }
     Ok(())
 }
