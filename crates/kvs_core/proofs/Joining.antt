@@ -17,7 +17,7 @@ use Rattle.kvs_rules.specs.declared.events.KvsAnswer.{KvsAnswer}
 use Rattle.kvs_rules.specs.declared.events.KvsEvent.TheVariants as event
 use Rattle.kvs_rules.specs.Log.{Log, Happened, answers_now, is_answered, same_command}
 use Rattle.kvs_rules.specs.Namespaces.{Setting, Asks}
-use Rattle.kvs_rules.specs.Landings.{AreMembers, IsUser}
+use Rattle.kvs_rules.specs.Landings.{AreMembers, IsOfFirst, IsUser}
 use Rattle.store_laws.specs.Posts.{posts_in}
 use Rattle.kvs_space.specs.Space.{is_authored, members_in, queued}
 use Rattle.kvs_space.specs.Sound.{ArePosted}
@@ -137,6 +137,10 @@ module _ (name : List ℕ) where
     are-members count [] h = refl
     are-members count (x ∷ xs) h = (x.txn, ops_of xs, h.0, refl, are-members count xs h.1)
 
+    is-of-first : (count : ℕ) (ms : List Member) (m : Member) → AllAsk count (ms ++ m ∷ []) → IsOfFirst set₀ space name count (authors_of (ms ++ m ∷ [])) (author_of ms m)
+    is-of-first count [] m h = (m.txn, h.0, refl)
+    is-of-first count (x ∷ xs) m h = (x.txn, h.0, refl)
+
     module _ (old : MergerValue) (count : ℕ) (m : Member) (asks : Asks set₀ space (bringer m) (ask.Fence name count m.txn)) (joining : Each (AreJoining set₀ space) old.fences)
         (same : other_than (option_map (λ f. f.count) (fence_of name old.fences)) count ≡ None) where
       all-ask : AllAsk count (members_of name old.fences ++ m ∷ [])
@@ -162,6 +166,7 @@ module _ (name : List ℕ) where
                 some = some;
                 whole = long-authors (members_of name old.fences ++ m ∷ []) ∙ length-append (members_of name old.fences) (m ∷ []) ∙ eq-is (length (members_of name old.fences) + 1) count e;
                 members = are-members count (members_of name old.fences ++ m ∷ []) all-ask;
+                author = is-of-first count (members_of name old.fences) m all-ask;
               }),
             ),
             tt,
