@@ -1,29 +1,33 @@
 -- A legal and whole run keeps its promises.
-use Rattle.std.proofs.Common.{◌≡◌, ◌≢◌, ◌∙◌, ℕ, ◌≤◌, inl, inr, List, [], ◌∷◌, ◌++◌, true, false, ◌&&◌, Option, Some, None, IsSomeAnd, IfSome, option_map, unwrap_or, refl, sym, ap, subst, eq-eqb, true≢false}
+use Rattle.std.proofs.Common.{◌≡◌, ◌≢◌, ◌∙◌, ℕ, ◌≤◌, inl, inr, List, [], ◌∷◌, ◌++◌, true, false, ◌&&◌, Option, Some, None, IsSomeAnd, IfSome, arith, is_some, option_map, unwrap_or, refl, sym, ap, subst, eq-eqb, true≢false}
 use Rattle.std.specs.Prelude.{Contains}
 use Rattle.std.specs.List.{cons_option}
 use Rattle.std.proofs.lemmas.Bool.{and_parts}
+use Rattle.std.proofs.lemmas.List.Concat.{flat_map-append}
+use Rattle.std.proofs.lemmas.List.Elements.{Contains-append_left, Contains-append_right, Contains-push}
 use Rattle.answers.proofs.Floors.{asked_so, some_none}
-use Rattle.answers.proofs.JobLogs.{service_kept}
+use Rattle.answers.proofs.JobLogs.{about_primary, service_kept}
 use Rattle.answers.proofs.Reaching.{reaches}
 use Rattle.answers.proofs.Services.{service_legal}
 use Rattle.answers.proofs.job_rules_proofs.Among.{any_from}
+use Rattle.answers.proofs.kvs_rules_proofs.Asking.{contains_stands}
 use Rattle.answers.proofs.kvs_rules_proofs.Sequences.{each_at, each_parts}
-use Rattle.answers.specs.instance_rules.Log.{service_of}
+use Rattle.answers.specs.instance_rules.Log.{Submitted, service_of}
+use Rattle.answers.specs.instance_rules.Replies.{IsLegalReply}
 use Rattle.answers.specs.kvs_model.Store.{Name, Store}
 use Rattle.answers.specs.kvs_rules.Answers as service_rules
-use Rattle.answers.specs.kvs_rules.Answers.{InFreshStore, IsLegalLog}
+use Rattle.answers.specs.kvs_rules.Answers.{InFreshStore, IsLegalLog, IsLegalMoment}
 use Rattle.answers.specs.kvs_rules.Brokers.{HasHeard, heard}
-use Rattle.answers.specs.kvs_rules.Landings.{IsAdvance, IsLegalLanding}
-use Rattle.answers.specs.kvs_rules.Log.{Happened, Log, before_asked}
-use Rattle.answers.specs.kvs_rules.Namespaces.{Request, Setting, store_after}
+use Rattle.answers.specs.kvs_rules.Landings.{IsAdvance, IsLegalLanding, names_of, names_of_group}
+use Rattle.answers.specs.kvs_rules.Log.{Happened, Log, Moment, before_asked}
+use Rattle.answers.specs.kvs_rules.Namespaces.{Request, Setting, primary, store_after}
 use Rattle.answers.specs.kvs_rules.declared.events.KvsAsk.{KvsAsk}
 use Rattle.answers.specs.kvs_rules.declared.events.KvsEvent.TheVariants as event
 use Rattle.answers.specs.kvs_txn.declared.txn.By.{By}
 use Rattle.answers.specs.kvs_txn.declared.txn.Group.{Group}
 use Rattle.answers.specs.Chronicle.{Setup, top}
 use Rattle.answers.specs.Commands.{ask_at, broker_of, subject_at}
-use Rattle.answers.specs.Jobs.{log_in}
+use Rattle.answers.specs.Jobs.{instance_of, log_in}
 use Rattle.answers.specs.Legal.{HasReplyGrounds, IsLegal, IsLegalEntry}
 use Rattle.answers.specs.Services.{log_of, request_of, setting_of}
 use Rattle.answers.specs.declared.chronicle.Entry.{Entry}
@@ -66,6 +70,19 @@ ask_so broker space (Some a) r e =
     let same : ◌≡◌ {A = Request} (record { broker = broker; namespace = space; ask = a }) r = cc in
     ap (λ x. Some x.ask) same
 
+some_groups : (groups : List Group) (g : Group) → Contains groups g → groups ≢ []
+some_groups [] g here none = absurd (omega (arith, here.1))
+some_groups (x ∷ groups) g here none = cc
+
+-- the author of one of the transactions is named
+in_names : (by : By) (groups : List Group) (g : Group) → Contains groups g → g.authors ≡ by ∷ [] → Contains (names_of groups) (Some by)
+in_names by groups g here alone =
+    let stands = contains_stands groups g here in
+    let own : Contains (names_of_group g.authors) (Some by) = subst (λ bys. Contains (names_of_group bys) (Some by)) (sym alone) (Contains-push [] (Some by)) in
+    subst (λ gs. Contains (names_of gs) (Some by)) (sym stands.split)
+    (subst (λ names. Contains names (Some by)) (sym (flat_map-append (λ group. names_of_group group.authors) stands.before (g ∷ stands.behind)))
+    (Contains-append_right (names_of stands.before) (names_of_group g.authors ++ names_of stands.behind) (Some by) (Contains-append_left (names_of_group g.authors) (names_of stands.behind) (Some by) own)))
+
 module _ (s : Setup) (own : List Entry) (by : By) where
   abbrev log : Log
   log = log_of s.work top own
@@ -102,12 +119,34 @@ module _ (s : Setup) (own : List Entry) (by : By) where
       told = subst (λ b. HasHeard log b (subject_at s.work by) n) at_broker (subst (λ space. HasHeard log r.broker space n) about h.told);
     }
 
-  committed : (given : Reply) (number : Option ℕ) → is_committed given ≡ true → HasReplyGrounds s own by number given → IsSomeAnd number (IsHeardOf s own by)
-  committed reply.Committed number is g = heard_of g.1.request g.1.made number g.1.grounds.1
-  committed reply.Fenced number is g = heard_of g.1.request g.1.made number g.1.grounds.1
-  committed reply.Created number is g = heard_of g.1.request g.1.made number g.1.grounds.1
-  committed reply.Removed number is g = heard_of g.1.request g.1.made number g.1.grounds.1
-  committed _ number is g = absurd (true≢false (sym is))
+  -- the landing that began a job names its submission
+  submitted : IsLegal s own → (id : ℕ) (number : Option ℕ) → IsLegalReply (instance_of s) (log_in s.work own) by (Submitted id) number → IsSomeAnd number (IsHeardOf s own by)
+  submitted legal id None r = absurd r.grounds.1
+  submitted legal id (Some n) r =
+      let b = r.grounds.1.0 in
+      let m : Moment = Happened (event.Landed primary n b.authors b.groups) in
+      let kept = service_kept s.work own in
+      let here : subject_at s.work by ≡ primary = about_primary s.work by (ap is_some r.made) in
+      let there : Contains log m = subst (λ l. Contains l m) kept b.landing in
+      let stands = contains_stands log m there in
+      let lands : IsLegalLanding (setting_of s) stands.before primary n b.authors b.groups =
+      each_at (IsLegalMoment (setting_of s)) stands.before m stands.behind (subst (IsLegalLog (setting_of s)) stands.split (service_legal s own legal)) in
+      let advance = advances (setting_of s) stands.before primary n b.authors b.groups lands (some_groups b.groups b.group b.one) in
+      record {
+        authors = b.authors;
+        groups = b.groups;
+        landing = subst (λ space. Contains log (Happened (event.Landed space n b.authors b.groups))) (sym here) there;
+        named = subst (λ authors. Contains authors (Some by)) (sym advance.named) (in_names by b.groups b.group b.one b.alone);
+        told = subst (λ space. HasHeard log (broker_of s.work by.actor) space n) (sym here) (subst (λ l. HasHeard l (broker_of s.work by.actor) primary n) kept r.grounds.1.1);
+      }
+
+  committed : IsLegal s own → (given : Reply) (number : Option ℕ) → is_committed given ≡ true → HasReplyGrounds s own by number given → IsSomeAnd number (IsHeardOf s own by)
+  committed legal reply.Committed number is g = heard_of g.1.request g.1.made number g.1.grounds.1
+  committed legal reply.Fenced number is g = heard_of g.1.request g.1.made number g.1.grounds.1
+  committed legal reply.Created number is g = heard_of g.1.request g.1.made number g.1.grounds.1
+  committed legal reply.Removed number is g = heard_of g.1.request g.1.made number g.1.grounds.1
+  committed legal (reply.Submitted id) number is g = submitted legal id number g
+  committed legal _ number is g = absurd (true≢false (sym is))
 
 -- ---- a run
 
@@ -196,13 +235,14 @@ module _ (set : Setup) (c : List Entry) (legal : IsLegalRun set c) where
       let l = at past (entry.Replied actor command given number) more split in
       let h = replied_in set past actor command given number l (living_home given number is l.grounds) in
       at_home set past actor (entry.Replied actor command given number) h (λ s own. IsSomeAnd number (IsHeardOf s own by))
-      (committed (setup_in set past h.home) (own_of set past h.home) by given number is h.own.now.grounds)
+      (committed (setup_in set past h.home) (own_of set past h.home) by h.own.before given number is h.own.now.grounds)
     where
       living_home : (given : Reply) (number : Option ℕ) → is_committed given ≡ true → HasHomeFor set past (record { actor = actor; command = command }) number given → has_living_home set.work.actors past actor ≡ true
       living_home reply.Committed number is g = g
       living_home reply.Fenced number is g = g
       living_home reply.Created number is g = g
       living_home reply.Removed number is g = g
+      living_home (reply.Submitted id) number is g = g
       living_home _ number is g = absurd (true≢false (sym is))
 
   pub all_fresh : ReadsAreFresh set c

@@ -120,6 +120,7 @@ is_committed reply.Committed = true
 is_committed reply.Fenced = true
 is_committed reply.Created = true
 is_committed reply.Removed = true
+is_committed (reply.Submitted id) = true
 is_committed _ = false
 
 abbrev pub CommittersHaveHeard : Setup → List Entry → Type 0
