@@ -12,6 +12,7 @@ use Rattle.answers.proofs.Services.{service_legal}
 use Rattle.answers.proofs.job_rules_proofs.Among.{any_from}
 use Rattle.answers.proofs.kvs_rules_proofs.Asking.{contains_stands}
 use Rattle.answers.proofs.kvs_rules_proofs.Sequences.{each_at, each_parts}
+use Rattle.answers.proofs.kvs_rules_proofs.Stores.{made_newest}
 use Rattle.answers.specs.instance_rules.Log.{Submitted, service_of}
 use Rattle.answers.specs.instance_rules.Replies.{IsLegalReply}
 use Rattle.answers.specs.kvs_model.Store.{Name, Store}
@@ -55,11 +56,11 @@ advances set log space number authors groups l some = elim l.form [
   ]
 ]
 
-published : (set : Setting) (log : Log) (space : Name) (number : ℕ) (authors : List (Option By)) (groups : List Group) → IsLegalLanding set log space number authors groups → groups ≢ []
+published : (set : Setting) (log : Log) → IsLegalLog set log → (space : Name) (number : ℕ) (authors : List (Option By)) (groups : List Group) → IsLegalLanding set log space number authors groups → groups ≢ []
     → IsPublished set log space number authors groups
-published set log space number authors groups l some =
+published set log legal space number authors groups l some =
     let a = advances set log space number authors groups l some in
-    record { named = a.named; once = l.fresh; whole = a.kinds; next = a.next; old = a.old; standing = a.standing; new = a.new; made = a.made }
+    record { named = a.named; once = l.fresh; whole = a.kinds; next = a.next; old = a.old; standing = a.standing; new = a.new; made = a.made; newest = made_newest set space log legal number authors groups a }
 
 -- ---- what a reply says
 
@@ -217,7 +218,9 @@ module _ (set : Setup) (c : List Entry) (legal : IsLegalRun set c) where
   all_plain past more i space number authors groups split some =
       let l = at past (entry.Landed i space number authors groups) more split in
       let s = setup_in set past i in
-      (l.grounds, published (setting_of s) (log_of s.work top (own_of set past i)) space number authors groups (landed_in set past i space number authors groups l).now.grounds.0.1 some)
+      let own = own_of set past i in
+      let o = landed_in set past i space number authors groups l in
+      (l.grounds, published (setting_of s) (log_of s.work top own) (service_legal s own o.before) space number authors groups o.now.grounds.0.1 some)
 
   pub all_due : EventsAreDue set c
   all_due past more i space number authors groups split here =

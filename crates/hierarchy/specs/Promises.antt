@@ -60,6 +60,8 @@ pub record IsPublished (set : Setting) (log : Log) (space : Name)
   pub standing : newest_store set log space ≡ Some old
   pub new : Store
   pub made : after_groups (scope_of space) groups old ≡ Some new
+  pub newest : newest_store set (log ++ Happened (event.Landed space number authors groups) ∷ [])
+      space ≡ Some new
 
 -- a landing without transactions opens or removes a namespace
 abbrev pub RootsArePlain : Setup → List Entry → Type 0
