@@ -2,11 +2,11 @@
 use Rattle.std.proofs.Common.{◌≡◌, ℕ, zero, inl, inr, List, [], ◌∷◌, ◌++◌, Option, Some, None, refl, sym, ap, ◌∙◌, subst, arith, map}
 use Rattle.std.specs.Prelude.{Contains}
 use Rattle.std.specs.List.{AllByRecursion as Each}
-use Rattle.instance_rules.specs.kvs_rules.declared.events.KvsEvent.{KvsEvent}
-use Rattle.instance_rules.specs.kvs_rules.declared.events.KvsEvent.TheVariants as event
-use Rattle.instance_rules.specs.kvs_rules.Quiet.{AreAllTold}
-use Rattle.instance_rules.specs.kvs_rules.Sequence.{EachAfter}
-use Rattle.instance_rules.specs.manager_rules.Times.{IsIdle}
+use Rattle.kvs_rules.specs.declared.events.KvsEvent.{KvsEvent}
+use Rattle.kvs_rules.specs.declared.events.KvsEvent.TheVariants as event
+use Rattle.kvs_rules.specs.Quiet.{AreAllTold}
+use Rattle.kvs_rules.specs.Sequence.{EachAfter}
+use Rattle.manager_rules.specs.Times.{IsIdle}
 use Rattle.instance_rules.specs.Family.{HasTarget, HasToWait, IsEndOf, IsFamilyIdle, IsFamilyTold, Living, MayClose, OfLiving}
 use Rattle.instance_rules.specs.Legal.{OfDesk}
 use Rattle.instance_rules.specs.Log.{service_of}

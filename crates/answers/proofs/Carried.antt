@@ -4,17 +4,17 @@ use Rattle.std.specs.Prelude.{Contains}
 use Rattle.std.specs.List.{cons_option, list_any}
 use Rattle.std.proofs.lemmas.List.Elements.{Contains-append_cases}
 use Rattle.std.proofs.lemmas.List.Folds.{list_any-append}
-use Rattle.instance_rules.specs.kvs_txn.declared.txn.By.{By}
-use Rattle.instance_rules.specs.kvs_txn.declared.txn.Group.{Group}
-use Rattle.instance_rules.specs.kvs_rules.declared.events.KvsAnswer.{KvsAnswer}
-use Rattle.instance_rules.specs.kvs_rules.declared.events.KvsEvent.{KvsEvent}
-use Rattle.instance_rules.specs.kvs_rules.declared.events.KvsEvent.TheVariants as event
-use Rattle.instance_rules.specs.kvs_rules.Landings.{IsLegalLanding, names_of, names_of_group}
-use Rattle.instance_rules.specs.kvs_rules.Log.{Moment, Asked, Happened, Log, denies_now, is_asked, is_author, is_denied, is_landed, lands_now, asks_now}
-use Rattle.instance_rules.specs.kvs_rules.Namespaces.{landed, primary}
-use Rattle.instance_rules.specs.kvs_rules.Sequence.{EachAfter, until}
-use Rattle.instance_rules.proofs.kvs_rules_proofs.Logs.{number_rises}
-use Rattle.instance_rules.proofs.kvs_rules_proofs.Sequences.{each_along, each_parts, until-append}
+use Rattle.kvs_txn.specs.declared.txn.By.{By}
+use Rattle.kvs_txn.specs.declared.txn.Group.{Group}
+use Rattle.kvs_rules.specs.declared.events.KvsAnswer.{KvsAnswer}
+use Rattle.kvs_rules.specs.declared.events.KvsEvent.{KvsEvent}
+use Rattle.kvs_rules.specs.declared.events.KvsEvent.TheVariants as event
+use Rattle.kvs_rules.specs.Landings.{IsLegalLanding, names_of, names_of_group}
+use Rattle.kvs_rules.specs.Log.{Moment, Asked, Happened, Log, denies_now, is_asked, is_author, is_denied, is_landed, lands_now, asks_now}
+use Rattle.kvs_rules.specs.Namespaces.{landed, primary}
+use Rattle.kvs_rules.specs.Sequence.{EachAfter, until}
+use Rattle.kvs_rules.proofs.Logs.{number_rises}
+use Rattle.kvs_rules.proofs.Sequences.{each_along, each_parts, until-append}
 use Rattle.instance_rules.specs.Log as rules
 use Rattle.answers.specs.declared.chronicle.Entry.{Entry}
 use Rattle.answers.specs.declared.chronicle.Entry.TheVariants as entry
@@ -205,7 +205,7 @@ module _ (set : Setup) (by : By) (none : job_ask_at set.work by ≡ None) where
       landing_asked c i space number authors groups legal (sym (or_none _) ∙ happened by (top == i) (event.Landed space number authors groups) h)
   entry_asked c (entry.Denied i space authors group refusal) legal h =
       denial_asked (setting_of set) (log_of set.work top c) space authors group refusal
-      (subst (λ n. Rattle.instance_rules.specs.kvs_rules.Landings.IsLegalDenial (setting_of set) (log_of set.work n c) space authors group refusal) legal.grounds.0.0 legal.grounds.0.1) by
+      (subst (λ n. Rattle.kvs_rules.specs.Landings.IsLegalDenial (setting_of set) (log_of set.work n c) space authors group refusal) legal.grounds.0.0 legal.grounds.0.1) by
       (happened by (top == i) (event.Denied space authors group refusal) h)
   entry_asked c (entry.Heard i b space number) legal h = no_author by (happened by (top == i) (event.Heard b space number) h)
   entry_asked c (entry.Got i b r) legal h = no_author by (happened by (top == i) (event.Got b r) h)

@@ -3,24 +3,24 @@
 use Rattle.std.proofs.Common.{◌≡◌, ℕ, ◌<◌, inl, inr, List, [], ◌∷◌, Bool, true, false, Some, None, refl, sym, subst, arith, true≢false, codes}
 use Rattle.std.specs.Prelude.{Contains, Option}
 use Rattle.std.specs.List.{AllByRecursion as Each}
-use Rattle.instance_rules.specs.fl_digest.declared.Hash.TheVariants as hash
-use Rattle.instance_rules.specs.kvs_txn.declared.txn.Author.TheVariants as author
-use Rattle.instance_rules.specs.kvs_txn.declared.txn.By.{By}
-use Rattle.instance_rules.specs.kvs_txn.declared.txn.Group.{Group}
-use Rattle.instance_rules.specs.kvs_model.History.{first_store}
-use Rattle.instance_rules.specs.kvs_model.Store.{Store}
-use Rattle.instance_rules.specs.kvs_rules.Log.{same_command}
-use Rattle.instance_rules.specs.kvs_rules.Namespaces.{primary}
-use Rattle.instance_rules.proofs.kvs_rules_proofs.Asking.{command_is}
-use Rattle.instance_rules.specs.manager_rules.Jobs.{IsStored, StoredJob}
-use Rattle.instance_rules.specs.manager_rules.Keys.{job_path}
-use Rattle.instance_rules.specs.manager_rules.Posts.{Desk, Post, Submits, Does, IsDuePost}
+use Rattle.fl_digest.specs.declared.Hash.TheVariants as hash
+use Rattle.kvs_txn.specs.declared.txn.Author.TheVariants as author
+use Rattle.kvs_txn.specs.declared.txn.By.{By}
+use Rattle.kvs_txn.specs.declared.txn.Group.{Group}
+use Rattle.kvs_model.specs.History.{first_store}
+use Rattle.kvs_model.specs.Store.{Store}
+use Rattle.kvs_rules.specs.Log.{same_command}
+use Rattle.kvs_rules.specs.Namespaces.{primary}
+use Rattle.kvs_rules.proofs.Asking.{command_is}
+use Rattle.manager_rules.specs.Jobs.{IsStored, StoredJob}
+use Rattle.manager_rules.specs.Keys.{job_path}
+use Rattle.manager_rules.specs.Posts.{Desk, Post, Submits, Does, IsDuePost}
 use Rattle.instance_rules.specs.Desks.{IsDeskOf, IsDueAt}
 use Rattle.instance_rules.specs.Family.{HasTarget}
 use Rattle.instance_rules.specs.Legal.{IsLegalMoment}
 use Rattle.instance_rules.specs.Log as rules
-use Rattle.instance_rules.specs.resource_set.declared.node.Resources.{Resources}
-use Rattle.instance_rules.specs.tap.declared.weights.Weights.{Weights}
+use Rattle.resource_set.specs.declared.node.Resources.{Resources}
+use Rattle.tap.specs.declared.weights.Weights.{Weights}
 use Rattle.workload.specs.declared.work.Command.TheVariants as command
 use Rattle.workload.specs.declared.work.Workload.{Workload}
 use Rattle.answers.specs.declared.chronicle.Entry.{Entry}

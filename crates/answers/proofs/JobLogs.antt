@@ -3,14 +3,14 @@ use Rattle.std.proofs.Common.{◌≡◌, ℕ, zero, suc, ◌==◌, ◌&&◌, ◌
 use Rattle.std.specs.Prelude.{Contains, slice_get}
 use Rattle.std.specs.Option.{option_and_then, option_map_or}
 use Rattle.std.specs.List.{AllByRecursion as Each, cons_option, list_any}
-use Rattle.instance_rules.specs.kvs_model.Store.{Name}
-use Rattle.instance_rules.specs.kvs_rules.Log.{same_command}
-use Rattle.instance_rules.specs.kvs_rules.Namespaces.{primary}
-use Rattle.instance_rules.specs.kvs_rules.Sequence.{until}
-use Rattle.instance_rules.proofs.kvs_rules_proofs.Asking.{command_is}
-use Rattle.instance_rules.specs.kvs_txn.declared.txn.By.{By}
-use Rattle.instance_rules.specs.kvs_txn.declared.txn.Txn.{Txn}
-use Rattle.instance_rules.specs.kvs_rules.Log as service
+use Rattle.kvs_model.specs.Store.{Name}
+use Rattle.kvs_rules.specs.Log.{same_command}
+use Rattle.kvs_rules.specs.Namespaces.{primary}
+use Rattle.kvs_rules.specs.Sequence.{until}
+use Rattle.kvs_rules.proofs.Asking.{command_is}
+use Rattle.kvs_txn.specs.declared.txn.By.{By}
+use Rattle.kvs_txn.specs.declared.txn.Txn.{Txn}
+use Rattle.kvs_rules.specs.Log as service
 use Rattle.instance_rules.specs.Log as rules
 use Rattle.instance_rules.specs.Log.{IsInstance, JobReply, Moment, Log, Served, Issued, Replied, Born, Gone, issues_now, served, service_of}
 use Rattle.answers.specs.declared.chronicle.Entry.{Entry}

@@ -1,18 +1,18 @@
 -- What no settled chronicle can hold: an issue or a tick while a command is open that can be told
 -- something.
 use Rattle.std.proofs.Common.{◌≡◌, ℕ, inl, inr, List, [], ◌∷◌, Option, Some, None, refl, subst, arith, codes}
-use Rattle.instance_rules.specs.fl_digest.declared.Hash.TheVariants as hash
-use Rattle.instance_rules.specs.kvs_model.Store.{Name, Path}
-use Rattle.instance_rules.specs.kvs_rules.Log.{Log as ServiceLog}
-use Rattle.instance_rules.specs.kvs_rules.Namespaces.{Request, Setting, primary}
-use Rattle.instance_rules.specs.kvs_rules.Quiet.{IsLeft, IsMember, IsShortFence}
-use Rattle.instance_rules.specs.kvs_rules.declared.events.KvsAsk.TheVariants as ask
-use Rattle.instance_rules.specs.kvs_txn.declared.answers.Query.TheVariants as query
-use Rattle.instance_rules.specs.kvs_txn.declared.txn.Author.TheVariants as author
-use Rattle.instance_rules.specs.kvs_txn.declared.txn.By.{By}
-use Rattle.instance_rules.specs.kvs_txn.declared.txn.Txn.{Txn}
-use Rattle.instance_rules.specs.resource_set.declared.node.Resources.{Resources}
-use Rattle.instance_rules.specs.tap.declared.weights.Weights.{Weights}
+use Rattle.fl_digest.specs.declared.Hash.TheVariants as hash
+use Rattle.kvs_model.specs.Store.{Name, Path}
+use Rattle.kvs_rules.specs.Log.{Log as ServiceLog}
+use Rattle.kvs_rules.specs.Namespaces.{Request, Setting, primary}
+use Rattle.kvs_rules.specs.Quiet.{IsLeft, IsMember, IsShortFence}
+use Rattle.kvs_rules.specs.declared.events.KvsAsk.TheVariants as ask
+use Rattle.kvs_txn.specs.declared.answers.Query.TheVariants as query
+use Rattle.kvs_txn.specs.declared.txn.Author.TheVariants as author
+use Rattle.kvs_txn.specs.declared.txn.By.{By}
+use Rattle.kvs_txn.specs.declared.txn.Txn.{Txn}
+use Rattle.resource_set.specs.declared.node.Resources.{Resources}
+use Rattle.tap.specs.declared.weights.Weights.{Weights}
 use Rattle.instance_rules.specs.Log as rules
 use Rattle.instance_rules.specs.Log.{JobAsk, service_of}
 use Rattle.workload.specs.declared.work.Command.TheVariants as command

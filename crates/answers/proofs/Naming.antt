@@ -5,27 +5,27 @@ use Rattle.std.specs.Prelude.{IfSome, IsSome, option_and_then}
 use Rattle.std.specs.Option.{option_map_or}
 use Rattle.std.specs.List.{AllByRecursion as Each, list_any}
 use Rattle.std.proofs.lemmas.List.Folds.{list_any-append}
-use Rattle.instance_rules.specs.kvs_txn.declared.answers.Refusal.{Refusal}
-use Rattle.instance_rules.specs.kvs_txn.declared.txn.Author.{Author}
-use Rattle.instance_rules.specs.kvs_txn.declared.txn.Author.TheVariants as author
-use Rattle.instance_rules.specs.kvs_txn.declared.txn.By.{By}
-use Rattle.instance_rules.specs.kvs_txn.declared.txn.Group.{Group}
-use Rattle.instance_rules.specs.kvs_txn.declared.txn.Op.{Op}
-use Rattle.instance_rules.specs.kvs_txn.declared.txn.Scope.TheVariants as scope
-use Rattle.instance_rules.specs.kvs_model.History.{after_groups, landed_on}
-use Rattle.instance_rules.specs.kvs_model.Operation.{effect}
-use Rattle.instance_rules.specs.kvs_model.Store.{Name, Store}
-use Rattle.instance_rules.specs.kvs_rules.declared.events.KvsEvent.TheVariants as event
-use Rattle.instance_rules.specs.kvs_rules.Landings.{names_of, names_of_group, commands_of, IsFreshCommand, IsUsers, IsManagers, AreMembers, IsLegalLanding, IsLegalDenial}
-use Rattle.instance_rules.specs.kvs_rules.Log as service
-use Rattle.instance_rules.specs.kvs_rules.Log.{is_asked, is_author, same_command}
-use Rattle.instance_rules.specs.kvs_rules.Namespaces.{Request, Setting, is_primary, newest_store, scope_of}
-use Rattle.instance_rules.proofs.kvs_rules_proofs.Asking.{command_is}
-use Rattle.instance_rules.specs.manager_rules.declared.asked.Asked.TheVariants as asked
-use Rattle.instance_rules.specs.manager_rules.declared.due.Due.{Due}
-use Rattle.instance_rules.specs.manager_rules.Deeds.{Deed, Carries, due_of}
-use Rattle.instance_rules.specs.manager_rules.Due.{MayDo}
-use Rattle.instance_rules.specs.manager_rules.Posts.{Desk, Post, Submits, Does, IsDuePost, authors_of}
+use Rattle.kvs_txn.specs.declared.answers.Refusal.{Refusal}
+use Rattle.kvs_txn.specs.declared.txn.Author.{Author}
+use Rattle.kvs_txn.specs.declared.txn.Author.TheVariants as author
+use Rattle.kvs_txn.specs.declared.txn.By.{By}
+use Rattle.kvs_txn.specs.declared.txn.Group.{Group}
+use Rattle.kvs_txn.specs.declared.txn.Op.{Op}
+use Rattle.kvs_txn.specs.declared.txn.Scope.TheVariants as scope
+use Rattle.kvs_model.specs.History.{after_groups, landed_on}
+use Rattle.kvs_model.specs.Operation.{effect}
+use Rattle.kvs_model.specs.Store.{Name, Store}
+use Rattle.kvs_rules.specs.declared.events.KvsEvent.TheVariants as event
+use Rattle.kvs_rules.specs.Landings.{names_of, names_of_group, commands_of, IsFreshCommand, IsUsers, IsManagers, AreMembers, IsLegalLanding, IsLegalDenial}
+use Rattle.kvs_rules.specs.Log as service
+use Rattle.kvs_rules.specs.Log.{is_asked, is_author, same_command}
+use Rattle.kvs_rules.specs.Namespaces.{Request, Setting, is_primary, newest_store, scope_of}
+use Rattle.kvs_rules.proofs.Asking.{command_is}
+use Rattle.manager_rules.specs.declared.asked.Asked.TheVariants as asked
+use Rattle.manager_rules.specs.declared.due.Due.{Due}
+use Rattle.manager_rules.specs.Deeds.{Deed, Carries, due_of}
+use Rattle.manager_rules.specs.Due.{MayDo}
+use Rattle.manager_rules.specs.Posts.{Desk, Post, Submits, Does, IsDuePost, authors_of}
 use Rattle.instance_rules.specs.Desks.{AreDueFrom, IsDeskOf, IsDueFor}
 use Rattle.instance_rules.specs.Legal.{IsDueEvent}
 use Rattle.instance_rules.specs.Log.{Instance, IsPending, JobAsk, Log, service_of}
@@ -93,7 +93,7 @@ module _ (inst : Instance) (log : Log) (by : By) where
   abbrev IsNamed : List By → Type 0
   IsNamed bys = list_any (is_author by) (names_of_group bys) ≡ true
 
-  deed_waits : (st : Store) (desk : Desk) → IsDeskOf inst log st desk → (now : ℕ) (j : Rattle.instance_rules.specs.manager_rules.Jobs.StoredJob) (deed : Deed) → MayDo desk.scene j deed → IsNamed (option_map_or (λ b. b ∷ []) (due_of now j deed).command []) → IsWaiting inst log by
+  deed_waits : (st : Store) (desk : Desk) → IsDeskOf inst log st desk → (now : ℕ) (j : Rattle.manager_rules.specs.Jobs.StoredJob) (deed : Deed) → MayDo desk.scene j deed → IsNamed (option_map_or (λ b. b ∷ []) (due_of now j deed).command []) → IsWaiting inst log by
   deed_waits st desk is now j (Carries (asked.Cancel b job)) may h =
       let a = (is.asked (asked.Cancel b job)).0 may.0 in
       waits_as inst log by b h (record { ask = _; made = a.asks; pending = a.pending })
@@ -162,7 +162,7 @@ module _ (inst : Instance) (log : Log) (by : By) where
     advance_names : (groups : List Group) (old new : Store) → Kinds groups → newest_store inst.service (service_of log) space ≡ Some old → after_groups (scope_of space) groups old ≡ Some new
         → (number : ℕ) (authors : List (Option By)) → IsDueEvent inst log (event.Landed space number authors groups) → list_any (is_author by) (names_of groups) ≡ true → (b : Bool) → is_primary space ≡ b → Named
     advance_names groups old new kinds standing made number authors due h true e =
-        let same : space ≡ Rattle.instance_rules.specs.kvs_rules.Namespaces.primary = (Rattle.std.specs.Cmp.Lexicographic.bytes_decides space Rattle.instance_rules.specs.kvs_rules.Namespaces.primary).0 e in
+        let same : space ≡ Rattle.kvs_rules.specs.Namespaces.primary = (Rattle.std.specs.Cmp.Lexicographic.bytes_decides space Rattle.kvs_rules.specs.Namespaces.primary).0 e in
         groups_name groups old new kinds
         (due e old (subst (λ s. newest_store inst.service (service_of log) s ≡ Some old) same standing))
         (subst (λ b. after_groups (cond b scope.Primary scope.Other) groups old ≡ Some new) e made) h

@@ -5,37 +5,37 @@ use Rattle.std.specs.Prelude.{Contains, IfSome, is_some, option_and_then}
 use Rattle.std.specs.Option.{option_map_or}
 use Rattle.std.specs.List.{AllByRecursion as Each, cons_option}
 use Rattle.std.proofs.lemmas.List.{length-append}
-use Rattle.instance_rules.specs.kvs_txn.declared.answers.Refusal.{Refusal}
-use Rattle.instance_rules.specs.kvs_txn.declared.txn.Author.{Author}
-use Rattle.instance_rules.specs.kvs_txn.declared.txn.Author.TheVariants as author
-use Rattle.instance_rules.specs.kvs_txn.declared.txn.By.{By}
-use Rattle.instance_rules.specs.kvs_txn.declared.txn.Group.{Group}
-use Rattle.instance_rules.specs.kvs_txn.declared.txn.Scope.TheVariants as scope
-use Rattle.instance_rules.specs.kvs_model.History.{after, after_groups, first_store, landed_on}
-use Rattle.instance_rules.specs.kvs_model.Operation.{effect}
-use Rattle.instance_rules.specs.kvs_model.Store.{Store}
-use Rattle.instance_rules.specs.kvs_rules.declared.events.KvsEvent.TheVariants as event
-use Rattle.instance_rules.specs.kvs_rules.Landings.{IsAdvance, IsLegalLanding, IsManagers, IsUser, IsUsers}
-use Rattle.instance_rules.specs.kvs_rules.Log as service
-use Rattle.instance_rules.specs.kvs_rules.Log.{Asked, Happened}
-use Rattle.instance_rules.specs.kvs_rules.Namespaces.{groups_landed, landed, landings, newest_store, number_landed, primary}
-use Rattle.instance_rules.proofs.kvs_rules_proofs.Logs.{landed_push, number_or_not, own_number}
-use Rattle.instance_rules.proofs.kvs_rules_proofs.Sequences.{each_along, latest_push}
-use Rattle.instance_rules.proofs.kvs_rules_proofs.Stores.{after_push, landings_push}
-use Rattle.instance_rules.specs.store_laws.Reserved.{IsUserAuthor}
-use Rattle.instance_rules.specs.manager_rules.declared.asked.Asked.{Asked as Want}
-use Rattle.instance_rules.specs.manager_rules.declared.asked.Asked.TheVariants as asked
-use Rattle.instance_rules.specs.manager_rules.Jobs.{AreJobsOf, StoredJob}
-use Rattle.instance_rules.specs.manager_rules.Posts.{Desk, Post, Submits, Does, IsDuePost}
-use Rattle.instance_rules.specs.manager_rules.Times.{IsIdle}
-use Rattle.instance_rules.proofs.manager_rules_proofs.Others.{first_jobs}
-use Rattle.instance_rules.proofs.manager_rules_proofs.Stores.{users_leave_jobs}
-use Rattle.instance_rules.proofs.manager_rules_proofs.Unique.{jobs_are_one}
+use Rattle.kvs_txn.specs.declared.answers.Refusal.{Refusal}
+use Rattle.kvs_txn.specs.declared.txn.Author.{Author}
+use Rattle.kvs_txn.specs.declared.txn.Author.TheVariants as author
+use Rattle.kvs_txn.specs.declared.txn.By.{By}
+use Rattle.kvs_txn.specs.declared.txn.Group.{Group}
+use Rattle.kvs_txn.specs.declared.txn.Scope.TheVariants as scope
+use Rattle.kvs_model.specs.History.{after, after_groups, first_store, landed_on}
+use Rattle.kvs_model.specs.Operation.{effect}
+use Rattle.kvs_model.specs.Store.{Store}
+use Rattle.kvs_rules.specs.declared.events.KvsEvent.TheVariants as event
+use Rattle.kvs_rules.specs.Landings.{IsAdvance, IsLegalLanding, IsManagers, IsUser, IsUsers}
+use Rattle.kvs_rules.specs.Log as service
+use Rattle.kvs_rules.specs.Log.{Asked, Happened}
+use Rattle.kvs_rules.specs.Namespaces.{groups_landed, landed, landings, newest_store, number_landed, primary}
+use Rattle.kvs_rules.proofs.Logs.{landed_push, number_or_not, own_number}
+use Rattle.kvs_rules.proofs.Sequences.{each_along, latest_push}
+use Rattle.kvs_rules.proofs.Stores.{after_push, landings_push}
+use Rattle.store_laws.specs.Reserved.{IsUserAuthor}
+use Rattle.manager_rules.specs.declared.asked.Asked.{Asked as Want}
+use Rattle.manager_rules.specs.declared.asked.Asked.TheVariants as asked
+use Rattle.manager_rules.specs.Jobs.{AreJobsOf, StoredJob}
+use Rattle.manager_rules.specs.Posts.{Desk, Post, Submits, Does, IsDuePost}
+use Rattle.manager_rules.specs.Times.{IsIdle}
+use Rattle.manager_rules.proofs.Others.{first_jobs}
+use Rattle.manager_rules.proofs.Stores.{users_leave_jobs}
+use Rattle.manager_rules.proofs.Unique.{jobs_are_one}
 use Rattle.instance_rules.specs.Desks.{AreDueFrom, IsDeskOf, IsDueFor, StandsAsked}
 use Rattle.instance_rules.specs.Family.{MayClose}
 use Rattle.instance_rules.specs.Legal.{IsDueEvent, IsLegalMoment, OfDesk}
 use Rattle.instance_rules.specs.Log.{JobAsk, JobReply, Log, Moment, Born, Gone, Issued, Replied, Served, child_of, child_told, now_of, service_of}
-use Rattle.instance_rules.specs.tap.Factors.{priority_by}
+use Rattle.tap.specs.Factors.{priority_by}
 use Rattle.workload.specs.declared.work.Workload.{Workload}
 use Rattle.answers.specs.declared.chronicle.Entry.{Entry}
 use Rattle.answers.specs.declared.chronicle.Entry.TheVariants as entry

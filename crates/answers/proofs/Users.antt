@@ -1,16 +1,16 @@
 -- A landing of users' transactions alone has nothing that must be due.
 use Rattle.std.proofs.Common.{List, [], ◌∷◌, Option, Some, None}
 use Rattle.std.specs.Prelude.{ℕ, IfSome}
-use Rattle.instance_rules.specs.kvs_txn.declared.txn.Author.{Author}
-use Rattle.instance_rules.specs.kvs_txn.declared.txn.Author.TheVariants as author
-use Rattle.instance_rules.specs.kvs_txn.declared.txn.By.{By}
-use Rattle.instance_rules.specs.kvs_txn.declared.txn.Group.{Group}
-use Rattle.instance_rules.specs.kvs_txn.declared.txn.Scope.TheVariants as scope
-use Rattle.instance_rules.specs.kvs_model.History.{landed_on}
-use Rattle.instance_rules.specs.kvs_model.Operation.{effect}
-use Rattle.instance_rules.specs.kvs_model.Store.{Name, Store}
-use Rattle.instance_rules.specs.kvs_rules.declared.events.KvsEvent.TheVariants as event
-use Rattle.instance_rules.specs.kvs_rules.Landings.{IsUser}
+use Rattle.kvs_txn.specs.declared.txn.Author.{Author}
+use Rattle.kvs_txn.specs.declared.txn.Author.TheVariants as author
+use Rattle.kvs_txn.specs.declared.txn.By.{By}
+use Rattle.kvs_txn.specs.declared.txn.Group.{Group}
+use Rattle.kvs_txn.specs.declared.txn.Scope.TheVariants as scope
+use Rattle.kvs_model.specs.History.{landed_on}
+use Rattle.kvs_model.specs.Operation.{effect}
+use Rattle.kvs_model.specs.Store.{Name, Store}
+use Rattle.kvs_rules.specs.declared.events.KvsEvent.TheVariants as event
+use Rattle.kvs_rules.specs.Landings.{IsUser}
 use Rattle.instance_rules.specs.Desks.{AreDueFrom, IsDueFor}
 use Rattle.instance_rules.specs.Legal.{IsDueEvent}
 use Rattle.instance_rules.specs.Log.{Instance, Log}

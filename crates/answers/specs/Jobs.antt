@@ -3,10 +3,10 @@
 use Rattle.std.specs.Prelude.{◌≡◌, ◌<◌, ◌^◌, ◌==◌, ℕ, List, [], ◌∷◌, ◌++◌, Option, Some, None, IfSome, false, is_some, map, option_and_then, option_map, if◌then◌else◌}
 use Rattle.std.specs.List.{AllByRecursion as Each, cons_option}
 use Rattle.std.specs.Option.{option_map_or}
-use Rattle.instance_rules.specs.kvs_txn.declared.txn.By.{By}
-use Rattle.instance_rules.specs.job_rules.Fits.{IsGrant}
-use Rattle.instance_rules.specs.resource_set.Writing.{r_text}
-use Rattle.instance_rules.specs.tap.Factors.{priority_by}
+use Rattle.kvs_txn.specs.declared.txn.By.{By}
+use Rattle.job_rules.specs.Fits.{IsGrant}
+use Rattle.resource_set.specs.Writing.{r_text}
+use Rattle.tap.specs.Factors.{priority_by}
 use Rattle.instance_rules.specs.Log as rules
 use Rattle.instance_rules.specs.Log.{Instance, JobAsk, JobReply, Key, JobspecKey, RKey, LogKey, Log, Moment, Named, Served, Issued, Replied, Ticked, Born, Gone, IsInRange, now_of}
 use Rattle.instance_rules.specs.Family.{HasTarget, Living}

@@ -1,7 +1,7 @@
 -- What a run asks beside what its instance does: rules over all instances that live.
 use Rattle.std.specs.Prelude.{List, [], ◌∷◌}
-use Rattle.instance_rules.specs.kvs_rules.Sequence.{EachAfter}
-use Rattle.instance_rules.specs.kvs_txn.declared.txn.By.{By}
+use Rattle.kvs_rules.specs.Sequence.{EachAfter}
+use Rattle.kvs_txn.specs.declared.txn.By.{By}
 use Rattle.instance_rules.specs.Family.{HasToWaitIn, IsFamilyIdle, IsFamilyTold, Living, MayTick}
 use Rattle.answers.specs.declared.chronicle.Entry.{Entry}
 use Rattle.answers.specs.declared.chronicle.Entry.TheVariants as entry

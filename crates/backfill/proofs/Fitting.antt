@@ -8,8 +8,8 @@ use Rattle.job_rules.proofs.Unique.{more_free}
 use Rattle.job_rules.specs.Fits.{CanFit, free_of, nodes_of, without_nodes}
 use Rattle.graph_match.specs.Allotment.{Allotment}
 use Rattle.backfill.proofs.Holding.{nodes_both}
-use Rattle.job_rules.specs.job_spec.declared.spec.JobSpec.{JobSpec}
-use Rattle.job_rules.specs.resource_set.declared.node.Node.{Node}
+use Rattle.job_spec.specs.declared.spec.JobSpec.{JobSpec}
+use Rattle.resource_set.specs.declared.node.Node.{Node}
 use Rattle.backfill.specs.declared.hold.Hold.{Hold}
 use Rattle.backfill.specs.Held.{held, held_at, is_held_at}
 use Rattle.backfill.specs.Reserved.{FitsAt, IsReserved, KeepsReservation}

@@ -8,8 +8,8 @@ use Rattle.std.proofs.lemmas.List.{map-append}
 use Rattle.std.proofs.Math.Seq.{take-append_seam}
 use Rattle.std.proofs.lemmas.List.Concat.{flat_map-append}
 use Rattle.std.proofs.lemmas.List.Elements.{filter-append}
-use Rattle.job_rules.specs.idset.Ids.{has}
-use Rattle.job_rules.specs.resource_set.declared.node.Node.{Node}
+use Rattle.idset.specs.Ids.{has}
+use Rattle.resource_set.specs.declared.node.Node.{Node}
 use Rattle.job_rules.specs.declared.hold.Hold.{Hold as Held}
 use Rattle.job_rules.specs.Fits.{AllApart, AreApart, AreWithin, IsWithin, has_unit, left_on, nodes_of, without_nodes}
 use Rattle.job_rules.proofs.Among.{Among, among_from, among_has, among_kept, among_map, among_mapped, any_at, contains_from, each_at, each_from, has_among}

@@ -4,7 +4,7 @@ use Rattle.std.specs.List.{AllByRecursion as Each}
 use Rattle.backfill.specs.declared.hold.Hold.{Hold}
 use Rattle.job_rules.specs.declared.hold.Hold.{Hold as Held}
 use Rattle.job_rules.specs.Fits.{AllApart, AreWithin, free_of}
-use Rattle.job_rules.specs.resource_set.declared.node.Node.{Node}
+use Rattle.resource_set.specs.declared.node.Node.{Node}
 
 -- whether a job has its units at a second: it has no end, or it ends later
 abbrev pub is_held_at : ℕ → Hold → Bool

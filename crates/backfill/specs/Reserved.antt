@@ -3,8 +3,8 @@ use Rattle.std.specs.Prelude.{ℕ, ◌≤◌, ◌<◌, List, ◌∷◌, [], ◌+
 use Rattle.backfill.specs.declared.hold.Hold.{Hold}
 use Rattle.backfill.specs.Held.{free_at}
 use Rattle.job_rules.specs.Fits.{CanFit}
-use Rattle.job_rules.specs.job_spec.declared.spec.JobSpec.{JobSpec}
-use Rattle.job_rules.specs.resource_set.declared.node.Node.{Node}
+use Rattle.job_spec.specs.declared.spec.JobSpec.{JobSpec}
+use Rattle.resource_set.specs.declared.node.Node.{Node}
 
 -- some of the units that live jobs leave at a second satisfy the job
 abbrev pub FitsAt : JobSpec → List Node → List Hold → ℕ → Type 0

@@ -2,8 +2,8 @@
 ghost use Rattle.std.specs.Prelude.{◌≡◌};
 ghost use Rattle.backfill.specs.Held.{is_held_at as held_then};
 
-use job_rules::lists::Copied;
-use job_rules::resource_set::Resources;
+use lists::Copied;
+use resource_set::Resources;
 use std::alloc::AllocError;
 
 /// A live job with the units that it holds.

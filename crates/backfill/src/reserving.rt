@@ -1,15 +1,15 @@
 //! The second that is reserved for the head of a queue, found by halving.
 ghost use Rattle.std.specs.Prelude.{◌≡◌, ◌≤◌, ◌<◌, ◌+◌, ◌++◌, ◌∷◌, [], ◌↔◌, length, IfOk, OnOk, IsTrue};
 ghost use Rattle.std.specs.List.{AllByRecursion as Each};
-ghost use Rattle.job_rules.specs.resource_set.Units.{AreHosts};
+ghost use Rattle.resource_set.specs.Units.{AreHosts};
 ghost use Rattle.job_rules.specs.Fits.{AreWithin, IsSpec, free_of, nodes_of};
 ghost use Rattle.backfill.specs.Held.{AreHeld, held_at};
 ghost use Rattle.backfill.specs.Reserved.{FitsAt, IsReserved, KeepsReservation, Reserves};
 
 use crate::hold::Hold;
 use graph_match::Graph;
-use job_rules::job_spec::JobSpec;
-use job_rules::resource_set::Resources;
+use job_spec::JobSpec;
+use resource_set::Resources;
 use std::alloc::{AllocError, Global};
 
 #[cfg(test)]

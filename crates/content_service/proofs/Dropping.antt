@@ -1,8 +1,8 @@
 -- What a broker held and holds no more it has dropped.
 use Rattle.std.proofs.Common.{◌≡◌, ℕ, suc, ◌==◌, [], ◌∷◌, Bool, true, false, ◌||◌, cond, Contains, Some, None, unwrap_or, refl, sym, ap, ◌∙◌, arith, true≢false}
-use Rattle.kvs_rules.specs.fl_digest.declared.BlobRef.{BlobRef}
+use Rattle.fl_digest.specs.declared.BlobRef.{BlobRef}
 use Rattle.cache_node.proofs.Same.{same_true}
-use Rattle.kvs_rules.specs.kvs_txn.declared.txn.By.{By}
+use Rattle.kvs_txn.specs.declared.txn.By.{By}
 use Rattle.kvs_rules.specs.declared.events.KvsEvent.TheVariants as event
 use Rattle.kvs_rules.specs.Log.{Asked, Happened, Log, Moment, asks_now, before_asked, is_asked}
 use Rattle.kvs_rules.specs.Sequence.{latest, until}

@@ -4,10 +4,10 @@ use Rattle.std.specs.List.{AllByRecursion as Each, list_any}
 use Rattle.std.specs.Option.{option_map_or}
 use Rattle.std.proofs.lemmas.List.Elements.{Contains-append_cases}
 use Rattle.std.proofs.lemmas.List.Folds.{list_any-append}
-use Rattle.kvs_rules.specs.fl_digest.declared.BlobRef.{BlobRef}
-use Rattle.kvs_rules.specs.kvs_txn.declared.txn.By.{By}
-use Rattle.kvs_rules.specs.kvs_txn.declared.txn.Group.{Group}
-use Rattle.kvs_rules.specs.kvs_model.Store.{Name}
+use Rattle.fl_digest.specs.declared.BlobRef.{BlobRef}
+use Rattle.kvs_txn.specs.declared.txn.By.{By}
+use Rattle.kvs_txn.specs.declared.txn.Group.{Group}
+use Rattle.kvs_model.specs.Store.{Name}
 use Rattle.kvs_rules.specs.declared.events.KvsAsk.{KvsAsk}
 use Rattle.kvs_rules.specs.declared.events.KvsAsk.TheVariants as ask
 use Rattle.kvs_rules.specs.declared.events.KvsAnswer.TheVariants as answer

@@ -4,8 +4,8 @@ use Rattle.std.specs.List.{AllByRecursion as Each, list_any}
 use Rattle.std.proofs.lemmas.List.{length-set}
 use Rattle.std.proofs.lemmas.List.Elements.{Contains-append_cases}
 use Rattle.std.proofs.lemmas.List.Folds.{list_any-append}
-use Rattle.kvs_rules.specs.fl_digest.declared.BlobRef.{BlobRef}
-use Rattle.kvs_rules.specs.kvs_txn.declared.txn.By.{By}
+use Rattle.fl_digest.specs.declared.BlobRef.{BlobRef}
+use Rattle.kvs_txn.specs.declared.txn.By.{By}
 use Rattle.kvs_rules.specs.declared.events.KvsAnswer.{KvsAnswer}
 use Rattle.kvs_rules.specs.declared.events.KvsEvent.{KvsEvent}
 use Rattle.kvs_rules.specs.declared.events.KvsEvent.TheVariants as event

@@ -1,7 +1,7 @@
 -- When a content service stands where a log leaves it.
 use Rattle.std.specs.Prelude.{◌≡◌, ℕ, ◌<◌, true, false, IsTrue, None, length, slice_index_or}
-use Rattle.kvs_rules.specs.fl_digest.declared.BlobRef.{BlobRef}
-use Rattle.kvs_rules.specs.kvs_txn.declared.txn.By.{By}
+use Rattle.fl_digest.specs.declared.BlobRef.{BlobRef}
+use Rattle.kvs_txn.specs.declared.txn.By.{By}
 use Rattle.kvs_rules.specs.declared.events.KvsAsk.TheVariants as ask
 use Rattle.kvs_rules.specs.declared.events.KvsAnswer.{KvsAnswer}
 use Rattle.kvs_rules.specs.declared.events.KvsAnswer.TheVariants as answer

@@ -1,8 +1,8 @@
 -- What a broker makes of a request on contents.
 use Rattle.std.specs.Prelude.{◌≡◌, ℕ, ◌+◌, ◌++◌, ◌≤◌, true, IsTrue, Some, map, if◌then◌else◌}
 use Rattle.std.specs.List.{AllByRecursion as Each}
-use Rattle.kvs_rules.specs.fl_digest.declared.BlobRef.{BlobRef}
-use Rattle.kvs_rules.specs.kvs_txn.declared.txn.By.{By}
+use Rattle.fl_digest.specs.declared.BlobRef.{BlobRef}
+use Rattle.kvs_txn.specs.declared.txn.By.{By}
 use Rattle.kvs_rules.specs.Log.{Happened, Log, before_asked, is_asked, same_command}
 use Rattle.kvs_rules.specs.Namespaces.{Setting, Request}
 use Rattle.kvs_rules.specs.Answers.{IsStoredAt}

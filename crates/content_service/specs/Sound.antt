@@ -1,6 +1,6 @@
 -- What holds of a content service between its calls.
 use Rattle.std.specs.Prelude.{◌≡◌, ℕ, ◌<◌, length, slice_index_or}
-use Rattle.kvs_rules.specs.kvs_txn.declared.txn.By.{By}
+use Rattle.kvs_txn.specs.declared.txn.By.{By}
 use Rattle.kvs_content.specs.Messages.{loads_of}
 use Rattle.kvs_content.specs.Sound.{IsSoundContent}
 use Rattle.kvs_content.specs.Value.{size_of}

@@ -6,11 +6,11 @@ ghost use Rattle.kvs_content.specs.Agrees.{told_so};
 ghost use Rattle.content_service.specs.Asks.{is_content};
 ghost use Rattle.content_service.specs.Rows.{IsHanded, IsPut, ask_now, asked_of, is_due, is_held, is_held_stage, is_loading, is_loading_stage, loaded, flushed_stage, may_serve};
 
+use fl_digest::BlobRef;
 use kvs_content::{Answer, Flush, Load};
-use kvs_rules::fl_digest::BlobRef;
-use kvs_rules::kvs_txn::By;
-use kvs_rules::lists::Bytes;
 use kvs_rules::{KvsAnswer, KvsAsk};
+use kvs_txn::By;
+use lists::Bytes;
 use std::mem::replace;
 
 /// What a command asks of contents.

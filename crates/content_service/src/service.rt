@@ -1,13 +1,13 @@
 //! The content service.
 ghost use Rattle.std.specs.Prelude.{◌≡◌, ◌<◌, ◌≤◌, ◌⊎◌, ◌++◌, ◌∷◌, [], true, false, ℕ, Some, None, length, slice_index_or, IfOk, OnOk, OnErr};
 ghost use Rattle.std.specs.List.{list_any, position, remove};
-ghost use Rattle.kvs_rules.specs.kvs_model.Store.{Name};
+ghost use Rattle.kvs_model.specs.Store.{Name};
 ghost use Rattle.kvs_rules.specs.Log.{Log, Asked, Happened, IsOpen, is_asked};
 ghost use Rattle.kvs_rules.specs.Brokers.{parent};
 ghost use Rattle.kvs_rules.specs.Namespaces.{Setting};
 ghost use Rattle.kvs_rules.specs.Answers.{IsLegalAnswer};
 ghost use Rattle.kvs_rules.specs.declared.events.KvsEvent.TheVariants as event;
-ghost use Rattle.kvs_rules.specs.kvs_txn.declared.txn.By.{By as Command};
+ghost use Rattle.kvs_txn.specs.declared.txn.By.{By as Command};
 ghost use Rattle.kvs_content.specs.Steps.{can_deliver};
 ghost use Rattle.kvs_content.specs.Value.{size_of};
 ghost use Rattle.content_service.specs.Asks.{asks_content, is_content};
@@ -21,10 +21,10 @@ use crate::rows::{
     take_ask,
 };
 use crate::serving::{Served, serve};
+use fl_digest::Hash;
 use kvs_content::{Contents, Delivery, KvsEvents};
-use kvs_rules::fl_digest::Hash;
-use kvs_rules::kvs_txn::By;
 use kvs_rules::{KvsAnswer, KvsAsk, KvsStep};
+use kvs_txn::By;
 use std::alloc::{AllocError, Global};
 use std::marker::Model;
 

@@ -2,15 +2,15 @@
 ghost use Rattle.std.specs.Prelude.{◌≡◌, ◌<◌, IfOk};
 ghost use Rattle.kvs_content.specs.Sound.{IsSoundContent};
 ghost use Rattle.kvs_content.specs.Value.{size_of};
-ghost use Rattle.kvs_rules.specs.kvs_txn.declared.txn.By.{By as Command};
+ghost use Rattle.kvs_txn.specs.declared.txn.By.{By as Command};
 ghost use Rattle.content_service.specs.Served.{IsServed};
 
 use crate::rows::{ContentAsk, Stage, flushed, loaded};
+use fl_digest::BlobRef;
 use kvs_content::{Contents, KvsEvents, Loaded, Stored};
 use kvs_rules::KvsAnswer;
-use kvs_rules::fl_digest::BlobRef;
-use kvs_rules::kvs_txn::By;
-use kvs_rules::lists::{Bytes, ListOf};
+use kvs_txn::By;
+use lists::{Bytes, ListOf};
 use std::alloc::{AllocError, Global};
 
 /// The stage at which a request is once it was served, and what happened.

@@ -2,7 +2,7 @@
 use flux::flux;
 use outside::{MemSink, MemSource};
 use std::test::Fail;
-use tap::Weights;
+use world::tap::Weights;
 
 /// A job of four cores runs; behind it wait one of a core and, later, one of two.
 const THREE_JOBS: &str = "actor a 0\na submit p {\"resources\":[{\"type\":\"slot\",\"count\":4,\

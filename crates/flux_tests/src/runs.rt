@@ -7,7 +7,7 @@ use std::alloc::Global;
 use std::ops::Range;
 use std::process::Abort;
 use std::test::Fail;
-use tap::Weights;
+use world::tap::Weights;
 
 /// A run with these words, over a source and a sink in memory that fail at these calls.
 fn run(

@@ -7,10 +7,10 @@ use Rattle.std.proofs.lemmas.List.{append-nil, append_assoc, drop_more, take_mor
 use Rattle.std.proofs.lemmas.List.Concat.{flat_map-append}
 use Rattle.std.proofs.lemmas.List.Elements.{filter-append, filter_agree}
 use Rattle.std.proofs.lemmas.List.Folds.{list_any-append}
-use Rattle.job_rules.specs.idset.Ids.{has}
-use Rattle.job_rules.specs.job_spec.declared.spec.JobSpec.{JobSpec}
+use Rattle.idset.specs.Ids.{has}
+use Rattle.job_spec.specs.declared.spec.JobSpec.{JobSpec}
 use Rattle.job_rules.specs.declared.hold.Hold.{Hold}
-use Rattle.job_rules.specs.resource_set.declared.node.Node.{Node}
+use Rattle.resource_set.specs.declared.node.Node.{Node}
 use Rattle.job_rules.specs.Fits.{AllApart, AreApart, AreBlockers, CanFit, IsGrant, IsSpec, free_of, has_unit, nodes_of, others_at, with_ids, without_nodes}
 use Rattle.job_rules.specs.Worths.{total, wanted, worth}
 use Rattle.job_rules.proofs.Among.{Among, among_append, among_from, among_has, among_left, among_map, among_mapped, among_right, contains_from, has_among}

@@ -7,9 +7,9 @@ use Rattle.std.proofs.Math.Nat.{div-le_self}
 use Rattle.std.proofs.lemmas.Bool.{true≢false, or_left}
 use Rattle.std.proofs.lemmas.List.{length-map}
 use Rattle.std.proofs.lemmas.List.Elements.{filter_agree}
-use Rattle.job_rules.specs.idset.Ids.{has}
-use Rattle.job_rules.specs.job_spec.declared.spec.JobSpec.{JobSpec}
-use Rattle.job_rules.specs.resource_set.declared.node.Node.{Node}
+use Rattle.idset.specs.Ids.{has}
+use Rattle.job_spec.specs.declared.spec.JobSpec.{JobSpec}
+use Rattle.resource_set.specs.declared.node.Node.{Node}
 use Rattle.job_rules.specs.Fits.{AreApart, HasIdSets, IsGrant, IsPartOf, has_unit, left_on, without_nodes}
 use Rattle.job_rules.specs.Worths.{total, worth}
 use Rattle.job_rules.proofs.Among.{Among, Distinct, among_filter, among_has, among_kept, among_mapped, distinct_filter, distinct_from, has_among, no_more}

@@ -5,11 +5,11 @@ use Rattle.std.specs.List.{AllByRecursion as Each, HoldsAt}
 use Rattle.std.specs.Str.{bytes_eq}
 use Rattle.std.proofs.lemmas.Bool.{cases_lt, and_parts, le-ltb, lt-ltb, ltb-true, not-true, true≢false}
 use Rattle.std.proofs.lemmas.List.Elements.{All-from_recursion, recursion_from_All, All-map}
-use Rattle.job_rules.specs.idset.Ids.{has}
-use Rattle.job_rules.specs.job_spec.declared.spec.JobSpec.{JobSpec}
+use Rattle.idset.specs.Ids.{has}
+use Rattle.job_spec.specs.declared.spec.JobSpec.{JobSpec}
 use Rattle.job_rules.specs.declared.hold.Hold.{Hold}
-use Rattle.job_rules.specs.resource_set.declared.node.Node.{Node}
-use Rattle.job_rules.specs.resource_set.Units.{AreDistinct, AreHosts}
+use Rattle.resource_set.specs.declared.node.Node.{Node}
+use Rattle.resource_set.specs.Units.{AreDistinct, AreHosts}
 use Rattle.job_rules.specs.Fits.{AreApart, AreBlockers, AreLive, AreWithin, CanFit, HasIdSets, IsGrant, IsPartOf, IsSpec, IsWithin, NeverFits, end_of, first_fit, free_of, has_unit, nodes_of, sooner, without_nodes}
 use Rattle.job_rules.specs.Worths.{give_as, total, wanted, worth}
 use Rattle.job_rules.proofs.Among.{Among, Distinct, among_from, among_has, among_map, among_mapped, any_from, contains_from, distinct_rising, each_at, each_from, has_among}
@@ -20,7 +20,7 @@ use Rattle.job_rules.proofs.Sets.{IsFree, IsPiece, among_picked, can_fit_enough,
 use Rattle.graph_match.specs.declared.place.Place.{Place}
 use Rattle.graph_match.specs.declared.spot.Spot.{Spot}
 use Rattle.graph_match.specs.Allotment.{Allotment}
-use Rattle.job_rules.specs.resource_set.declared.node.Resources.{Resources}
+use Rattle.resource_set.specs.declared.node.Resources.{Resources}
 use Rattle.graph_match.specs.Answers.{Answers, AreFirstFit, IsBlocked, NamesBlockers}
 use Rattle.graph_match.specs.declared.fit.Fit.{Fit}
 use Rattle.graph_match.specs.declared.fit.Fit.TheVariants.{Units, Busy, Never}

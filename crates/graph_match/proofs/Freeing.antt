@@ -4,9 +4,9 @@ use Rattle.std.specs.Prelude.{MatchBool}
 use Rattle.std.specs.Str.{bytes_eq}
 use Rattle.std.proofs.lemmas.Bool.{and_parts, or_cases, true≢false, or_from, false_from_ne_true}
 use Rattle.std.proofs.lemmas.List.{drop_more, take_more, get_or-map, get_or_default, length-map}
-use Rattle.job_rules.specs.idset.Ids.{has}
-use Rattle.job_rules.specs.job_spec.declared.spec.JobSpec.{JobSpec}
-use Rattle.job_rules.specs.resource_set.declared.node.Node.{Node}
+use Rattle.idset.specs.Ids.{has}
+use Rattle.job_spec.specs.declared.spec.JobSpec.{JobSpec}
+use Rattle.resource_set.specs.declared.node.Node.{Node}
 use Rattle.job_rules.specs.Fits.{AreApart, AreWithin, HasIdSets, IsGrant, has_unit, without_nodes}
 use Rattle.job_rules.proofs.Among.{Among, Distinct, among_mapped, any_at, any_from, distinct_from}
 use Rattle.job_rules.proofs.UnitKinds.{apart_from, kind, kind_apart}

@@ -8,9 +8,9 @@ use Rattle.std.proofs.lemmas.List.{get_or-map, get_or_default, length-map}
 use Rattle.std.proofs.lemmas.List.Folds.{list_any-append}
 use Rattle.std.proofs.lemmas.List.Kept.{AllPairs-from_increasing}
 use Rattle.std.specs.Str.{bytes_eq}
-use Rattle.job_rules.specs.idset.Ids.{has}
+use Rattle.idset.specs.Ids.{has}
 use Rattle.job_rules.specs.declared.hold.Hold.{Hold}
-use Rattle.job_rules.specs.resource_set.declared.node.Node.{Node}
+use Rattle.resource_set.specs.declared.node.Node.{Node}
 use Rattle.job_rules.specs.Fits.{AllApart, AreApart, has_unit, nodes_of}
 use Rattle.job_rules.proofs.UnitKinds.{apart_from, kind, kind_apart}
 use Rattle.job_rules.proofs.Among.{Among, Distinct, among_from, among_map, among_mapped, contains_from}

@@ -4,9 +4,9 @@ use Rattle.std.specs.List.{AllByRecursion as Each}
 use Rattle.std.specs.Str.{bytes_eq}
 use Rattle.std.proofs.lemmas.Bool.{and_parts, and_from}
 use Rattle.std.proofs.lemmas.List.{get_or_default}
-use Rattle.job_rules.specs.idset.Ids.{has}
-use Rattle.job_rules.specs.job_spec.declared.spec.JobSpec.{JobSpec}
-use Rattle.job_rules.specs.resource_set.declared.node.Node.{Node}
+use Rattle.idset.specs.Ids.{has}
+use Rattle.job_spec.specs.declared.spec.JobSpec.{JobSpec}
+use Rattle.resource_set.specs.declared.node.Node.{Node}
 use Rattle.job_rules.specs.Fits.{IsGrant, has_unit, is_wholly_free, without_nodes}
 use Rattle.job_rules.specs.Worths.{total, worth, worth_as}
 use Rattle.job_rules.proofs.Among.{Among, Distinct, among_from, among_mapped, any_at, any_from, distinct_from, same_image}

@@ -1,7 +1,7 @@
 -- Hosts that are named by letters, in order of their ranks.
 use Rattle.std.proofs.Common.{◌≡◌, ℕ, ◌+◌, ◌≤◌, inl, inr, List, [], ◌∷◌, ◌++◌, length, map, sym, ap, ◌∙◌, subst, arith}
-use Rattle.job_rules.specs.resource_set.declared.node.Node.{Node}
-use Rattle.job_rules.specs.resource_set.Units.{AreHosts}
+use Rattle.resource_set.specs.declared.node.Node.{Node}
+use Rattle.resource_set.specs.Units.{AreHosts}
 use Rattle.job_rules.proofs.Among.{Among, Distinct, among_map, are_distinct}
 use Rattle.job_rules.proofs.Few.{hosts_of}
 use Rattle.graph_match.proofs.Spots.{Rising}

@@ -2,12 +2,12 @@
 use Rattle.std.proofs.Common.{◌≡◌, true, List, [], ◌∷◌, refl, sym, ap, ◌∙◌, inl, inr}
 use Rattle.std.specs.List.{list_all, AllByRecursion as Each}
 use Rattle.std.proofs.lemmas.Bool.{and_parts}
-use Rattle.job_rules.specs.hostlist.Names.{AreHostNames, is_host_name}
+use Rattle.hostlist.specs.Names.{AreHostNames, is_host_name}
 use Rattle.job_rules.specs.declared.hold.Hold.{Hold}
 use Rattle.job_rules.specs.Fits as fits
 use Rattle.job_rules.proofs.Among.{Among, among_from, among_map}
-use Rattle.job_rules.specs.resource_set.Units.{host_names}
-use Rattle.job_rules.specs.resource_set.declared.node.Node.{Node}
+use Rattle.resource_set.specs.Units.{host_names}
+use Rattle.resource_set.specs.declared.node.Node.{Node}
 
 name_at : (grant : List Node) → AreHostNames (host_names grant) → (n : Node) → Among n grant → is_host_name n.host ≡ true
 name_at [] h n i = absurd i

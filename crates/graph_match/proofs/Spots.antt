@@ -6,8 +6,8 @@ use Rattle.std.specs.List.Sorted.{IsStrictlyIncreasing}
 use Rattle.std.proofs.lemmas.Bool.{cases_lt, eq-eqb, ne_eqb, or_from}
 use Rattle.std.proofs.lemmas.List.{length-map}
 use Rattle.std.proofs.lemmas.List.Elements.{All-cons, All-head, All-tail, All-nil}
-use Rattle.job_rules.specs.idset.Ids.{has, ids_where, list_of, IsIdSet}
-use Rattle.job_rules.proofs.idset_proofs.Members.{filter-alike}
+use Rattle.idset.specs.Ids.{has, ids_where, list_of, IsIdSet}
+use Rattle.idset.proofs.Members.{filter-alike}
 use Rattle.graph_match.specs.declared.spot.Spot.{Spot}
 use Rattle.graph_match.specs.Spots.{ids_of, free_ids, free_spot, marked_at}
 

@@ -8,8 +8,8 @@ use Rattle.std.proofs.lemmas.Bool.{cases_lt, cases_order, eqb-true, eq-eqb, ne_e
 use Rattle.std.proofs.lemmas.List.{at_drop_more, at_drop_all, drop_more, get_or-map, length-map, map-set, set-get_or, append_assoc, append-nil, drop_all, map_more}
 use Rattle.std.proofs.lemmas.List.Elements.{All-more}
 use Rattle.std.proofs.lemmas.List.Kept.{AllPairs-from_increasing}
-use Rattle.job_rules.specs.job_spec.declared.spec.JobSpec.{JobSpec}
-use Rattle.job_rules.specs.resource_set.declared.node.Node.{Node}
+use Rattle.job_spec.specs.declared.spec.JobSpec.{JobSpec}
+use Rattle.resource_set.specs.declared.node.Node.{Node}
 use Rattle.job_rules.specs.Fits.{HasIdSets, IsGrant, IsPartOf, IsSpec, IsWithin}
 use Rattle.job_rules.specs.Worths.{give_as, total, wanted, worth}
 use Rattle.job_rules.proofs.Among.{Among, Distinct, among_from, among_mapped, contains_from, distinct_from, distinct_rising, each_at, same_image}

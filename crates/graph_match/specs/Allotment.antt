@@ -1,7 +1,7 @@
 -- A grant with the live jobs.
 use Rattle.std.specs.Prelude.{ℕ, List}
 use Rattle.job_rules.specs.declared.hold.Hold.{Hold}
-use Rattle.job_rules.specs.resource_set.declared.node.Node.{Node}
+use Rattle.resource_set.specs.declared.node.Node.{Node}
 
 -- a grant's hosts and its second of expiration (0 is none), and what live jobs hold of it
 pub record Allotment : Type 0 where

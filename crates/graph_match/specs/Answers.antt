@@ -1,8 +1,8 @@
 -- What a grant answers a job.
 use Rattle.std.specs.Prelude.{◌≡◌, ℕ, List, Some, None}
-use Rattle.job_rules.specs.job_spec.declared.spec.JobSpec.{JobSpec}
-use Rattle.job_rules.specs.resource_set.declared.node.Node.{Node}
-use Rattle.job_rules.specs.resource_set.declared.node.Resources.{Resources}
+use Rattle.job_spec.specs.declared.spec.JobSpec.{JobSpec}
+use Rattle.resource_set.specs.declared.node.Node.{Node}
+use Rattle.resource_set.specs.declared.node.Resources.{Resources}
 use Rattle.job_rules.specs.declared.hold.Hold.{Hold}
 use Rattle.job_rules.specs.Fits.{AreBlockers, AreWithin, NeverFits, end_of, first_fit, free_of, sooner}
 use Rattle.graph_match.specs.Allotment.{Allotment}

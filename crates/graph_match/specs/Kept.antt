@@ -4,7 +4,7 @@ use Rattle.std.specs.Prelude.{◌≡◌, ℕ, List, not, map}
 use Rattle.std.specs.List.{AllByRecursion as Each}
 use Rattle.job_rules.specs.declared.hold.Hold.{Hold}
 use Rattle.job_rules.specs.Fits.{AreLive, IsGrant, has_unit, nodes_of}
-use Rattle.job_rules.specs.resource_set.declared.node.Node.{Node}
+use Rattle.resource_set.specs.declared.node.Node.{Node}
 use Rattle.graph_match.specs.declared.place.Place.{Place}
 use Rattle.graph_match.specs.declared.spot.Spot.{Spot}
 use Rattle.graph_match.specs.Places.{node_of}

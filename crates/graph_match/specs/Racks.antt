@@ -1,7 +1,7 @@
 -- How much is free in the racks of a grant.
 use Rattle.std.specs.Prelude.{◌≡◌, ℕ, ◌*◌, ◌<◌, ◌≤◌, ◌⊎◌, nat_lt, List, map, length, take, drop, get_or, Option, Some, None, if◌then◌else◌}
-use Rattle.job_rules.specs.job_spec.declared.spec.JobSpec.{JobSpec}
-use Rattle.job_rules.specs.resource_set.declared.node.Node.{Node}
+use Rattle.job_spec.specs.declared.spec.JobSpec.{JobSpec}
+use Rattle.resource_set.specs.declared.node.Node.{Node}
 use Rattle.job_rules.specs.Worths.{total}
 use Rattle.graph_match.specs.declared.place.Place.{Place}
 use Rattle.graph_match.specs.declared.racks.Free.{Free}

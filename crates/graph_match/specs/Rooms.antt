@@ -1,7 +1,7 @@
 -- What the counts of a host's units bring to a job.
 use Rattle.std.specs.Prelude.{◌≡◌, ℕ, ◌+◌, ◌/◌, List, [], ◌∷◌, map, ◌==◌, min, nat_le, Bool, not, ◌&&◌, ◌||◌, Option, Some, None, length, if◌then◌else◌}
-use Rattle.job_rules.specs.job_spec.declared.spec.JobSpec.{JobSpec}
-use Rattle.job_rules.specs.resource_set.declared.node.Node.{Node}
+use Rattle.job_spec.specs.declared.spec.JobSpec.{JobSpec}
+use Rattle.resource_set.specs.declared.node.Node.{Node}
 use Rattle.job_rules.specs.Fits.{without_nodes}
 use Rattle.graph_match.specs.declared.rooms.Room.{Room}
 

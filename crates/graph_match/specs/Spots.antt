@@ -1,6 +1,6 @@
 -- The cores, or the GPUs, of a host, each of them free or held.
 use Rattle.std.specs.Prelude.{ℕ, Bool, List, true, map, filter, if◌then◌else◌}
-use Rattle.job_rules.specs.idset.Ids.{has}
+use Rattle.idset.specs.Ids.{has}
 use Rattle.graph_match.specs.declared.spot.Spot.{Spot}
 
 -- the ids of spots, and those that are free

@@ -1,6 +1,6 @@
 //! What a grant has for a job.
-use job_rules::lists::ListOf;
-use job_rules::resource_set::Resources;
+use lists::ListOf;
+use resource_set::Resources;
 
 /// Ids of jobs, in rising order.
 pub type JobList = ListOf<u64>;

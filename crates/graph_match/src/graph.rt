@@ -3,10 +3,10 @@ ghost use Rattle.std.specs.Prelude.{◌≡◌, slice_index_or, ◌<◌, ◌≤�
 ghost use Rattle.std.specs.Bool.{OnFalse};
 ghost use Rattle.std.specs.List.{HoldsAt, AllByRecursion as Each};
 ghost use Rattle.std.specs.List.Sorted.{IsStrictlyIncreasing};
-ghost use Rattle.job_rules.specs.resource_set.Units.{AreHosts};
+ghost use Rattle.resource_set.specs.Units.{AreHosts};
 ghost use Rattle.job_rules.specs.Fits.{AreWithin, CanFit, HasIdSets, IsGrant, IsSpec, IsWithin, NeverFits, end_of, first_fit, free_of, sooner};
 ghost use Rattle.job_rules.specs.Worths.{total, wanted as wanted_of, worth as worth_of};
-ghost use Rattle.job_rules.specs.resource_set.declared.node.Node.{Node as Taken};
+ghost use Rattle.resource_set.specs.declared.node.Node.{Node as Taken};
 ghost use Rattle.job_rules.specs.Fits.{AreApart, AreBlockers, AreLive, nodes_of};
 ghost use Rattle.graph_match.specs.Answers.{NamesBlockers};
 ghost use Rattle.graph_match.specs.Holds.{IsNew, with_hold, without_hold};
@@ -20,9 +20,9 @@ use crate::place::Place;
 use crate::racks::{Cluster, Free};
 use crate::rooms::{Room, wanted, worth};
 use job_rules::Hold;
-use job_rules::job_spec::JobSpec;
-use job_rules::lists::Copied;
-use job_rules::resource_set::{Node, NodeList, Resources};
+use job_spec::JobSpec;
+use lists::Copied;
+use resource_set::{Node, NodeList, Resources};
 use std::alloc::{AllocError, Global};
 use std::marker::Model;
 

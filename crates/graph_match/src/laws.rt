@@ -1,10 +1,10 @@
 //! What the units are that a job is given.
 ghost use Rattle.std.specs.Prelude.{◌≡◌, ℕ};
 ghost use Rattle.job_rules.specs.Fits.{IsGrant, IsSpec, IsUnitSet, Satisfies, free_of};
-ghost use Rattle.job_rules.specs.job_spec.declared.spec.JobSpec.{JobSpec};
-ghost use Rattle.job_rules.specs.resource_set.Units.{LiesIn};
-ghost use Rattle.job_rules.specs.resource_set.Valid.{IsR};
-ghost use Rattle.job_rules.specs.resource_set.declared.node.Resources.{Resources};
+ghost use Rattle.job_spec.specs.declared.spec.JobSpec.{JobSpec};
+ghost use Rattle.resource_set.specs.Units.{LiesIn};
+ghost use Rattle.resource_set.specs.Valid.{IsR};
+ghost use Rattle.resource_set.specs.declared.node.Resources.{Resources};
 ghost use Rattle.graph_match.specs.Allotment.{Allotment};
 ghost use Rattle.graph_match.specs.Answers.{AreFirstFit};
 

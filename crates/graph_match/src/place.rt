@@ -7,9 +7,9 @@ ghost use Rattle.graph_match.specs.Rooms.{room_of, slot_count, worth_of};
 
 use crate::pool::Pool;
 use crate::rooms::{Room, worth};
-use job_rules::job_spec::JobSpec;
-use job_rules::lists::{Bytes, Copied};
-use job_rules::resource_set::Node;
+use job_spec::JobSpec;
+use lists::{Bytes, Copied};
+use resource_set::Node;
 use std::alloc::{AllocError, Global};
 
 /// A host of the grant, with what is free there.

@@ -1,10 +1,10 @@
 //! The cores or the GPUs of a host.
 ghost use Rattle.std.specs.Prelude.{◌≡◌, ℕ, ◌≤◌, ◌<◌, length, take, map, IfOk, OnOk};
-ghost use Rattle.job_rules.specs.idset.Ids.{IsIdSet};
+ghost use Rattle.idset.specs.Ids.{IsIdSet};
 ghost use Rattle.graph_match.specs.Spots.{ids_of, free_ids, free_spot, marked_at};
 
 use crate::spot::Spot;
-use job_rules::idset::IdSet;
+use idset::IdSet;
 use std::alloc::{AllocError, Global};
 use std::marker::Model;
 

@@ -10,8 +10,8 @@ ghost use Rattle.graph_match.specs.declared.place.Place.{Place as Host};
 
 use crate::place::Place;
 use crate::rooms::Room;
-use job_rules::job_spec::JobSpec;
-use job_rules::resource_set::Node;
+use job_spec::JobSpec;
+use resource_set::Node;
 use std::alloc::{AllocError, Global};
 use std::marker::Model;
 

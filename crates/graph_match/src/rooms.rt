@@ -3,7 +3,7 @@ ghost use Rattle.std.specs.Prelude.{◌≡◌, ℕ, ◌≤◌, ◌<◌, length};
 ghost use Rattle.graph_match.specs.Rooms.{slot_count, worth_of};
 ghost use Rattle.job_rules.specs.Worths.{wanted as wanted_of};
 
-use job_rules::job_spec::JobSpec;
+use job_spec::JobSpec;
 
 /// How many cores and GPUs a host has free, or in all.
 #[derive(Clone, Copy, Debug, PartialEq, Eq)]

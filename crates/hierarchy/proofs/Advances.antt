@@ -7,19 +7,19 @@ use Rattle.std.proofs.lemmas.Bool.{eq-eqb}
 use Rattle.std.proofs.lemmas.List.Elements.{All-contains, All-cons, All-nil}
 use Rattle.std.proofs.lemmas.List.Folds.{list_any-append}
 use Rattle.std.proofs.lemmas.List.Sums.{sum_by_push}
-use Rattle.answers.proofs.job_rules_proofs.Among.{Among, any_at}
-use Rattle.answers.specs.kvs_txn.declared.txn.By.{By}
-use Rattle.answers.proofs.kvs_rules_proofs.Sequences.{each_along, each_joined, until-append}
-use Rattle.answers.specs.kvs_rules.Sequence.{EachAfter, until}
-use Rattle.answers.specs.instance_rules.Family.{HasTarget, IsTarget, MayTick}
-use Rattle.answers.specs.instance_rules.Log as rules
-use Rattle.answers.specs.instance_rules.Log.{now_of}
-use Rattle.answers.proofs.instance_rules_proofs.Ends.{target_kept}
-use Rattle.answers.specs.workload.Tallies.{seconds_in, seconds_of}
-use Rattle.answers.specs.workload.declared.work.Actor.{Actor}
-use Rattle.answers.specs.workload.declared.work.Command.{Command}
-use Rattle.answers.specs.workload.declared.work.Command.TheVariants as command
-use Rattle.answers.specs.workload.declared.work.Workload.{Workload}
+use Rattle.job_rules.proofs.Among.{Among, any_at}
+use Rattle.kvs_txn.specs.declared.txn.By.{By}
+use Rattle.kvs_rules.proofs.Sequences.{each_along, each_joined, until-append}
+use Rattle.kvs_rules.specs.Sequence.{EachAfter, until}
+use Rattle.instance_rules.specs.Family.{HasTarget, IsTarget, MayTick}
+use Rattle.instance_rules.specs.Log as rules
+use Rattle.instance_rules.specs.Log.{now_of}
+use Rattle.instance_rules.proofs.Ends.{target_kept}
+use Rattle.workload.specs.Tallies.{seconds_in, seconds_of}
+use Rattle.workload.specs.declared.work.Actor.{Actor}
+use Rattle.workload.specs.declared.work.Command.{Command}
+use Rattle.workload.specs.declared.work.Command.TheVariants as command
+use Rattle.workload.specs.declared.work.Workload.{Workload}
 use Rattle.answers.specs.Chronicle.{Setup, before_issue, is_issued, is_replied, issues}
 use Rattle.answers.specs.Commands.{command_at}
 use Rattle.answers.specs.Jobs.{instance_of, job_ask_at, job_ask_of, log_in, second_of}

@@ -6,12 +6,12 @@ use Rattle.std.specs.List.{AllByRecursion as Each, cons_option, list_any}
 use Rattle.std.proofs.Math.Nat.{mod-eq_of_lt}
 use Rattle.std.proofs.lemmas.Bool.{eqb-true}
 use Rattle.std.proofs.lemmas.List.Elements.{All-head, All-tail}
-use Rattle.answers.specs.kvs_txn.declared.txn.By.{By}
-use Rattle.answers.specs.kvs_rules.Sequence.{until}
-use Rattle.answers.specs.workload.Actors.{are_together, home_of}
-use Rattle.answers.specs.workload.declared.work.Actor.{Actor}
-use Rattle.answers.specs.workload.declared.work.Line.{Line}
-use Rattle.answers.specs.workload.declared.work.Workload.{Workload}
+use Rattle.kvs_txn.specs.declared.txn.By.{By}
+use Rattle.kvs_rules.specs.Sequence.{until}
+use Rattle.workload.specs.Actors.{are_together, home_of}
+use Rattle.workload.specs.declared.work.Actor.{Actor}
+use Rattle.workload.specs.declared.work.Line.{Line}
+use Rattle.workload.specs.declared.work.Workload.{Workload}
 use Rattle.answers.specs.Chronicle.{Setup, before_issue, is_replied, top}
 use Rattle.answers.specs.Commands.{command_at}
 use Rattle.answers.specs.Jobs.{living_of, second_of}

@@ -5,12 +5,12 @@ use Rattle.std.specs.Option.{option_map_or}
 use Rattle.std.specs.List.{cons_option}
 use Rattle.std.proofs.lemmas.Bool.{and_parts, eq-eqb, eqb-true}
 use Rattle.std.proofs.lemmas.List.{length-append}
-use Rattle.answers.proofs.job_rules_proofs.Among.{any_at, any_from}
-use Rattle.answers.specs.kvs_rules.Sequence.{EachAfter, until}
-use Rattle.answers.proofs.kvs_rules_proofs.Sequences.{each_along, each_push}
-use Rattle.answers.proofs.resource_set_proofs.Booleans.{same_name}
-use Rattle.answers.specs.resource_set.declared.node.Resources.{Resources}
-use Rattle.answers.specs.workload.Actors.{are_together, home_of}
+use Rattle.job_rules.proofs.Among.{any_at, any_from}
+use Rattle.kvs_rules.specs.Sequence.{EachAfter, until}
+use Rattle.kvs_rules.proofs.Sequences.{each_along, each_push}
+use Rattle.resource_set.proofs.Booleans.{same_name}
+use Rattle.resource_set.specs.declared.node.Resources.{Resources}
+use Rattle.workload.specs.Actors.{are_together, home_of}
 use Rattle.answers.specs.Chronicle.{Setup, replies_to, top}
 use Rattle.answers.specs.Legal.{IsLegal, IsLegalEntry}
 use Rattle.answers.specs.Whole.{IsEarlierEntry}

@@ -4,9 +4,9 @@ use Rattle.std.specs.Prelude.{IfSome, find, if◌then◌else◌}
 use Rattle.std.specs.List.{AllByRecursion as Each, cons_option, list_any}
 use Rattle.std.proofs.lemmas.Bool.{eqb-true, or_parts, or_right}
 use Rattle.std.proofs.lemmas.List.Folds.{list_any-append}
-use Rattle.answers.specs.kvs_rules.Sequence.{EachAfter}
-use Rattle.answers.proofs.kvs_rules_proofs.Sequences.{each_push}
-use Rattle.answers.specs.workload.Actors.{are_together}
+use Rattle.kvs_rules.specs.Sequence.{EachAfter}
+use Rattle.kvs_rules.proofs.Sequences.{each_push}
+use Rattle.workload.specs.Actors.{are_together}
 use Rattle.answers.specs.Chronicle.{Setup, top}
 use Rattle.answers.specs.Legal.{IsLegal, IsLegalEntry}
 use Rattle.answers.specs.Whole.{IsEarlierEntry}

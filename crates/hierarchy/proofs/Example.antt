@@ -1,9 +1,9 @@
 -- A worked run with one child: who lives in it, whose entries are whose, and which stretches it falls into.
 use Rattle.std.proofs.Common.{◌≡◌, ℕ, zero, suc, ◌<◌, List, [], ◌∷◌, ◌++◌, true, false, Some, None, codes, refl, arith}
-use Rattle.answers.specs.fl_digest.declared.Hash.TheVariants as hash
-use Rattle.answers.specs.resource_set.declared.node.Resources.{Resources}
-use Rattle.answers.specs.workload.declared.work.Command.TheVariants as command
-use Rattle.answers.specs.workload.declared.work.Workload.{Workload}
+use Rattle.fl_digest.specs.declared.Hash.TheVariants as hash
+use Rattle.resource_set.specs.declared.node.Resources.{Resources}
+use Rattle.workload.specs.declared.work.Command.TheVariants as command
+use Rattle.workload.specs.declared.work.Workload.{Workload}
 use Rattle.answers.specs.Chronicle.{Setup, is_replied, top}
 use Rattle.answers.specs.declared.chronicle.Entry.{Entry}
 use Rattle.answers.specs.declared.chronicle.Entry.TheVariants as entry

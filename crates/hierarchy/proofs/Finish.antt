@@ -7,13 +7,13 @@ use Rattle.std.proofs.lemmas.Bool.{and_parts, eqb-true}
 use Rattle.std.proofs.lemmas.List.Elements.{filter_agree, filter_map-append}
 use Rattle.std.proofs.lemmas.List.Folds.{list_any-append}
 use Rattle.std.proofs.lemmas.List.Sums.{sum_by-append, sum_by-cons}
-use Rattle.answers.proofs.job_rules_proofs.Among.{Among, among_filter, any_at, any_from}
-use Rattle.answers.specs.kvs_txn.declared.txn.By.{By}
-use Rattle.answers.specs.kvs_rules.Sequence.{EachAfter}
-use Rattle.answers.proofs.kvs_rules_proofs.Sequences.{each_joined, each_parts}
-use Rattle.answers.specs.instance_rules.Family.{HasTarget, IsEndOf, IsFamilyIdle, IsFamilyTold, IsTarget, Living}
-use Rattle.answers.specs.instance_rules.Log.{Log}
-use Rattle.answers.specs.workload.declared.work.Workload.{Workload}
+use Rattle.job_rules.proofs.Among.{Among, among_filter, any_at, any_from}
+use Rattle.kvs_txn.specs.declared.txn.By.{By}
+use Rattle.kvs_rules.specs.Sequence.{EachAfter}
+use Rattle.kvs_rules.proofs.Sequences.{each_joined, each_parts}
+use Rattle.instance_rules.specs.Family.{HasTarget, IsEndOf, IsFamilyIdle, IsFamilyTold, IsTarget, Living}
+use Rattle.instance_rules.specs.Log.{Log}
+use Rattle.workload.specs.declared.work.Workload.{Workload}
 use Rattle.answers.specs.Chronicle.{Setup, is_issued, issues, issues_of, replies_to}
 use Rattle.answers.specs.Commands.{command_at}
 use Rattle.answers.specs.Jobs.{happening_of, instance_of, log_in}

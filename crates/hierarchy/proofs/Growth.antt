@@ -6,9 +6,9 @@ use Rattle.std.specs.List.{AllByRecursion as Each, cons_option, list_any}
 use Rattle.std.proofs.lemmas.Bool.{and_parts, eq-eqb, eqb-true, false_from_ne_true, not-true, or_parts}
 use Rattle.std.proofs.lemmas.List.Elements.{filter_map-append}
 use Rattle.std.proofs.lemmas.List.Folds.{find-append, list_any-append}
-use Rattle.answers.specs.kvs_rules.Sequence.{EachAfter}
-use Rattle.answers.specs.workload.Actors.{are_together}
-use Rattle.answers.specs.instance_rules.Family.{Living, MayTick}
+use Rattle.kvs_rules.specs.Sequence.{EachAfter}
+use Rattle.workload.specs.Actors.{are_together}
+use Rattle.instance_rules.specs.Family.{Living, MayTick}
 use Rattle.answers.specs.Chronicle.{IsOpenCommand, Setup, top}
 use Rattle.answers.specs.Jobs.{instance_of, log_in}
 use Rattle.answers.specs.Legal.{IsLegalEntry, IsLegalIssue}
@@ -16,7 +16,7 @@ use Rattle.answers.specs.Whole.{IsEarlierEntry}
 use Rattle.answers.specs.declared.chronicle.Entry.{Entry}
 use Rattle.answers.specs.declared.chronicle.Entry.TheVariants as entry
 use Rattle.answers.specs.declared.chronicle.Reply.TheVariants as reply
-use Rattle.answers.specs.workload.declared.work.Actor.{Actor}
+use Rattle.workload.specs.declared.work.Actor.{Actor}
 use Rattle.hierarchy.specs.Births.{Birth, birth_in, birth_of, births, ends, has_lost_home, is_birth_of, is_born, is_gone, label_of, lives, numbers}
 use Rattle.hierarchy.specs.Families.{family_of, left_in, living_in, second_in, shuts_down}
 use Rattle.hierarchy.specs.Growing.{GoesOn, IsMadeIn, ParentGoes}

@@ -2,27 +2,27 @@
 use Rattle.std.proofs.Common.{◌≡◌, ℕ, ◌<◌, ◌^◌, inl, inr, List, [], ◌∷◌, ◌++◌, Bool, true, ◌&&◌, Some, Result, Ok, Err, refl, sym, ap, ◌∙◌, subst}
 use Rattle.std.specs.Prelude.{IfSome, option_and_then}
 use Rattle.std.proofs.lemmas.Bool.{eq-eqb}
-use Rattle.answers.proofs.job_rules_proofs.Among.{among_from, any_at}
-use Rattle.answers.specs.job_rules.Fits.{IsGrant}
-use Rattle.answers.specs.kvs_model.History.{after_groups, landed_on}
-use Rattle.answers.specs.kvs_model.Operation.{effect}
-use Rattle.answers.specs.kvs_model.Store.{IsStore, Store}
-use Rattle.answers.proofs.kvs_rules_proofs.Sequences.{each_push}
-use Rattle.answers.specs.kvs_txn.declared.answers.Refusal.{Refusal}
-use Rattle.answers.specs.kvs_txn.declared.txn.Author.{Author}
-use Rattle.answers.specs.kvs_txn.declared.txn.Author.TheVariants as author
-use Rattle.answers.specs.kvs_txn.declared.txn.Group.{Group}
-use Rattle.answers.specs.kvs_txn.declared.txn.Scope.TheVariants as scope
-use Rattle.answers.specs.resource_set.declared.node.Resources.{Resources}
-use Rattle.answers.specs.store_laws.Reserved.{IsUserAuthor}
-use Rattle.answers.specs.manager_rules.declared.asked.Asked.TheVariants as asked
-use Rattle.answers.specs.manager_rules.Posts.{Desk}
-use Rattle.answers.specs.manager_rules.Scene.{has_child, has_living_child, is_child_of, is_living}
-use Rattle.answers.specs.manager_rules.Sound.{IsSoundStore}
-use Rattle.answers.specs.instance_rules.Desks.{AreDueFrom, IsDeskOf, IsDueFor}
-use Rattle.answers.specs.instance_rules.Legal.{IsSound}
-use Rattle.answers.specs.instance_rules.Log.{Instance, IsInstance, Log, child_of, now_of}
-use Rattle.answers.proofs.instance_rules_proofs.Sounds.{desk_kept, groups_keep, store_after_group}
+use Rattle.job_rules.proofs.Among.{among_from, any_at}
+use Rattle.job_rules.specs.Fits.{IsGrant}
+use Rattle.kvs_model.specs.History.{after_groups, landed_on}
+use Rattle.kvs_model.specs.Operation.{effect}
+use Rattle.kvs_model.specs.Store.{IsStore, Store}
+use Rattle.kvs_rules.proofs.Sequences.{each_push}
+use Rattle.kvs_txn.specs.declared.answers.Refusal.{Refusal}
+use Rattle.kvs_txn.specs.declared.txn.Author.{Author}
+use Rattle.kvs_txn.specs.declared.txn.Author.TheVariants as author
+use Rattle.kvs_txn.specs.declared.txn.Group.{Group}
+use Rattle.kvs_txn.specs.declared.txn.Scope.TheVariants as scope
+use Rattle.resource_set.specs.declared.node.Resources.{Resources}
+use Rattle.store_laws.specs.Reserved.{IsUserAuthor}
+use Rattle.manager_rules.specs.declared.asked.Asked.TheVariants as asked
+use Rattle.manager_rules.specs.Posts.{Desk}
+use Rattle.manager_rules.specs.Scene.{has_child, has_living_child, is_child_of, is_living}
+use Rattle.manager_rules.specs.Sound.{IsSoundStore}
+use Rattle.instance_rules.specs.Desks.{AreDueFrom, IsDeskOf, IsDueFor}
+use Rattle.instance_rules.specs.Legal.{IsSound}
+use Rattle.instance_rules.specs.Log.{Instance, IsInstance, Log, child_of, now_of}
+use Rattle.instance_rules.proofs.Sounds.{desk_kept, groups_keep, store_after_group}
 use Rattle.answers.specs.Chronicle.{Setup}
 use Rattle.answers.specs.Jobs.{instance_of, log_in, second_of}
 use Rattle.answers.specs.Legal.{IsLegal, IsLegalEntry}

@@ -2,10 +2,10 @@
 use Rattle.std.proofs.Common.{◌≡◌, ℕ, List, Bool, true, false, ◌&&◌, refl, sym, ap, ap₂, ◌∙◌, subst, true≢false}
 use Rattle.std.specs.Prelude.{Contains}
 use Rattle.std.proofs.lemmas.Bool.{and_parts}
-use Rattle.answers.proofs.job_rules_proofs.Among.{any_at, any_from}
-use Rattle.answers.specs.manager_rules.Times.{IsIdle}
-use Rattle.answers.specs.instance_rules.Family.{AreNumbered, IsEndOf, IsFamilyIdle, Living, OfLiving}
-use Rattle.answers.specs.instance_rules.Legal.{OfDesk}
+use Rattle.job_rules.proofs.Among.{any_at, any_from}
+use Rattle.manager_rules.specs.Times.{IsIdle}
+use Rattle.instance_rules.specs.Family.{AreNumbered, IsEndOf, IsFamilyIdle, Living, OfLiving}
+use Rattle.instance_rules.specs.Legal.{OfDesk}
 use Rattle.answers.specs.Chronicle.{Setup}
 use Rattle.answers.specs.Jobs.{instance_of, log_in}
 use Rattle.answers.specs.declared.chronicle.Entry.{Entry}

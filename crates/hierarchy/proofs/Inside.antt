@@ -4,17 +4,17 @@ use Rattle.std.specs.Prelude.{Contains, IsTrue, filter_map}
 use Rattle.std.specs.List.{AllByRecursion as Each, cons_option, list_any, range_with_len}
 use Rattle.std.proofs.lemmas.Bool.{eq-eqb, eqb-true, false_from_ne_true}
 use Rattle.std.proofs.lemmas.List.Elements.{filter_map-append}
-use Rattle.answers.proofs.job_rules_proofs.Among.{Among, among_append, among_from, among_left, among_right, any_at, any_from, contains_from}
-use Rattle.answers.specs.kvs_rules.Sequence.{EachAfter}
-use Rattle.answers.specs.instance_rules.Family.{IsEndOf, LiesIn, Living, MayGo, OfLiving, below, itself}
-use Rattle.answers.specs.manager_rules.Times.{IsEndDue}
+use Rattle.job_rules.proofs.Among.{Among, among_append, among_from, among_left, among_right, any_at, any_from, contains_from}
+use Rattle.kvs_rules.specs.Sequence.{EachAfter}
+use Rattle.instance_rules.specs.Family.{IsEndOf, LiesIn, Living, MayGo, OfLiving, below, itself}
+use Rattle.manager_rules.specs.Times.{IsEndDue}
 use Rattle.answers.specs.Chronicle.{Setup, top}
 use Rattle.answers.specs.Legal.{IsLegalEntry}
 use Rattle.answers.specs.Stretches.{GoUpTo, gone_in}
 use Rattle.answers.specs.declared.chronicle.Entry.{Entry}
 use Rattle.answers.specs.declared.chronicle.Entry.TheVariants as entry
-use Rattle.answers.specs.workload.declared.work.Actor.{Actor}
-use Rattle.answers.specs.workload.declared.work.Workload.{Workload}
+use Rattle.workload.specs.declared.work.Actor.{Actor}
+use Rattle.workload.specs.declared.work.Workload.{Workload}
 use Rattle.hierarchy.specs.Births.{Birth, birth_of, is_gone, label_of, lives, numbers}
 use Rattle.hierarchy.specs.Families.{family_of, living_in, shuts_down}
 use Rattle.hierarchy.specs.Growing.{GoesOn, ParentGoes}

@@ -6,13 +6,13 @@ use Rattle.std.specs.Option.{option_map_or}
 use Rattle.std.proofs.lemmas.Bool.{eqb-true}
 use Rattle.std.proofs.lemmas.List.Elements.{filter_map-append}
 use Rattle.std.proofs.lemmas.List.Sums.{sum_by-cons}
-use Rattle.answers.specs.kvs_txn.declared.txn.By.{By}
-use Rattle.answers.specs.kvs_rules.Log as service
-use Rattle.answers.specs.kvs_rules.Sequence.{EachAfter}
-use Rattle.answers.proofs.kvs_rules_proofs.Sequences.{each_along}
-use Rattle.answers.specs.workload.Tallies.{seconds_in, seconds_of}
-use Rattle.answers.specs.workload.declared.work.Line.{Line}
-use Rattle.answers.specs.workload.declared.work.Workload.{Workload}
+use Rattle.kvs_txn.specs.declared.txn.By.{By}
+use Rattle.kvs_rules.specs.Log as service
+use Rattle.kvs_rules.specs.Sequence.{EachAfter}
+use Rattle.kvs_rules.proofs.Sequences.{each_along}
+use Rattle.workload.specs.Tallies.{seconds_in, seconds_of}
+use Rattle.workload.specs.declared.work.Line.{Line}
+use Rattle.workload.specs.declared.work.Workload.{Workload}
 use Rattle.answers.specs.Chronicle.{Setup, is_replied, issues_of, replies_to, top}
 use Rattle.answers.specs.Commands.{command_at}
 use Rattle.answers.specs.Legal.{IsLegal, IsLegalEntry, IsLegalIssue}

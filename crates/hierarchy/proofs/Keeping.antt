@@ -9,23 +9,23 @@ use Rattle.answers.proofs.Floors.{asked_so, some_none}
 use Rattle.answers.proofs.JobLogs.{about_primary, service_kept}
 use Rattle.answers.proofs.Reaching.{reaches}
 use Rattle.answers.proofs.Services.{service_legal}
-use Rattle.answers.proofs.job_rules_proofs.Among.{any_from}
-use Rattle.answers.proofs.kvs_rules_proofs.Asking.{contains_stands}
-use Rattle.answers.proofs.kvs_rules_proofs.Sequences.{each_at, each_parts}
-use Rattle.answers.proofs.kvs_rules_proofs.Stores.{made_newest}
-use Rattle.answers.specs.instance_rules.Log.{Submitted, service_of}
-use Rattle.answers.specs.instance_rules.Replies.{IsLegalReply}
-use Rattle.answers.specs.kvs_model.Store.{Name, Store}
-use Rattle.answers.specs.kvs_rules.Answers as service_rules
-use Rattle.answers.specs.kvs_rules.Answers.{InFreshStore, IsLegalLog, IsLegalMoment}
-use Rattle.answers.specs.kvs_rules.Brokers.{HasHeard, heard}
-use Rattle.answers.specs.kvs_rules.Landings.{IsAdvance, IsLegalLanding, names_of, names_of_group}
-use Rattle.answers.specs.kvs_rules.Log.{Happened, Log, Moment, before_asked}
-use Rattle.answers.specs.kvs_rules.Namespaces.{Request, Setting, primary, store_after}
-use Rattle.answers.specs.kvs_rules.declared.events.KvsAsk.{KvsAsk}
-use Rattle.answers.specs.kvs_rules.declared.events.KvsEvent.TheVariants as event
-use Rattle.answers.specs.kvs_txn.declared.txn.By.{By}
-use Rattle.answers.specs.kvs_txn.declared.txn.Group.{Group}
+use Rattle.job_rules.proofs.Among.{any_from}
+use Rattle.kvs_rules.proofs.Asking.{contains_stands}
+use Rattle.kvs_rules.proofs.Sequences.{each_at, each_parts}
+use Rattle.kvs_rules.proofs.Stores.{made_newest}
+use Rattle.instance_rules.specs.Log.{Submitted, service_of}
+use Rattle.instance_rules.specs.Replies.{IsLegalReply}
+use Rattle.kvs_model.specs.Store.{Name, Store}
+use Rattle.kvs_rules.specs.Answers as service_rules
+use Rattle.kvs_rules.specs.Answers.{InFreshStore, IsLegalLog, IsLegalMoment}
+use Rattle.kvs_rules.specs.Brokers.{HasHeard, heard}
+use Rattle.kvs_rules.specs.Landings.{IsAdvance, IsLegalLanding, names_of, names_of_group}
+use Rattle.kvs_rules.specs.Log.{Happened, Log, Moment, before_asked}
+use Rattle.kvs_rules.specs.Namespaces.{Request, Setting, primary, store_after}
+use Rattle.kvs_rules.specs.declared.events.KvsAsk.{KvsAsk}
+use Rattle.kvs_rules.specs.declared.events.KvsEvent.TheVariants as event
+use Rattle.kvs_txn.specs.declared.txn.By.{By}
+use Rattle.kvs_txn.specs.declared.txn.Group.{Group}
 use Rattle.answers.specs.Chronicle.{Setup, top}
 use Rattle.answers.specs.Commands.{ask_at, broker_of, subject_at}
 use Rattle.answers.specs.Jobs.{instance_of, log_in}

@@ -7,28 +7,28 @@ use Rattle.std.proofs.lemmas.Bool.{eq-eqb, eqb-true, or_parts, or_right}
 use Rattle.std.proofs.lemmas.List.Elements.{Contains-append_left, filter_map-append}
 use Rattle.std.proofs.lemmas.List.Folds.{list_any-append}
 use Rattle.std.proofs.lemmas.Slice.Eq.{bytes_eq-Decides}
-use Rattle.answers.proofs.job_rules_proofs.Among.{Among, among_from, each_at as each_among}
-use Rattle.answers.specs.kvs_rules.Log as service
-use Rattle.answers.specs.kvs_rules.Namespaces.{primary}
-use Rattle.answers.specs.kvs_rules.declared.events.KvsEvent.TheVariants as event
-use Rattle.answers.specs.kvs_rules.Sequence.{EachAfter, latest}
-use Rattle.answers.proofs.kvs_rules_proofs.Sequences.{each_at}
-use Rattle.answers.specs.kvs_txn.declared.txn.By.{By}
-use Rattle.answers.proofs.resource_set_proofs.Booleans.{same_name}
-use Rattle.answers.specs.resource_set.declared.node.Resources.{Resources}
-use Rattle.answers.specs.manager_rules.Jobs.{IsStored}
-use Rattle.answers.specs.manager_rules.Times.{IsBirthDue}
-use Rattle.answers.specs.instance_rules.Desks.{HasSubmitted, Names}
-use Rattle.answers.specs.instance_rules.Family.{Living, OfLiving}
-use Rattle.answers.specs.instance_rules.Log as rules
-use Rattle.answers.specs.instance_rules.Log.{Born, Gone, Issued, Log, Moment, Replied, Served, Ticked, child_of, child_told, served, service_of}
-use Rattle.answers.specs.workload.Actors.{are_together}
-use Rattle.answers.specs.workload.Laws.{HasOwnLabels}
-use Rattle.answers.specs.workload.Tallies.{declares, is_declared}
-use Rattle.answers.specs.workload.declared.work.Command.{Command}
-use Rattle.answers.specs.workload.declared.work.Command.TheVariants as command
-use Rattle.answers.specs.workload.declared.work.Line.{Line}
-use Rattle.answers.specs.workload.declared.work.Workload.{Workload}
+use Rattle.job_rules.proofs.Among.{Among, among_from, each_at as each_among}
+use Rattle.kvs_rules.specs.Log as service
+use Rattle.kvs_rules.specs.Namespaces.{primary}
+use Rattle.kvs_rules.specs.declared.events.KvsEvent.TheVariants as event
+use Rattle.kvs_rules.specs.Sequence.{EachAfter, latest}
+use Rattle.kvs_rules.proofs.Sequences.{each_at}
+use Rattle.kvs_txn.specs.declared.txn.By.{By}
+use Rattle.resource_set.proofs.Booleans.{same_name}
+use Rattle.resource_set.specs.declared.node.Resources.{Resources}
+use Rattle.manager_rules.specs.Jobs.{IsStored}
+use Rattle.manager_rules.specs.Times.{IsBirthDue}
+use Rattle.instance_rules.specs.Desks.{HasSubmitted, Names}
+use Rattle.instance_rules.specs.Family.{Living, OfLiving}
+use Rattle.instance_rules.specs.Log as rules
+use Rattle.instance_rules.specs.Log.{Born, Gone, Issued, Log, Moment, Replied, Served, Ticked, child_of, child_told, served, service_of}
+use Rattle.workload.specs.Actors.{are_together}
+use Rattle.workload.specs.Laws.{HasOwnLabels}
+use Rattle.workload.specs.Tallies.{declares, is_declared}
+use Rattle.workload.specs.declared.work.Command.{Command}
+use Rattle.workload.specs.declared.work.Command.TheVariants as command
+use Rattle.workload.specs.declared.work.Line.{Line}
+use Rattle.workload.specs.declared.work.Workload.{Workload}
 use Rattle.answers.specs.Chronicle.{Setup, top}
 use Rattle.answers.specs.Commands.{command_at}
 use Rattle.answers.specs.Jobs.{happenings_after, instance_of, job_ask_of, log_in}

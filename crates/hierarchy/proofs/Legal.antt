@@ -2,10 +2,10 @@
 use Rattle.std.proofs.Common.{◌≡◌, ℕ, inl, List, [], ◌∷◌, ◌++◌, Bool, true, false, Option, refl, sym, subst}
 use Rattle.std.specs.Prelude.{MatchBool}
 use Rattle.std.specs.List.{AllByRecursion as Each}
-use Rattle.answers.specs.kvs_txn.declared.txn.By.{By}
-use Rattle.answers.specs.kvs_rules.Sequence.{EachAfter}
-use Rattle.answers.proofs.kvs_rules_proofs.Sequences.{each_along, each_push}
-use Rattle.answers.specs.instance_rules.Family.{HasToWaitIn, IsFamilyIdle, IsFamilyTold, MayClose, MayTick}
+use Rattle.kvs_txn.specs.declared.txn.By.{By}
+use Rattle.kvs_rules.specs.Sequence.{EachAfter}
+use Rattle.kvs_rules.proofs.Sequences.{each_along, each_push}
+use Rattle.instance_rules.specs.Family.{HasToWaitIn, IsFamilyIdle, IsFamilyTold, MayClose, MayTick}
 use Rattle.answers.specs.Chronicle.{Setup, top}
 use Rattle.answers.specs.Jobs.{second_of}
 use Rattle.answers.specs.Legal.{HasReplyGrounds, IsLegal, IsLegalEntry, IsSettled}

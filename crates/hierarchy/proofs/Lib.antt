@@ -29,9 +29,3 @@ pub mod Inside
 pub mod Marks
 pub mod Throughout
 pub mod Keeping
--- what lies below, for the crates that stand on this one
-pub use Rattle.answers.proofs as answers_proofs
-pub use Rattle.answers.proofs.hostlist_proofs as hostlist_proofs
-pub use Rattle.answers.proofs.job_rules_proofs as job_rules_proofs
-pub use Rattle.answers.proofs.kvs_model_proofs as kvs_model_proofs
-pub use Rattle.answers.proofs.kvs_rules_proofs as kvs_rules_proofs

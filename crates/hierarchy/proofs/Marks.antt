@@ -1,7 +1,7 @@
 -- Marks on the instances of a run find those that lie within one of them.
 use Rattle.std.proofs.Common.{◌≡◌, ◌≢◌, ℕ, zero, suc, ◌<◌, ◌==◌, ◌⊎◌, inl, inr, List, [], ◌∷◌, Bool, true, false, cond, ◌&&◌, ◌||◌, Option, Some, None, length, refl, sym, ap, ap₂, ◌∙◌, subst, arith, true≢false}
 use Rattle.std.proofs.lemmas.Bool.{and_parts, eq-eqb, eqb-true, or_cases, or_left, or_right}
-use Rattle.answers.proofs.job_rules_proofs.Among.{Among}
+use Rattle.job_rules.proofs.Among.{Among}
 use Rattle.answers.specs.Chronicle.{Setup}
 use Rattle.answers.specs.declared.chronicle.Entry.{Entry}
 use Rattle.hierarchy.specs.Births.{Birth, birth_of, lives, numbers}

@@ -1,27 +1,27 @@
 -- Each living child lies in the resources of a job of its living parent.
 use Rattle.std.proofs.Common.{◌≡◌, ℕ, ◌<◌, ◌^◌, ◌==◌, ◌⊎◌, inl, inr, List, [], ◌∷◌, ◌++◌, Bool, true, false, cond, ◌||◌, Option, Some, None, is_some, option_map, map, unwrap_or, refl, sym, ap, ◌∙◌, subst, append-nil, append_assoc, true≢false}
 use Rattle.std.specs.Prelude.{Contains, filter, find, if◌then◌else◌}
-use Rattle.answers.specs.kvs_txn.declared.txn.By.{By}
-use Rattle.answers.specs.kvs_rules.Log as service
+use Rattle.kvs_txn.specs.declared.txn.By.{By}
+use Rattle.kvs_rules.specs.Log as service
 use Rattle.std.specs.Option.{option_map_or, option_or}
 use Rattle.std.specs.List.{cons_option}
 use Rattle.std.proofs.lemmas.Bool.{eq-eqb, eqb-true}
 use Rattle.std.proofs.lemmas.List.Folds.{find-append}
 use Rattle.child_grant.specs.Child.{numbered}
 use Rattle.child_grant.proofs.Numbered.{units-numbered}
-use Rattle.answers.proofs.job_rules_proofs.Among.{Among, among_from, among_kept, among_mapped, contains_from, distinct_rising, each_at, same_image}
-use Rattle.answers.specs.job_states.declared.job.State.TheVariants as state
-use Rattle.answers.specs.kvs_rules.Namespaces.{newest_store, primary}
-use Rattle.answers.specs.kvs_rules.Sequence.{EachAfter}
-use Rattle.answers.proofs.kvs_rules_proofs.Sequences.{each_along, each_parts, latest_push}
-use Rattle.answers.specs.manager_rules.Jobs.{AreJobsOf, IsStored, ids_of}
-use Rattle.answers.specs.manager_rules.Times.{IsBirthDue}
-use Rattle.answers.proofs.manager_rules_proofs.Unique.{jobs_are_one}
-use Rattle.answers.specs.resource_set.Units.{units_of}
-use Rattle.answers.specs.resource_set.declared.node.Resources.{Resources}
-use Rattle.answers.specs.workload.declared.work.Workload.{Workload}
-use Rattle.answers.specs.instance_rules.Family.{AreNested, IsNestedAs, LiesIn, Living, OfLiving, below, itself}
-use Rattle.answers.specs.instance_rules.Log.{Born, IsInstance, Issued, JobReply, Log, Moment, Replied, Served, Ticked, child_of, child_told}
+use Rattle.job_rules.proofs.Among.{Among, among_from, among_kept, among_mapped, contains_from, distinct_rising, each_at, same_image}
+use Rattle.job_states.specs.declared.job.State.TheVariants as state
+use Rattle.kvs_rules.specs.Namespaces.{newest_store, primary}
+use Rattle.kvs_rules.specs.Sequence.{EachAfter}
+use Rattle.kvs_rules.proofs.Sequences.{each_along, each_parts, latest_push}
+use Rattle.manager_rules.specs.Jobs.{AreJobsOf, IsStored, ids_of}
+use Rattle.manager_rules.specs.Times.{IsBirthDue}
+use Rattle.manager_rules.proofs.Unique.{jobs_are_one}
+use Rattle.resource_set.specs.Units.{units_of}
+use Rattle.resource_set.specs.declared.node.Resources.{Resources}
+use Rattle.workload.specs.declared.work.Workload.{Workload}
+use Rattle.instance_rules.specs.Family.{AreNested, IsNestedAs, LiesIn, Living, OfLiving, below, itself}
+use Rattle.instance_rules.specs.Log.{Born, IsInstance, Issued, JobReply, Log, Moment, Replied, Served, Ticked, child_of, child_told}
 use Rattle.answers.specs.Chronicle.{Setup, top}
 use Rattle.answers.specs.Jobs.{happening_of, happenings_after, instance_of, job_ask_at, job_reply_of, log_in, second_of}
 use Rattle.answers.specs.Services.{moment_of}
@@ -32,7 +32,7 @@ use Rattle.run_laws.specs.Times.{KeepsTime}
 use Rattle.run_laws.proofs.Newest.{same_one}
 use Rattle.run_laws.proofs.Sounds.{stay_sound}
 use Rattle.hierarchy.specs.Births.{Birth, birth_in, birth_of, births, ends, is_at, is_birth_of, is_born, label_of, lives, numbers}
-use Rattle.answers.specs.workload.declared.work.Actor.{Actor}
+use Rattle.workload.specs.declared.work.Actor.{Actor}
 use Rattle.hierarchy.specs.Families.{family_of, living_in}
 use Rattle.hierarchy.specs.Legal.{IsGrantFor, IsLegalBirth, IsLegalEnd, IsLegalRun, IsLegalRunEntry, is_end}
 use Rattle.hierarchy.specs.Laws.{IsKept}

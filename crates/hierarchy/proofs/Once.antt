@@ -2,19 +2,19 @@
 use Rattle.std.proofs.Common.{◌≡◌, ◌≢◌, ℕ, ◌<◌, ◌^◌, ◌&&◌, ◌||◌, ◌⊎◌, inl, inr, List, [], ◌∷◌, ◌++◌, Bool, true, false, Option, Some, None, refl, sym, ap, ap₂, ◌∙◌, subst, true≢false}
 use Rattle.std.specs.List.{list_any}
 use Rattle.std.proofs.lemmas.Bool.{eq-eqb, or_cases}
-use Rattle.answers.proofs.job_rules_proofs.Among.{Among, among_append, among_from, any_at, each_at}
-use Rattle.answers.specs.kvs_rules.Answers.{IsLegalLog, IsLegalMoment}
-use Rattle.answers.specs.kvs_rules.Landings.{IsAdvance, IsFreshCommand, IsLegalLanding, IsOpening, IsRemoval, commands_of, names_of, names_of_group}
-use Rattle.answers.specs.kvs_rules.Log.{Happened, Log, Moment, is_author, is_landed, lands_now, same_command}
-use Rattle.answers.specs.kvs_rules.Namespaces.{Setting, primary}
-use Rattle.answers.specs.kvs_rules.Sequence.{AreDistinct, EachAfter}
-use Rattle.answers.specs.kvs_rules.declared.events.KvsEvent.TheVariants as event
-use Rattle.answers.proofs.kvs_rules_proofs.Asking.{command_is}
-use Rattle.answers.proofs.kvs_rules_proofs.Sequences.{each_along}
-use Rattle.answers.specs.kvs_txn.declared.txn.By.{By}
-use Rattle.answers.specs.kvs_txn.declared.txn.Group.{Group}
-use Rattle.answers.specs.instance_rules.Desks.{Begins, HasBegun, HasSubmitted}
-use Rattle.answers.specs.instance_rules.Log as rules
+use Rattle.job_rules.proofs.Among.{Among, among_append, among_from, any_at, each_at}
+use Rattle.kvs_rules.specs.Answers.{IsLegalLog, IsLegalMoment}
+use Rattle.kvs_rules.specs.Landings.{IsAdvance, IsFreshCommand, IsLegalLanding, IsOpening, IsRemoval, commands_of, names_of, names_of_group}
+use Rattle.kvs_rules.specs.Log.{Happened, Log, Moment, is_author, is_landed, lands_now, same_command}
+use Rattle.kvs_rules.specs.Namespaces.{Setting, primary}
+use Rattle.kvs_rules.specs.Sequence.{AreDistinct, EachAfter}
+use Rattle.kvs_rules.specs.declared.events.KvsEvent.TheVariants as event
+use Rattle.kvs_rules.proofs.Asking.{command_is}
+use Rattle.kvs_rules.proofs.Sequences.{each_along}
+use Rattle.kvs_txn.specs.declared.txn.By.{By}
+use Rattle.kvs_txn.specs.declared.txn.Group.{Group}
+use Rattle.instance_rules.specs.Desks.{Begins, HasBegun, HasSubmitted}
+use Rattle.instance_rules.specs.Log as rules
 use Rattle.answers.specs.Chronicle.{Setup}
 use Rattle.answers.specs.Jobs.{log_in}
 use Rattle.answers.specs.Legal.{IsLegal}
@@ -22,7 +22,7 @@ use Rattle.answers.specs.Services.{setting_of}
 use Rattle.answers.specs.declared.chronicle.Entry.{Entry}
 use Rattle.answers.proofs.JobLogs.{service_kept}
 use Rattle.answers.proofs.Services.{service_legal}
-use Rattle.answers.proofs.instance_rules_proofs.Sole.{sole}
+use Rattle.instance_rules.proofs.Sole.{sole}
 
 itself : (by : By) → same_command by by ≡ true
 itself by = ap₂ (λ a b. a && b) (eq-eqb by.actor by.actor refl) (eq-eqb by.command by.command refl)

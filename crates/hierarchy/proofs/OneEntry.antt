@@ -5,11 +5,11 @@ use Rattle.std.specs.List.{AllByRecursion as Each, cons_option, list_any}
 use Rattle.std.proofs.lemmas.Bool.{and_parts, eq-eqb, eqb-true, or_cases, or_parts}
 use Rattle.std.proofs.lemmas.List.Folds.{list_any-append}
 use Rattle.std.proofs.lemmas.List.Sums.{sum_by-append, sum_by-cons}
-use Rattle.answers.specs.kvs_txn.declared.txn.By.{By}
-use Rattle.answers.proofs.kvs_rules_proofs.Sequences.{each_push}
-use Rattle.answers.proofs.resource_set_proofs.Booleans.{same_name}
-use Rattle.answers.specs.workload.Actors.{are_together, home_of}
-use Rattle.answers.specs.workload.declared.work.Actor.{Actor}
+use Rattle.kvs_txn.specs.declared.txn.By.{By}
+use Rattle.kvs_rules.proofs.Sequences.{each_push}
+use Rattle.resource_set.proofs.Booleans.{same_name}
+use Rattle.workload.specs.Actors.{are_together, home_of}
+use Rattle.workload.specs.declared.work.Actor.{Actor}
 use Rattle.answers.specs.Chronicle.{Setup, issues_of, replies_to, top}
 use Rattle.answers.specs.Legal.{IsLegal, IsLegalEntry}
 use Rattle.answers.specs.Whole.{IsEarlierEntry, has_ended, is_closing}

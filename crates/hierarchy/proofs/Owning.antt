@@ -7,8 +7,8 @@ use Rattle.std.specs.List.{cons_option, list_any}
 use Rattle.std.proofs.lemmas.Bool.{and_parts, or_parts, not-true}
 use Rattle.std.proofs.lemmas.List.Elements.{filter_map-append}
 use Rattle.std.proofs.lemmas.List.Folds.{find-append, list_any-append}
-use Rattle.answers.specs.kvs_rules.Sequence.{until}
-use Rattle.answers.proofs.kvs_rules_proofs.Sequences.{until-append}
+use Rattle.kvs_rules.specs.Sequence.{until}
+use Rattle.kvs_rules.proofs.Sequences.{until-append}
 use Rattle.answers.specs.Chronicle.{Setup, top}
 use Rattle.answers.specs.declared.chronicle.Entry.{Entry}
 use Rattle.hierarchy.specs.Births.{Birth, birth_in, birth_of, births, ends, is_birth_of, is_born, is_gone, label_of, lives}

@@ -7,14 +7,14 @@ use Rattle.std.specs.List.{AllByRecursion as Each, cons_option, range_with_len}
 use Rattle.std.proofs.lemmas.Bool.{cases_lt, eq-eqb, eqb-true, lt-ltb, ltb-true}
 use Rattle.std.proofs.lemmas.List.Elements.{filter_map-append}
 use Rattle.std.proofs.lemmas.List.Sums.{sum_by-append, sum_by-cons}
-use Rattle.answers.proofs.job_rules_proofs.Among.{Among, Distinct, among_filter, among_flattened, among_kept, among_map, among_mapped, among_right, any_at, contains_from, distinct-append, distinct_filter}
-use Rattle.answers.specs.kvs_txn.declared.txn.By.{By}
-use Rattle.answers.specs.kvs_rules.Sequence.{EachAfter}
-use Rattle.answers.proofs.kvs_rules_proofs.Sequences.{each_along}
-use Rattle.answers.specs.workload.Actors.{are_together}
-use Rattle.answers.specs.workload.declared.work.Actor.{Actor}
-use Rattle.answers.specs.workload.declared.work.Command.{Command}
-use Rattle.answers.specs.workload.declared.work.Line.{Line}
+use Rattle.job_rules.proofs.Among.{Among, Distinct, among_filter, among_flattened, among_kept, among_map, among_mapped, among_right, any_at, contains_from, distinct-append, distinct_filter}
+use Rattle.kvs_txn.specs.declared.txn.By.{By}
+use Rattle.kvs_rules.specs.Sequence.{EachAfter}
+use Rattle.kvs_rules.proofs.Sequences.{each_along}
+use Rattle.workload.specs.Actors.{are_together}
+use Rattle.workload.specs.declared.work.Actor.{Actor}
+use Rattle.workload.specs.declared.work.Command.{Command}
+use Rattle.workload.specs.declared.work.Line.{Line}
 use Rattle.answers.specs.Chronicle.{Setup, replies_to, top}
 use Rattle.answers.specs.Commands.{command_at, commands_of}
 use Rattle.answers.specs.Whole.{IsClosingEntry, is_closing}

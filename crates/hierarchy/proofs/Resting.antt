@@ -4,12 +4,12 @@ use Rattle.std.specs.Prelude.{Contains, option_and_then}
 use Rattle.std.specs.List.{cons_option}
 use Rattle.std.proofs.lemmas.Bool.{and_parts, eq-eqb, or_cases}
 use Rattle.std.proofs.lemmas.List.Sums.{sum_by-cons}
-use Rattle.answers.proofs.job_rules_proofs.Among.{Among, any_at, any_from}
-use Rattle.answers.specs.kvs_rules.Quiet.{AreAllTold}
-use Rattle.answers.specs.kvs_txn.declared.txn.By.{By}
-use Rattle.answers.specs.instance_rules.Family.{HasToWait, HasToWaitIn, IsEndOf, IsFamilyTold, Living}
-use Rattle.answers.specs.instance_rules.Log.{service_of}
-use Rattle.answers.specs.workload.declared.work.Command.{Command}
+use Rattle.job_rules.proofs.Among.{Among, any_at, any_from}
+use Rattle.kvs_rules.specs.Quiet.{AreAllTold}
+use Rattle.kvs_txn.specs.declared.txn.By.{By}
+use Rattle.instance_rules.specs.Family.{HasToWait, HasToWaitIn, IsEndOf, IsFamilyTold, Living}
+use Rattle.instance_rules.specs.Log.{service_of}
+use Rattle.workload.specs.declared.work.Command.{Command}
 use Rattle.answers.specs.Chronicle.{IsOpenCommand, Setup, before_issue, is_issued, is_replied, issues, issues_of}
 use Rattle.answers.specs.Commands.{command_at}
 use Rattle.answers.specs.Jobs.{living_of}

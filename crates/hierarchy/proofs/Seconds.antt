@@ -5,14 +5,14 @@ use Rattle.std.specs.List.{cons_option}
 use Rattle.std.specs.Option.{option_map_or}
 use Rattle.std.proofs.lemmas.Bool.{eqb-true}
 use Rattle.std.proofs.lemmas.List.Elements.{All-append, All-nil, All-push, All-weaker}
-use Rattle.answers.proofs.kvs_rules_proofs.Sequences.{each_along, latest_push}
-use Rattle.answers.specs.kvs_rules.Log as service
-use Rattle.answers.specs.kvs_rules.Sequence.{EachAfter}
-use Rattle.answers.specs.kvs_txn.declared.txn.By.{By}
-use Rattle.answers.specs.instance_rules.Log.{Born, Gone, Issued, JobReply, Log, Moment, Replied, Served, now_of, ticked}
-use Rattle.answers.proofs.instance_rules_proofs.Ends.{goes_on}
-use Rattle.answers.specs.workload.declared.work.Actor.{Actor}
-use Rattle.answers.specs.workload.declared.work.Workload.{Workload}
+use Rattle.kvs_rules.proofs.Sequences.{each_along, latest_push}
+use Rattle.kvs_rules.specs.Log as service
+use Rattle.kvs_rules.specs.Sequence.{EachAfter}
+use Rattle.kvs_txn.specs.declared.txn.By.{By}
+use Rattle.instance_rules.specs.Log.{Born, Gone, Issued, JobReply, Log, Moment, Replied, Served, now_of, ticked}
+use Rattle.instance_rules.proofs.Ends.{goes_on}
+use Rattle.workload.specs.declared.work.Actor.{Actor}
+use Rattle.workload.specs.declared.work.Workload.{Workload}
 use Rattle.answers.specs.Chronicle.{Setup, top}
 use Rattle.answers.specs.Jobs.{happening_of, instance_of, job_ask_at, job_reply_of, log_in, second_of}
 use Rattle.answers.specs.Services.{moment_of}

@@ -1,7 +1,7 @@
 -- How a run stays settled.
 use Rattle.std.proofs.Common.{ℕ, List, [], ◌∷◌, ◌++◌, sym, subst, map}
 use Rattle.std.specs.List.{AllByRecursion as Each}
-use Rattle.answers.specs.kvs_rules.Sequence.{EachAfter}
+use Rattle.kvs_rules.specs.Sequence.{EachAfter}
 use Rattle.answers.specs.Chronicle.{Setup, top}
 use Rattle.answers.specs.Commands.{broker_of}
 use Rattle.answers.specs.Stretches.{IsContentAt, IsIssueStretch}

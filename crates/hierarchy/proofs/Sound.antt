@@ -1,12 +1,12 @@
 -- In each living instance of a legal run the jobs are sound, and logs only grow.
 use Rattle.std.proofs.Common.{◌≡◌, ℕ, ◌<◌, ◌^◌, ◌==◌, inl, inr, List, [], ◌∷◌, ◌++◌, Bool, true, false, cond, None, filter_map, refl, sym, ap, ◌∙◌, subst, append-nil, true≢false}
 use Rattle.std.specs.List.{cons_option}
-use Rattle.answers.specs.kvs_rules.Sequence.{EachAfter, until}
-use Rattle.answers.proofs.kvs_rules_proofs.Sequences.{each_along, each_parts}
-use Rattle.answers.specs.kvs_rules.Namespaces.{newest_store, primary}
-use Rattle.answers.specs.instance_rules.Legal.{IsSound}
-use Rattle.answers.specs.instance_rules.Log.{Instance, IsInstance, Log, service_of}
-use Rattle.answers.specs.workload.declared.work.Workload.{Workload}
+use Rattle.kvs_rules.specs.Sequence.{EachAfter, until}
+use Rattle.kvs_rules.proofs.Sequences.{each_along, each_parts}
+use Rattle.kvs_rules.specs.Namespaces.{newest_store, primary}
+use Rattle.instance_rules.specs.Legal.{IsSound}
+use Rattle.instance_rules.specs.Log.{Instance, IsInstance, Log, service_of}
+use Rattle.workload.specs.declared.work.Workload.{Workload}
 use Rattle.run_laws.specs.Times.{KeepsTime}
 use Rattle.run_laws.proofs.Sounds.{stay_sound}
 use Rattle.answers.specs.Chronicle.{Setup, top}

@@ -4,12 +4,12 @@ use Rattle.std.specs.Prelude.{IfSome, IsSome, filter, filter_map, if◌then◌el
 use Rattle.std.specs.Option.{option_map_or}
 use Rattle.std.specs.List.{AllByRecursion as Each, cons_option}
 use Rattle.std.proofs.lemmas.Bool.{and_parts, eq-eqb, eqb-true}
-use Rattle.answers.proofs.job_rules_proofs.Among.{Among, any_at, any_from}
-use Rattle.answers.specs.kvs_txn.declared.txn.By.{By}
-use Rattle.answers.specs.kvs_rules.Sequence.{EachAfter}
-use Rattle.answers.specs.workload.declared.work.Command.{Command}
-use Rattle.answers.specs.workload.declared.work.Line.{Line}
-use Rattle.answers.specs.instance_rules.Family.{MayTick}
+use Rattle.job_rules.proofs.Among.{Among, any_at, any_from}
+use Rattle.kvs_txn.specs.declared.txn.By.{By}
+use Rattle.kvs_rules.specs.Sequence.{EachAfter}
+use Rattle.workload.specs.declared.work.Command.{Command}
+use Rattle.workload.specs.declared.work.Line.{Line}
+use Rattle.instance_rules.specs.Family.{MayTick}
 use Rattle.answers.specs.Chronicle.{IsOpenCommand, Setup}
 use Rattle.answers.specs.Commands.{command_at}
 use Rattle.answers.specs.Legal.{HasReplyGrounds, IsLegalEntry, IsLegalIssue}

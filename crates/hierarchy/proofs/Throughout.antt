@@ -3,8 +3,8 @@ use Rattle.std.proofs.Common.{◌≡◌, ◌∙◌, ℕ, List, [], ◌∷◌, �
 use Rattle.std.specs.Option.{option_map_or}
 use Rattle.std.proofs.lemmas.Bool.{and_parts}
 use Rattle.std.proofs.lemmas.List.{append_assoc}
-use Rattle.answers.proofs.kvs_rules_proofs.Sequences.{each_at, each_parts}
-use Rattle.answers.specs.instance_rules.Log.{IsInstance}
+use Rattle.kvs_rules.proofs.Sequences.{each_at, each_parts}
+use Rattle.instance_rules.specs.Log.{IsInstance}
 use Rattle.run_laws.proofs.Sounds.{only_grow}
 use Rattle.run_laws.specs.Times.{HasTime}
 use Rattle.answers.specs.Chronicle.{Setup}

@@ -3,40 +3,40 @@ use Rattle.std.proofs.Common.{◌≡◌, ℕ, ◌+◌, ◌==◌, inl, inr, List,
 use Rattle.std.specs.Prelude.{Contains, IfSome, nat_lt, option_and_then, if◌then◌else◌}
 use Rattle.std.specs.List.{list_any}
 use Rattle.std.proofs.lemmas.Bool.{eqb-true}
-use Rattle.answers.specs.event_log.declared.event.Event.{Event}
-use Rattle.answers.specs.event_log.Events.{◌>>=◌}
-use Rattle.answers.proofs.job_rules_proofs.Among.{Among, among_from, contains_from, distinct_rising, each_at, same_image}
-use Rattle.answers.specs.job_states.declared.job.Change.{Change}
-use Rattle.answers.specs.job_states.declared.job.Change.TheVariants as change
-use Rattle.answers.specs.job_states.declared.job.Job.{Job}
-use Rattle.answers.specs.job_states.declared.job.State.{State}
-use Rattle.answers.specs.job_states.declared.job.State.TheVariants as state
-use Rattle.answers.specs.job_states.declared.job.ReplayFault.{ReplayFault}
-use Rattle.answers.specs.job_states.Changes.{change_of}
-use Rattle.answers.specs.job_states.Replay.{allowed, begun, replay_on, replayed, stepped}
-use Rattle.answers.specs.job_states.Table.{begun_by, changed, is_state, made, stands_in, submitted_job}
-use Rattle.answers.specs.kvs_model.Operation.{effect}
-use Rattle.answers.specs.kvs_model.Store.{IsStore, Store}
-use Rattle.answers.specs.kvs_txn.declared.txn.Scope.TheVariants as scope
-use Rattle.answers.specs.kvs_txn.declared.txn.Txn.{Txn}
-use Rattle.answers.specs.store_laws.Reserved.{IsUsers}
-use Rattle.answers.specs.resource_set.Units.{AreHosts}
-use Rattle.answers.specs.resource_set.declared.node.Resources.{Resources}
-use Rattle.answers.specs.manager_rules.Deeds.{Deed, Takes, change_by, due_of, event_of, r_given}
-use Rattle.answers.specs.manager_rules.Due.{IsDue, MayDo}
-use Rattle.answers.specs.manager_rules.Jobs.{AreJobsOf, IsStored, StoredJob, ids_of, is_live, r_in}
-use Rattle.answers.specs.manager_rules.Posts.{Desk, Does, IsDesk, IsDuePost, Post, Submission, Submits, begun_with, event_done, job_after, job_of, r_after, txn_of, with_event, with_job}
-use Rattle.answers.specs.manager_rules.Scene.{IsScene, Scene, has_living_child}
-use Rattle.answers.specs.manager_rules.Sound.{HoldsInTime, IsSound, IsSoundStore, IsUnserved}
-use Rattle.answers.specs.manager_rules.declared.due.Due.{Due}
-use Rattle.answers.proofs.manager_rules_proofs.Allowed.{writes}
-use Rattle.answers.proofs.manager_rules_proofs.Landing.{step_of}
-use Rattle.answers.proofs.manager_rules_proofs.Posting.{posts_land}
-use Rattle.answers.proofs.manager_rules_proofs.Rules.{children_keep_units}
-use Rattle.answers.proofs.manager_rules_proofs.Soundness.{in_time, jobs_within}
-use Rattle.answers.proofs.manager_rules_proofs.Stores.{users_leave_jobs}
-use Rattle.answers.proofs.manager_rules_proofs.Unique.{jobs_are_one}
-use Rattle.answers.specs.job_rules.Fits.{AreWithin, IsGrant}
+use Rattle.event_log.specs.declared.event.Event.{Event}
+use Rattle.event_log.specs.Events.{◌>>=◌}
+use Rattle.job_rules.proofs.Among.{Among, among_from, contains_from, distinct_rising, each_at, same_image}
+use Rattle.job_states.specs.declared.job.Change.{Change}
+use Rattle.job_states.specs.declared.job.Change.TheVariants as change
+use Rattle.job_states.specs.declared.job.Job.{Job}
+use Rattle.job_states.specs.declared.job.State.{State}
+use Rattle.job_states.specs.declared.job.State.TheVariants as state
+use Rattle.job_states.specs.declared.job.ReplayFault.{ReplayFault}
+use Rattle.job_states.specs.Changes.{change_of}
+use Rattle.job_states.specs.Replay.{allowed, begun, replay_on, replayed, stepped}
+use Rattle.job_states.specs.Table.{begun_by, changed, is_state, made, stands_in, submitted_job}
+use Rattle.kvs_model.specs.Operation.{effect}
+use Rattle.kvs_model.specs.Store.{IsStore, Store}
+use Rattle.kvs_txn.specs.declared.txn.Scope.TheVariants as scope
+use Rattle.kvs_txn.specs.declared.txn.Txn.{Txn}
+use Rattle.store_laws.specs.Reserved.{IsUsers}
+use Rattle.resource_set.specs.Units.{AreHosts}
+use Rattle.resource_set.specs.declared.node.Resources.{Resources}
+use Rattle.manager_rules.specs.Deeds.{Deed, Takes, change_by, due_of, event_of, r_given}
+use Rattle.manager_rules.specs.Due.{IsDue, MayDo}
+use Rattle.manager_rules.specs.Jobs.{AreJobsOf, IsStored, StoredJob, ids_of, is_live, r_in}
+use Rattle.manager_rules.specs.Posts.{Desk, Does, IsDesk, IsDuePost, Post, Submission, Submits, begun_with, event_done, job_after, job_of, r_after, txn_of, with_event, with_job}
+use Rattle.manager_rules.specs.Scene.{IsScene, Scene, has_living_child}
+use Rattle.manager_rules.specs.Sound.{HoldsInTime, IsSound, IsSoundStore, IsUnserved}
+use Rattle.manager_rules.specs.declared.due.Due.{Due}
+use Rattle.manager_rules.proofs.Allowed.{writes}
+use Rattle.manager_rules.proofs.Landing.{step_of}
+use Rattle.manager_rules.proofs.Posting.{posts_land}
+use Rattle.manager_rules.proofs.Rules.{children_keep_units}
+use Rattle.manager_rules.proofs.Soundness.{in_time, jobs_within}
+use Rattle.manager_rules.proofs.Stores.{users_leave_jobs}
+use Rattle.manager_rules.proofs.Unique.{jobs_are_one}
+use Rattle.job_rules.specs.Fits.{AreWithin, IsGrant}
 
 -- ---- before its end a job has released nothing
 

@@ -6,22 +6,22 @@ use Rattle.std.specs.List.{cons_option, list_any}
 use Rattle.std.proofs.lemmas.Bool.{eqb-true, false_from_ne_true, or_cases, or_left, or_right}
 use Rattle.std.proofs.lemmas.List.Elements.{All-filter, All-map, All-weaker}
 use Rattle.std.proofs.lemmas.List.Sums.{sum_by-cons}
-use Rattle.answers.specs.kvs_txn.declared.txn.By.{By}
-use Rattle.answers.specs.job_rules.Fits.{IsGrant}
-use Rattle.answers.proofs.job_rules_proofs.Among.{Among, all_at}
-use Rattle.answers.specs.resource_set.Writing.{r_text}
-use Rattle.answers.specs.instance_rules.Log as rules
-use Rattle.answers.specs.instance_rules.Log.{IsInRange, IsInstance}
-use Rattle.answers.specs.workload.Actors.{are_together, home_of}
-use Rattle.answers.specs.workload.Laws.{HasOwnLabels, IsBuilt, IsWithin, KeepsTallies}
-use Rattle.answers.specs.workload.Limits.{most_actors, most_severity, most_urgency}
-use Rattle.answers.specs.workload.Tallies.{begins, declares, is_declared, posts_on, seconds_of, submits}
-use Rattle.answers.specs.workload.Actors.{is_in_place}
-use Rattle.answers.specs.workload.declared.work.Actor.{Actor}
-use Rattle.answers.specs.workload.declared.work.Command.{Command}
-use Rattle.answers.specs.workload.declared.work.Command.TheVariants as command
-use Rattle.answers.specs.workload.declared.work.Line.{Line}
-use Rattle.answers.specs.workload.declared.work.Workload.{Workload}
+use Rattle.kvs_txn.specs.declared.txn.By.{By}
+use Rattle.job_rules.specs.Fits.{IsGrant}
+use Rattle.job_rules.proofs.Among.{Among, all_at}
+use Rattle.resource_set.specs.Writing.{r_text}
+use Rattle.instance_rules.specs.Log as rules
+use Rattle.instance_rules.specs.Log.{IsInRange, IsInstance}
+use Rattle.workload.specs.Actors.{are_together, home_of}
+use Rattle.workload.specs.Laws.{HasOwnLabels, IsBuilt, IsWithin, KeepsTallies}
+use Rattle.workload.specs.Limits.{most_actors, most_severity, most_urgency}
+use Rattle.workload.specs.Tallies.{begins, declares, is_declared, posts_on, seconds_of, submits}
+use Rattle.workload.specs.Actors.{is_in_place}
+use Rattle.workload.specs.declared.work.Actor.{Actor}
+use Rattle.workload.specs.declared.work.Command.{Command}
+use Rattle.workload.specs.declared.work.Command.TheVariants as command
+use Rattle.workload.specs.declared.work.Line.{Line}
+use Rattle.workload.specs.declared.work.Workload.{Workload}
 use Rattle.answers.specs.Chronicle.{Setup}
 use Rattle.answers.specs.Commands.{command_at}
 use Rattle.answers.specs.Jobs.{instance_of, job_ask_at, job_ask_of}

@@ -1,9 +1,9 @@
 -- Which instances of a run are born, whose actors are theirs, and which of them live.
 use Rattle.std.specs.Prelude.{ℕ, ◌==◌, ◌&&◌, ◌||◌, not, List, ◌∷◌, Bool, false, Option, Some, None, filter_map, find, is_some, map, option_map, if◌then◌else◌}
 use Rattle.std.specs.List.{list_any}
-use Rattle.answers.specs.resource_set.declared.node.Resources.{Resources}
-use Rattle.answers.specs.workload.Actors.{are_together, home_of}
-use Rattle.answers.specs.workload.declared.work.Actor.{Actor}
+use Rattle.resource_set.specs.declared.node.Resources.{Resources}
+use Rattle.workload.specs.Actors.{are_together, home_of}
+use Rattle.workload.specs.declared.work.Actor.{Actor}
 use Rattle.answers.specs.Chronicle.{top}
 use Rattle.answers.specs.declared.chronicle.Entry.{Entry}
 use Rattle.answers.specs.declared.chronicle.Entry.TheVariants as entry

@@ -2,9 +2,9 @@
 -- were never born.
 use Rattle.std.specs.Prelude.{◌≡◌, ℕ, ◌==◌, ◌++◌, ◌∷◌, [], List, None, not, IsNone, IsSome, IsTrue, Contains, count_by, filter, flat_map, length, map, if◌then◌else◌}
 use Rattle.std.specs.List.{AllByRecursion as Each, range_with_len}
-use Rattle.answers.specs.kvs_rules.Sequence.{EachAfter}
-use Rattle.answers.specs.instance_rules.Family.{IsEndOf, Living}
-use Rattle.answers.specs.workload.declared.work.Workload.{Workload}
+use Rattle.kvs_rules.specs.Sequence.{EachAfter}
+use Rattle.instance_rules.specs.Family.{IsEndOf, Living}
+use Rattle.workload.specs.declared.work.Workload.{Workload}
 use Rattle.answers.specs.Chronicle.{Setup, replies_to}
 use Rattle.answers.specs.Commands.{command_at, commands_of}
 use Rattle.answers.specs.Legal.{IsLegalEntry}

@@ -2,11 +2,11 @@
 use Rattle.std.specs.Prelude.{ℕ, ◌+◌, ◌&&◌, not, List, Bool, true, false, Option, Some, None, filter, filter_map, map, option_and_then, option_map, if◌then◌else◌}
 use Rattle.std.specs.List.{list_any}
 use Rattle.std.specs.Option.{option_map_or}
-use Rattle.answers.specs.kvs_txn.declared.txn.By.{By}
-use Rattle.answers.specs.workload.declared.work.Command.{Command}
-use Rattle.answers.specs.workload.declared.work.Command.TheVariants as command
-use Rattle.answers.specs.workload.declared.work.Workload.{Workload}
-use Rattle.answers.specs.instance_rules.Family.{Living}
+use Rattle.kvs_txn.specs.declared.txn.By.{By}
+use Rattle.workload.specs.declared.work.Command.{Command}
+use Rattle.workload.specs.declared.work.Command.TheVariants as command
+use Rattle.workload.specs.declared.work.Workload.{Workload}
+use Rattle.instance_rules.specs.Family.{Living}
 use Rattle.answers.specs.Chronicle.{Setup, before_issue, is_replied, top}
 use Rattle.answers.specs.Commands.{command_at}
 use Rattle.answers.specs.Jobs.{instance_of, log_in, second_of}

@@ -2,8 +2,8 @@
 -- itself.
 use Rattle.std.specs.Prelude.{◌≡◌, ℕ, List, ◌∷◌, ◌++◌, [], false, map, Option, IsTrue, count_by}
 use Rattle.std.specs.List.{AllByRecursion as Each}
-use Rattle.answers.specs.workload.Actors.{are_together}
-use Rattle.answers.specs.workload.declared.work.Actor.{Actor}
+use Rattle.workload.specs.Actors.{are_together}
+use Rattle.workload.specs.declared.work.Actor.{Actor}
 use Rattle.answers.specs.Chronicle.{Setup, is_replied, issues_of, replies_to, top}
 use Rattle.answers.specs.Whole.{IsEarlierEntry}
 use Rattle.answers.specs.declared.chronicle.Entry.{Entry}
@@ -12,7 +12,7 @@ use Rattle.hierarchy.specs.Births.{birth_of, has_home, is_at, is_born, is_gone, 
 use Rattle.hierarchy.specs.Legal.{AreOwnLegal, IsLegalRun, IsLegalRunEntry}
 use Rattle.hierarchy.specs.Own.{own_of}
 use Rattle.hierarchy.specs.Stretches.{entered_in}
-use Rattle.answers.specs.kvs_rules.Sequence.{EachAfter}
+use Rattle.kvs_rules.specs.Sequence.{EachAfter}
 
 -- no two instances that were born are those of one label
 abbrev pub AreLabelled : List Entry → Type 0

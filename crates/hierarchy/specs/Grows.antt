@@ -2,7 +2,7 @@
 -- it is given, and its own chronicle.
 use Rattle.std.specs.Prelude.{◌≡◌, ℕ, List, [], ◌∷◌, ◌++◌, ◌&&◌, ◌||◌, Bool, false, not, Some, IsTrue, is_some, length, map}
 use Rattle.std.specs.List.{list_any}
-use Rattle.answers.specs.kvs_rules.Sequence.{EachAfter}
+use Rattle.kvs_rules.specs.Sequence.{EachAfter}
 use Rattle.answers.specs.Chronicle.{Setup, top}
 use Rattle.answers.specs.declared.chronicle.Entry.{Entry}
 use Rattle.answers.specs.declared.chronicle.Entry.TheVariants as entry

@@ -1,7 +1,7 @@
 -- What the laws speak of.
 use Rattle.std.specs.Prelude.{◌≡◌, ◌≢◌, ◌<◌, ℕ, List, None, All, IsTrue}
 use Rattle.std.specs.List.{AllByRecursion as Each}
-use Rattle.answers.specs.instance_rules.Log.{IsInstance}
+use Rattle.instance_rules.specs.Log.{IsInstance}
 use Rattle.run_laws.specs.Times.{KeepsTime}
 use Rattle.answers.specs.Chronicle.{Setup}
 use Rattle.answers.specs.Jobs.{instance_of}

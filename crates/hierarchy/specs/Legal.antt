@@ -1,15 +1,15 @@
 -- Which chronicles of a run with child instances are legal, and which are settled.
 use Rattle.std.specs.Prelude.{◌≡◌, ℕ, ◌+◌, ◌⊎◌, List, [], ◌∷◌, ◌++◌, Bool, true, false, Option, Some, None, IsTrue, Contains, length}
 use Rattle.child_grant.specs.Child.{numbered}
-use Rattle.answers.specs.kvs_model.Store.{Store}
-use Rattle.answers.specs.kvs_rules.Namespaces.{newest_store, primary}
-use Rattle.answers.specs.kvs_rules.Sequence.{EachAfter}
-use Rattle.answers.specs.kvs_txn.declared.txn.By.{By}
-use Rattle.answers.specs.manager_rules.Jobs.{AreJobsOf, StoredJob}
-use Rattle.answers.specs.resource_set.declared.node.Resources.{Resources}
-use Rattle.answers.specs.instance_rules.Desks.{Names}
-use Rattle.answers.specs.instance_rules.Family.{HasToWaitIn, IsBirthIn, IsFamilyIdle, IsFamilyTold, Living, MayGo, MayTick}
-use Rattle.answers.specs.instance_rules.Log.{service_of}
+use Rattle.kvs_model.specs.Store.{Store}
+use Rattle.kvs_rules.specs.Namespaces.{newest_store, primary}
+use Rattle.kvs_rules.specs.Sequence.{EachAfter}
+use Rattle.kvs_txn.specs.declared.txn.By.{By}
+use Rattle.manager_rules.specs.Jobs.{AreJobsOf, StoredJob}
+use Rattle.resource_set.specs.declared.node.Resources.{Resources}
+use Rattle.instance_rules.specs.Desks.{Names}
+use Rattle.instance_rules.specs.Family.{HasToWaitIn, IsBirthIn, IsFamilyIdle, IsFamilyTold, Living, MayGo, MayTick}
+use Rattle.instance_rules.specs.Log.{service_of}
 use Rattle.answers.specs.Chronicle.{IsOpenCommand, Setup}
 use Rattle.answers.specs.Legal.{IsLegal, IsLegalIssue}
 use Rattle.answers.specs.Whole.{has_ended}

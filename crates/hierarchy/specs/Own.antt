@@ -1,10 +1,10 @@
 -- What an instance of a run is given, and the part of the run's chronicle that is its own.
 use Rattle.std.specs.Prelude.{ℕ, ◌==◌, ◌%◌, List, [], ◌∷◌, Bool, false, Option, Some, None, filter, filter_map, length, map, min, if◌then◌else◌}
 use Rattle.std.specs.Option.{option_map_or}
-use Rattle.answers.specs.kvs_rules.Sequence.{until}
-use Rattle.answers.specs.resource_set.Writing.{r_text}
-use Rattle.answers.specs.workload.declared.work.Actor.{Actor}
-use Rattle.answers.specs.workload.declared.work.Workload.{Workload}
+use Rattle.kvs_rules.specs.Sequence.{until}
+use Rattle.resource_set.specs.Writing.{r_text}
+use Rattle.workload.specs.declared.work.Actor.{Actor}
+use Rattle.workload.specs.declared.work.Workload.{Workload}
 use Rattle.answers.specs.Chronicle.{Setup, top}
 use Rattle.answers.specs.declared.chronicle.Entry.{Entry}
 use Rattle.answers.specs.declared.chronicle.Entry.TheVariants as entry

@@ -2,22 +2,22 @@
 -- What happens in an instance is said of what that instance is given and of its own chronicle.
 use Rattle.std.specs.Prelude.{◌≡◌, ◌≢◌, ℕ, suc, ◌≤◌, ◌⊎◌, List, [], ◌∷◌, ◌++◌, Bool, true, false, Option, Some, IfSome, IsNone, IsSome, IsSomeAnd, IsTrue, Contains, count_by, unwrap_or}
 use Rattle.std.specs.List.{AllByRecursion as Each}
-use Rattle.answers.specs.instance_rules.Desks.{AreDueFrom}
-use Rattle.answers.specs.instance_rules.Family.{AreNested}
-use Rattle.answers.specs.instance_rules.Legal.{IsSound}
-use Rattle.answers.specs.kvs_model.History.{after_groups}
-use Rattle.answers.specs.kvs_model.Store.{Name, Path, Store}
-use Rattle.answers.specs.kvs_model.Walk.{walk}
-use Rattle.answers.specs.kvs_rules.Brokers.{HasHeard, heard}
-use Rattle.answers.specs.kvs_rules.Landings.{AreFresh, IsManagers, IsUsers, commands_of, names_of}
-use Rattle.answers.specs.kvs_rules.Log.{Happened, Log, before_asked}
-use Rattle.answers.specs.kvs_rules.Namespaces.{Setting, is_primary, landed, newest_store, scope_of, store_after}
-use Rattle.answers.specs.kvs_rules.declared.events.KvsAsk.TheVariants as ask
-use Rattle.answers.specs.kvs_rules.declared.events.KvsEvent.TheVariants as event
-use Rattle.answers.specs.kvs_txn.declared.answers.Query.{Query}
-use Rattle.answers.specs.kvs_txn.declared.txn.By.{By}
-use Rattle.answers.specs.kvs_txn.declared.txn.Group.{Group}
-use Rattle.answers.specs.tree_rules.Texts.{root_reference}
+use Rattle.instance_rules.specs.Desks.{AreDueFrom}
+use Rattle.instance_rules.specs.Family.{AreNested}
+use Rattle.instance_rules.specs.Legal.{IsSound}
+use Rattle.kvs_model.specs.History.{after_groups}
+use Rattle.kvs_model.specs.Store.{Name, Path, Store}
+use Rattle.kvs_model.specs.Walk.{walk}
+use Rattle.kvs_rules.specs.Brokers.{HasHeard, heard}
+use Rattle.kvs_rules.specs.Landings.{AreFresh, IsManagers, IsUsers, commands_of, names_of}
+use Rattle.kvs_rules.specs.Log.{Happened, Log, before_asked}
+use Rattle.kvs_rules.specs.Namespaces.{Setting, is_primary, landed, newest_store, scope_of, store_after}
+use Rattle.kvs_rules.specs.declared.events.KvsAsk.TheVariants as ask
+use Rattle.kvs_rules.specs.declared.events.KvsEvent.TheVariants as event
+use Rattle.kvs_txn.specs.declared.answers.Query.{Query}
+use Rattle.kvs_txn.specs.declared.txn.By.{By}
+use Rattle.kvs_txn.specs.declared.txn.Group.{Group}
+use Rattle.tree_rules.specs.Texts.{root_reference}
 use Rattle.answers.specs.Chronicle.{Setup, before_issue, replies_to, top}
 use Rattle.answers.specs.Commands.{ask_at, broker_of, command_at, subject_at}
 use Rattle.answers.specs.Floors.{floor}

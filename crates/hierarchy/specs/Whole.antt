@@ -1,8 +1,8 @@
 -- When a run of several instances is whole.
 use Rattle.std.specs.Prelude.{◌≡◌, ℕ, List, [], ◌∷◌, ◌++◌, None, IsNone, IsSome, IsTrue, MatchBool, count_by, false}
 use Rattle.std.specs.List.{AllByRecursion as Each}
-use Rattle.answers.specs.kvs_txn.declared.txn.By.{By}
-use Rattle.answers.specs.instance_rules.Family.{MayClose}
+use Rattle.kvs_txn.specs.declared.txn.By.{By}
+use Rattle.instance_rules.specs.Family.{MayClose}
 use Rattle.answers.specs.Chronicle.{Setup, is_issued, replies_to}
 use Rattle.answers.specs.Commands.{command_at}
 use Rattle.answers.specs.Whole.{IsBehindLeft, IsEarlierEntry, IsWhole, is_closing}

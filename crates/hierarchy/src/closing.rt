@@ -1,9 +1,9 @@
 //! How a run comes to rest, and how it ends.
 ghost use Rattle.std.specs.Prelude.{◌≡◌, ◌==◌, ◌∷◌, ◌++◌, [], ℕ, Contains, IsTrue, List, count_by, if◌then◌else◌, length, nat_lt};
-ghost use Rattle.answers.specs.kvs_rules.Sequence.{EachAfter};
-ghost use Rattle.answers.specs.kvs_txn.declared.txn.By.{By};
-ghost use Rattle.answers.specs.instance_rules.Family.{IsEndOf, Living};
-ghost use Rattle.answers.specs.workload.declared.work.Workload.{Workload};
+ghost use Rattle.kvs_rules.specs.Sequence.{EachAfter};
+ghost use Rattle.kvs_txn.specs.declared.txn.By.{By};
+ghost use Rattle.instance_rules.specs.Family.{IsEndOf, Living};
+ghost use Rattle.workload.specs.declared.work.Workload.{Workload};
 ghost use Rattle.answers.specs.Chronicle.{IsOpenCommand, Setup, replies_to};
 ghost use Rattle.answers.specs.Commands.{commands_of};
 ghost use Rattle.answers.specs.Legal.{HasSettled};

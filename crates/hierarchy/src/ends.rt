@@ -1,6 +1,6 @@
 //! How an instance goes with all within it.
 ghost use Rattle.std.specs.Prelude.{◌≡◌, ◌↔◌, ℕ, Bool, Contains, length, List, Some, IsTrue};
-ghost use Rattle.answers.specs.instance_rules.Family.{IsEndOf, LiesIn};
+ghost use Rattle.instance_rules.specs.Family.{IsEndOf, LiesIn};
 ghost use Rattle.answers.specs.Chronicle.{Setup, top};
 ghost use Rattle.answers.specs.Legal.{IsLegalEntry};
 ghost use Rattle.answers.specs.declared.chronicle.Entry.{Entry};

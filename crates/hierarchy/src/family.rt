@@ -1,8 +1,8 @@
 //! Who is in the family of a run, and whose its actors are.
 ghost use Rattle.std.specs.Prelude.{◌≡◌, ℕ, Contains, IsTrue, List, false};
-ghost use Rattle.answers.specs.manager_rules.Times.{IsIdle};
-ghost use Rattle.answers.specs.instance_rules.Family.{AreNumbered, IsEndOf, IsFamilyIdle, Living};
-ghost use Rattle.answers.specs.instance_rules.Legal.{OfDesk};
+ghost use Rattle.manager_rules.specs.Times.{IsIdle};
+ghost use Rattle.instance_rules.specs.Family.{AreNumbered, IsEndOf, IsFamilyIdle, Living};
+ghost use Rattle.instance_rules.specs.Legal.{OfDesk};
 ghost use Rattle.answers.specs.Chronicle.{Setup};
 ghost use Rattle.answers.specs.Jobs.{instance_of, log_in};
 ghost use Rattle.answers.specs.declared.chronicle.Entry.{Entry};

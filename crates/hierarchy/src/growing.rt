@@ -1,11 +1,11 @@
 //! How a run grows: what the world that makes it owes at each step.
 ghost use Rattle.std.specs.Prelude.{◌≡◌, ◌∷◌, ◌++◌, [], ℕ, Bool, false, List, None, Some, IsTrue, map};
 ghost use Rattle.std.specs.List.{AllByRecursion as Each};
-ghost use Rattle.answers.specs.kvs_rules.Sequence.{EachAfter};
-ghost use Rattle.answers.specs.resource_set.declared.node.Resources.{Resources};
-ghost use Rattle.answers.specs.workload.Actors.{are_together};
-ghost use Rattle.answers.specs.workload.Laws.{HasOwnLabels};
-ghost use Rattle.answers.specs.instance_rules.Family.{MayTick};
+ghost use Rattle.kvs_rules.specs.Sequence.{EachAfter};
+ghost use Rattle.resource_set.specs.declared.node.Resources.{Resources};
+ghost use Rattle.workload.specs.Actors.{are_together};
+ghost use Rattle.workload.specs.Laws.{HasOwnLabels};
+ghost use Rattle.instance_rules.specs.Family.{MayTick};
 ghost use Rattle.answers.specs.Chronicle.{IsOpenCommand, Setup, top};
 ghost use Rattle.answers.specs.Legal.{IsLegalEntry, IsLegalIssue};
 ghost use Rattle.answers.specs.Stretches.{IsIssueStretch};

@@ -1,9 +1,9 @@
 //! What each step of a run leaves of every instance.
 ghost use Rattle.std.specs.Prelude.{◌≡◌, ◌<◌, ◌+◌, ◌↔◌, ◌∷◌, ◌++◌, [], ℕ, Bool, false, length, List, None, Some, IsTrue, slice_get};
 ghost use Rattle.std.specs.List.{AllByRecursion as Each, range_with_len};
-ghost use Rattle.answers.specs.kvs_rules.Sequence.{EachAfter};
-ghost use Rattle.answers.specs.workload.Actors.{are_together};
-ghost use Rattle.answers.specs.instance_rules.Family.{MayTick};
+ghost use Rattle.kvs_rules.specs.Sequence.{EachAfter};
+ghost use Rattle.workload.specs.Actors.{are_together};
+ghost use Rattle.instance_rules.specs.Family.{MayTick};
 ghost use Rattle.answers.specs.Chronicle.{IsOpenCommand, Setup, top};
 ghost use Rattle.answers.specs.Legal.{IsLegalEntry, IsLegalIssue};
 ghost use Rattle.answers.specs.Whole.{IsEarlierEntry};

@@ -1,11 +1,11 @@
 //! The laws of runs, each the contract of a function.
 ghost use Rattle.std.specs.Prelude.{◌≡◌, ◌+◌, ◌≤◌, ◌↔◌, ℕ, List, [], ◌∷◌, ◌++◌, All, IsTrue, false};
 ghost use Rattle.std.specs.List.{AllByRecursion as Each};
-ghost use Rattle.answers.specs.instance_rules.Family.{AreNested, MayClose, MayTick};
-ghost use Rattle.answers.specs.instance_rules.Legal.{IsSound};
+ghost use Rattle.instance_rules.specs.Family.{AreNested, MayClose, MayTick};
+ghost use Rattle.instance_rules.specs.Legal.{IsSound};
 ghost use Rattle.run_laws.specs.Jobs.{JobsStaySound, LogsOnlyGrow};
 ghost use Rattle.run_laws.specs.Times.{HasTime, KeepsTime, seconds_issued};
-ghost use Rattle.answers.specs.workload.Tallies.{seconds_in};
+ghost use Rattle.workload.specs.Tallies.{seconds_in};
 ghost use Rattle.answers.specs.declared.chronicle.Entry.{Entry};
 ghost use Rattle.answers.specs.Chronicle.{Setup};
 ghost use Rattle.answers.specs.Jobs.{instance_of, log_in, second_of};

@@ -4,13 +4,6 @@
 //! The definitions stand in `specs/`, and the functions of the modules state their laws.
 #![tactic(auto)]
 
-// The crates below that those above reach through this one.
-pub use answers;
-pub use answers::{
-    fl_digest, idset, kvs_rules, kvs_txn, lists, resource_set, run_limits, tap, workload,
-};
-pub use run_laws;
-
 pub mod closing;
 pub mod ends;
 pub mod family;

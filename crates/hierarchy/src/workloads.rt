@@ -1,11 +1,11 @@
 //! What an instance of a run is given keeps to the limits that its run keeps to.
 ghost use Rattle.std.specs.Prelude.{◌≡◌, ◌≤◌, ◌==◌, ℕ, false, count_by, length, All, List, None, Option, IsTrue};
-ghost use Rattle.answers.specs.kvs_txn.declared.txn.By.{By};
-ghost use Rattle.answers.specs.job_rules.Fits.{IsGrant};
-ghost use Rattle.answers.specs.resource_set.Writing.{r_text};
-ghost use Rattle.answers.specs.workload.Laws.{HasOwnLabels, IsBuilt, IsWithin, KeepsTallies};
-ghost use Rattle.answers.specs.workload.declared.work.Workload.{Workload};
-ghost use Rattle.answers.specs.instance_rules.Log.{IsInstance};
+ghost use Rattle.kvs_txn.specs.declared.txn.By.{By};
+ghost use Rattle.job_rules.specs.Fits.{IsGrant};
+ghost use Rattle.resource_set.specs.Writing.{r_text};
+ghost use Rattle.workload.specs.Laws.{HasOwnLabels, IsBuilt, IsWithin, KeepsTallies};
+ghost use Rattle.workload.specs.declared.work.Workload.{Workload};
+ghost use Rattle.instance_rules.specs.Log.{IsInstance};
 ghost use Rattle.answers.specs.Chronicle.{Setup};
 ghost use Rattle.answers.specs.Commands.{command_at};
 ghost use Rattle.answers.specs.Jobs.{instance_of};

@@ -7,14 +7,14 @@ use Rattle.std.proofs.lemmas.Bool.{cases_eq, cases_lt, false_from_ne_true}
 use Rattle.std.proofs.lemmas.List.{length-set, length_push}
 use Rattle.std.proofs.lemmas.List.Folds.{find-append}
 use Rattle.std.proofs.lemmas.Option.{slice_get_within}
-use Rattle.hierarchy.specs.workload.Actors.{are_together, home_of}
-use Rattle.hierarchy.specs.workload.Laws.{HasOwnLabels}
-use Rattle.hierarchy.specs.workload.declared.work.Workload.{Workload}
-use Rattle.hierarchy.specs.resource_set.declared.node.Resources.{Resources}
-use Rattle.hierarchy.specs.answers.Chronicle.{Setup, issues_of, replies_to, top}
-use Rattle.hierarchy.specs.answers.Jobs.{instance_of}
-use Rattle.hierarchy.specs.answers.Legal.{IsLegalEntry}
-use Rattle.hierarchy.specs.answers.declared.chronicle.Entry.{Entry}
+use Rattle.instance.specs.workload.Actors.{are_together, home_of}
+use Rattle.instance.specs.workload.Laws.{HasOwnLabels}
+use Rattle.instance.specs.workload.declared.work.Workload.{Workload}
+use Rattle.instance.specs.resource_set.declared.node.Resources.{Resources}
+use Rattle.instance.specs.answers.Chronicle.{Setup, issues_of, replies_to, top}
+use Rattle.instance.specs.answers.Jobs.{instance_of}
+use Rattle.instance.specs.answers.Legal.{IsLegalEntry}
+use Rattle.instance.specs.answers.declared.chronicle.Entry.{Entry}
 use Rattle.hierarchy.specs.Births.{Birth, is_at, is_born, is_gone, label_of, lives, numbers}
 use Rattle.hierarchy.specs.Growing.{GoesOn}
 use Rattle.hierarchy.specs.Grows.{GrowsByBirth, born_by, born_to}
@@ -27,7 +27,7 @@ use Rattle.hierarchy.proofs.OneEntry.{together_all}
 use Rattle.hierarchy.proofs.Owning.{alive, gone_push}
 use Rattle.instance.specs.Agrees.{AgreesOwn}
 use Rattle.instance.specs.Value.{InstanceValue}
-use Rattle.hierarchy.specs.instance_rules.Log.{IsInstance}
+use Rattle.instance.specs.instance_rules.Log.{IsInstance}
 use Rattle.homes.specs.Homes.{AreHomes, ArePlaces, AreValid, IsHome, IsPlace, answered, home_in}
 use Rattle.homes.specs.Inside.{AreSettled, IsChildHome, settled_at}
 use Rattle.homes.specs.declared.homes.Home.{Home}

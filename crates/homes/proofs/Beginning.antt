@@ -2,10 +2,10 @@
 use Rattle.std.proofs.Common.{◌≡◌, ◌≢◌, ◌∙◌, ℕ, zero, suc, ◌<◌, ◌≤◌, ◌⊎◌, inl, inr, List, [], ◌∷◌, ◌++◌, Bool, true, false, cond, Option, Some, None, length, refl, sym, ap, true≢false, arith}
 use Rattle.std.specs.Prelude.{nat_lt, option_and_then, slice_get, slice_index_or, if◌then◌else◌}
 use Rattle.std.proofs.lemmas.Bool.{ltb-true}
-use Rattle.hierarchy.specs.workload.Actors.{are_together}
-use Rattle.hierarchy.specs.workload.declared.work.Actor.{Actor}
-use Rattle.hierarchy.specs.workload.declared.work.Line.{Line}
-use Rattle.hierarchy.specs.answers.Chronicle.{Setup, top}
+use Rattle.instance.specs.workload.Actors.{are_together}
+use Rattle.instance.specs.workload.declared.work.Actor.{Actor}
+use Rattle.instance.specs.workload.declared.work.Line.{Line}
+use Rattle.instance.specs.answers.Chronicle.{Setup, top}
 use Rattle.homes.specs.Homes.{IsPlace, home_in}
 use Rattle.homes.proofs.Lining.{passed_on}
 

@@ -4,9 +4,9 @@ use Rattle.std.specs.Prelude.{is_some, option_and_then, option_map, slice_get}
 use Rattle.std.specs.List.{list_any}
 use Rattle.std.specs.Option.{option_map_or}
 use Rattle.std.proofs.lemmas.Option.{get_or_from_slice_get, slice_get_within}
-use Rattle.hierarchy.specs.answers.Chronicle.{Setup, top}
-use Rattle.hierarchy.specs.answers.Jobs.{instance_of}
-use Rattle.hierarchy.specs.answers.declared.chronicle.Entry.{Entry}
+use Rattle.instance.specs.answers.Chronicle.{Setup, top}
+use Rattle.instance.specs.answers.Jobs.{instance_of}
+use Rattle.instance.specs.answers.declared.chronicle.Entry.{Entry}
 use Rattle.hierarchy.specs.Births.{Birth, birth_of, is_born, is_gone, lives}
 use Rattle.hierarchy.specs.Families.{living_in, shuts_down}
 use Rattle.hierarchy.specs.Grows.{GrowsOwn, StaysAs}
@@ -15,7 +15,7 @@ use Rattle.hierarchy.specs.Own.{child_setup, own_of, setup_in, work_for}
 use Rattle.hierarchy.proofs.Numbering.{born_exactly, parents_first}
 use Rattle.hierarchy.proofs.Owning.{is_alive}
 use Rattle.instance.specs.Agrees.{AgreesOwn}
-use Rattle.hierarchy.specs.instance_rules.Log.{IsInstance}
+use Rattle.instance.specs.instance_rules.Log.{IsInstance}
 use Rattle.homes.specs.Homes.{AreHomes, AreValid, IsHome, Lives, if_living, living_at}
 use Rattle.homes.specs.Inside.{AreRising}
 use Rattle.homes.specs.declared.homes.Home.{Home}

@@ -6,13 +6,13 @@ use Rattle.std.specs.List.Sorted.{IsStrictlyIncreasing}
 use Rattle.std.proofs.lemmas.Fmt.{decimal_injective, digits_decimal}
 use Rattle.std.proofs.lemmas.List.Elements.{All-nil, All-cons}
 use Rattle.std.proofs.lemmas.List.FromFn.{map-range_with_len_more, length-range_with_len, get_or-range_with_len}
-use Rattle.hierarchy.specs.hostlist.Names.{AreHostNames}
-use Rattle.hierarchy.proofs.hostlist_proofs.NameLemmas.{digits_named, longer_named}
-use Rattle.hierarchy.proofs.hostlist_proofs.Numbers.{own}
-use Rattle.hierarchy.specs.resource_set.declared.node.Node.{Node}
-use Rattle.hierarchy.specs.resource_set.declared.node.Resources.{Resources}
-use Rattle.hierarchy.specs.resource_set.Units.{AreDistinct, host_names}
-use Rattle.hierarchy.specs.resource_set.Valid.{IsR}
+use Rattle.instance.specs.hostlist.Names.{AreHostNames}
+use Rattle.instance.proofs.hostlist_proofs.NameLemmas.{digits_named, longer_named}
+use Rattle.instance.proofs.hostlist_proofs.Numbers.{own}
+use Rattle.instance.specs.resource_set.declared.node.Node.{Node}
+use Rattle.instance.specs.resource_set.declared.node.Resources.{Resources}
+use Rattle.instance.specs.resource_set.Units.{AreDistinct, host_names}
+use Rattle.instance.specs.resource_set.Valid.{IsR}
 use Rattle.homes.specs.Grant.{host_at, hosts_of_brokers}
 
 ranks : (a n : ℕ) → map (λ (node : Node). node.rank) (map host_at (range_with_len a n)) ≡ range_with_len a n

@@ -7,10 +7,10 @@ use Rattle.std.proofs.lemmas.List.{take-append-drop, take_all}
 use Rattle.std.proofs.lemmas.List.Sums.{count_by_more_no, count_by_more_yes, sum_by-append, sum_by-cons}
 use Rattle.std.proofs.lemmas.List.Elements.{filter_map-append}
 use Rattle.std.proofs.Math.Seq.{drop-cons}
-use Rattle.hierarchy.specs.workload.declared.work.Command.{Command}
-use Rattle.hierarchy.specs.workload.declared.work.Line.{Line}
-use Rattle.hierarchy.specs.workload.declared.work.Workload.{Workload}
-use Rattle.hierarchy.specs.answers.Commands.{command_at, commands_of}
+use Rattle.instance.specs.workload.declared.work.Command.{Command}
+use Rattle.instance.specs.workload.declared.work.Line.{Line}
+use Rattle.instance.specs.workload.declared.work.Workload.{Workload}
+use Rattle.instance.specs.answers.Commands.{command_at, commands_of}
 use Rattle.instance.specs.Agrees.{IsPlaced, is_of}
 use Rattle.instance.specs.declared.seats.Seat.{Seat}
 use Rattle.homes.specs.Homes.{IsNextLine}

@@ -4,22 +4,22 @@ use Rattle.std.specs.List.{AllByRecursion as Each, list_any}
 use Rattle.std.proofs.lemmas.Bool.{eq-eqb, ne_eqb}
 use Rattle.std.proofs.lemmas.List.{map-append}
 use Rattle.std.proofs.lemmas.List.Sums.{sum_by-cons}
-use Rattle.hierarchy.specs.kvs_rules.declared.events.KvsEvent.{KvsEvent}
-use Rattle.hierarchy.specs.kvs_rules.declared.events.KvsEvent.TheVariants as event
-use Rattle.hierarchy.specs.kvs_rules.declared.events.KvsStep.{KvsStep}
-use Rattle.hierarchy.specs.kvs_rules.declared.events.KvsStep.TheVariants as kvs
-use Rattle.hierarchy.specs.kvs_rules.Log.{Log}
-use Rattle.hierarchy.specs.kvs_rules.Steps.{AreMadeBy, ComesTo, IsBrokersWork, IsRuling}
-use Rattle.hierarchy.specs.workload.declared.work.Actor.{Actor}
-use Rattle.hierarchy.specs.workload.declared.work.Workload.{Workload}
-use Rattle.hierarchy.specs.answers.Chronicle.{issues_of, replies_to, top}
-use Rattle.hierarchy.specs.answers.Commands.{broker_of}
-use Rattle.hierarchy.specs.answers.Services.{log_of}
-use Rattle.hierarchy.specs.answers.Entering.{entered}
-use Rattle.hierarchy.specs.answers.Stretches.{ComesBeforeReply, IsContentAt, IsIssueStretch, IsKvsStretch, IsReplyOf, IsReplyStretch}
-use Rattle.hierarchy.specs.answers.declared.chronicle.Entry.{Entry}
-use Rattle.hierarchy.specs.answers.declared.chronicle.Entry.TheVariants as entry
-use Rattle.hierarchy.specs.answers.declared.chronicle.Reply.{Reply}
+use Rattle.instance.specs.kvs_rules.declared.events.KvsEvent.{KvsEvent}
+use Rattle.instance.specs.kvs_rules.declared.events.KvsEvent.TheVariants as event
+use Rattle.instance.specs.kvs_rules.declared.events.KvsStep.{KvsStep}
+use Rattle.instance.specs.kvs_rules.declared.events.KvsStep.TheVariants as kvs
+use Rattle.instance.specs.kvs_rules.Log.{Log}
+use Rattle.instance.specs.kvs_rules.Steps.{AreMadeBy, ComesTo, IsBrokersWork, IsRuling}
+use Rattle.instance.specs.workload.declared.work.Actor.{Actor}
+use Rattle.instance.specs.workload.declared.work.Workload.{Workload}
+use Rattle.instance.specs.answers.Chronicle.{issues_of, replies_to, top}
+use Rattle.instance.specs.answers.Commands.{broker_of}
+use Rattle.instance.specs.answers.Services.{log_of}
+use Rattle.instance.specs.answers.Entering.{entered}
+use Rattle.instance.specs.answers.Stretches.{ComesBeforeReply, IsContentAt, IsIssueStretch, IsKvsStretch, IsReplyOf, IsReplyStretch}
+use Rattle.instance.specs.answers.declared.chronicle.Entry.{Entry}
+use Rattle.instance.specs.answers.declared.chronicle.Entry.TheVariants as entry
+use Rattle.instance.specs.answers.declared.chronicle.Reply.{Reply}
 use Rattle.hierarchy.specs.Births.{is_at}
 use Rattle.hierarchy.specs.Families.{shuts_down}
 use Rattle.hierarchy.specs.Growing.{IsMadeIn, StartsNothing}

@@ -5,9 +5,9 @@ use Rattle.std.specs.List.{AllByRecursion as Each}
 use Rattle.std.proofs.lemmas.Bool.{cases_lt, le-ltb, lt-ltb}
 use Rattle.std.proofs.lemmas.List.{length-set}
 use Rattle.std.proofs.lemmas.List.Sums.{sum_by-append, sum_by-cons}
-use Rattle.hierarchy.specs.kvs_txn.declared.txn.By.{By}
-use Rattle.hierarchy.specs.answers.Chronicle.{Setup, issues_of, replies_to}
-use Rattle.hierarchy.specs.answers.declared.chronicle.Entry.{Entry}
+use Rattle.instance.specs.kvs_txn.declared.txn.By.{By}
+use Rattle.instance.specs.answers.Chronicle.{Setup, issues_of, replies_to}
+use Rattle.instance.specs.answers.declared.chronicle.Entry.{Entry}
 use Rattle.hierarchy.specs.Births.{birth_of, is_at, label_of, numbers}
 use Rattle.homes.specs.Homes.{ArePlaces, IsNextLine, IsPlace, answered, home_in}
 use Rattle.homes.specs.declared.homes.Place.{Place}

@@ -4,15 +4,15 @@ use Rattle.std.specs.Prelude.{not, nat_lt}
 use Rattle.std.specs.List.{list_any}
 use Rattle.std.proofs.lemmas.Bool.{cases_lt, le-ltb, lt-ltb}
 use Rattle.std.proofs.lemmas.List.Sums.{sum_by-cons}
-use Rattle.hierarchy.specs.answers.Chronicle.{Setup}
-use Rattle.hierarchy.specs.answers.declared.chronicle.Entry.{Entry}
+use Rattle.instance.specs.answers.Chronicle.{Setup}
+use Rattle.instance.specs.answers.declared.chronicle.Entry.{Entry}
 use Rattle.hierarchy.specs.Growing.{ActsAlike}
 use Rattle.instance.specs.Agrees.{Stands, Waits}
 use Rattle.instance.specs.Seats.{is_free, replied_of}
 use Rattle.instance.specs.declared.seats.Seat.{Seat}
 use Rattle.instance.specs.declared.seats.Waiting.{Waiting}
 use Rattle.instance.specs.declared.seats.Waiting.TheVariants as waiting
-use Rattle.hierarchy.specs.kvs_rules.Log.{Log}
+use Rattle.instance.specs.kvs_rules.Log.{Log}
 use Rattle.homes.specs.Homes.{IsPlace, answered}
 use Rattle.homes.specs.declared.homes.Place.{Place}
 

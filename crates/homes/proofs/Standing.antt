@@ -5,8 +5,8 @@ use Rattle.std.specs.Option.{option_map_or}
 use Rattle.std.proofs.lemmas.Bool.{eq-eqb, eqb-true}
 use Rattle.std.proofs.lemmas.Option.{slice_get_within}
 use Rattle.std.proofs.lemmas.List.{length-set}
-use Rattle.hierarchy.specs.answers.Chronicle.{Setup, top}
-use Rattle.hierarchy.specs.answers.declared.chronicle.Entry.{Entry}
+use Rattle.instance.specs.answers.Chronicle.{Setup, top}
+use Rattle.instance.specs.answers.declared.chronicle.Entry.{Entry}
 use Rattle.hierarchy.specs.Births.{is_born, is_gone, lives, numbers}
 use Rattle.hierarchy.specs.Families.{living_in}
 use Rattle.hierarchy.specs.Grows.{GrowsOwn, LivesSo, StaysAs}

@@ -6,10 +6,10 @@ use Rattle.std.specs.Option.{option_map_or}
 use Rattle.std.proofs.lemmas.Grind.{flat_map-append}
 use Rattle.std.proofs.lemmas.List.{map-append}
 use Rattle.std.proofs.lemmas.List.FromFn.{map-range_with_len_more}
-use Rattle.hierarchy.specs.answers.declared.chronicle.Entry.{Entry}
-use Rattle.hierarchy.specs.answers.declared.chronicle.Entry.TheVariants as entry
-use Rattle.hierarchy.specs.answers.declared.chronicle.Reply.{Reply}
-use Rattle.hierarchy.specs.workload.declared.work.Workload.{Workload}
+use Rattle.instance.specs.answers.declared.chronicle.Entry.{Entry}
+use Rattle.instance.specs.answers.declared.chronicle.Entry.TheVariants as entry
+use Rattle.instance.specs.answers.declared.chronicle.Reply.{Reply}
+use Rattle.instance.specs.workload.declared.work.Workload.{Workload}
 use Rattle.hierarchy.specs.Closing.{Part, told_unborn, unborn_reply}
 use Rattle.homes.specs.Closing.{AreLeft, IsLeft, LeavesBy, entered_part, is_unborn, living_below}
 use Rattle.homes.specs.Homes.{if_living, living_at}

@@ -2,8 +2,8 @@
 use Rattle.std.specs.Prelude.{◌≡◌, ℕ, List, ◌++◌, Bool, false, flat_map, is_some, map, not, Some, slice_get, filter}
 use Rattle.std.specs.List.{AllByRecursion as Each, range_with_len}
 use Rattle.std.specs.Option.{option_map_or}
-use Rattle.hierarchy.specs.answers.Chronicle.{Setup}
-use Rattle.hierarchy.specs.answers.declared.chronicle.Entry.{Entry}
+use Rattle.instance.specs.answers.Chronicle.{Setup}
+use Rattle.instance.specs.answers.declared.chronicle.Entry.{Entry}
 use Rattle.hierarchy.specs.Closing.{Part}
 use Rattle.hierarchy.specs.Stretches.{entered_in}
 use Rattle.instance.specs.Agrees.{AgreesOwn}

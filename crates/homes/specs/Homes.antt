@@ -1,17 +1,17 @@
 -- The instances of a run, and where its actors stand.
 use Rattle.std.specs.Prelude.{◌≡◌, ◌-◌, ◌^◌, ◌<◌, ◌≤◌, nat_lt, ℕ, List, [], false, true, IsTrue, Option, Some, None, find, length, count_by, option_and_then, option_map, slice_get, slice_index_or, take, if◌then◌else◌}
-use Rattle.hierarchy.specs.workload.declared.work.Line.{Line}
-use Rattle.hierarchy.specs.kvs_rules.declared.events.KvsStep.{KvsStep}
+use Rattle.instance.specs.workload.declared.work.Line.{Line}
+use Rattle.instance.specs.kvs_rules.declared.events.KvsStep.{KvsStep}
 use Rattle.instance.specs.services.Order.{possible}
 use Rattle.instance.specs.services.Steps.{can_step}
-use Rattle.hierarchy.specs.answers.Chronicle.{Setup, issues_of, replies_to}
-use Rattle.hierarchy.specs.answers.Jobs.{instance_of}
-use Rattle.hierarchy.specs.answers.declared.chronicle.Entry.{Entry}
+use Rattle.instance.specs.answers.Chronicle.{Setup, issues_of, replies_to}
+use Rattle.instance.specs.answers.Jobs.{instance_of}
+use Rattle.instance.specs.answers.declared.chronicle.Entry.{Entry}
 use Rattle.hierarchy.specs.Births.{birth_of, is_at, is_born, is_gone, label_of, numbers}
 use Rattle.hierarchy.specs.Families.{living_in}
 use Rattle.hierarchy.specs.Own.{own_of, setup_in}
 use Rattle.instance.specs.Agrees.{AgreesOwn, is_of}
-use Rattle.hierarchy.specs.instance_rules.Log.{IsInstance}
+use Rattle.instance.specs.instance_rules.Log.{IsInstance}
 use Rattle.homes.specs.declared.homes.Home.{Home}
 use Rattle.homes.specs.declared.homes.Origin.{Origin}
 use Rattle.homes.specs.declared.homes.Place.{Place}

@@ -1,10 +1,10 @@
 -- Which instances go with one, and what their ends leave of the instances and the places.
 use Rattle.std.specs.Prelude.{◌≡◌, ℕ, ◌<◌, ◌==◌, ◌&&◌, ◌||◌, not, List, [], Bool, false, Option, Some, length, option_and_then, option_map, slice_get, slice_index_or, if◌then◌else◌}
 use Rattle.std.specs.Option.{option_map_or}
-use Rattle.hierarchy.specs.workload.declared.work.Actor.{Actor}
-use Rattle.hierarchy.specs.answers.declared.chronicle.Entry.{Entry}
-use Rattle.hierarchy.specs.answers.declared.chronicle.Entry.TheVariants as entry
-use Rattle.hierarchy.specs.answers.Chronicle.{Setup}
+use Rattle.instance.specs.workload.declared.work.Actor.{Actor}
+use Rattle.instance.specs.answers.declared.chronicle.Entry.{Entry}
+use Rattle.instance.specs.answers.declared.chronicle.Entry.TheVariants as entry
+use Rattle.instance.specs.answers.Chronicle.{Setup}
 use Rattle.hierarchy.specs.Births.{Birth, is_at}
 use Rattle.hierarchy.specs.Own.{child_setup}
 use Rattle.instance.specs.Agrees.{AgreesOwn}

@@ -1,17 +1,17 @@
 -- What living instances say of their own chronicles, and what a tick leaves of them.
 use Rattle.std.specs.Prelude.{◌≡◌, ◌↔◌, ◌<◌, ◌≤◌, ◌+◌, ℕ, List, Bool, false, All, Contains, IsTrue, Some, None, length, slice_get}
-use Rattle.hierarchy.specs.answers.Chronicle.{Setup}
-use Rattle.hierarchy.specs.answers.Legal.{HasSettled}
-use Rattle.hierarchy.specs.answers.declared.chronicle.Entry.{Entry}
+use Rattle.instance.specs.answers.Chronicle.{Setup}
+use Rattle.instance.specs.answers.Legal.{HasSettled}
+use Rattle.instance.specs.answers.declared.chronicle.Entry.{Entry}
 use Rattle.instance.specs.Agrees.{AgreesOwn}
 use Rattle.instance.specs.Family.{LivesAs, OfOwn, bearing, birth_of, ends_left, is_due, is_end_due, present, targets_left}
 use Rattle.instance.specs.Makes.{PassesTo}
 use Rattle.instance.specs.Steps.{IsAtRest, can_answer, can_post}
-use Rattle.hierarchy.specs.instance_rules.Family.{HasTarget, Living, OfLiving}
-use Rattle.hierarchy.specs.kvs_rules.declared.events.KvsStep.{KvsStep}
+use Rattle.instance.specs.instance_rules.Family.{HasTarget, Living, OfLiving}
+use Rattle.instance.specs.kvs_rules.declared.events.KvsStep.{KvsStep}
 use Rattle.instance.specs.services.Steps.{can_step}
-use Rattle.hierarchy.specs.manager_rules.Times.{IsEndDue, IsIdle, seconds_ahead}
-use Rattle.hierarchy.specs.run_limits.Limits.{most_seconds}
+use Rattle.instance.specs.manager_rules.Times.{IsEndDue, IsIdle, seconds_ahead}
+use Rattle.instance.specs.run_limits.Limits.{most_seconds}
 use Rattle.homes.specs.declared.homes.Home.{Home}
 use Rattle.homes.specs.declared.homes.Origin.{Origin}
 

@@ -1,7 +1,7 @@
 //! The birth of a child.
 ghost use Rattle.std.specs.Prelude.{◌≡◌, ◌+◌, ◌<◌, ◌≤◌, ◌^◌, ℕ, All, IfOk, IsTrue, List, OnOk, Some, false, length};
-ghost use Rattle.hierarchy.specs.answers.Chronicle.{Setup};
-ghost use Rattle.hierarchy.specs.answers.declared.chronicle.Entry.{Entry as EntryValue};
+ghost use Rattle.instance.specs.answers.Chronicle.{Setup};
+ghost use Rattle.instance.specs.answers.declared.chronicle.Entry.{Entry as EntryValue};
 ghost use Rattle.hierarchy.specs.Births.{Birth, births, lives};
 ghost use Rattle.hierarchy.specs.Families.{second_in};
 ghost use Rattle.hierarchy.specs.Legal.{IsLegalBirth};
@@ -9,15 +9,15 @@ ghost use Rattle.hierarchy.specs.Own.{own_of, setup_in};
 ghost use Rattle.instance.specs.Agrees.{AgreesOwn};
 ghost use Rattle.instance.specs.Family.{bearing};
 ghost use Rattle.instance.specs.Makes.{Bears};
-ghost use Rattle.hierarchy.specs.resource_set.Valid.{IsR};
-ghost use Rattle.hierarchy.specs.workload.Laws.{HasOwnLabels, IsBuilt, IsWithin, KeepsTallies};
+ghost use Rattle.instance.specs.resource_set.Valid.{IsR};
+ghost use Rattle.instance.specs.workload.Laws.{HasOwnLabels, IsBuilt, IsWithin, KeepsTallies};
 ghost use Rattle.homes.specs.Inside.{AreSettled, IsChildHome};
 
 use crate::homes::{Home, Origin, Place, is_at, work_for};
-use hierarchy::lists::Bytes;
-use hierarchy::resource_set::Resources;
-use hierarchy::tap::Weights;
-use hierarchy::workload::{ActorList, Workload};
+use instance::lists::Bytes;
+use instance::resource_set::Resources;
+use instance::tap::Weights;
+use instance::workload::{ActorList, Workload};
 use instance::{CoreFault, Instance, Setting};
 use std::alloc::{AllocError, Global};
 

@@ -1,7 +1,7 @@
 //! What the actors are told at the end of a run.
 ghost use Rattle.std.specs.Prelude.{◌≡◌, ◌++◌, ◌<◌, ◌^◌, List, OnOk, count_by, false, filter, flat_map, length, true};
 ghost use Rattle.std.specs.List.{range_with_len};
-ghost use Rattle.hierarchy.specs.answers.declared.chronicle.Entry.{Entry as EntryValue};
+ghost use Rattle.instance.specs.answers.declared.chronicle.Entry.{Entry as EntryValue};
 ghost use Rattle.hierarchy.specs.Closing.{told_unborn, unborn_reply};
 ghost use Rattle.instance.specs.Agrees.{AreLinesOf, is_of};
 ghost use Rattle.homes.specs.Closing.{AreLeft, LeavesBy, is_unborn};
@@ -10,8 +10,8 @@ ghost use Rattle.homes.specs.Tells.{EachLiving};
 
 use crate::entered::enter;
 use crate::homes::{Home, Place};
-use hierarchy::answers::{Chronicle, Entry, Reply};
-use hierarchy::workload::{Line, Workload};
+use instance::answers::{Chronicle, Entry, Reply};
+use instance::workload::{Line, Workload};
 use std::alloc::AllocError;
 
 /// How many of the lines are an actor's.

@@ -1,7 +1,7 @@
 //! Which instances go with one, and what is told of their ends.
 ghost use Rattle.std.specs.Prelude.{◌≡◌, ◌++◌, ◌+◌, ◌<◌, ◌^◌, ◌&&◌, ◌||◌, IfOk, IfSome, IsTrue, List, OnOk, Some, true, false, filter_map, length, not, slice_index_or};
-ghost use Rattle.hierarchy.specs.answers.Chronicle.{Setup};
-ghost use Rattle.hierarchy.specs.answers.declared.chronicle.Entry.{Entry as EntryValue};
+ghost use Rattle.instance.specs.answers.Chronicle.{Setup};
+ghost use Rattle.instance.specs.answers.declared.chronicle.Entry.{Entry as EntryValue};
 ghost use Rattle.hierarchy.specs.Births.{Birth, birth_of, lives};
 ghost use Rattle.hierarchy.specs.Families.{family_of, living_in};
 ghost use Rattle.hierarchy.specs.Inside.{marked_below};
@@ -10,12 +10,12 @@ ghost use Rattle.hierarchy.specs.Own.{own_of, setup_in};
 ghost use Rattle.instance.specs.Agrees.{AgreesOwn};
 ghost use Rattle.instance.specs.Family.{may_end};
 ghost use Rattle.instance.specs.Makes.{LetsGo};
-ghost use Rattle.hierarchy.specs.instance_rules.Family.{IsEndOf};
+ghost use Rattle.instance.specs.instance_rules.Family.{IsEndOf};
 ghost use Rattle.homes.specs.Inside.{AreInside, AreRising, HaveGone, end_at, has_marked};
 
 use crate::homes::{Home, home_at};
-use hierarchy::answers::{Chronicle, Entry};
 use instance::Instance;
+use instance::answers::{Chronicle, Entry};
 use std::alloc::{AllocError, Global};
 
 /// Whether an instance lives and is the one asked for, or has its parent marked.

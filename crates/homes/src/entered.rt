@@ -2,7 +2,7 @@
 ghost use Rattle.std.specs.Prelude.{◌≡◌, ◌++◌, map, OnOk};
 ghost use Rattle.hierarchy.specs.Stretches.{entered_in};
 
-use hierarchy::answers::{Chronicle, Entry};
+use instance::answers::{Chronicle, Entry};
 use std::alloc::AllocError;
 
 /// Gives an entry of an own chronicle the number of its instance, where it names one.

@@ -1,11 +1,11 @@
 //! The resources of a run: those of its workload, or one host for each broker.
 ghost use Rattle.std.specs.Prelude.{◌≡◌, ◌≤◌, IfOk};
-ghost use Rattle.hierarchy.specs.resource_set.Valid.{IsR};
+ghost use Rattle.instance.specs.resource_set.Valid.{IsR};
 ghost use Rattle.homes.specs.Grant.{host_at, hosts_of_brokers};
 
-use hierarchy::idset::IdSet;
-use hierarchy::lists::Bytes;
-use hierarchy::resource_set::{Node, NodeList, Resources};
+use instance::idset::IdSet;
+use instance::lists::Bytes;
+use instance::resource_set::{Node, NodeList, Resources};
 use std::alloc::{AllocError, Global};
 
 /// The host of a broker: `node0` and so on, with the cores 0 to 3.

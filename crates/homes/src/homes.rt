@@ -1,15 +1,15 @@
 //! The instances of a run, by their numbers, and where its actors stand.
 ghost use Rattle.std.specs.Prelude.{◌≡◌, ◌≢◌, ◌≤◌, ◌<◌, ℕ, IfOk, [], filter, length, option_map, slice_get, slice_index_or};
-ghost use Rattle.hierarchy.specs.answers.Chronicle.{Setup};
+ghost use Rattle.instance.specs.answers.Chronicle.{Setup};
 ghost use Rattle.hierarchy.specs.Births.{is_at};
 ghost use Rattle.hierarchy.specs.Own.{placed, work_for};
-ghost use Rattle.hierarchy.specs.workload.declared.work.Line.{Line as LineValue};
-ghost use Rattle.hierarchy.specs.workload.Limits.{most_actors};
+ghost use Rattle.instance.specs.workload.declared.work.Line.{Line as LineValue};
+ghost use Rattle.instance.specs.workload.Limits.{most_actors};
 ghost use Rattle.homes.specs.Homes.{ArePlaces, AreReady, ListTurns};
 
-use hierarchy::lists::{Bytes, Copied, ListOf};
-use hierarchy::workload::{Actor, ActorList, Line, Workload};
 use instance::Instance;
+use instance::lists::{Bytes, Copied, ListOf};
+use instance::workload::{Actor, ActorList, Line, Workload};
 use std::alloc::{AllocError, Global};
 
 /// Whose child an instance is: the job of its parent, and that job's label.

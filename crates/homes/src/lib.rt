@@ -3,14 +3,6 @@
 //! told at the end.
 #![tactic(auto)]
 
-// The crates below that those above reach through this one.
-pub use hierarchy;
-pub use hierarchy::{
-    answers, fl_digest, kvs_rules, lists, resource_set, run_laws, run_limits, tap, workload,
-};
-pub use instance;
-pub use instance::kvs_core;
-
 mod births;
 mod closing;
 mod ends;

@@ -3,7 +3,10 @@
 #![tactic(auto)]
 
 // The crates below that those above reach through this one.
-pub use services::{answers, fl_digest, kvs_core, tap, workload};
+pub use services::{
+    answers, fl_digest, idset, kvs_core, kvs_rules, kvs_txn, lists, resource_set, run_limits, tap,
+    workload,
+};
 
 mod actors;
 mod floors;

@@ -1,17 +1,17 @@
 -- Landings whose transactions are due leave nothing but jobs below `job`.
 use Rattle.std.proofs.Common.{◌≡◌, ◌<◌, ◌^◌, List, [], ◌∷◌, Some, Result, Ok, Err, refl, sym, subst}
 use Rattle.std.specs.Prelude.{IfSome, option_and_then}
-use Rattle.manager_rules.specs.job_rules.Fits.{IsGrant}
-use Rattle.kvs_rules.specs.kvs_model.History.{after_groups, landed_on}
-use Rattle.kvs_rules.specs.kvs_model.Operation.{effect}
-use Rattle.kvs_rules.specs.kvs_model.Store.{IsStore, Store}
-use Rattle.kvs_rules.specs.kvs_txn.declared.answers.Refusal.{Refusal}
-use Rattle.kvs_rules.specs.kvs_txn.declared.txn.Author.{Author}
-use Rattle.kvs_rules.specs.kvs_txn.declared.txn.Author.TheVariants as author
-use Rattle.kvs_rules.specs.kvs_txn.declared.txn.Group.{Group}
-use Rattle.kvs_rules.specs.kvs_txn.declared.txn.Scope.TheVariants as scope
-use Rattle.manager_rules.specs.resource_set.declared.node.Resources.{Resources}
-use Rattle.manager_rules.specs.store_laws.Reserved.{IsUserAuthor}
+use Rattle.job_rules.specs.Fits.{IsGrant}
+use Rattle.kvs_model.specs.History.{after_groups, landed_on}
+use Rattle.kvs_model.specs.Operation.{effect}
+use Rattle.kvs_model.specs.Store.{IsStore, Store}
+use Rattle.kvs_txn.specs.declared.answers.Refusal.{Refusal}
+use Rattle.kvs_txn.specs.declared.txn.Author.{Author}
+use Rattle.kvs_txn.specs.declared.txn.Author.TheVariants as author
+use Rattle.kvs_txn.specs.declared.txn.Group.{Group}
+use Rattle.kvs_txn.specs.declared.txn.Scope.TheVariants as scope
+use Rattle.resource_set.specs.declared.node.Resources.{Resources}
+use Rattle.store_laws.specs.Reserved.{IsUserAuthor}
 use Rattle.manager_rules.specs.Jobs.{HasOnlyJobs, ids_of}
 use Rattle.manager_rules.specs.Sound.{IsSoundStore}
 use Rattle.manager_rules.proofs.Posting.{posts_keep_alone, users_keep_alone}

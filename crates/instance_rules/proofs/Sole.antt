@@ -3,12 +3,12 @@ use Rattle.std.proofs.Common.{◌≡◌, ℕ, zero, suc, ◌<◌, ◌/◌, ◌^�
 use Rattle.std.specs.Prelude.{nat_lt, slice_index}
 use Rattle.std.specs.List.{list_all}
 use Rattle.std.proofs.lemmas.Bool.{and_parts, ltb-true}
-use Rattle.manager_rules.specs.fluid_ids.Texts.{base_16, meaning, printed}
-use Rattle.manager_rules.specs.fluid_ids.declared.forms.Form.TheVariants.{Dothex}
-use Rattle.manager_rules.proofs.fluid_ids_proofs.Rereads.{printed_again}
-use Rattle.kvs_rules.specs.kvs_model.Store.{Path}
-use Rattle.kvs_rules.specs.kvs_txn.declared.txn.Group.{Group}
-use Rattle.kvs_rules.specs.kvs_txn.declared.txn.Op.TheVariants as op
+use Rattle.fluid_ids.specs.Texts.{base_16, meaning, printed}
+use Rattle.fluid_ids.specs.declared.forms.Form.TheVariants.{Dothex}
+use Rattle.fluid_ids.proofs.Rereads.{printed_again}
+use Rattle.kvs_model.specs.Store.{Path}
+use Rattle.kvs_txn.specs.declared.txn.Group.{Group}
+use Rattle.kvs_txn.specs.declared.txn.Op.TheVariants as op
 use Rattle.instance_rules.specs.Desks.{Begins}
 use Rattle.manager_rules.specs.Keys.{job_path, log_path, spec_path}
 

@@ -2,9 +2,6 @@
 //! RFC 16, 21, 26 and 27).
 #![tactic(auto)]
 
-// The crates below that those above reach through this one.
-pub use job_deeds::{fl_json, job_texts};
-
 mod active;
 pub mod book;
 mod seconds;

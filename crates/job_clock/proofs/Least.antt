@@ -3,9 +3,9 @@ use Rattle.std.proofs.Common.{◌≡◌, ℕ, ◌<◌, ◌≤◌, ◌⊎◌, inl
 use Rattle.std.specs.Prelude.{All, IfSome, filter, filter_map, nat_lt}
 use Rattle.std.specs.List.{fold, reduce}
 use Rattle.std.proofs.lemmas.Bool.{cases_lt, lt-ltb, ltb-true}
-use Rattle.instance_rules.proofs.job_rules_proofs.Among.{Among, all_at, all_from, among_append, among_filter, among_from, among_kept, among_left, among_right, contains_from}
+use Rattle.job_rules.proofs.Among.{Among, all_at, all_from, among_append, among_filter, among_from, among_kept, among_left, among_right, contains_from}
 use Rattle.job_book.specs.Seconds.{IsSoonest}
-use Rattle.instance_rules.specs.manager_rules.Times.{IsLeast}
+use Rattle.manager_rules.specs.Times.{IsLeast}
 use Rattle.job_clock.proofs.Targets.{from_kept, to_kept}
 use Rattle.job_clock.specs.Targets.{IsNextTick}
 

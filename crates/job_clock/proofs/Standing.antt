@@ -2,14 +2,14 @@
 use Rattle.std.proofs.Common.{◌≡◌, ℕ, ◌≤◌, ◌⊎◌, inl, inr, List, [], ◌∷◌, ◌++◌, Some, None, Contains, refl, sym, ap, ap₂, ◌∙◌, subst, arith}
 use Rattle.std.specs.Prelude.{filter, flat_map, nat_lt}
 use Rattle.std.proofs.lemmas.Bool.{ltb-true}
-use Rattle.instance_rules.proofs.job_rules_proofs.Among.{all_from, among_append, among_filter, among_from, among_left, among_right, contains_from}
-use Rattle.instance_rules.specs.kvs_model.Store.{Store}
-use Rattle.instance_rules.specs.kvs_rules.Namespaces.{newest_store, primary}
-use Rattle.instance_rules.specs.kvs_rules.Quiet.{AreAllTold}
-use Rattle.instance_rules.proofs.manager_rules_proofs.Unique.{jobs_are_one}
-use Rattle.instance_rules.specs.manager_rules.Jobs.{AreJobsOf, StoredJob}
-use Rattle.instance_rules.specs.manager_rules.Posts.{Desk}
-use Rattle.instance_rules.specs.manager_rules.Times.{IsIdle, seconds_ahead, seconds_of}
+use Rattle.job_rules.proofs.Among.{all_from, among_append, among_filter, among_from, among_left, among_right, contains_from}
+use Rattle.kvs_model.specs.Store.{Store}
+use Rattle.kvs_rules.specs.Namespaces.{newest_store, primary}
+use Rattle.kvs_rules.specs.Quiet.{AreAllTold}
+use Rattle.manager_rules.proofs.Unique.{jobs_are_one}
+use Rattle.manager_rules.specs.Jobs.{AreJobsOf, StoredJob}
+use Rattle.manager_rules.specs.Posts.{Desk}
+use Rattle.manager_rules.specs.Times.{IsIdle, seconds_ahead, seconds_of}
 use Rattle.instance_rules.specs.Desks.{IsDeskOf}
 use Rattle.instance_rules.specs.Family.{EndsIn, HasTarget, IsAhead, IsEndOf, IsFamilyIdle, IsTarget, Living, MayClose, MayTick, OfLiving}
 use Rattle.instance_rules.specs.Legal.{IsLegalMoment, OfDesk}

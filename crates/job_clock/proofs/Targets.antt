@@ -3,12 +3,12 @@ use Rattle.std.proofs.Common.{◌≡◌, ℕ, ◌+◌, ◌-◌, ◌≤◌, ◌&&
 use Rattle.std.specs.Prelude.{filter_map}
 use Rattle.std.specs.List.{cons_option, list_any}
 use Rattle.std.proofs.lemmas.Bool.{le-leb, or_parts}
-use Rattle.instance_rules.proofs.job_rules_proofs.Among.{Among, among_from, contains_from}
-use Rattle.instance_rules.proofs.kvs_rules_proofs.Asking.{command_is}
-use Rattle.instance_rules.proofs.kvs_rules_proofs.Sequences.{until-append}
-use Rattle.instance_rules.proofs.kvs_rules_proofs.Stores.{any_push}
-use Rattle.instance_rules.specs.kvs_rules.Sequence.{until}
-use Rattle.instance_rules.specs.kvs_txn.declared.txn.By.{By}
+use Rattle.job_rules.proofs.Among.{Among, among_from, contains_from}
+use Rattle.kvs_rules.proofs.Asking.{command_is}
+use Rattle.kvs_rules.proofs.Sequences.{until-append}
+use Rattle.kvs_rules.proofs.Stores.{any_push}
+use Rattle.kvs_rules.specs.Sequence.{until}
+use Rattle.kvs_txn.specs.declared.txn.By.{By}
 use Rattle.instance_rules.specs.Log.{Advance, Instance, IsOpen, JobAsk as Asks, Log, Moment, Issued, before_issue, is_issued, is_replied, issues_now, now_of, replies_now}
 use Rattle.job_commands.specs.Agrees.{AgreesCommands, HasLanded, StageAgrees}
 use Rattle.job_commands.specs.Asks.{told}

@@ -2,8 +2,8 @@
 use Rattle.std.proofs.Common.{◌≡◌, ℕ, ◌+◌, ◌-◌, ◌<◌, ◌≤◌, ◌⊎◌, inl, inr, List, [], ◌∷◌, ◌++◌, length, get_or, Bool, true, false, cond, true≢false, Some, None, Contains, sym, ap, ◌∙◌, subst, arith}
 use Rattle.std.specs.Prelude.{All, filter, max}
 use Rattle.std.proofs.lemmas.List.Elements.{Contains-get_or}
-use Rattle.instance_rules.proofs.job_rules_proofs.Among.{Among, all_at, all_from, among_append, among_filter, among_from, among_left, contains_from}
-use Rattle.instance_rules.specs.kvs_txn.declared.txn.By.{By}
+use Rattle.job_rules.proofs.Among.{Among, all_at, all_from, among_append, among_filter, among_from, among_left, contains_from}
+use Rattle.kvs_txn.specs.declared.txn.By.{By}
 use Rattle.instance_rules.specs.Log.{Advance, Instance, Issued, Log, Moment, now_of}
 use Rattle.job_commands.specs.Agrees.{AgreesCommands}
 use Rattle.job_commands.specs.Rows.{AreCarried, CommandsValue, carried, is_of}

@@ -1,12 +1,12 @@
 -- An instance where its log leaves it, and as one of the instances that live.
 use Rattle.std.specs.Prelude.{◌≡◌, ◌<◌, ◌≤◌, ℕ, List, Some, None, All}
-use Rattle.instance_rules.specs.kvs_model.Store.{Store}
-use Rattle.instance_rules.specs.kvs_rules.Namespaces.{newest_store, primary}
+use Rattle.kvs_model.specs.Store.{Store}
+use Rattle.kvs_rules.specs.Namespaces.{newest_store, primary}
 use Rattle.instance_rules.specs.Family.{Living}
 use Rattle.instance_rules.specs.Log.{Instance, Log, service_of}
 use Rattle.job_commands.specs.Agrees.{AgreesCommands}
 use Rattle.job_commands.specs.Rows.{CommandsValue}
-use Rattle.instance_rules.specs.manager_rules.Jobs.{AreJobsOf, StoredJob}
+use Rattle.manager_rules.specs.Jobs.{AreJobsOf, StoredJob}
 
 -- the open commands and the children are those of the log, and the jobs are those of its newest
 -- store

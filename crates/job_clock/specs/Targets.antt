@@ -1,6 +1,6 @@
 -- The seconds that open advances wait for, and the second to which time goes next.
 use Rattle.std.specs.Prelude.{◌≡◌, ℕ, ◌+◌, ◌-◌, ◌<◌, ◌≤◌, ◌&&◌, nat_le, List, ◌++◌, true, Option, Some, None, All, Contains, filter_map}
-use Rattle.instance_rules.specs.kvs_txn.declared.txn.By.{By}
+use Rattle.kvs_txn.specs.declared.txn.By.{By}
 use Rattle.instance_rules.specs.Log.{Advance, Instance, Issued, Log, Moment, now_of}
 use Rattle.job_commands.specs.Rows.{CommandsValue}
 use Rattle.job_commands.specs.declared.ask.JobAsk.{JobAsk}

@@ -10,12 +10,12 @@ ghost use Rattle.job_commands.specs.Desks.{desk_of};
 ghost use Rattle.job_commands.specs.Rows.{AreCarried, CommandsValue};
 ghost use Rattle.job_commands.specs.declared.ask.JobAsk.TheVariants as ask;
 ghost use Rattle.job_commands.specs.declared.row.Row.{Row};
-ghost use Rattle.instance_rules.specs.kvs_rules.Quiet.{AreAllTold};
-ghost use Rattle.instance_rules.specs.kvs_txn.declared.txn.By.{By};
-ghost use Rattle.instance_rules.specs.manager_rules.Jobs.{StoredJob};
-ghost use Rattle.instance_rules.specs.manager_rules.Posts.{Desk, IsDuePost, Post, jobs_after};
-ghost use Rattle.instance_rules.specs.manager_rules.Scene.{Scene};
-ghost use Rattle.instance_rules.specs.manager_rules.Times.{IsBirthDue, IsIdle, seconds_ahead};
+ghost use Rattle.kvs_rules.specs.Quiet.{AreAllTold};
+ghost use Rattle.kvs_txn.specs.declared.txn.By.{By};
+ghost use Rattle.manager_rules.specs.Jobs.{StoredJob};
+ghost use Rattle.manager_rules.specs.Posts.{Desk, IsDuePost, Post, jobs_after};
+ghost use Rattle.manager_rules.specs.Scene.{Scene};
+ghost use Rattle.manager_rules.specs.Times.{IsBirthDue, IsIdle, seconds_ahead};
 
 /// Where nothing is due in an instance, time may go to a later second, if none of its running jobs'
 /// commands or resources end before; and so in a family of instances that it is alone, if it is the

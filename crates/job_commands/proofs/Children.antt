@@ -5,12 +5,12 @@ use Rattle.std.specs.List.{list_any}
 use Rattle.std.specs.Option.{option_map_or}
 use Rattle.std.proofs.lemmas.Bool.{and_parts, cond-false, cond-true, eq-eqb, eqb-true, false_from_ne_true, ne_eqb}
 use Rattle.std.proofs.lemmas.List.{get_or-map, length-map, same_lists}
-use Rattle.instance_rules.proofs.job_rules_proofs.Among.{Among, among_append, among_from, among_left, among_map, among_mapped, among_right, any_at, any_from, contains_from}
-use Rattle.instance_rules.proofs.kvs_rules_proofs.Sequences.{latest_push}
+use Rattle.job_rules.proofs.Among.{Among, among_append, among_from, among_left, among_map, among_mapped, among_right, any_at, any_from, contains_from}
+use Rattle.kvs_rules.proofs.Sequences.{latest_push}
 use Rattle.instance_rules.specs.Log.{Born, Gone, Log, Moment, child_of, child_told}
-use Rattle.instance_rules.specs.manager_rules.Scene.{has_child, has_living_child, has_shut_child, is_child_of, is_living, is_shut}
-use Rattle.instance_rules.specs.manager_rules.declared.asked.Asked.{Asked}
-use Rattle.instance_rules.specs.manager_rules.declared.asked.Asked.TheVariants as asked
+use Rattle.manager_rules.specs.Scene.{has_child, has_living_child, has_shut_child, is_child_of, is_living, is_shut}
+use Rattle.manager_rules.specs.declared.asked.Asked.{Asked}
+use Rattle.manager_rules.specs.declared.asked.Asked.TheVariants as asked
 use Rattle.job_commands.specs.Children.{AreChildrenOf, AreEnded, LeavesChildren, all_children, born_child, ended, is_living_of}
 use Rattle.job_commands.specs.declared.child.Child.{Child}
 

@@ -4,17 +4,17 @@ use Rattle.std.specs.Prelude.{All, filter_map, option_map, option_and_then, slic
 use Rattle.std.specs.List.{cons_option, list_any}
 use Rattle.std.proofs.lemmas.Bool.{and_parts, false_from_ne_true}
 use Rattle.std.proofs.lemmas.List.Folds.{list_any-append}
-use Rattle.instance_rules.proofs.job_rules_proofs.Among.{Among, all_from, among_append, among_from, among_left, among_map, among_mapped, among_right, any_from, contains_from}
-use Rattle.instance_rules.specs.job_spec.declared.spec.Depend.{Depend}
-use Rattle.instance_rules.specs.kvs_model.Store.{Store}
-use Rattle.instance_rules.specs.kvs_rules.Log.{same_command}
-use Rattle.instance_rules.specs.kvs_rules.Sequence.{latest}
-use Rattle.instance_rules.specs.kvs_txn.declared.txn.By.{By}
-use Rattle.instance_rules.specs.manager_rules.declared.asked.Asked.{Asked}
-use Rattle.instance_rules.specs.manager_rules.declared.asked.Asked.TheVariants as asked
-use Rattle.instance_rules.specs.manager_rules.Jobs.{AreJobsOf, StoredJob}
-use Rattle.instance_rules.specs.manager_rules.Posts as posts
-use Rattle.instance_rules.specs.manager_rules.Scene.{IsAsked, has_child, has_living_child, is_child_of, is_living}
+use Rattle.job_rules.proofs.Among.{Among, all_from, among_append, among_from, among_left, among_map, among_mapped, among_right, any_from, contains_from}
+use Rattle.job_spec.specs.declared.spec.Depend.{Depend}
+use Rattle.kvs_model.specs.Store.{Store}
+use Rattle.kvs_rules.specs.Log.{same_command}
+use Rattle.kvs_rules.specs.Sequence.{latest}
+use Rattle.kvs_txn.specs.declared.txn.By.{By}
+use Rattle.manager_rules.specs.declared.asked.Asked.{Asked}
+use Rattle.manager_rules.specs.declared.asked.Asked.TheVariants as asked
+use Rattle.manager_rules.specs.Jobs.{AreJobsOf, StoredJob}
+use Rattle.manager_rules.specs.Posts as posts
+use Rattle.manager_rules.specs.Scene.{IsAsked, has_child, has_living_child, is_child_of, is_living}
 use Rattle.instance_rules.specs.Desks.{AreNamed, IsDeskOf, StandsAsked, StandsSubmitted, is_submission, submits_at}
 use Rattle.instance_rules.specs.Log as rules
 use Rattle.instance_rules.specs.Log.{Instance, IsInstance, IsOpen, IsPending, JobAsk as Asks, Log, Served, Issued, Replied, Ticked, Born, Gone, Named as NamedJob, Submit, before_issue, child_of, is_decided, is_issued, now_of, seconds_from, seconds_open, ticked}

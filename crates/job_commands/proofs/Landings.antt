@@ -4,13 +4,13 @@ use Rattle.std.specs.Prelude.{IsTrue, slice_index}
 use Rattle.std.specs.List.{list_any}
 use Rattle.std.specs.Cmp.Lexicographic.{bytes_decides}
 use Rattle.std.proofs.lemmas.Bool.{cond-false, cond-true, false_from_ne_true, or_from, or_left, or_right}
-use Rattle.instance_rules.proofs.job_rules_proofs.Among.{Among, among_flat, among_flattened, among_from, among_map, any_at, any_from, contains_from}
-use Rattle.instance_rules.proofs.kvs_rules_proofs.Asking.{command_is}
-use Rattle.instance_rules.proofs.kvs_rules_proofs.Sequences.{until-append}
-use Rattle.instance_rules.specs.kvs_rules.Landings.{names_of_group}
-use Rattle.instance_rules.specs.kvs_rules.Log.{is_author}
-use Rattle.instance_rules.specs.kvs_txn.declared.txn.By.{By}
-use Rattle.instance_rules.specs.kvs_txn.declared.txn.Group.{Group}
+use Rattle.job_rules.proofs.Among.{Among, among_flat, among_flattened, among_from, among_map, any_at, any_from, contains_from}
+use Rattle.kvs_rules.proofs.Asking.{command_is}
+use Rattle.kvs_rules.proofs.Sequences.{until-append}
+use Rattle.kvs_rules.specs.Landings.{names_of_group}
+use Rattle.kvs_rules.specs.Log.{is_author}
+use Rattle.kvs_txn.specs.declared.txn.By.{By}
+use Rattle.kvs_txn.specs.declared.txn.Group.{Group}
 use Rattle.instance_rules.specs.Desks.{Begins, HasBegun, HasSubmitted, Names}
 use Rattle.instance_rules.specs.Log.{Instance, IsOpen, JobAsk as Asks, Log, Moment, Named, Submit, is_decided, issues_now, now_of}
 use Rattle.instance_rules.specs.Replies.{AsksForEvent, IsCarriedOut}

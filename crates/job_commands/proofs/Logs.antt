@@ -7,16 +7,16 @@ use Rattle.std.proofs.lemmas.List.Elements.{Contains-append_left, Contains-appen
 use Rattle.std.proofs.lemmas.List.Folds.{list_any-append}
 use Rattle.std.proofs.lemmas.List.Sums.{sum_by-append}
 use Rattle.std.proofs.lemmas.Bool.Decides.{nat_tests}
-use Rattle.instance_rules.proofs.job_rules_proofs.Among.{Among, among_from, contains_from}
-use Rattle.instance_rules.proofs.kvs_rules_proofs.Asking.{command_is}
-use Rattle.instance_rules.proofs.kvs_rules_proofs.Sequences.{until-append}
-use Rattle.instance_rules.proofs.kvs_rules_proofs.Stores.{any_push}
-use Rattle.instance_rules.specs.kvs_rules.Log as service
-use Rattle.instance_rules.specs.kvs_rules.Log.{same_command}
-use Rattle.instance_rules.specs.kvs_rules.Namespaces.{primary}
-use Rattle.instance_rules.specs.kvs_rules.declared.events.KvsEvent.TheVariants as event
-use Rattle.instance_rules.specs.kvs_txn.declared.txn.By.{By}
-use Rattle.instance_rules.specs.kvs_txn.declared.txn.Group.{Group}
+use Rattle.job_rules.proofs.Among.{Among, among_from, contains_from}
+use Rattle.kvs_rules.proofs.Asking.{command_is}
+use Rattle.kvs_rules.proofs.Sequences.{until-append}
+use Rattle.kvs_rules.proofs.Stores.{any_push}
+use Rattle.kvs_rules.specs.Log as service
+use Rattle.kvs_rules.specs.Log.{same_command}
+use Rattle.kvs_rules.specs.Namespaces.{primary}
+use Rattle.kvs_rules.specs.declared.events.KvsEvent.TheVariants as event
+use Rattle.kvs_txn.specs.declared.txn.By.{By}
+use Rattle.kvs_txn.specs.declared.txn.Group.{Group}
 use Rattle.instance_rules.specs.Desks.{Begins, HasBegun, HasSubmitted, is_submission, submits_at}
 use Rattle.instance_rules.specs.Log.{Instance, IsOpen, JobAsk, Log, Moment, Served, Issued, Replied, Ticked, Born, Gone, is_decided, is_issued, is_replied, issues_now, replies_now, now_of, served, service_of}
 use Rattle.instance_rules.specs.Replies.{IsCarriedOut}

@@ -2,8 +2,8 @@
 use Rattle.std.proofs.Common.{◌≡◌, ◌≢◌, ℕ, zero, suc, ◌+◌, ◌-◌, ◌*◌, ◌^◌, ◌<◌, ◌≤◌, inl, inr, List, [], ◌∷◌, length, Some, sym, ◌∙◌, arith}
 use Rattle.std.specs.Prelude.{slice_index}
 use Rattle.std.proofs.lemmas.Bool.{cases_order}
-use Rattle.instance_rules.specs.fluid_ids.Ids.{id_of}
-use Rattle.instance_rules.specs.kvs_txn.declared.txn.By.{By}
+use Rattle.fluid_ids.specs.Ids.{id_of}
+use Rattle.kvs_txn.specs.declared.txn.By.{By}
 use Rattle.job_commands.specs.Agrees.{AreDrawn, IsIdOf}
 use Rattle.job_commands.specs.Rows.{CommandsValue, job_at}
 

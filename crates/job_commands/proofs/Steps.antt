@@ -3,12 +3,12 @@ use Rattle.std.proofs.Common.{◌≡◌, ◌≢◌, ℕ, ◌+◌, ◌-◌, ◌<�
 use Rattle.std.specs.Prelude.{filter, not, slice_index}
 use Rattle.std.proofs.lemmas.Bool.{and_from, and_parts, cond-true, eq-eqb, eqb-true, or_from, or_right}
 use Rattle.std.proofs.lemmas.List.Elements.{Contains-append_left, Contains-push, Contains-push_cases}
-use Rattle.instance_rules.proofs.job_rules_proofs.Among.{among_from}
-use Rattle.instance_rules.proofs.kvs_rules_proofs.Asking.{command_is}
-use Rattle.instance_rules.specs.kvs_rules.Log.{same_command}
-use Rattle.instance_rules.specs.kvs_rules.Sequence.{until}
-use Rattle.instance_rules.specs.kvs_txn.declared.txn.By.{By}
-use Rattle.instance_rules.proofs.kvs_rules_proofs.Stores.{any_push}
+use Rattle.job_rules.proofs.Among.{among_from}
+use Rattle.kvs_rules.proofs.Asking.{command_is}
+use Rattle.kvs_rules.specs.Log.{same_command}
+use Rattle.kvs_rules.specs.Sequence.{until}
+use Rattle.kvs_txn.specs.declared.txn.By.{By}
+use Rattle.kvs_rules.proofs.Stores.{any_push}
 use Rattle.instance_rules.specs.Desks.{HasSubmitted, Names, is_submission, submits_at}
 use Rattle.instance_rules.specs.Log as rules
 use Rattle.instance_rules.specs.Log.{Instance, IsOpen, JobAsk as Asks, JobReply, Log, Moment, Born, Gone, Issued, Replied, Ticked, before_issue, is_decided, is_issued, is_replied, issues_now, now_of, replies_now}

@@ -5,10 +5,10 @@ use Rattle.std.specs.Option.{option_copied}
 use Rattle.std.proofs.lemmas.Bool.{cases_eq, cond-false, cond-true, eq-eqb, eqb-true, ne_eqb, not-true}
 use Rattle.std.proofs.lemmas.List.{get_or_default, get_or-set_other, get_or-set_same, length-set}
 use Rattle.std.proofs.lemmas.List.Elements.{Contains-get_or}
-use Rattle.instance_rules.proofs.job_rules_proofs.Among.{Among, among_filter, among_from, among_kept, contains_from}
-use Rattle.instance_rules.proofs.kvs_rules_proofs.Asking.{command_is}
-use Rattle.instance_rules.specs.kvs_rules.Log.{same_command}
-use Rattle.instance_rules.specs.kvs_txn.declared.txn.By.{By}
+use Rattle.job_rules.proofs.Among.{Among, among_filter, among_from, among_kept, contains_from}
+use Rattle.kvs_rules.proofs.Asking.{command_is}
+use Rattle.kvs_rules.specs.Log.{same_command}
+use Rattle.kvs_txn.specs.declared.txn.By.{By}
 use Rattle.instance_rules.specs.Desks.{is_submission}
 use Rattle.job_commands.specs.Agrees.{AreDrawn, IsDrawn}
 use Rattle.job_commands.specs.Asks.{told}

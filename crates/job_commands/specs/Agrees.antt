@@ -1,7 +1,7 @@
 -- What the open commands and the labels have to do with the log of an instance.
 use Rattle.std.specs.Prelude.{◌≡◌, ◌↔◌, ℕ, ◌+◌, ◌-◌, ◌*◌, ◌<◌, ◌≤◌, List, true, false, IsTrue, IsSome, Some, Contains, count_by, length, slice_index}
-use Rattle.instance_rules.specs.fluid_ids.Ids.{id_of}
-use Rattle.instance_rules.specs.kvs_txn.declared.txn.By.{By}
+use Rattle.fluid_ids.specs.Ids.{id_of}
+use Rattle.kvs_txn.specs.declared.txn.By.{By}
 use Rattle.instance_rules.specs.Desks.{HasBegun, HasSubmitted, Names, submits_at}
 use Rattle.instance_rules.specs.Log.{Instance, IsOpen, Log, Named, Submit, before_issue, is_decided, now_of}
 use Rattle.instance_rules.specs.Replies.{IsCarriedOut}

@@ -1,8 +1,8 @@
 -- Children of jobs, and what the log of an instance says of them.
 use Rattle.std.specs.Prelude.{◌≡◌, ◌↔◌, ℕ, ◌<◌, ◌==◌, ◌&&◌, List, Bool, true, false, Some, None, Contains, map, length, slice_index_or, if◌then◌else◌}
 use Rattle.instance_rules.specs.Log.{Log, Moment, child_of, child_told}
-use Rattle.instance_rules.specs.manager_rules.declared.asked.Asked.{Asked}
-use Rattle.instance_rules.specs.manager_rules.declared.asked.Asked.TheVariants as asked
+use Rattle.manager_rules.specs.declared.asked.Asked.{Asked}
+use Rattle.manager_rules.specs.declared.asked.Asked.TheVariants as asked
 use Rattle.job_commands.specs.declared.child.Child.{Child}
 
 -- the child as the manager looks at it

@@ -1,11 +1,11 @@
 -- What the manager looks at, from the open commands and the labels.
 use Rattle.std.specs.Prelude.{List, [], ◌∷◌, ◌++◌, Option, Some, None, filter_map, option_map, option_and_then, slice_index}
-use Rattle.instance_rules.specs.job_spec.declared.spec.Depend.{Depend}
-use Rattle.instance_rules.specs.manager_rules.declared.asked.Asked.{Asked}
-use Rattle.instance_rules.specs.manager_rules.declared.asked.Asked.TheVariants as asked
-use Rattle.instance_rules.specs.manager_rules.Jobs.{StoredJob}
-use Rattle.instance_rules.specs.manager_rules.Posts.{Desk, Submit}
-use Rattle.instance_rules.specs.kvs_txn.declared.txn.By.{By}
+use Rattle.job_spec.specs.declared.spec.Depend.{Depend}
+use Rattle.manager_rules.specs.declared.asked.Asked.{Asked}
+use Rattle.manager_rules.specs.declared.asked.Asked.TheVariants as asked
+use Rattle.manager_rules.specs.Jobs.{StoredJob}
+use Rattle.manager_rules.specs.Posts.{Desk, Submit}
+use Rattle.kvs_txn.specs.declared.txn.By.{By}
 use Rattle.instance_rules.specs.Log.{Instance, Log, now_of, seconds_open}
 use Rattle.job_commands.specs.Children.{all_children}
 use Rattle.job_commands.specs.Rows.{CommandsValue, Labels, job_at}

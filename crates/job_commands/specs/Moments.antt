@@ -1,11 +1,11 @@
 -- Moments that are about no open command, and landings that carry one out.
 use Rattle.std.specs.Prelude.{◌≡◌, ℕ, ◌||◌, List, [], ◌∷◌, Bool, false, IsSome, Option, Contains}
-use Rattle.instance_rules.specs.kvs_rules.Landings.{names_of}
-use Rattle.instance_rules.specs.kvs_rules.Log as service
-use Rattle.instance_rules.specs.kvs_rules.Namespaces.{primary}
-use Rattle.instance_rules.specs.kvs_rules.declared.events.KvsEvent.TheVariants as event
-use Rattle.instance_rules.specs.kvs_txn.declared.txn.By.{By}
-use Rattle.instance_rules.specs.kvs_txn.declared.txn.Group.{Group}
+use Rattle.kvs_rules.specs.Landings.{names_of}
+use Rattle.kvs_rules.specs.Log as service
+use Rattle.kvs_rules.specs.Namespaces.{primary}
+use Rattle.kvs_rules.specs.declared.events.KvsEvent.TheVariants as event
+use Rattle.kvs_txn.specs.declared.txn.By.{By}
+use Rattle.kvs_txn.specs.declared.txn.Group.{Group}
 use Rattle.instance_rules.specs.Log.{Instance, Moment, Served, issues_now, replies_now}
 
 -- whether a landing or a denial names the command now

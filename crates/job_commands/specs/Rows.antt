@@ -2,8 +2,8 @@
 use Rattle.std.specs.Prelude.{◌≡◌, ℕ, ◌-◌, ◌<◌, ◌≤◌, ◌==◌, ◌&&◌, List, Bool, true, false, Option, Some, length, slice_index, slice_index_or, if◌then◌else◌}
 use Rattle.std.specs.Map.{lookup}
 use Rattle.std.specs.Str.{bytes_eq}
-use Rattle.instance_rules.specs.kvs_rules.Log.{same_command}
-use Rattle.instance_rules.specs.kvs_txn.declared.txn.By.{By}
+use Rattle.kvs_rules.specs.Log.{same_command}
+use Rattle.kvs_txn.specs.declared.txn.By.{By}
 use Rattle.instance_rules.specs.Desks.{is_submission}
 use Rattle.job_commands.specs.Asks.{told}
 use Rattle.job_commands.specs.declared.ask.JobAsk.{JobAsk}

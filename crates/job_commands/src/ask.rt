@@ -3,8 +3,8 @@ ghost use Rattle.std.specs.Prelude.{◌≡◌, Some, IfOk};
 ghost use Rattle.instance_rules.specs.Desks.{is_submission};
 ghost use Rattle.job_commands.specs.Asks.{submitted_label, told};
 
-use instance_rules::job_spec::Scheme;
-use instance_rules::lists::{Bytes, Copied, ListOf};
+use job_spec::Scheme;
+use lists::{Bytes, Copied, ListOf};
 use std::alloc::AllocError;
 
 /// A dependency on the job of a label.

@@ -3,7 +3,7 @@ ghost use Rattle.std.specs.Prelude.{◌≡◌};
 ghost use Rattle.std.specs.List.{list_any};
 ghost use Rattle.job_commands.specs.Children.{AreEnded, asked_child, ended, is_living_of};
 
-use instance_rules::manager_rules::Asked;
+use manager_rules::Asked;
 
 /// A child instance that a job has had: whether it lives, and whether it ended by its own shutdown.
 #[derive(Clone, Copy, Debug, PartialEq, Eq)]

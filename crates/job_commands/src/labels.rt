@@ -4,7 +4,7 @@ ghost use Rattle.std.specs.Str.{bytes_eq};
 ghost use Rattle.job_commands.specs.Rows.{job_at};
 
 use indexmap::IndexMap;
-use instance_rules::lists::Bytes;
+use lists::Bytes;
 use std::alloc::{AllocError, Global};
 use std::marker::Model;
 

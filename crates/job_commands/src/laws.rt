@@ -5,13 +5,13 @@ ghost use Rattle.instance_rules.specs.Log.{Instance, IsOpen, Issued, Log, Moment
 ghost use Rattle.job_commands.specs.Agrees.{AgreesCommands, IsIdOf};
 ghost use Rattle.job_commands.specs.Children.{LeavesChildren};
 ghost use Rattle.job_commands.specs.Desks.{asked_of, desk_of};
-ghost use Rattle.instance_rules.specs.manager_rules.Scene.{has_child, has_living_child, has_shut_child};
+ghost use Rattle.manager_rules.specs.Scene.{has_child, has_living_child, has_shut_child};
 ghost use Rattle.std.specs.Option.{option_map_or};
 ghost use Rattle.job_commands.specs.Moments.{IsBeside};
 ghost use Rattle.job_commands.specs.Rows.{CommandsValue, job_at};
-ghost use Rattle.instance_rules.specs.kvs_model.Store.{Store};
-ghost use Rattle.instance_rules.specs.kvs_txn.declared.txn.By.{By};
-ghost use Rattle.instance_rules.specs.manager_rules.Jobs.{AreJobsOf, StoredJob};
+ghost use Rattle.kvs_model.specs.Store.{Store};
+ghost use Rattle.kvs_txn.specs.declared.txn.By.{By};
+ghost use Rattle.manager_rules.specs.Jobs.{AreJobsOf, StoredJob};
 
 /// A second, each moment that is about no job command and no child, and the issue of a shutdown
 /// leave the commands as they are.

@@ -4,7 +4,7 @@ ghost use Rattle.std.specs.Option.{option_copied};
 ghost use Rattle.job_commands.specs.Rows.{AreCarried, carried, is_of};
 
 use crate::ask::JobAsk;
-use instance_rules::kvs_txn::By;
+use kvs_txn::By;
 
 /// How far an open command has come.
 #[derive(Clone, Copy, Debug, PartialEq, Eq)]

@@ -1,7 +1,7 @@
 -- What is found for a job of the manager's own, where no command may be carried out.
 use Rattle.std.proofs.Common.{Option, Some, None}
 use Rattle.std.specs.List.{AllByRecursion as Each}
-use Rattle.manager_rules.proofs.job_rules_proofs.Among.{among_from, each_at}
+use Rattle.job_rules.proofs.Among.{among_from, each_at}
 use Rattle.std.specs.Prelude.{Contains}
 use Rattle.manager_rules.specs.declared.asked.Asked.{Asked}
 use Rattle.manager_rules.specs.Deeds.{Deed, Validates, Adds, Removes, Loses, Depends, Prioritizes, NeverFits, Takes, Starts, Finishes, Expires, Stops, Releases, Frees, Cleans, Carries}

@@ -1,14 +1,14 @@
 -- The units that a job takes, and where it takes none.
 use Rattle.std.proofs.Common.{◌≡◌, ◌<◌, ◌≤◌, ◌⊎◌, inl, inr, ℕ, List, Option, Some, None, Ok, sym, ap, ◌∙◌, subst, arith}
-use Rattle.manager_rules.specs.hostlist.Names.{AreHostNames}
-use Rattle.manager_rules.specs.job_rules.Fits as fits
-use Rattle.manager_rules.specs.job_spec.declared.spec.JobSpec.{JobSpec}
-use Rattle.manager_rules.specs.resource_set.Reading.{told}
-use Rattle.manager_rules.specs.resource_set.Units.{host_names}
-use Rattle.manager_rules.specs.resource_set.Valid.{IsR}
-use Rattle.manager_rules.specs.resource_set.Writing.{r_text}
-use Rattle.manager_rules.specs.resource_set.declared.node.Node.{Node}
-use Rattle.manager_rules.specs.resource_set.declared.node.Resources.{Resources}
+use Rattle.hostlist.specs.Names.{AreHostNames}
+use Rattle.job_rules.specs.Fits as fits
+use Rattle.job_spec.specs.declared.spec.JobSpec.{JobSpec}
+use Rattle.resource_set.specs.Reading.{told}
+use Rattle.resource_set.specs.Units.{host_names}
+use Rattle.resource_set.specs.Valid.{IsR}
+use Rattle.resource_set.specs.Writing.{r_text}
+use Rattle.resource_set.specs.declared.node.Node.{Node}
+use Rattle.resource_set.specs.declared.node.Resources.{Resources}
 use Rattle.graph_match.proofs.Named.{names_within}
 use Rattle.graph_match.specs.Allotment.{Allotment}
 use Rattle.graph_match.specs.Answers.{AreFirstFit}

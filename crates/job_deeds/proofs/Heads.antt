@@ -6,10 +6,10 @@ use Rattle.std.specs.List.Sorted.{IsStrictlyIncreasing}
 use Rattle.std.specs.BTreeMap.{is_at}
 use Rattle.std.specs.Ordering.{nat_cmp}
 use Rattle.std.proofs.lemmas.Bool.Decides.{nat_tests}
-use Rattle.manager_rules.proofs.job_rules_proofs.Among.{Among, contains_from}
-use Rattle.manager_rules.specs.job_queue.Queue.{priority_of}
-use Rattle.manager_rules.specs.job_states.Table.{is_state}
-use Rattle.manager_rules.specs.job_states.declared.job.State.TheVariants as state
+use Rattle.job_rules.proofs.Among.{Among, contains_from}
+use Rattle.job_queue.specs.Queue.{priority_of}
+use Rattle.job_states.specs.Table.{is_state}
+use Rattle.job_states.specs.declared.job.State.TheVariants as state
 use Rattle.manager_rules.specs.Dependencies.{IsHead, queue_of, queued}
 use Rattle.manager_rules.specs.Jobs.{StoredJob, ids_of}
 use Rattle.graph_match.proofs.Holds.{RiseFrom, rise_of}

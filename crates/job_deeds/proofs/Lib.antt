@@ -8,5 +8,6 @@ pub mod Fitting
 pub mod Stepping
 -- what lies below, for the crates that stand on this one
 pub use Rattle.graph_match.proofs as graph_match_proofs
-pub use Rattle.manager_rules.proofs.job_rules_proofs as job_rules_proofs
+pub use Rattle.hostlist.proofs as hostlist_proofs
+pub use Rattle.job_rules.proofs as job_rules_proofs
 pub use Rattle.manager_rules.proofs as manager_rules_proofs

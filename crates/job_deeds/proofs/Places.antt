@@ -7,7 +7,7 @@ use Rattle.std.proofs.lemmas.List.{get_or-map, length-map}
 use Rattle.std.proofs.lemmas.List.Kept.{AllPairs-from_increasing}
 use Rattle.std.specs.Prelude.{Contains, map}
 use Rattle.graph_match.proofs.Holds.{RiseFrom, rise_of}
-use Rattle.manager_rules.proofs.job_rules_proofs.Among.{Among, among_from, among_map, among_mapped, contains_from}
+use Rattle.job_rules.proofs.Among.{Among, among_from, among_map, among_mapped, contains_from}
 use Rattle.manager_rules.specs.Dependencies.{job_at}
 use Rattle.manager_rules.specs.Jobs.{StoredJob, ids_of}
 use Rattle.manager_rules.specs.Posts.{with_job}

@@ -1,17 +1,17 @@
 -- Where nothing of the manager's own is due for a job, by its state.
 use Rattle.std.proofs.Common.{◌≡◌, ℕ, true, false, inl, inr, [], Option, Some, None, refl, sym, ap, ap₂, ◌∙◌, true≢false}
 use Rattle.std.specs.Prelude.{Contains, IsSomeAnd, IsTrue, find}
-use Rattle.manager_rules.specs.job_rules.Fits as fits
-use Rattle.manager_rules.specs.job_states.Table.{is_state}
-use Rattle.manager_rules.specs.job_states.declared.job.State.{State}
-use Rattle.manager_rules.specs.job_states.declared.job.State.TheVariants as state
-use Rattle.manager_rules.specs.job_spec.declared.spec.Depend.{Depend}
+use Rattle.job_rules.specs.Fits as fits
+use Rattle.job_states.specs.Table.{is_state}
+use Rattle.job_states.specs.declared.job.State.{State}
+use Rattle.job_states.specs.declared.job.State.TheVariants as state
+use Rattle.job_spec.specs.declared.spec.Depend.{Depend}
 use Rattle.manager_rules.specs.Deeds.{Deed, Validates, Adds, Removes, Loses, Depends, Prioritizes, NeverFits, Takes, Starts, Finishes, Expires, Stops, Releases, Frees, Cleans, Carries}
 use Rattle.manager_rules.specs.Dependencies.{IsHead, first_unadded, is_lost, is_met, open_needs}
 use Rattle.manager_rules.specs.Due.{IsFirstFit, IsOver, MayDo, status_now}
 use Rattle.manager_rules.specs.Jobs.{StoredJob}
 use Rattle.manager_rules.specs.Scene.{Scene, has_living_child, priority_of}
-use Rattle.manager_rules.specs.resource_set.declared.node.Resources.{Resources}
+use Rattle.resource_set.specs.declared.node.Resources.{Resources}
 use Rattle.job_deeds.specs.Actions.{IsOwn}
 
 same_state : (a : State) → is_state a a ≡ true

@@ -4,22 +4,22 @@ use Rattle.std.specs.Prelude.{IsSome, option_and_then, option_map, if◌then◌e
 use Rattle.std.specs.List.{cons_option, list_any, AllByRecursion as Each}
 use Rattle.std.specs.List.Sorted.{IsStrictlyIncreasing}
 use Rattle.std.proofs.lemmas.Bool.{eq-eqb, eqb-true, ne_eqb, lt-ltb, le-ltb}
-use Rattle.manager_rules.specs.event_log.declared.event.Event.{Event}
+use Rattle.event_log.specs.declared.event.Event.{Event}
 use Rattle.graph_match.proofs.Holds.{RiseFrom, rise_of}
 use Rattle.graph_match.specs.Holds.{IsNew, with_hold, without_hold}
-use Rattle.manager_rules.proofs.job_rules_proofs.Among.{Among, among_from, among_map, distinct_rising, same_image}
-use Rattle.manager_rules.specs.job_rules.declared.hold.Hold.{Hold}
-use Rattle.manager_rules.specs.job_states.Changes.{change_of}
-use Rattle.manager_rules.specs.job_states.Replay.{allowed, stepped}
-use Rattle.manager_rules.specs.job_states.Table.{changed, is_state, made, stands_in}
-use Rattle.manager_rules.specs.job_states.declared.job.Change.{Change}
-use Rattle.manager_rules.specs.job_states.declared.job.Change.TheVariants as change
-use Rattle.manager_rules.specs.job_states.declared.job.Job.{Job}
-use Rattle.manager_rules.specs.job_states.declared.job.State.{State}
-use Rattle.manager_rules.specs.job_states.declared.job.State.TheVariants as state
-use Rattle.manager_rules.specs.resource_set.Reading.{told}
-use Rattle.manager_rules.specs.resource_set.declared.faults.RFault.{RFault}
-use Rattle.manager_rules.specs.resource_set.declared.node.Resources.{Resources}
+use Rattle.job_rules.proofs.Among.{Among, among_from, among_map, distinct_rising, same_image}
+use Rattle.job_rules.specs.declared.hold.Hold.{Hold}
+use Rattle.job_states.specs.Changes.{change_of}
+use Rattle.job_states.specs.Replay.{allowed, stepped}
+use Rattle.job_states.specs.Table.{changed, is_state, made, stands_in}
+use Rattle.job_states.specs.declared.job.Change.{Change}
+use Rattle.job_states.specs.declared.job.Change.TheVariants as change
+use Rattle.job_states.specs.declared.job.Job.{Job}
+use Rattle.job_states.specs.declared.job.State.{State}
+use Rattle.job_states.specs.declared.job.State.TheVariants as state
+use Rattle.resource_set.specs.Reading.{told}
+use Rattle.resource_set.specs.declared.faults.RFault.{RFault}
+use Rattle.resource_set.specs.declared.node.Resources.{Resources}
 use Rattle.manager_rules.specs.declared.due.Due.{Due}
 use Rattle.manager_rules.specs.Jobs.{StoredJob, ids_of, is_live, started_by}
 use Rattle.manager_rules.specs.Posts.{event_done, held_after, job_after, r_after, with_event}

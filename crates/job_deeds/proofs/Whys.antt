@@ -2,10 +2,10 @@
 use Rattle.std.proofs.Common.{◌≡◌, ◌≢◌, ℕ, ◌==◌, Bool, true, false, cond, List, [], ◌∷◌, Option, Some, None, refl, sym, ap, ◌∙◌, subst, inl, inr}
 use Rattle.std.specs.Prelude.{Contains, IfOk, IsSome, Result, Ok, Err}
 use Rattle.std.proofs.lemmas.Bool.{eq-eqb, eqb-true}
-use Rattle.manager_rules.proofs.job_rules_proofs.Among.{Among, among_from, contains_from}
-use Rattle.manager_rules.specs.job_states.Table.{is_state}
-use Rattle.manager_rules.specs.job_states.declared.job.State.TheVariants as state
-use Rattle.manager_rules.specs.resource_set.declared.node.Node.{Node}
+use Rattle.job_rules.proofs.Among.{Among, among_from, contains_from}
+use Rattle.job_states.specs.Table.{is_state}
+use Rattle.job_states.specs.declared.job.State.TheVariants as state
+use Rattle.resource_set.specs.declared.node.Node.{Node}
 use Rattle.manager_rules.specs.Dependencies.{job_at}
 use Rattle.manager_rules.specs.declared.why.Why.{Why}
 use Rattle.manager_rules.specs.declared.why.Why.TheVariants.{Busy, Behind, Held, Ready, NotWaiting, NoJob}

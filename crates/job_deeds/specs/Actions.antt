@@ -1,7 +1,7 @@
 -- What the book finds to do for a job, as a deed.
 use Rattle.std.specs.Prelude.{◌≡◌, Option, Some, None, IfSome}
-use Rattle.manager_rules.specs.resource_set.Writing.{r_text}
-use Rattle.manager_rules.specs.resource_set.Units.{AreHosts}
+use Rattle.resource_set.specs.Writing.{r_text}
+use Rattle.resource_set.specs.Units.{AreHosts}
 use Rattle.manager_rules.specs.Deeds.{Deed}
 use Rattle.manager_rules.specs.Deeds as deeds
 use Rattle.manager_rules.specs.Due.{MayDo}

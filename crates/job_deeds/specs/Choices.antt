@@ -1,12 +1,12 @@
 -- What the jobs of a book are decided by, and what is chosen for one of them.
 use Rattle.std.specs.Prelude.{◌≡◌, ℕ, List, Option, Some, None, Ok}
 use Rattle.std.specs.List.Sorted.{IsStrictlyIncreasing}
-use Rattle.manager_rules.specs.hostlist.Names.{AreHostNames}
-use Rattle.manager_rules.specs.resource_set.Reading.{told}
-use Rattle.manager_rules.specs.resource_set.Units.{host_names}
-use Rattle.manager_rules.specs.resource_set.Writing.{r_text}
-use Rattle.manager_rules.specs.resource_set.declared.node.Resources.{Resources}
-use Rattle.manager_rules.specs.tap.declared.Ask.{Ask}
+use Rattle.hostlist.specs.Names.{AreHostNames}
+use Rattle.resource_set.specs.Reading.{told}
+use Rattle.resource_set.specs.Units.{host_names}
+use Rattle.resource_set.specs.Writing.{r_text}
+use Rattle.resource_set.specs.declared.node.Resources.{Resources}
+use Rattle.tap.specs.declared.Ask.{Ask}
 use Rattle.manager_rules.specs.Deeds.{Deed}
 use Rattle.manager_rules.specs.Due.{MayDo}
 use Rattle.manager_rules.specs.Jobs.{StoredJob, ids_of}

@@ -2,13 +2,13 @@
 use Rattle.std.specs.Prelude.{◌≡◌, ℕ, List, Option, Some, None, Result, Ok, Err, IfSome, if◌then◌else◌}
 use Rattle.graph_match.specs.Allotment.{Allotment}
 use Rattle.graph_match.specs.Holds.{IsNew, with_hold, without_hold}
-use Rattle.manager_rules.specs.job_rules.Fits.{AreWithin, free_of}
-use Rattle.manager_rules.specs.job_states.Changes.{change_of}
-use Rattle.manager_rules.specs.job_states.Replay.{stepped}
-use Rattle.manager_rules.specs.job_states.declared.job.Job.{Job}
-use Rattle.manager_rules.specs.resource_set.Reading.{told}
-use Rattle.manager_rules.specs.resource_set.declared.node.Resources.{Resources}
-use Rattle.manager_rules.specs.resource_set.declared.faults.RFault.{RFault}
+use Rattle.job_rules.specs.Fits.{AreWithin, free_of}
+use Rattle.job_states.specs.Changes.{change_of}
+use Rattle.job_states.specs.Replay.{stepped}
+use Rattle.job_states.specs.declared.job.Job.{Job}
+use Rattle.resource_set.specs.Reading.{told}
+use Rattle.resource_set.specs.declared.node.Resources.{Resources}
+use Rattle.resource_set.specs.declared.faults.RFault.{RFault}
 use Rattle.manager_rules.specs.declared.due.Due.{Due}
 use Rattle.manager_rules.specs.Jobs.{StoredJob, is_live, started_by}
 use Rattle.manager_rules.specs.Posts.{job_after}

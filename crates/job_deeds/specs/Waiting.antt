@@ -1,9 +1,9 @@
 -- The queue: each job with the priority with which it waits for resources.
 use Rattle.std.specs.Prelude.{◌≡◌, ℕ, List, Option, Some, None, Contains, IsSome, option_map, unwrap_or, if◌then◌else◌}
-use Rattle.manager_rules.specs.job_queue.Queue.{priority_of}
-use Rattle.manager_rules.specs.job_states.Table.{is_state}
-use Rattle.manager_rules.specs.job_states.declared.job.Job.{Job}
-use Rattle.manager_rules.specs.job_states.declared.job.State.TheVariants as state
+use Rattle.job_queue.specs.Queue.{priority_of}
+use Rattle.job_states.specs.Table.{is_state}
+use Rattle.job_states.specs.declared.job.Job.{Job}
+use Rattle.job_states.specs.declared.job.State.TheVariants as state
 use Rattle.manager_rules.specs.Dependencies.{IsHead, job_at}
 use Rattle.manager_rules.specs.Jobs.{StoredJob}
 

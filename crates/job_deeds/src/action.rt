@@ -6,20 +6,20 @@ ghost use Rattle.serde_json.specs.Data.{no_members};
 ghost use Rattle.manager_rules.specs.Scene.{IsAsked};
 ghost use Rattle.manager_rules.specs.Deeds.{Releases, command_asked, command_carried, due_of, event_asked, event_of, event_with, fatal_event, r_given, ranks_text, text_member};
 ghost use Rattle.manager_rules.specs.Jobs.{description_of};
-ghost use Rattle.manager_rules.specs.resource_set.Units.{AreHosts};
+ghost use Rattle.resource_set.specs.Units.{AreHosts};
 ghost use Rattle.job_deeds.specs.Actions.{IsTellable, IsTold, deed_of};
 
 use crate::row::Row;
+use event_log::Event;
+use job_spec::Depend as Need;
 use job_texts::{
     described_event, description, exception_event, finish_event, plain_event, priority_event,
     ranks, release_event, urgency_event,
 };
-use manager_rules::event_log::Event;
-use manager_rules::job_spec::Depend as Need;
-use manager_rules::kvs_txn::By;
-use manager_rules::lists::{Bytes, Copied};
-use manager_rules::resource_set::Resources;
+use kvs_txn::By;
+use lists::{Bytes, Copied};
 use manager_rules::{Asked, Due};
+use resource_set::Resources;
 use std::alloc::{AllocError, Global};
 
 /// What a command that is ended by the manager has for its status.

@@ -2,12 +2,12 @@
 ghost use Rattle.std.specs.Prelude.{◌≡◌, ◌≢◌, ◌↔◌, Contains, IfNone, IfSome, IsTrue};
 ghost use Rattle.manager_rules.specs.declared.asked.Asked.{Asked as Command};
 ghost use Rattle.manager_rules.specs.Due.{MayCarry, may_stand};
-ghost use Rattle.manager_rules.specs.job_states.declared.job.Change.TheVariants as change;
-ghost use Rattle.manager_rules.specs.job_states.declared.job.State.TheVariants as state;
+ghost use Rattle.job_states.specs.declared.job.Change.TheVariants as change;
+ghost use Rattle.job_states.specs.declared.job.State.TheVariants as state;
 
 use crate::row::Row;
+use job_states::{Change, Job, State, can_stand};
 use manager_rules::Asked;
-use manager_rules::job_states::{Change, Job, State, can_stand};
 
 /// Whether an exception of this severity may be raised: one of severity 0 ends the job, which it
 /// does once.

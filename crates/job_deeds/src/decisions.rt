@@ -1,12 +1,12 @@
 //! What is due for a job, whatever its state.
 ghost use Rattle.std.specs.Prelude.{◌≡◌, ◌↔◌, All, IfOk, IsTrue, Some};
 ghost use Rattle.std.specs.Fn.{FnReturnsAt};
-ghost use Rattle.manager_rules.specs.resource_set.Valid.{IsR};
-ghost use Rattle.manager_rules.specs.job_rules.Fits.{CanFit, NeverFits, free_of};
-ghost use Rattle.manager_rules.specs.job_spec.Sound.{IsSpec};
-ghost use Rattle.manager_rules.specs.job_states.declared.job.State.TheVariants as state;
+ghost use Rattle.resource_set.specs.Valid.{IsR};
+ghost use Rattle.job_rules.specs.Fits.{CanFit, NeverFits, free_of};
+ghost use Rattle.job_spec.specs.Sound.{IsSpec};
+ghost use Rattle.job_states.specs.declared.job.State.TheVariants as state;
 ghost use Rattle.manager_rules.specs.Scene.{IsAsked, Scene, priority_of};
-ghost use Rattle.manager_rules.specs.tap.Priorities.{AnswersOnce};
+ghost use Rattle.tap.specs.Priorities.{AnswersOnce};
 ghost use Rattle.job_deeds.specs.Actions.{AreTold, Finds};
 ghost use Rattle.job_deeds.specs.Choices.{Chooses, IsDesk, IsSeen, IsTaking, SaysAs};
 
@@ -17,12 +17,12 @@ use crate::priorities::priority;
 use crate::row::Row;
 use crate::states::{of_cleanup, of_run};
 use graph_match::{Fit, Graph};
+use job_states::State;
+use lists::Bytes;
 use manager_rules::Asked;
-use manager_rules::job_states::State;
-use manager_rules::lists::Bytes;
-use manager_rules::resource_set::Resources;
-use manager_rules::tap::{Ask, Tap};
+use resource_set::Resources;
 use std::alloc::{AllocError, Global};
+use tap::{Ask, Tap};
 
 /// What the jobs of a book are decided by.
 #[derive(Clone, Copy)]
@@ -40,7 +40,7 @@ fn take(alloc: Global, r: Resources) -> Result<Option<Action<'static>>, AllocErr
     requires { IsR r }
     ensures { IfOk result (IsTaking r) }
 {
-    let text = manager_rules::resource_set::print(alloc, &r)?;
+    let text = resource_set::print(alloc, &r)?;
     Ok(Some(Action::Take(r, Bytes::from_vec(text))))
 }
 

@@ -4,18 +4,18 @@ ghost use Rattle.std.specs.Option.{option_copied};
 ghost use Rattle.std.specs.List.{list_any};
 ghost use Rattle.std.specs.List.Sorted.{IsStrictlyIncreasing};
 ghost use Rattle.std.specs.Str.{bytes_eq};
-ghost use Rattle.manager_rules.specs.job_states.declared.job.State.TheVariants as state;
+ghost use Rattle.job_states.specs.declared.job.State.TheVariants as state;
 ghost use Rattle.manager_rules.specs.Dependencies.{ended_well, first_unadded, is_inactive, is_lost, is_met, meets, open_needs};
 ghost use Rattle.manager_rules.specs.Jobs.{ids_of};
 ghost use Rattle.manager_rules.specs.Scene.{Scene};
-ghost use Rattle.manager_rules.specs.job_spec.declared.spec.Depend.{Depend as Need};
+ghost use Rattle.job_spec.specs.declared.spec.Depend.{Depend as Need};
 ghost use Rattle.job_deeds.specs.Actions.{AreTold, Finds};
 
 use crate::action::Action;
 use crate::row::{Row, find as job_of};
+use job_spec::{Depend, Needs, Scheme};
+use job_states::{DependList, Job, State};
 use job_texts::description;
-use manager_rules::job_spec::{Depend, Needs, Scheme};
-use manager_rules::job_states::{DependList, Job, State};
 use std::alloc::{AllocError, Global};
 
 /// Whether a list has a description.

@@ -1,19 +1,19 @@
 //! What a job is once an event of it has landed.
 ghost use Rattle.std.specs.Prelude.{◌≡◌, ◌<◌, length, IfOk, IfSome, OnErr, OnOk, Ok, slice_index_or, slice_set};
-ghost use Rattle.manager_rules.specs.job_states.Replay.{stepped};
-ghost use Rattle.manager_rules.specs.job_states.declared.job.Job.{Job as JobNow};
-ghost use Rattle.manager_rules.specs.resource_set.Reading.{told};
-ghost use Rattle.manager_rules.specs.resource_set.declared.node.Resources.{Resources as Units};
+ghost use Rattle.job_states.specs.Replay.{stepped};
+ghost use Rattle.job_states.specs.declared.job.Job.{Job as JobNow};
+ghost use Rattle.resource_set.specs.Reading.{told};
+ghost use Rattle.resource_set.specs.declared.node.Resources.{Resources as Units};
 ghost use Rattle.manager_rules.specs.Jobs.{StoredJob, is_live, started_by};
 ghost use Rattle.job_deeds.specs.Landing.{CanHold, CanLand, IsNext, IsTold, held_by, holding_with, job_with};
 
 use crate::row::Row;
+use event_log::Event;
 use graph_match::Graph;
+use job_states::{Job, ReplayFault, step};
+use lists::{Bytes, Copied};
 use manager_rules::Due;
-use manager_rules::event_log::Event;
-use manager_rules::job_states::{Job, ReplayFault, step};
-use manager_rules::lists::{Bytes, Copied};
-use manager_rules::resource_set::{RFault, Resources};
+use resource_set::{RFault, Resources};
 use std::alloc::{AllocError, Global};
 
 /// What an event makes of the resources that a job holds.
@@ -68,7 +68,7 @@ fn units_in(alloc: Global, text: &Bytes) -> Result<Resources, AllocError>
     requires { (r : Units) × (told text.now ≡ Ok r) }
     ensures { IfOk result (λ r. told text.now ≡ Ok r) }
 {
-    match manager_rules::resource_set::read(alloc, text.as_slice()) {
+    match resource_set::read(alloc, text.as_slice()) {
         Ok(r) => Ok(r),
         Err(RFault::NoMemory) => Err(AllocError),
         Err(_) => unreachable!(),

@@ -3,12 +3,19 @@
 #![tactic(auto)]
 
 // The crates below that those above reach through this one.
+pub use event_log;
 pub use graph_match;
+pub use idset;
+pub use job_queue;
+pub use job_spec;
+pub use job_states;
 pub use job_texts;
+pub use kvs_txn;
+pub use lists;
 pub use manager_rules;
-pub use manager_rules::{
-    event_log, fl_json, job_queue, job_spec, job_states, lists, resource_set, shells, tap,
-};
+pub use resource_set;
+pub use shells;
+pub use tap;
 
 mod action;
 mod commands;

@@ -1,14 +1,14 @@
 //! The priorities of jobs.
 ghost use Rattle.std.specs.Prelude.{◌≡◌};
 ghost use Rattle.std.specs.Fn.{FnReturnsAt};
-ghost use Rattle.manager_rules.specs.job_spec.Sound.{IsSpec};
+ghost use Rattle.job_spec.specs.Sound.{IsSpec};
 ghost use Rattle.manager_rules.specs.Scene.{Scene, ask_of, cores_of, priority_of};
-ghost use Rattle.manager_rules.specs.tap.Priorities.{AnswersOnce};
+ghost use Rattle.tap.specs.Priorities.{AnswersOnce};
 ghost use Rattle.job_deeds.specs.Choices.{SaysAs};
 
 use crate::row::Row;
-use manager_rules::job_spec::JobSpec;
-use manager_rules::tap::{Ask, Tap};
+use job_spec::JobSpec;
+use tap::{Ask, Tap};
 
 /// The urgency that holds a job, and the one that expedites it.
 const HELD: u32 = 0;

@@ -1,7 +1,7 @@
 //! Why a job doesn't run.
 ghost use Rattle.std.specs.Prelude.{◌≡◌, List, Contains, IfOk};
-ghost use Rattle.manager_rules.specs.job_rules.Fits.{IsGrant};
-ghost use Rattle.manager_rules.specs.job_spec.Sound.{IsSpec};
+ghost use Rattle.job_rules.specs.Fits.{IsGrant};
+ghost use Rattle.job_spec.specs.Sound.{IsSpec};
 ghost use Rattle.manager_rules.specs.Jobs.{StoredJob};
 ghost use Rattle.manager_rules.specs.Sound.{holds_of};
 ghost use Rattle.manager_rules.specs.Whys.{IsFirst, IsSaidOf};
@@ -10,7 +10,7 @@ ghost use Rattle.job_deeds.specs.Waiting.{IsFirstOf, IsRanked};
 use crate::decisions::Desk;
 use crate::row::Row;
 use graph_match::{Fit, Graph};
-use manager_rules::job_states::State;
+use job_states::State;
 use manager_rules::{JobList, Why};
 use std::alloc::{AllocError, Global};
 

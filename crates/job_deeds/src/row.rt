@@ -5,9 +5,9 @@ ghost use Rattle.std.specs.List.Sorted.{IsStrictlyIncreasing};
 ghost use Rattle.manager_rules.specs.Jobs.{ids_of};
 ghost use Rattle.manager_rules.specs.Dependencies.{job_at};
 
-use manager_rules::job_spec::{JobSpec, Needs};
-use manager_rules::job_states::Job;
-use manager_rules::resource_set::Resources;
+use job_spec::{JobSpec, Needs};
+use job_states::Job;
+use resource_set::Resources;
 use std::marker::Model;
 
 /// A job with its jobspec, its dependencies, what its log says of it, the second of its start, and

@@ -1,6 +1,6 @@
 //! What is due for a job that has resources, by its state (Flux RFC 21 and 27).
 ghost use Rattle.std.specs.Prelude.{◌≡◌, ◌&&◌, ◌↔◌, IsTrue, IsSomeAnd};
-ghost use Rattle.manager_rules.specs.job_states.declared.job.State.TheVariants as state;
+ghost use Rattle.job_states.specs.declared.job.State.TheVariants as state;
 ghost use Rattle.manager_rules.specs.Due.{IsOver, status_now};
 ghost use Rattle.manager_rules.specs.Scene.{Scene, has_living_child, has_shut_child, is_child_of, is_living as is_living_child, is_shut as is_shut_child};
 ghost use Rattle.job_deeds.specs.Actions.{AreTold, Finds};
@@ -8,8 +8,8 @@ ghost use Rattle.job_deeds.specs.Actions.{AreTold, Finds};
 use crate::action::Action;
 use crate::row::Row;
 use manager_rules::Asked;
-use manager_rules::resource_set::Resources;
-use manager_rules::shells::Ending;
+use resource_set::Resources;
+use shells::Ending;
 
 /// Whether a job has a living child.
 fn is_living(asked: &Asked, id: u64) -> bool
@@ -50,7 +50,7 @@ fn has_shut(asked: &[Asked], id: u64) -> bool
 fn status_at(now: u64, asked: &[Asked], row: &Row) -> Option<u64>
     ensures { (s : Scene) → s.now ≡ now → s.asked ≡ asked.now → result ≡ status_now s row.now }
 {
-    match manager_rules::shells::ending(&row.spec, row.start?) {
+    match shells::ending(&row.spec, row.start?) {
         Ending::At { second, status } if second == now => Some(status),
         Ending::At { .. } => None,
         Ending::Child => {

@@ -2,7 +2,7 @@
 ghost use Rattle.std.specs.Prelude.{◌≡◌};
 ghost use Rattle.job_deeds.specs.Waiting.{rank_of};
 
-use manager_rules::job_states::{Job, State};
+use job_states::{Job, State};
 
 /// The priority with which a job waits for resources, or 0.
 pub fn rank(job: &Job) -> u32

@@ -5,10 +5,10 @@ use Rattle.std.specs.List.{AllByRecursion as Each}
 use Rattle.std.specs.Option.{option_map_or}
 use Rattle.std.specs.Cmp.Lexicographic.{bytes_decides}
 use Rattle.std.proofs.lemmas.List.{map-append}
-use Rattle.job_manager.proofs.job_rules_proofs.Among.{Among, among_filter, among_from, among_kept, contains_from, each_at}
-use Rattle.job_manager.specs.instance_rules.Desks.{AreDueFrom, IsDeskOf, IsDueFor}
-use Rattle.job_manager.specs.instance_rules.Legal.{IsDueEvent, IsLegalMoment}
-use Rattle.job_manager.specs.instance_rules.Log.{Instance, IsInstance, Log, Served, service_of}
+use Rattle.job_rules.proofs.Among.{Among, among_filter, among_from, among_kept, contains_from, each_at}
+use Rattle.instance_rules.specs.Desks.{AreDueFrom, IsDeskOf, IsDueFor}
+use Rattle.instance_rules.specs.Legal.{IsDueEvent, IsLegalMoment}
+use Rattle.instance_rules.specs.Log.{Instance, IsInstance, Log, Served, service_of}
 use Rattle.job_commands.proofs.Desks.{desk_is}
 use Rattle.job_commands.proofs.Logs.{service_push}
 use Rattle.job_commands.proofs.Steps.{beside_agrees}
@@ -17,28 +17,28 @@ use Rattle.job_commands.specs.Desks.{desk_of}
 use Rattle.job_commands.specs.Moments.{IsBeside}
 use Rattle.job_commands.specs.Rows.{CommandsValue}
 use Rattle.job_manager.specs.Posts.{command_of}
-use Rattle.job_manager.specs.kvs_core.Posted.{LandsUsers, groups_in, posts_landed}
-use Rattle.job_manager.specs.kvs_model.History.{landed_on}
-use Rattle.job_manager.specs.kvs_model.Operation.{effect}
-use Rattle.job_manager.specs.kvs_model.Store.{Name, Store}
-use Rattle.job_manager.proofs.kvs_rules_proofs.Logs.{legal_parts}
-use Rattle.job_manager.proofs.kvs_rules_proofs.Sequences.{each_joined}
-use Rattle.job_manager.specs.kvs_rules.Answers.{IsLegalAfter, IsLegalLog}
-use Rattle.job_manager.specs.kvs_rules.Landings.{IsAdvance, IsLegalLanding, IsManagers, IsUser, IsUsers}
-use Rattle.job_manager.specs.kvs_rules.Log as service
-use Rattle.job_manager.specs.kvs_rules.Namespaces.{newest_store, primary}
-use Rattle.job_manager.specs.kvs_rules.Sequence.{EachAfter}
-use Rattle.job_manager.specs.kvs_rules.declared.events.KvsEvent.{KvsEvent}
-use Rattle.job_manager.specs.kvs_rules.declared.events.KvsEvent.TheVariants as event
-use Rattle.job_manager.proofs.kvs_space_proofs.Posting.{managers-is, no-manager}
-use Rattle.job_manager.specs.kvs_txn.declared.txn.Author.{Author}
-use Rattle.job_manager.specs.kvs_txn.declared.txn.Author.TheVariants as author
-use Rattle.job_manager.specs.kvs_txn.declared.txn.By.{By}
-use Rattle.job_manager.specs.kvs_txn.declared.txn.Group.{Group}
-use Rattle.job_manager.specs.kvs_txn.declared.txn.Scope.TheVariants as scope
-use Rattle.job_manager.specs.manager_rules.Jobs.{AreJobsOf, StoredJob}
-use Rattle.job_manager.specs.manager_rules.Posts.{Desk, Does, IsDuePost, Post, Submits, authors_of, group_of}
-use Rattle.job_manager.specs.store_laws.Posts.{is_manager, posts_in}
+use Rattle.kvs_core.specs.Posted.{LandsUsers, groups_in, posts_landed}
+use Rattle.kvs_model.specs.History.{landed_on}
+use Rattle.kvs_model.specs.Operation.{effect}
+use Rattle.kvs_model.specs.Store.{Name, Store}
+use Rattle.kvs_rules.proofs.Logs.{legal_parts}
+use Rattle.kvs_rules.proofs.Sequences.{each_joined}
+use Rattle.kvs_rules.specs.Answers.{IsLegalAfter, IsLegalLog}
+use Rattle.kvs_rules.specs.Landings.{IsAdvance, IsLegalLanding, IsManagers, IsUser, IsUsers}
+use Rattle.kvs_rules.specs.Log as service
+use Rattle.kvs_rules.specs.Namespaces.{newest_store, primary}
+use Rattle.kvs_rules.specs.Sequence.{EachAfter}
+use Rattle.kvs_rules.specs.declared.events.KvsEvent.{KvsEvent}
+use Rattle.kvs_rules.specs.declared.events.KvsEvent.TheVariants as event
+use Rattle.kvs_space.proofs.Posting.{managers-is, no-manager}
+use Rattle.kvs_txn.specs.declared.txn.Author.{Author}
+use Rattle.kvs_txn.specs.declared.txn.Author.TheVariants as author
+use Rattle.kvs_txn.specs.declared.txn.By.{By}
+use Rattle.kvs_txn.specs.declared.txn.Group.{Group}
+use Rattle.kvs_txn.specs.declared.txn.Scope.TheVariants as scope
+use Rattle.manager_rules.specs.Jobs.{AreJobsOf, StoredJob}
+use Rattle.manager_rules.specs.Posts.{Desk, Does, IsDuePost, Post, Submits, authors_of, group_of}
+use Rattle.store_laws.specs.Posts.{is_manager, posts_in}
 use Rattle.job_landings.specs.Landings.{Carries, CarriesFor, LandsPost, happening, number_of_post}
 use Rattle.job_landings.proofs.Naming.{event_beside, landing_aside, users_none}
 use Rattle.job_landings.proofs.Newest.{HasJobs, has_jobs, same_one, users_leave}
@@ -131,7 +131,7 @@ module _ (inst : Instance) (valid : IsInstance inst) (log : service.Log) (post :
     | inr none ↦ absurd none
   ]
 
-  in_primary : IsTrue (Rattle.job_manager.specs.kvs_rules.Namespaces.is_primary space)
+  in_primary : IsTrue (Rattle.kvs_rules.specs.Namespaces.is_primary space)
   in_primary = elim (kind_of (group_of post) there.0) [
     | inl u ↦ absurd (true≢false (sym there.1 ∙ no-manager (group_of post).txn.author u.0))
     | inr m ↦ m.inside

@@ -2,23 +2,23 @@
 use Rattle.std.proofs.Common.{◌≡◌, ℕ, ◌⊎◌, inl, inr, List, [], ◌∷◌, true, false, Option, Some, None, IsSome, refl, sym, ap, ◌∙◌, subst, true≢false}
 use Rattle.std.specs.List.{AllByRecursion as Each, list_any}
 use Rattle.std.proofs.lemmas.Bool.{false_from_ne_true, or_from}
-use Rattle.job_manager.proofs.job_rules_proofs.Among.{Among, among_flat, among_from, among_map, any_from, each_at}
-use Rattle.job_manager.specs.kvs_core.Posted.{LandsUsers}
-use Rattle.job_manager.specs.kvs_model.Store.{Name}
-use Rattle.job_manager.proofs.kvs_rules_proofs.Asking.{command_is}
-use Rattle.job_manager.specs.kvs_rules.Answers.{IsLegalEvent}
-use Rattle.job_manager.specs.kvs_rules.Landings.{AreMembers, IsAdvance, IsLegalDenial, IsLegalLanding, IsManagers, IsUser, IsUsers, names_of_group}
-use Rattle.job_manager.specs.kvs_rules.Log as service
-use Rattle.job_manager.specs.kvs_rules.Log.{is_author}
-use Rattle.job_manager.specs.kvs_rules.Namespaces.{Asks, Request, Setting}
-use Rattle.job_manager.specs.kvs_rules.declared.events.KvsAsk.{KvsAsk}
-use Rattle.job_manager.specs.kvs_rules.declared.events.KvsEvent.{KvsEvent}
-use Rattle.job_manager.specs.kvs_rules.declared.events.KvsEvent.TheVariants as event
-use Rattle.job_manager.specs.kvs_txn.declared.answers.Refusal.{Refusal}
-use Rattle.job_manager.specs.kvs_txn.declared.txn.By.{By}
-use Rattle.job_manager.specs.kvs_txn.declared.txn.Group.{Group}
-use Rattle.job_manager.specs.kvs_txn.declared.txn.Op.{Op}
-use Rattle.job_manager.specs.instance_rules.Log.{Instance, IsInstance, Served}
+use Rattle.job_rules.proofs.Among.{Among, among_flat, among_from, among_map, any_from, each_at}
+use Rattle.kvs_core.specs.Posted.{LandsUsers}
+use Rattle.kvs_model.specs.Store.{Name}
+use Rattle.kvs_rules.proofs.Asking.{command_is}
+use Rattle.kvs_rules.specs.Answers.{IsLegalEvent}
+use Rattle.kvs_rules.specs.Landings.{AreMembers, IsAdvance, IsLegalDenial, IsLegalLanding, IsManagers, IsUser, IsUsers, names_of_group}
+use Rattle.kvs_rules.specs.Log as service
+use Rattle.kvs_rules.specs.Log.{is_author}
+use Rattle.kvs_rules.specs.Namespaces.{Asks, Request, Setting}
+use Rattle.kvs_rules.specs.declared.events.KvsAsk.{KvsAsk}
+use Rattle.kvs_rules.specs.declared.events.KvsEvent.{KvsEvent}
+use Rattle.kvs_rules.specs.declared.events.KvsEvent.TheVariants as event
+use Rattle.kvs_txn.specs.declared.answers.Refusal.{Refusal}
+use Rattle.kvs_txn.specs.declared.txn.By.{By}
+use Rattle.kvs_txn.specs.declared.txn.Group.{Group}
+use Rattle.kvs_txn.specs.declared.txn.Op.{Op}
+use Rattle.instance_rules.specs.Log.{Instance, IsInstance, Served}
 use Rattle.job_commands.specs.Moments.{IsAside, IsBeside}
 
 -- the command asks something of the service

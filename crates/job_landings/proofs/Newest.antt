@@ -3,27 +3,27 @@ use Rattle.std.proofs.Common.{◌≡◌, ℕ, suc, inl, inr, List, [], ◌∷◌
 use Rattle.std.specs.Prelude.{option_and_then}
 use Rattle.std.specs.List.{AllByRecursion as Each, cons_option}
 use Rattle.std.proofs.lemmas.List.{length-append}
-use Rattle.job_manager.specs.kvs_core.Posted.{LandsUsers}
-use Rattle.job_manager.specs.kvs_model.History.{after, after_groups, first_store, landed_on}
-use Rattle.job_manager.specs.kvs_model.Operation.{effect}
-use Rattle.job_manager.specs.kvs_model.Store.{Store}
-use Rattle.job_manager.proofs.kvs_rules_proofs.Logs.{along, landed_push, number_or_not, own_number}
-use Rattle.job_manager.proofs.kvs_rules_proofs.Stores.{after_push, landings_push}
-use Rattle.job_manager.specs.kvs_rules.Answers.{IsLegalAfter, IsLegalEvent, IsLegalLog, IsLegalMoment}
-use Rattle.job_manager.specs.kvs_rules.Landings.{IsAdvance, IsLegalLanding, IsUser}
-use Rattle.job_manager.specs.kvs_rules.Log.{Asked, Happened, Log, Moment}
-use Rattle.job_manager.specs.kvs_rules.Namespaces.{Setting, groups_landed, landed, landings, newest_store, number_landed, primary}
-use Rattle.job_manager.specs.kvs_rules.declared.events.KvsEvent.{KvsEvent}
-use Rattle.job_manager.specs.kvs_rules.declared.events.KvsEvent.TheVariants as event
-use Rattle.job_manager.specs.kvs_txn.declared.answers.Refusal.{Refusal}
-use Rattle.job_manager.specs.kvs_txn.declared.txn.Author.{Author}
-use Rattle.job_manager.specs.kvs_txn.declared.txn.Author.TheVariants as author
-use Rattle.job_manager.specs.kvs_txn.declared.txn.By.{By}
-use Rattle.job_manager.specs.kvs_txn.declared.txn.Group.{Group}
-use Rattle.job_manager.specs.kvs_txn.declared.txn.Scope.TheVariants as scope
-use Rattle.job_manager.proofs.manager_rules_proofs.Stores.{users_leave_jobs}
-use Rattle.job_manager.specs.manager_rules.Jobs.{AreJobsOf, StoredJob}
-use Rattle.job_manager.specs.store_laws.Reserved.{IsUserAuthor}
+use Rattle.kvs_core.specs.Posted.{LandsUsers}
+use Rattle.kvs_model.specs.History.{after, after_groups, first_store, landed_on}
+use Rattle.kvs_model.specs.Operation.{effect}
+use Rattle.kvs_model.specs.Store.{Store}
+use Rattle.kvs_rules.proofs.Logs.{along, landed_push, number_or_not, own_number}
+use Rattle.kvs_rules.proofs.Stores.{after_push, landings_push}
+use Rattle.kvs_rules.specs.Answers.{IsLegalAfter, IsLegalEvent, IsLegalLog, IsLegalMoment}
+use Rattle.kvs_rules.specs.Landings.{IsAdvance, IsLegalLanding, IsUser}
+use Rattle.kvs_rules.specs.Log.{Asked, Happened, Log, Moment}
+use Rattle.kvs_rules.specs.Namespaces.{Setting, groups_landed, landed, landings, newest_store, number_landed, primary}
+use Rattle.kvs_rules.specs.declared.events.KvsEvent.{KvsEvent}
+use Rattle.kvs_rules.specs.declared.events.KvsEvent.TheVariants as event
+use Rattle.kvs_txn.specs.declared.answers.Refusal.{Refusal}
+use Rattle.kvs_txn.specs.declared.txn.Author.{Author}
+use Rattle.kvs_txn.specs.declared.txn.Author.TheVariants as author
+use Rattle.kvs_txn.specs.declared.txn.By.{By}
+use Rattle.kvs_txn.specs.declared.txn.Group.{Group}
+use Rattle.kvs_txn.specs.declared.txn.Scope.TheVariants as scope
+use Rattle.manager_rules.proofs.Stores.{users_leave_jobs}
+use Rattle.manager_rules.specs.Jobs.{AreJobsOf, StoredJob}
+use Rattle.store_laws.specs.Reserved.{IsUserAuthor}
 
 pub same_one : (x y : Store) → Some x ≡ Some y → x ≡ y
 same_one x y e = cc

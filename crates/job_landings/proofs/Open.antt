@@ -1,19 +1,19 @@
 -- The commands that due posts carry out are open.
 use Rattle.std.proofs.Common.{◌≡◌, List, Some, refl, sym, ap, ◌∙◌, subst}
-use Rattle.job_manager.specs.event_log.Events.{line_text}
-use Rattle.job_manager.specs.instance_rules.Desks.{Begins}
-use Rattle.job_manager.specs.instance_rules.Log.{Cancel, Instance, IsPending, Log, Raise, Submit, Urge}
+use Rattle.event_log.specs.Events.{line_text}
+use Rattle.instance_rules.specs.Desks.{Begins}
+use Rattle.instance_rules.specs.Log.{Cancel, Instance, IsPending, Log, Raise, Submit, Urge}
 use Rattle.job_commands.proofs.Desks.{asked_true, submits_true}
 use Rattle.job_commands.specs.Agrees.{AgreesCommands}
 use Rattle.job_commands.specs.Desks.{desk_of}
 use Rattle.job_commands.specs.Rows.{CommandsValue}
-use Rattle.job_manager.specs.kvs_txn.declared.txn.By.{By}
-use Rattle.job_manager.specs.manager_rules.Deeds.{Carries, Deed, command_carried}
-use Rattle.job_manager.specs.manager_rules.Due.{MayDo}
-use Rattle.job_manager.specs.manager_rules.Jobs.{StoredJob}
-use Rattle.job_manager.specs.manager_rules.Posts.{Does, IsDuePost, Submission, Submits, group_of, txn_of}
-use Rattle.job_manager.specs.manager_rules.declared.asked.Asked.TheVariants as asked
-use Rattle.job_manager.specs.manager_rules.declared.due.Due.{Due}
+use Rattle.kvs_txn.specs.declared.txn.By.{By}
+use Rattle.manager_rules.specs.Deeds.{Carries, Deed, command_carried}
+use Rattle.manager_rules.specs.Due.{MayDo}
+use Rattle.manager_rules.specs.Jobs.{StoredJob}
+use Rattle.manager_rules.specs.Posts.{Does, IsDuePost, Submission, Submits, group_of, txn_of}
+use Rattle.manager_rules.specs.declared.asked.Asked.TheVariants as asked
+use Rattle.manager_rules.specs.declared.due.Due.{Due}
 use Rattle.job_landings.specs.Commands.{IsOfSubmit, WaitsForEvent}
 
 begins : (x : Submission) → Begins (group_of (Submits x)) x.id

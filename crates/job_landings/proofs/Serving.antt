@@ -2,7 +2,7 @@
 use Rattle.std.proofs.Common.{◌≡◌, ℕ, List, [], ◌∷◌, ◌++◌, map, cond, refl, sym, ap, ap₂, ◌∙◌, append_assoc, append-nil}
 use Rattle.std.specs.Prelude.{filter_map, option_map, slice_index}
 use Rattle.std.proofs.lemmas.List.Elements.{filter_map-append}
-use Rattle.job_manager.specs.instance_rules.Log.{Instance, Log, Served, Issued, Replied, Ticked, Born, Gone, now_of, seconds_from, ticked}
+use Rattle.instance_rules.specs.Log.{Instance, Log, Served, Issued, Replied, Ticked, Born, Gone, now_of, seconds_from, ticked}
 use Rattle.job_commands.specs.Desks.{asked_of, desk_of, needs_of, submit_at, submit_by, submits_of}
 use Rattle.job_commands.specs.Rows.{CommandsValue}
 use Rattle.job_commands.specs.declared.ask.JobAsk.{JobAsk}
@@ -10,12 +10,12 @@ use Rattle.job_commands.specs.declared.ask.JobAsk.TheVariants as ask
 use Rattle.job_commands.specs.declared.row.Row.{Row}
 use Rattle.job_commands.specs.declared.row.Stage.{Stage}
 use Rattle.job_commands.specs.declared.row.Stage.TheVariants as stage
-use Rattle.job_manager.proofs.kvs_rules_proofs.Sequences.{latest_push}
-use Rattle.job_manager.specs.kvs_rules.Log as service
-use Rattle.job_manager.specs.kvs_rules.Log.{same_command}
-use Rattle.job_manager.specs.kvs_txn.declared.txn.By.{By}
-use Rattle.job_manager.specs.manager_rules.Jobs.{StoredJob}
-use Rattle.job_manager.specs.manager_rules.Posts.{Desk, Submit}
+use Rattle.kvs_rules.proofs.Sequences.{latest_push}
+use Rattle.kvs_rules.specs.Log as service
+use Rattle.kvs_rules.specs.Log.{same_command}
+use Rattle.kvs_txn.specs.declared.txn.By.{By}
+use Rattle.manager_rules.specs.Jobs.{StoredJob}
+use Rattle.manager_rules.specs.Posts.{Desk, Submit}
 
 ticks_same : (log : Log) (m : service.Moment) → filter_map ticked (log ++ Served m ∷ []) ≡ filter_map ticked log
 ticks_same log m = filter_map-append ticked log (Served m ∷ []) ∙ append-nil (filter_map ticked log)

@@ -2,11 +2,11 @@
 use Rattle.std.proofs.Common.{◌≡◌, List, [], ◌∷◌, ◌++◌, Bool, true, false, cond, ◌||◌, Some, refl, sym, ap, ◌∙◌}
 use Rattle.std.specs.Prelude.{find, flat_map, option_and_then}
 use Rattle.std.specs.List.{list_any}
-use Rattle.job_manager.specs.kvs_core.Posted.{groups_in, posts_landed}
-use Rattle.job_manager.specs.kvs_rules.declared.events.KvsEvent.{KvsEvent}
-use Rattle.job_manager.proofs.kvs_space_proofs.Posting.{none-left, none-right, posts-append, with-post, with-user}
-use Rattle.job_manager.specs.kvs_txn.declared.txn.Group.{Group}
-use Rattle.job_manager.specs.store_laws.Posts.{is_manager, posts_in}
+use Rattle.kvs_core.specs.Posted.{groups_in, posts_landed}
+use Rattle.kvs_rules.specs.declared.events.KvsEvent.{KvsEvent}
+use Rattle.kvs_space.proofs.Posting.{none-left, none-right, posts-append, with-post, with-user}
+use Rattle.kvs_txn.specs.declared.txn.Group.{Group}
+use Rattle.store_laws.specs.Posts.{is_manager, posts_in}
 use Rattle.job_landings.specs.Landings.{lands_post, number_in, number_of_post}
 
 -- the event at which the transaction lands

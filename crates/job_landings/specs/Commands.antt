@@ -1,10 +1,10 @@
 -- The open commands that posts carry out.
 use Rattle.std.specs.Prelude.{◌≡◌, ℕ, List, Some}
-use Rattle.job_manager.specs.instance_rules.Desks.{Begins}
-use Rattle.job_manager.specs.instance_rules.Log.{Instance, IsPending, JobAsk, Log, Named, Submit}
-use Rattle.job_manager.specs.instance_rules.Replies.{AsksForEvent}
-use Rattle.job_manager.specs.kvs_txn.declared.txn.By.{By}
-use Rattle.job_manager.specs.manager_rules.Posts.{Submission, Submits, group_of}
+use Rattle.instance_rules.specs.Desks.{Begins}
+use Rattle.instance_rules.specs.Log.{Instance, IsPending, JobAsk, Log, Named, Submit}
+use Rattle.instance_rules.specs.Replies.{AsksForEvent}
+use Rattle.kvs_txn.specs.declared.txn.By.{By}
+use Rattle.manager_rules.specs.Posts.{Submission, Submits, group_of}
 
 -- the command of the submission waits and submits its text, and the transaction puts a jobspec and
 -- a log for its id

@@ -1,18 +1,18 @@
 -- What a landing of the job manager's transaction is to the log of its instance.
 use Rattle.std.specs.Prelude.{◌≡◌, ℕ, List, ◌∷◌, ◌++◌, Bool, Option, Some, None, find, option_and_then}
 use Rattle.std.specs.List.{AllByRecursion as Each, list_any}
-use Rattle.job_manager.specs.instance_rules.Log.{Instance, Moment, Served}
+use Rattle.instance_rules.specs.Log.{Instance, Moment, Served}
 use Rattle.job_commands.specs.Moments.{CarriesOut, IsBeside, landing}
 use Rattle.job_manager.specs.Posts.{command_of}
-use Rattle.job_manager.specs.kvs_core.Posted.{groups_in}
-use Rattle.job_manager.specs.kvs_rules.Log.{Happened}
-use Rattle.job_manager.specs.kvs_rules.Namespaces.{primary}
-use Rattle.job_manager.specs.kvs_rules.declared.events.KvsEvent.{KvsEvent}
-use Rattle.job_manager.specs.kvs_rules.declared.events.KvsEvent.TheVariants as event
-use Rattle.job_manager.specs.kvs_txn.declared.txn.By.{By}
-use Rattle.job_manager.specs.kvs_txn.declared.txn.Group.{Group}
-use Rattle.job_manager.specs.manager_rules.Posts.{Post, group_of}
-use Rattle.job_manager.specs.store_laws.Posts.{is_manager}
+use Rattle.kvs_core.specs.Posted.{groups_in}
+use Rattle.kvs_rules.specs.Log.{Happened}
+use Rattle.kvs_rules.specs.Namespaces.{primary}
+use Rattle.kvs_rules.specs.declared.events.KvsEvent.{KvsEvent}
+use Rattle.kvs_rules.specs.declared.events.KvsEvent.TheVariants as event
+use Rattle.kvs_txn.specs.declared.txn.By.{By}
+use Rattle.kvs_txn.specs.declared.txn.Group.{Group}
+use Rattle.manager_rules.specs.Posts.{Post, group_of}
+use Rattle.store_laws.specs.Posts.{is_manager}
 
 -- an event of the service, as a moment of the instance
 abbrev pub happening : KvsEvent → Moment

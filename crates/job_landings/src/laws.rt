@@ -1,30 +1,30 @@
 //! What follows from the words of the contracts.
 ghost use Rattle.std.specs.Prelude.{◌≡◌, ◌++◌, ◌∷◌, ℕ, List, [], None, Some, map};
-ghost use Rattle.job_manager.specs.instance_rules.Legal.{IsLegalMoment};
-ghost use Rattle.job_manager.specs.instance_rules.Log.{Instance, IsInstance, Log, Served, service_of};
+ghost use Rattle.instance_rules.specs.Legal.{IsLegalMoment};
+ghost use Rattle.instance_rules.specs.Log.{Instance, IsInstance, Log, Served, service_of};
 ghost use Rattle.job_commands.specs.Agrees.{AgreesCommands};
 ghost use Rattle.job_commands.specs.Desks.{desk_of};
 ghost use Rattle.job_commands.specs.Rows.{CommandsValue};
 ghost use Rattle.job_landings.specs.Commands.{IsOfSubmit, WaitsForEvent};
 ghost use Rattle.job_landings.specs.Landings.{LandsPost, happening};
-ghost use Rattle.job_manager.specs.kvs_core.Agrees.{Agrees};
-ghost use Rattle.job_manager.specs.kvs_core.Makes.{Makes};
-ghost use Rattle.job_manager.specs.kvs_core.Posted.{posts_landed};
-ghost use Rattle.job_manager.specs.kvs_core.Value.{CoreValue};
-ghost use Rattle.job_manager.specs.kvs_model.Store.{Store};
-ghost use Rattle.job_manager.specs.kvs_rules.Answers.{IsLegalLog};
-ghost use Rattle.job_manager.specs.kvs_rules.Log.{Moment as ServiceMoment};
-ghost use Rattle.job_manager.specs.kvs_rules.Namespaces.{newest_store, primary};
-ghost use Rattle.job_manager.specs.kvs_rules.Sequence.{EachAfter};
-ghost use Rattle.job_manager.specs.kvs_rules.declared.events.KvsEvent.{KvsEvent};
-ghost use Rattle.job_manager.specs.kvs_rules.declared.events.KvsStep.{KvsStep};
-ghost use Rattle.job_manager.specs.kvs_txn.declared.txn.By.{By};
-ghost use Rattle.job_manager.specs.manager_rules.Jobs.{AreJobsOf, StoredJob};
-ghost use Rattle.job_manager.specs.manager_rules.Posts.{Does, IsDuePost, Post, Submission, Submits, group_of};
-ghost use Rattle.job_manager.specs.manager_rules.declared.due.Due.{Due};
+ghost use Rattle.kvs_core.specs.Agrees.{Agrees};
+ghost use Rattle.kvs_core.specs.Makes.{Makes};
+ghost use Rattle.kvs_core.specs.Posted.{posts_landed};
+ghost use Rattle.kvs_core.specs.Value.{CoreValue};
+ghost use Rattle.kvs_model.specs.Store.{Store};
+ghost use Rattle.kvs_rules.specs.Answers.{IsLegalLog};
+ghost use Rattle.kvs_rules.specs.Log.{Moment as ServiceMoment};
+ghost use Rattle.kvs_rules.specs.Namespaces.{newest_store, primary};
+ghost use Rattle.kvs_rules.specs.Sequence.{EachAfter};
+ghost use Rattle.kvs_rules.specs.declared.events.KvsEvent.{KvsEvent};
+ghost use Rattle.kvs_rules.specs.declared.events.KvsStep.{KvsStep};
+ghost use Rattle.kvs_txn.specs.declared.txn.By.{By};
+ghost use Rattle.manager_rules.specs.Jobs.{AreJobsOf, StoredJob};
+ghost use Rattle.manager_rules.specs.Posts.{Does, IsDuePost, Post, Submission, Submits, group_of};
+ghost use Rattle.manager_rules.specs.declared.due.Due.{Due};
 
-use job_manager::kvs_core::laws::users_land_where_nothing_is_posted;
 use job_manager::what_lands_is_due;
+use kvs_core::laws::users_land_where_nothing_is_posted;
 
 /// Where a step of the service lands a post that is due, the post lands at one of the step's events
 /// and carries out its command there, the other events are about no job command, and each event may

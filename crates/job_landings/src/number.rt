@@ -1,12 +1,12 @@
 //! Under which number the job manager's transaction landed.
 ghost use Rattle.std.specs.Prelude.{◌≡◌, find};
 ghost use Rattle.std.specs.Option.{option_copied};
-ghost use Rattle.job_manager.specs.store_laws.Posts.{is_manager};
+ghost use Rattle.store_laws.specs.Posts.{is_manager};
 ghost use Rattle.job_landings.specs.Landings.{lands_post, number_in, number_of_post};
 
-use job_manager::kvs_rules::KvsEvent;
-use job_manager::kvs_space::KvsEvents;
-use job_manager::kvs_txn::{Author, Group};
+use kvs_rules::KvsEvent;
+use kvs_space::KvsEvents;
+use kvs_txn::{Author, Group};
 
 /// Whether the job manager wrote the transaction.
 fn is_managers(group: &Group) -> bool

@@ -5,11 +5,11 @@ use Rattle.std.specs.List.{All, AllByRecursion, list_all}
 use Rattle.std.proofs.lemmas.List.{length-append}
 use Rattle.std.proofs.lemmas.List.Elements.{All-cons, All-nil}
 use Rattle.json.proofs.Printed.Utf8.{are_ascii, IsUtf8-are_ascii}
-use Rattle.instance_rules.specs.fluid_ids.Texts.{base_16, group_text, printed}
-use Rattle.instance_rules.specs.fluid_ids.declared.forms.Form.TheVariants.{Dothex}
-use Rattle.kvs_core.specs.kvs_txn.Keys.{IsComponent, IsKey}
-use Rattle.kvs_core.specs.kvs_txn.Words.{path_text}
-use Rattle.instance_rules.specs.manager_rules.Keys.{job_path}
+use Rattle.fluid_ids.specs.Texts.{base_16, group_text, printed}
+use Rattle.fluid_ids.specs.declared.forms.Form.TheVariants.{Dothex}
+use Rattle.kvs_txn.specs.Keys.{IsComponent, IsKey}
+use Rattle.kvs_txn.specs.Words.{path_text}
+use Rattle.manager_rules.specs.Keys.{job_path}
 
 -- a byte of ASCII that is no dot
 pub record IsPlain (b : ℕ) : Type 0 where

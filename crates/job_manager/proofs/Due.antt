@@ -3,18 +3,18 @@ use Rattle.std.proofs.Common.{◌≡◌, List, [], ◌∷◌, Bool, true, false,
 use Rattle.std.specs.Prelude.{IfSome}
 use Rattle.instance_rules.specs.Desks.{AreDueFrom, IsDeskOf, IsDueAt, IsDueFor}
 use Rattle.instance_rules.specs.Log.{Instance, Log}
-use Rattle.kvs_core.specs.kvs_model.History.{landed_on}
-use Rattle.kvs_core.specs.kvs_model.Operation.{effect}
-use Rattle.kvs_core.specs.kvs_model.Store.{Store}
-use Rattle.kvs_core.proofs.kvs_space_proofs.Posting.{with-post, with-user}
-use Rattle.kvs_core.specs.kvs_txn.declared.answers.Refusal.{Refusal}
-use Rattle.kvs_core.specs.kvs_txn.declared.txn.Author.{Author}
-use Rattle.kvs_core.specs.kvs_txn.declared.txn.Author.TheVariants as author
-use Rattle.kvs_core.specs.kvs_txn.declared.txn.Group.{Group}
-use Rattle.kvs_core.specs.kvs_txn.declared.txn.Scope.TheVariants as scope
-use Rattle.instance_rules.specs.manager_rules.Posts.{Desk, IsDuePost, Post, group_of}
-use Rattle.instance_rules.proofs.manager_rules_proofs.Stores.{users_leave_jobs}
-use Rattle.kvs_core.specs.store_laws.Posts.{is_manager, posts_in}
+use Rattle.kvs_model.specs.History.{landed_on}
+use Rattle.kvs_model.specs.Operation.{effect}
+use Rattle.kvs_model.specs.Store.{Store}
+use Rattle.kvs_space.proofs.Posting.{with-post, with-user}
+use Rattle.kvs_txn.specs.declared.answers.Refusal.{Refusal}
+use Rattle.kvs_txn.specs.declared.txn.Author.{Author}
+use Rattle.kvs_txn.specs.declared.txn.Author.TheVariants as author
+use Rattle.kvs_txn.specs.declared.txn.Group.{Group}
+use Rattle.kvs_txn.specs.declared.txn.Scope.TheVariants as scope
+use Rattle.manager_rules.specs.Posts.{Desk, IsDuePost, Post, group_of}
+use Rattle.manager_rules.proofs.Stores.{users_leave_jobs}
+use Rattle.store_laws.specs.Posts.{is_manager, posts_in}
 use Rattle.job_manager.proofs.Landing.{as-user}
 
 is-managers : (who : Author) → is_manager who ≡ true → who ≡ author.Manager

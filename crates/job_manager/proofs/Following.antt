@@ -2,16 +2,16 @@
 use Rattle.std.proofs.Common.{◌≡◌, ℕ, List, Some, Result, Ok, Err, sym, ap, ◌∙◌, subst}
 use Rattle.std.specs.Prelude.{OnOk}
 use Rattle.std.specs.List.{AllByRecursion as Each}
-use Rattle.instance_rules.proofs.job_rules_proofs.Among.{among_from, each_at}
-use Rattle.instance_rules.specs.job_states.Changes.{change_of}
-use Rattle.instance_rules.specs.job_states.declared.job.Change.TheVariants as change
+use Rattle.job_rules.proofs.Among.{among_from, each_at}
+use Rattle.job_states.specs.Changes.{change_of}
+use Rattle.job_states.specs.declared.job.Change.TheVariants as change
 use Rattle.job_book.specs.Contract.{Gains, WasDue}
 use Rattle.job_book.specs.Value.{BookValue, scene_of}
-use Rattle.instance_rules.specs.manager_rules.Due.{IsDue}
-use Rattle.instance_rules.specs.manager_rules.Jobs.{AreNeeds}
-use Rattle.instance_rules.specs.manager_rules.Posts.{Does, IsOpenSubmit, IsSubmission, Submission, Submit, Submits, begun_with}
-use Rattle.instance_rules.specs.manager_rules.Scene.{IsScene, Scene}
-use Rattle.instance_rules.specs.manager_rules.declared.due.Due.{Due}
+use Rattle.manager_rules.specs.Due.{IsDue}
+use Rattle.manager_rules.specs.Jobs.{AreNeeds}
+use Rattle.manager_rules.specs.Posts.{Does, IsOpenSubmit, IsSubmission, Submission, Submit, Submits, begun_with}
+use Rattle.manager_rules.specs.Scene.{IsScene, Scene}
+use Rattle.manager_rules.specs.declared.due.Due.{Due}
 use Rattle.job_manager.specs.Follows.{after_post}
 use Rattle.job_manager.specs.Managed.{WasDuePost}
 

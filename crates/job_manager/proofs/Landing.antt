@@ -1,28 +1,28 @@
 -- What the landings of a step make of the newest store: the jobs stay, or they are those after the post that landed.
 use Rattle.std.proofs.Common.{◌≡◌, List, [], ◌∷◌, ◌++◌, length, Bool, true, false, Option, Some, None, Result, Ok, Err, refl, sym, ap, ◌∙◌, subst}
 use Rattle.std.specs.Prelude.{IfOk, flat_map, option_and_then}
-use Rattle.instance_rules.specs.job_rules.Fits.{IsGrant}
-use Rattle.kvs_core.proofs.kvs_model_proofs.Sound.{IsStore-ops_effect}
-use Rattle.kvs_core.specs.kvs_model.History.{after, after_groups, landed_on}
-use Rattle.kvs_core.specs.kvs_model.Operation.{effect}
-use Rattle.kvs_core.specs.kvs_model.Store.{IsStore, Store}
-use Rattle.kvs_core.proofs.kvs_space_proofs.Posting.{none-left, none-right, posts-append, with-post, with-user}
-use Rattle.kvs_core.specs.kvs_txn.declared.answers.Refusal.{Refusal}
-use Rattle.kvs_core.specs.kvs_txn.declared.txn.Author.{Author}
-use Rattle.kvs_core.specs.kvs_txn.declared.txn.Author.TheVariants as author
-use Rattle.kvs_core.specs.kvs_txn.declared.txn.Group.{Group}
-use Rattle.kvs_core.specs.kvs_txn.declared.txn.Scope.TheVariants as scope
-use Rattle.kvs_core.specs.kvs_txn.declared.txn.Txn.{Txn}
-use Rattle.kvs_core.specs.store_laws.Posts.{is_manager, posts_in}
-use Rattle.kvs_core.specs.store_laws.Reserved.{IsUserAuthor}
-use Rattle.instance_rules.specs.resource_set.declared.node.Resources.{Resources}
+use Rattle.job_rules.specs.Fits.{IsGrant}
+use Rattle.kvs_model.proofs.Sound.{IsStore-ops_effect}
+use Rattle.kvs_model.specs.History.{after, after_groups, landed_on}
+use Rattle.kvs_model.specs.Operation.{effect}
+use Rattle.kvs_model.specs.Store.{IsStore, Store}
+use Rattle.kvs_space.proofs.Posting.{none-left, none-right, posts-append, with-post, with-user}
+use Rattle.kvs_txn.specs.declared.answers.Refusal.{Refusal}
+use Rattle.kvs_txn.specs.declared.txn.Author.{Author}
+use Rattle.kvs_txn.specs.declared.txn.Author.TheVariants as author
+use Rattle.kvs_txn.specs.declared.txn.Group.{Group}
+use Rattle.kvs_txn.specs.declared.txn.Scope.TheVariants as scope
+use Rattle.kvs_txn.specs.declared.txn.Txn.{Txn}
+use Rattle.store_laws.specs.Posts.{is_manager, posts_in}
+use Rattle.store_laws.specs.Reserved.{IsUserAuthor}
+use Rattle.resource_set.specs.declared.node.Resources.{Resources}
 use Rattle.job_book.specs.Value.{BookValue}
-use Rattle.instance_rules.specs.manager_rules.Jobs.{AreJobsOf, HasOnlyJobs, StoredJob, ids_of}
-use Rattle.instance_rules.specs.manager_rules.Posts.{Post, group_of, jobs_after, txn_of}
-use Rattle.instance_rules.specs.manager_rules.Sound.{IsSoundStore}
-use Rattle.instance_rules.proofs.manager_rules_proofs.Posting.{posts_keep_sound, posts_land, users_keep_sound}
-use Rattle.instance_rules.proofs.manager_rules_proofs.Stores.{users_leave_jobs}
-use Rattle.instance_rules.proofs.manager_rules_proofs.Taking.{post_keeps, users_keep_only}
+use Rattle.manager_rules.specs.Jobs.{AreJobsOf, HasOnlyJobs, StoredJob, ids_of}
+use Rattle.manager_rules.specs.Posts.{Post, group_of, jobs_after, txn_of}
+use Rattle.manager_rules.specs.Sound.{IsSoundStore}
+use Rattle.manager_rules.proofs.Posting.{posts_keep_sound, posts_land, users_keep_sound}
+use Rattle.manager_rules.proofs.Stores.{users_leave_jobs}
+use Rattle.manager_rules.proofs.Taking.{post_keeps, users_keep_only}
 use Rattle.job_manager.specs.Managed.{WasDuePost}
 
 -- a store with these jobs, and nothing else below `job`

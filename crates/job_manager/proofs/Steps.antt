@@ -3,27 +3,27 @@ use Rattle.std.proofs.Common.{◌≡◌, ◌≢◌, ◌<◌, ℕ, List, [], ◌�
 use Rattle.std.specs.Prelude.{◌||◌, IsSome, flat_map}
 use Rattle.std.specs.List.{list_any}
 use Rattle.std.specs.Option.{option_map_or}
-use Rattle.instance_rules.specs.job_rules.Fits.{IsGrant}
+use Rattle.job_rules.specs.Fits.{IsGrant}
 use Rattle.kvs_core.specs.Histories.{Extends, history_of, landings_in}
 use Rattle.kvs_core.specs.Posted.{CanPost, groups_in, newest_of, posted, posts_landed}
 use Rattle.kvs_core.specs.Posted as core
 use Rattle.kvs_core.specs.Value.{CoreValue}
-use Rattle.kvs_core.specs.kvs_model.History.{after, after_groups, first_store}
-use Rattle.kvs_core.specs.kvs_model.Store.{IsStore, Store}
-use Rattle.kvs_core.specs.kvs_rules.declared.events.KvsEvent.{KvsEvent}
-use Rattle.kvs_core.proofs.kvs_space_proofs.Posting.{none-left, none-right, posts-append, with-post, with-user}
-use Rattle.kvs_core.specs.kvs_txn.declared.txn.By.{By}
-use Rattle.kvs_core.specs.kvs_txn.declared.txn.Group.{Group}
-use Rattle.kvs_core.specs.kvs_txn.declared.txn.Scope.TheVariants as scope
-use Rattle.kvs_core.specs.store_laws.Posts.{AreTaken, IsPost, is_manager, posts_in}
-use Rattle.instance_rules.specs.resource_set.declared.node.Resources.{Resources}
+use Rattle.kvs_model.specs.History.{after, after_groups, first_store}
+use Rattle.kvs_model.specs.Store.{IsStore, Store}
+use Rattle.kvs_rules.specs.declared.events.KvsEvent.{KvsEvent}
+use Rattle.kvs_space.proofs.Posting.{none-left, none-right, posts-append, with-post, with-user}
+use Rattle.kvs_txn.specs.declared.txn.By.{By}
+use Rattle.kvs_txn.specs.declared.txn.Group.{Group}
+use Rattle.kvs_txn.specs.declared.txn.Scope.TheVariants as scope
+use Rattle.store_laws.specs.Posts.{AreTaken, IsPost, is_manager, posts_in}
+use Rattle.resource_set.specs.declared.node.Resources.{Resources}
 use Rattle.job_book.specs.Contract.{IsKept}
 use Rattle.job_book.specs.Value.{BookValue}
-use Rattle.instance_rules.specs.manager_rules.Jobs.{AreJobsOf, HasOnlyJobs, ids_of}
-use Rattle.instance_rules.specs.manager_rules.Posts.{Desk, Does, IsDesk, IsDuePost, Post, Submits, group_of, txn_of}
-use Rattle.instance_rules.specs.manager_rules.Sound.{IsSoundStore}
-use Rattle.instance_rules.proofs.manager_rules_proofs.Others.{first_jobs}
-use Rattle.instance_rules.proofs.manager_rules_proofs.Taking.{first_only}
+use Rattle.manager_rules.specs.Jobs.{AreJobsOf, HasOnlyJobs, ids_of}
+use Rattle.manager_rules.specs.Posts.{Desk, Does, IsDesk, IsDuePost, Post, Submits, group_of, txn_of}
+use Rattle.manager_rules.specs.Sound.{IsSoundStore}
+use Rattle.manager_rules.proofs.Others.{first_jobs}
+use Rattle.manager_rules.proofs.Taking.{first_only}
 use Rattle.job_manager.specs.Follows.{after_post}
 use Rattle.job_manager.specs.Managed.{IsManaged, IsOutstanding, WasDuePost}
 use Rattle.job_manager.specs.Posts.{command_of}

@@ -2,11 +2,11 @@
 use Rattle.std.specs.Prelude.{◌≡◌, ◌⊎◌, List, [], ◌∷◌, Some, None}
 use Rattle.kvs_core.specs.Agrees.{Agrees}
 use Rattle.kvs_core.specs.Posted.{IsNewPost, posts_landed}
-use Rattle.kvs_core.specs.kvs_rules.Log.{Log}
-use Rattle.kvs_core.specs.kvs_rules.Namespaces.{Setting}
-use Rattle.kvs_core.specs.kvs_rules.declared.events.KvsEvent.{KvsEvent}
+use Rattle.kvs_rules.specs.Log.{Log}
+use Rattle.kvs_rules.specs.Namespaces.{Setting}
+use Rattle.kvs_rules.specs.declared.events.KvsEvent.{KvsEvent}
 use Rattle.job_book.specs.Value.{BookValue}
-use Rattle.instance_rules.specs.manager_rules.Posts.{Post, group_of, jobs_after}
+use Rattle.manager_rules.specs.Posts.{Post, group_of, jobs_after}
 use Rattle.job_manager.specs.Posts.{command_of}
 use Rattle.job_manager.specs.Value.{ManagerValue}
 

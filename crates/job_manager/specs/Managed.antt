@@ -3,11 +3,11 @@
 use Rattle.std.specs.Prelude.{◌≡◌, [], ◌∷◌, Option, Some, None, false}
 use Rattle.kvs_core.specs.Posted.{newest_of, posted}
 use Rattle.kvs_core.specs.Value.{CoreValue}
-use Rattle.kvs_core.specs.kvs_model.Store.{IsStore}
+use Rattle.kvs_model.specs.Store.{IsStore}
 use Rattle.job_book.specs.Value.{BookValue}
-use Rattle.instance_rules.specs.manager_rules.Jobs.{AreJobsOf, HasOnlyJobs, ids_of}
-use Rattle.instance_rules.specs.manager_rules.Posts.{Desk, IsDesk, IsDuePost, Post, group_of}
-use Rattle.instance_rules.specs.manager_rules.Sound.{IsSoundStore}
+use Rattle.manager_rules.specs.Jobs.{AreJobsOf, HasOnlyJobs, ids_of}
+use Rattle.manager_rules.specs.Posts.{Desk, IsDesk, IsDuePost, Post, group_of}
+use Rattle.manager_rules.specs.Sound.{IsSoundStore}
 use Rattle.job_manager.specs.Value.{ManagerValue}
 
 -- the post is due for the book's jobs, at some second, with some commands and some answers

@@ -1,7 +1,7 @@
 -- Posts as the rules see them.
 use Rattle.std.specs.Prelude.{◌==◌, ℕ, Bool, false, Option, Some, None}
-use Rattle.kvs_core.specs.kvs_txn.declared.txn.By.{By}
-use Rattle.instance_rules.specs.manager_rules.Posts as rules
+use Rattle.kvs_txn.specs.declared.txn.By.{By}
+use Rattle.manager_rules.specs.Posts as rules
 use Rattle.job_manager.specs.declared.post.Post.{Post}
 use Rattle.job_manager.specs.declared.post.Post.TheVariants as post
 use Rattle.job_manager.specs.declared.post.Submission.{Submission}

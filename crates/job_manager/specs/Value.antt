@@ -2,7 +2,7 @@
 use Rattle.std.specs.Prelude.{Bool, Option}
 use Rattle.kvs_core.specs.Value.{CoreValue}
 use Rattle.job_book.specs.Value.{BookValue}
-use Rattle.instance_rules.specs.manager_rules.Posts.{Post}
+use Rattle.manager_rules.specs.Posts.{Post}
 
 pub record ManagerValue : Type 0 where
   pub spent : Bool

@@ -1,13 +1,13 @@
 //! Where a store keeps a job (Flux RFC 16 and 19).
 ghost use Rattle.std.specs.Prelude.{◌≡◌, ◌∷◌, ◌++◌, ◌≤◌, List, ℕ, [], length, IfOk};
-ghost use Rattle.kvs_core.specs.kvs_txn.Keys.{IsComponent, IsKey};
-ghost use Rattle.kvs_core.specs.kvs_txn.Words.{path_text};
-ghost use Rattle.instance_rules.specs.manager_rules.Keys.{job_path, log_path, r_path, spec_path};
+ghost use Rattle.kvs_txn.specs.Keys.{IsComponent, IsKey};
+ghost use Rattle.kvs_txn.specs.Words.{path_text};
+ghost use Rattle.manager_rules.specs.Keys.{job_path, log_path, r_path, spec_path};
 
-use instance_rules::fluid_ids::Form;
-use kvs_core::kvs_txn::words::keys_are_read_again;
-use kvs_core::kvs_txn::{Path, PathFault};
-use kvs_core::lists::Bytes;
+use fluid_ids::Form;
+use kvs_txn::words::keys_are_read_again;
+use kvs_txn::{Path, PathFault};
+use lists::Bytes;
 use std::alloc::{AllocError, Global};
 
 /// The key with this text.
@@ -32,7 +32,7 @@ fn key(alloc: Global, id: u64, name: &[u8]) -> Result<Path, AllocError>
     ensures { IfOk result (λ path. path ≡ job_path id ++ name.now ∷ []) }
 {
     let mut text = Bytes::of(alloc, b"job.")?;
-    let id = instance_rules::fluid_ids::print(alloc, id, Form::Dothex)?;
+    let id = fluid_ids::print(alloc, id, Form::Dothex)?;
     text.add(id.as_slice())?;
     text.add(b".")?;
     text.add(name)?;

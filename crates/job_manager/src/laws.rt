@@ -2,10 +2,10 @@
 ghost use Rattle.std.specs.Prelude.{◌≡◌, ◌⊎◌, List, [], ◌∷◌, Some};
 ghost use Rattle.instance_rules.specs.Desks.{AreDueFrom, IsDeskOf};
 ghost use Rattle.instance_rules.specs.Log.{Instance, Log};
-ghost use Rattle.kvs_core.specs.kvs_model.Store.{Store};
-ghost use Rattle.kvs_core.specs.kvs_txn.declared.txn.Group.{Group};
-ghost use Rattle.instance_rules.specs.manager_rules.Posts.{Desk, IsDuePost, Post, group_of};
-ghost use Rattle.kvs_core.specs.store_laws.Posts.{posts_in};
+ghost use Rattle.kvs_model.specs.Store.{Store};
+ghost use Rattle.kvs_txn.specs.declared.txn.Group.{Group};
+ghost use Rattle.manager_rules.specs.Posts.{Desk, IsDuePost, Post, group_of};
+ghost use Rattle.store_laws.specs.Posts.{posts_in};
 
 /// Of transactions that land together the job manager's is due at the store on which it works,
 /// where it was due before them: users' transactions leave the jobs.

@@ -2,13 +2,6 @@
 //! follows what lands (Flux RFC 16, 20, 21 and 25).
 #![tactic(auto)]
 
-// The crates below that those above reach through this one.
-pub use instance_rules::{event_log, job_spec};
-pub use job_book;
-pub use job_book::{fl_json, job_texts};
-pub use kvs_core;
-pub use kvs_core::{kvs_rules, kvs_space, kvs_txn, lists};
-
 pub mod keys;
 pub mod laws;
 pub mod manager;

@@ -5,31 +5,31 @@ ghost use Rattle.kvs_core.specs.Agrees.{Agrees};
 ghost use Rattle.kvs_core.specs.Makes.{Makes};
 ghost use Rattle.kvs_core.specs.Posted.{groups_in};
 ghost use Rattle.kvs_core.specs.Steps.{can_step, can_take};
-ghost use Rattle.kvs_core.specs.kvs_requests.Rows.{IsKnownAsk};
-ghost use Rattle.kvs_core.specs.kvs_rules.Answers.{IsLegalAnswer};
-ghost use Rattle.kvs_core.specs.kvs_rules.Log.{Asked as AskedAt, Happened, Log, is_asked};
-ghost use Rattle.kvs_core.specs.kvs_rules.Namespaces.{Setting as Service};
-ghost use Rattle.kvs_core.specs.kvs_rules.declared.events.KvsEvent.TheVariants as event;
-ghost use Rattle.instance_rules.specs.resource_set.Valid.{IsR};
-ghost use Rattle.instance_rules.specs.resource_set.Writing.{r_text};
-ghost use Rattle.kvs_core.specs.store_laws.Posts.{is_manager};
-ghost use Rattle.instance_rules.specs.manager_rules.Posts.{Does, Submits};
+ghost use Rattle.kvs_requests.specs.Rows.{IsKnownAsk};
+ghost use Rattle.kvs_rules.specs.Answers.{IsLegalAnswer};
+ghost use Rattle.kvs_rules.specs.Log.{Asked as AskedAt, Happened, Log, is_asked};
+ghost use Rattle.kvs_rules.specs.Namespaces.{Setting as Service};
+ghost use Rattle.kvs_rules.specs.declared.events.KvsEvent.TheVariants as event;
+ghost use Rattle.resource_set.specs.Valid.{IsR};
+ghost use Rattle.resource_set.specs.Writing.{r_text};
+ghost use Rattle.store_laws.specs.Posts.{is_manager};
+ghost use Rattle.manager_rules.specs.Posts.{Does, Submits};
 ghost use Rattle.job_manager.specs.Follows.{Follows, Keeps, Places, after_post};
 ghost use Rattle.job_manager.specs.Managed.{IsManaged, WasDuePost};
 ghost use Rattle.job_manager.specs.Posts.{is_posted_for, post_of, told};
 
 use crate::post::{Post, Submission};
 use crate::txns::{command_of, txn_of};
-use instance_rules::job_spec::accepted_texts_tell_jobspecs;
-use instance_rules::manager_rules::{Due, due_posts_take_effect, due_submissions_tell_themselves};
-use instance_rules::resource_set::Resources;
 use job_book::Book;
-use kvs_core::kvs_model::stores_stay_stores;
-use kvs_core::kvs_rules::{KvsAsk, KvsEvent, KvsStep};
-use kvs_core::kvs_space::KvsEvents;
-use kvs_core::kvs_txn::{Author, By, Group};
-use kvs_core::lists::Bytes;
+use job_spec::accepted_texts_tell_jobspecs;
 use kvs_core::{Core, CoreFault, Held, Request, Setting};
+use kvs_model::stores_stay_stores;
+use kvs_rules::{KvsAsk, KvsEvent, KvsStep};
+use kvs_space::KvsEvents;
+use kvs_txn::{Author, By, Group};
+use lists::Bytes;
+use manager_rules::{Due, due_posts_take_effect, due_submissions_tell_themselves};
+use resource_set::Resources;
 use std::alloc::{AllocError, Global};
 use std::marker::Model;
 
@@ -117,7 +117,7 @@ impl Manager {
             → set.fanout ≡ setting.fanout → set.grant ≡ r_text grant.now → Agrees v.core set []) }
     {
         stores_stay_stores();
-        let text = Bytes::from_vec(instance_rules::resource_set::print(alloc, grant)?);
+        let text = Bytes::from_vec(resource_set::print(alloc, grant)?);
         let core = Core::new(alloc, setting, &text)?;
         let book = Book::new(alloc, grant)?;
         // ids rise, and live jobs hold units of the grant

@@ -1,9 +1,9 @@
 //! What a job manager posts.
-use instance_rules::event_log::Event;
-use instance_rules::job_spec::{JobSpec, Needs};
-use instance_rules::manager_rules::Due;
-use kvs_core::kvs_txn::By;
-use kvs_core::lists::Bytes;
+use event_log::Event;
+use job_spec::{JobSpec, Needs};
+use kvs_txn::By;
+use lists::Bytes;
+use manager_rules::Due;
 
 /// A job that is submitted: its id, its jobspec and the text of that, the first event of its log,
 /// its dependencies, and the command that submits it (Flux RFC 21 and 25).

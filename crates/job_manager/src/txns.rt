@@ -1,21 +1,21 @@
 //! The transactions of posts.
 ghost use Rattle.std.specs.Prelude.{◌≡◌, ◌++◌, IfOk, OnOk};
-ghost use Rattle.instance_rules.specs.manager_rules.Posts.{ops_of, r_ops, txn_of};
-ghost use Rattle.instance_rules.specs.manager_rules.Posts.{Does, Submits};
+ghost use Rattle.manager_rules.specs.Posts.{ops_of, r_ops, txn_of};
+ghost use Rattle.manager_rules.specs.Posts.{Does, Submits};
 ghost use Rattle.job_manager.specs.Posts.{command_of, post_of, told};
 
 use crate::keys::{log_path, r_path, spec_path};
 use crate::post::{Post, Submission};
-use instance_rules::manager_rules::Due;
-use kvs_core::kvs_txn::{Author, By, Op, OpList, Txn};
-use kvs_core::lists::{Bytes, Copied};
+use kvs_txn::{Author, By, Op, OpList, Txn};
+use lists::{Bytes, Copied};
+use manager_rules::Due;
 use std::alloc::{AllocError, Global};
 
 /// The operations of a submission: it puts a jobspec and a log of one line.
 fn submission_ops(alloc: Global, x: &Submission) -> Result<OpList, AllocError>
     ensures { IfOk result (λ ops. ops ≡ ops_of (Submits (told x.now))) }
 {
-    let line = instance_rules::event_log::line(alloc, &x.event)?;
+    let line = event_log::line(alloc, &x.event)?;
     let mut ops = OpList::new(alloc);
     ops.push(Op::Put {
         path: spec_path(alloc, x.id)?,
@@ -45,7 +45,7 @@ fn add_r(alloc: Global, ops: &mut OpList, id: u64, r: &Option<Bytes>) -> Result<
 fn event_ops(alloc: Global, due: &Due) -> Result<OpList, AllocError>
     ensures { IfOk result (λ ops. ops ≡ ops_of (Does due.now)) }
 {
-    let line = instance_rules::event_log::line(alloc, &due.event)?;
+    let line = event_log::line(alloc, &due.event)?;
     let mut ops = OpList::new(alloc);
     ops.push(Op::Append {
         path: log_path(alloc, due.job)?,

@@ -7,11 +7,11 @@ use Rattle.std.proofs.lemmas.Bool.Decides.{nat_tests}
 use Rattle.answers.specs.Jobs.{job_reply_of, state_by}
 use Rattle.answers.specs.declared.chronicle.Reply.{Reply}
 use Rattle.answers.specs.declared.chronicle.Reply.TheVariants as reply
-use Rattle.answers.specs.instance_rules.Desks.{HasBegun, Names}
-use Rattle.answers.specs.instance_rules.Log as rules
-use Rattle.answers.specs.instance_rules.Log.{Instance, Log, before_issue, is_decided, issues_now, now_of, served, service_of}
-use Rattle.answers.specs.instance_rules.Replies.{AsksForEvent, AtLanding, ComesLate, DoesNotWait, HasGrounds, IsCarriedOut, NamesNone, OfJob, TellsEnd, key_path, state_of}
-use Rattle.job_manager.proofs.job_deeds_proofs.Whys.{found_job, no_job}
+use Rattle.instance_rules.specs.Desks.{HasBegun, Names}
+use Rattle.instance_rules.specs.Log as rules
+use Rattle.instance_rules.specs.Log.{Instance, Log, before_issue, is_decided, issues_now, now_of, served, service_of}
+use Rattle.instance_rules.specs.Replies.{AsksForEvent, AtLanding, ComesLate, DoesNotWait, HasGrounds, IsCarriedOut, NamesNone, OfJob, TellsEnd, key_path, state_of}
+use Rattle.job_deeds.proofs.Whys.{found_job, no_job}
 use Rattle.job_commands.specs.Agrees.{HasLanded, RowAgrees, StageAgrees}
 use Rattle.job_commands.specs.Asks.{key_of, named_of, told}
 use Rattle.job_commands.specs.Rows.{CommandsValue, job_at}
@@ -22,25 +22,25 @@ use Rattle.job_commands.specs.declared.row.Stage.{Stage}
 use Rattle.job_commands.specs.declared.row.Stage.TheVariants as stage
 use Rattle.job_manager.specs.Managed.{IsManaged}
 use Rattle.job_manager.specs.Value.{ManagerValue}
-use Rattle.answers.proofs.job_rules_proofs.Among.{Among, among_from, contains_from}
-use Rattle.answers.specs.job_states.declared.job.State.{State}
-use Rattle.answers.specs.job_states.declared.job.State.TheVariants as state
-use Rattle.job_manager.specs.kvs_core.Posted.{newest_of}
-use Rattle.job_manager.specs.kvs_core.Seen.{primary_heard}
-use Rattle.answers.specs.kvs_model.Store.{Store}
-use Rattle.answers.proofs.kvs_rules_proofs.Logs.{landed_rises}
-use Rattle.answers.specs.kvs_rules.Answers as service_rules
-use Rattle.answers.specs.kvs_rules.Brokers.{HasHeard}
-use Rattle.answers.specs.kvs_rules.Log as service
-use Rattle.answers.specs.kvs_rules.Namespaces.{landed, primary, store_after}
-use Rattle.answers.specs.kvs_rules.Sequence.{until}
-use Rattle.answers.specs.manager_rules.Dependencies.{job_at as stored_at}
-use Rattle.answers.specs.manager_rules.Jobs.{StoredJob, ids_of}
-use Rattle.answers.specs.manager_rules.Keys.{value_at}
-use Rattle.answers.specs.manager_rules.Whys.{IsSaidOf, IsWhy}
-use Rattle.answers.specs.manager_rules.declared.why.Why.{Why}
-use Rattle.answers.specs.manager_rules.declared.why.Why.TheVariants as why
-use Rattle.answers.specs.resource_set.declared.node.Resources.{Resources}
+use Rattle.job_deeds.proofs.job_rules_proofs.Among.{Among, among_from, contains_from}
+use Rattle.job_deeds.specs.job_states.declared.job.State.{State}
+use Rattle.job_deeds.specs.job_states.declared.job.State.TheVariants as state
+use Rattle.kvs_core.specs.Posted.{newest_of}
+use Rattle.kvs_core.specs.Seen.{primary_heard}
+use Rattle.job_deeds.specs.kvs_model.Store.{Store}
+use Rattle.kvs_rules.proofs.Logs.{landed_rises}
+use Rattle.kvs_rules.specs.Answers as service_rules
+use Rattle.kvs_rules.specs.Brokers.{HasHeard}
+use Rattle.kvs_rules.specs.Log as service
+use Rattle.kvs_rules.specs.Namespaces.{landed, primary, store_after}
+use Rattle.kvs_rules.specs.Sequence.{until}
+use Rattle.job_deeds.specs.manager_rules.Dependencies.{job_at as stored_at}
+use Rattle.job_deeds.specs.manager_rules.Jobs.{StoredJob, ids_of}
+use Rattle.job_deeds.specs.manager_rules.Keys.{value_at}
+use Rattle.job_deeds.specs.manager_rules.Whys.{IsSaidOf, IsWhy}
+use Rattle.job_deeds.specs.manager_rules.declared.why.Why.{Why}
+use Rattle.job_deeds.specs.manager_rules.declared.why.Why.TheVariants as why
+use Rattle.job_deeds.specs.resource_set.declared.node.Resources.{Resources}
 use Rattle.job_replies.specs.Jobs.{IsSaidIf, IsSaidOf as IsSaidOfLabel, IsSaidOfJob, IsTold, IsToldAt, IsToldLanded, IsToldOpen, KnowsNewest, late_urge, reply_of_why, states_of}
 use Rattle.job_replies.specs.Ready.{fits, has_run, is_carried_out, is_ending, is_inactive, is_late_raise, is_open_ready, is_ready, is_ready_at, job_in, label_of, state_in}
 use Rattle.job_replies.specs.Told.{MayTell, Stands}

@@ -1,19 +1,19 @@
 -- Where a store keeps a job, no link stands on the way.
 use Rattle.std.proofs.Common.{◌≡◌, ◌∙◌, ℕ, [], ◌∷◌, ◌++◌, false, refl, sym, ap, ap₂, subst}
 use Rattle.std.specs.Prelude.{codes}
-use Rattle.answers.specs.kvs_model.Operation.{is_link}
-use Rattle.answers.specs.kvs_model.Store.{Name, Path, Store, IsStore, node_at}
-use Rattle.answers.specs.manager_rules.Keys.{job_path, value_at}
-use Rattle.answers.specs.store_laws.Reserved.{HasNoLink}
+use Rattle.job_deeds.specs.kvs_model.Operation.{is_link}
+use Rattle.job_deeds.specs.kvs_model.Store.{Name, Path, Store, IsStore, node_at}
+use Rattle.job_deeds.specs.manager_rules.Keys.{job_path, value_at}
+use Rattle.job_deeds.specs.store_laws.Reserved.{HasNoLink}
 use Rattle.job_commands.specs.declared.ask.Key.{Key}
 use Rattle.job_commands.specs.declared.ask.Key.TheVariants as key
 use Rattle.job_replies.specs.Jobs.{key_by}
 use Rattle.job_manager.specs.Managed.{IsManaged}
 use Rattle.job_manager.specs.Value.{ManagerValue}
-use Rattle.job_manager.specs.kvs_core.Posted.{newest_of}
-use Rattle.answers.specs.kvs_model.Walk.{walk}
-use Rattle.answers.specs.kvs_txn.declared.answers.Found.{Found}
-use Rattle.answers.specs.kvs_txn.declared.answers.Query.TheVariants as query
+use Rattle.kvs_core.specs.Posted.{newest_of}
+use Rattle.job_deeds.specs.kvs_model.Walk.{walk}
+use Rattle.job_deeds.specs.kvs_txn.declared.answers.Found.{Found}
+use Rattle.job_deeds.specs.kvs_txn.declared.answers.Query.TheVariants as query
 use Rattle.job_replies.proofs.Reading.{AreUnlinked, read-there, text_in}
 
 below-job : (st : Store) → IsStore st → HasNoLink st (codes "job" ∷ []) → (rest : Path) → AreUnlinked st [] (codes "job" ∷ rest)

@@ -1,13 +1,13 @@
 -- What a reader finds at a path on which no link stands.
 use Rattle.std.proofs.Common.{◌≡◌, ◌≢◌, ◌∙◌, ℕ, List, [], ◌∷◌, ◌++◌, Option, Some, None, false, true, refl, sym, ap, subst, append_assoc, append-nil}
 use Rattle.std.specs.Prelude.{IsSome, option_and_then}
-use Rattle.answers.specs.kvs_txn.declared.answers.Found.{Found}
-use Rattle.answers.specs.kvs_txn.declared.answers.Found.TheVariants as found
-use Rattle.answers.specs.kvs_txn.declared.answers.Query.TheVariants as query
-use Rattle.answers.specs.kvs_model.Operation.{is_link}
-use Rattle.answers.specs.kvs_model.Store.{Name, Path, Node, Value, Directory, Link, Store, IsStore, node_at}
-use Rattle.answers.specs.kvs_model.Walk.{Stop, at_end, behind_link, follow, found_along, found_from, go_on, past_link, stop_from, walk}
-use Rattle.answers.specs.manager_rules.Keys.{bytes_of, value_at}
+use Rattle.job_deeds.specs.kvs_txn.declared.answers.Found.{Found}
+use Rattle.job_deeds.specs.kvs_txn.declared.answers.Found.TheVariants as found
+use Rattle.job_deeds.specs.kvs_txn.declared.answers.Query.TheVariants as query
+use Rattle.job_deeds.specs.kvs_model.Operation.{is_link}
+use Rattle.job_deeds.specs.kvs_model.Store.{Name, Path, Node, Value, Directory, Link, Store, IsStore, node_at}
+use Rattle.job_deeds.specs.kvs_model.Walk.{Stop, at_end, behind_link, follow, found_along, found_from, go_on, past_link, stop_from, walk}
+use Rattle.job_deeds.specs.manager_rules.Keys.{bytes_of, value_at}
 
 -- the text that is found, if one is
 abbrev pub text_in : Found → Option (List ℕ)

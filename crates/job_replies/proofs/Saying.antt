@@ -2,13 +2,13 @@
 use Rattle.std.proofs.Common.{◌≡◌, ℕ, List, Option, Some, None, refl, sym, subst}
 use Rattle.std.specs.Prelude.{option_and_then, option_map}
 use Rattle.answers.specs.declared.chronicle.Reply.{Reply}
-use Rattle.job_manager.proofs.job_deeds_proofs.Whys.{found_job}
+use Rattle.job_deeds.proofs.Whys.{found_job}
 use Rattle.job_commands.specs.Rows.{Labels, job_at}
 use Rattle.job_commands.specs.declared.ask.JobAsk.{JobAsk}
 use Rattle.job_manager.specs.Value.{ManagerValue}
-use Rattle.answers.specs.job_states.declared.job.Job.{Job}
-use Rattle.answers.specs.manager_rules.Dependencies.{job_at as stored_at}
-use Rattle.answers.specs.manager_rules.Jobs.{StoredJob}
+use Rattle.job_deeds.specs.job_states.declared.job.Job.{Job}
+use Rattle.job_deeds.specs.manager_rules.Dependencies.{job_at as stored_at}
+use Rattle.job_deeds.specs.manager_rules.Jobs.{StoredJob}
 use Rattle.job_replies.specs.Jobs.{IsSaidIf, IsSaidOf, IsSaidOfJob}
 
 pub said-of : (labels : Labels) (manager : ManagerValue) (asks : JobAsk) (label : List ℕ) (id : ℕ) (job : Job) (given : Reply) → Some id ≡ job_at label labels →

@@ -5,10 +5,10 @@ use Rattle.std.specs.List.Sorted.{IsStrictlyIncreasing}
 use Rattle.std.proofs.lemmas.List.{take_more}
 use Rattle.std.proofs.lemmas.List.Kept.{AllPairs-from_increasing}
 use Rattle.answers.specs.declared.chronicle.JobState.{JobState}
-use Rattle.job_manager.proofs.job_deeds_proofs.Places.{each_before, found_at}
-use Rattle.answers.specs.job_states.declared.job.Job.{Job}
-use Rattle.answers.specs.manager_rules.Dependencies.{job_at}
-use Rattle.answers.specs.manager_rules.Jobs.{StoredJob, ids_of}
+use Rattle.job_deeds.proofs.Places.{each_before, found_at}
+use Rattle.job_deeds.specs.job_states.declared.job.Job.{Job}
+use Rattle.job_deeds.specs.manager_rules.Dependencies.{job_at}
+use Rattle.job_deeds.specs.manager_rules.Jobs.{StoredJob, ids_of}
 use Rattle.job_replies.specs.Jobs.{states_of}
 
 length-ids : (jobs : List StoredJob) → length (ids_of jobs) ≡ length jobs

@@ -3,8 +3,8 @@ use Rattle.std.specs.Prelude.{◌≡◌, ℕ, ◌+◌, List, Option, Some, None,
 use Rattle.answers.specs.declared.chronicle.JobState.{JobState}
 use Rattle.answers.specs.declared.chronicle.Reply.{Reply}
 use Rattle.answers.specs.declared.chronicle.Reply.TheVariants as reply
-use Rattle.answers.specs.instance_rules.Log.{Instance, Log, service_of}
-use Rattle.answers.specs.instance_rules.Replies.{key_path}
+use Rattle.instance_rules.specs.Log.{Instance, Log, service_of}
+use Rattle.instance_rules.specs.Replies.{key_path}
 use Rattle.job_commands.specs.Asks.{key_of}
 use Rattle.job_commands.specs.Rows.{Labels, job_at}
 use Rattle.job_commands.specs.declared.ask.JobAsk.{JobAsk}
@@ -14,22 +14,22 @@ use Rattle.job_commands.specs.declared.row.Row.{Row}
 use Rattle.job_commands.specs.declared.row.Stage.{Stage}
 use Rattle.job_commands.specs.declared.row.Stage.TheVariants as stage
 use Rattle.job_manager.specs.Value.{ManagerValue}
-use Rattle.answers.specs.job_states.declared.job.Job.{Job}
-use Rattle.answers.specs.job_states.declared.job.State.{State}
-use Rattle.answers.specs.job_states.declared.job.State.TheVariants as state
-use Rattle.job_manager.specs.kvs_core.Agrees.{Agrees}
-use Rattle.job_manager.specs.kvs_core.Posted.{newest_of}
-use Rattle.job_manager.specs.kvs_core.Seen.{primary_heard}
-use Rattle.job_manager.specs.kvs_core.Value.{CoreValue}
-use Rattle.answers.specs.kvs_model.Store.{Path}
-use Rattle.answers.specs.kvs_rules.Brokers.{heard}
-use Rattle.answers.specs.kvs_rules.Log.{Log as Service}
-use Rattle.answers.specs.kvs_rules.Namespaces.{Setting, landed, newest_store, primary}
-use Rattle.answers.specs.manager_rules.Jobs.{StoredJob}
-use Rattle.answers.specs.manager_rules.Keys.{value_at}
-use Rattle.answers.specs.manager_rules.Whys.{IsWhy}
-use Rattle.answers.specs.manager_rules.declared.why.Why.{Why}
-use Rattle.answers.specs.manager_rules.declared.why.Why.TheVariants as why
+use Rattle.job_deeds.specs.job_states.declared.job.Job.{Job}
+use Rattle.job_deeds.specs.job_states.declared.job.State.{State}
+use Rattle.job_deeds.specs.job_states.declared.job.State.TheVariants as state
+use Rattle.kvs_core.specs.Agrees.{Agrees}
+use Rattle.kvs_core.specs.Posted.{newest_of}
+use Rattle.kvs_core.specs.Seen.{primary_heard}
+use Rattle.kvs_core.specs.Value.{CoreValue}
+use Rattle.job_deeds.specs.kvs_model.Store.{Path}
+use Rattle.kvs_rules.specs.Brokers.{heard}
+use Rattle.kvs_rules.specs.Log.{Log as Service}
+use Rattle.kvs_rules.specs.Namespaces.{Setting, landed, newest_store, primary}
+use Rattle.job_deeds.specs.manager_rules.Jobs.{StoredJob}
+use Rattle.job_deeds.specs.manager_rules.Keys.{value_at}
+use Rattle.job_deeds.specs.manager_rules.Whys.{IsWhy}
+use Rattle.job_deeds.specs.manager_rules.declared.why.Why.{Why}
+use Rattle.job_deeds.specs.manager_rules.declared.why.Why.TheVariants as why
 use Rattle.job_replies.specs.Ready.{job_in}
 
 -- where a store keeps this of a job

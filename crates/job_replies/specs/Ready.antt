@@ -1,12 +1,12 @@
 -- Which open job commands can be told what became of them.
 use Rattle.std.specs.Prelude.{ℕ, ◌-◌, ◌==◌, ◌&&◌, nat_le, List, Bool, true, false, Option, Some, None, is_some, option_and_then, option_map}
 use Rattle.std.specs.Option.{option_map_or}
-use Rattle.answers.specs.job_states.declared.job.State.{State}
-use Rattle.answers.specs.job_states.declared.job.State.TheVariants as state
-use Rattle.job_manager.specs.kvs_core.Value.{CoreValue}
-use Rattle.job_manager.specs.kvs_core.Seen.{primary_heard}
-use Rattle.answers.specs.manager_rules.Dependencies.{job_at as stored_at}
-use Rattle.answers.specs.manager_rules.Jobs.{StoredJob}
+use Rattle.job_deeds.specs.job_states.declared.job.State.{State}
+use Rattle.job_deeds.specs.job_states.declared.job.State.TheVariants as state
+use Rattle.kvs_core.specs.Value.{CoreValue}
+use Rattle.kvs_core.specs.Seen.{primary_heard}
+use Rattle.job_deeds.specs.manager_rules.Dependencies.{job_at as stored_at}
+use Rattle.job_deeds.specs.manager_rules.Jobs.{StoredJob}
 use Rattle.job_manager.specs.Value.{ManagerValue}
 use Rattle.job_commands.specs.Rows.{Labels, job_at}
 use Rattle.job_commands.specs.declared.ask.JobAsk.{JobAsk}

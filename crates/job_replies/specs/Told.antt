@@ -1,12 +1,12 @@
 -- What open job commands are told.
 use Rattle.std.specs.Prelude.{◌≡◌, ℕ, Option, Some}
-use Rattle.job_manager.specs.kvs_core.Agrees.{Agrees}
-use Rattle.answers.specs.kvs_rules.Answers as service_rules
-use Rattle.answers.specs.kvs_txn.declared.txn.By.{By}
+use Rattle.kvs_core.specs.Agrees.{Agrees}
+use Rattle.kvs_rules.specs.Answers as service_rules
+use Rattle.job_deeds.specs.kvs_txn.declared.txn.By.{By}
 use Rattle.answers.specs.Jobs.{job_reply_of}
 use Rattle.answers.specs.declared.chronicle.Reply.{Reply}
-use Rattle.answers.specs.instance_rules.Log.{Instance, JobReply, Log, now_of, service_of}
-use Rattle.answers.specs.instance_rules.Replies.{IsLegalReply}
+use Rattle.instance_rules.specs.Log.{Instance, JobReply, Log, now_of, service_of}
+use Rattle.instance_rules.specs.Replies.{IsLegalReply}
 use Rattle.job_commands.specs.Agrees.{AgreesCommands}
 use Rattle.job_commands.specs.Rows.{CommandsValue}
 use Rattle.job_manager.specs.Value.{ManagerValue}

@@ -2,12 +2,12 @@
 ghost use Rattle.std.specs.Prelude.{◌≡◌, false, IfOk};
 ghost use Rattle.job_replies.specs.Jobs.{IsTextAt, key_by, reply_of_why, states_of};
 
-use answers::kvs_txn::{Found, Path};
-use answers::lists::Bytes;
-use answers::manager_rules::Why;
 use answers::{JobState, JobStates, Reply};
+use job_book::Book;
 use job_commands::Key;
-use job_manager::job_book::Book;
+use job_deeds::kvs_txn::{Found, Path};
+use job_deeds::lists::Bytes;
+use job_deeds::manager_rules::Why;
 use job_manager::{Manager, log_path, r_path, spec_path};
 use std::alloc::{AllocError, Global};
 

@@ -1,7 +1,7 @@
 //! What follows from the words of the contracts.
 ghost use Rattle.std.specs.Prelude.{◌≡◌, ℕ, Option, Some, true, Contains};
 ghost use Rattle.answers.specs.declared.chronicle.Reply.{Reply};
-ghost use Rattle.answers.specs.instance_rules.Log.{Instance, Log};
+ghost use Rattle.instance_rules.specs.Log.{Instance, Log};
 ghost use Rattle.job_commands.specs.Rows.{CommandsValue};
 ghost use Rattle.job_commands.specs.declared.row.Row.{Row};
 ghost use Rattle.job_manager.specs.Managed.{IsManaged};

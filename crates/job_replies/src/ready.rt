@@ -2,11 +2,11 @@
 ghost use Rattle.std.specs.Prelude.{◌≡◌, false, option_map};
 ghost use Rattle.job_replies.specs.Ready.{fits, is_carried_out, is_open_ready, is_ready, label_of, state_in};
 
-use answers::job_states::State;
-use answers::lists::Bytes;
+use job_book::Book;
 use job_commands::{Commands, JobAsk, Row, Stage};
+use job_deeds::job_states::State;
+use job_deeds::lists::Bytes;
 use job_manager::Manager;
-use job_manager::job_book::Book;
 
 /// The label that a command names, of those that are about one job.
 pub fn label_of(ask: &JobAsk) -> Option<&Bytes>

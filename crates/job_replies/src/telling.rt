@@ -1,8 +1,8 @@
 //! What an open job command is told.
 ghost use Rattle.std.specs.Prelude.{◌≡◌, ◌<◌, true, false, Contains, IfOk};
-ghost use Rattle.answers.specs.instance_rules.Log.{Instance, Log};
+ghost use Rattle.instance_rules.specs.Log.{Instance, Log};
 ghost use Rattle.job_commands.specs.declared.row.Row.{Row as Open};
-ghost use Rattle.job_manager.specs.kvs_core.Value.{CoreValue};
+ghost use Rattle.kvs_core.specs.Value.{CoreValue};
 ghost use Rattle.job_replies.specs.Jobs.{IsSaidOf, IsSaidOfJob, IsToldLanded, IsToldOpen, too_late};
 ghost use Rattle.job_replies.specs.Ready.{is_carried_out, is_open_ready, is_ready};
 ghost use Rattle.job_replies.specs.Told.{MayTell, Stands};
@@ -11,9 +11,9 @@ use crate::jobs::{reply_of_why, states_of, text_of};
 use crate::laws::what_is_told_is_legal;
 use crate::ready::label_of;
 use answers::Reply;
-use answers::job_states::{Job, State};
-use answers::lists::Bytes;
 use job_commands::{Commands, JobAsk, Row, Stage};
+use job_deeds::job_states::{Job, State};
+use job_deeds::lists::Bytes;
 use job_manager::Manager;
 use std::alloc::{AllocError, Global};
 

@@ -9,7 +9,7 @@ use Rattle.std.proofs.lemmas.List.Elements.{Contains-get_or, All-contains}
 use Rattle.std.proofs.lemmas.List.Kept.{AllPairs-from_increasing}
 use Rattle.std.proofs.lemmas.Map.Made.{length-le_from_is_member}
 use Rattle.std.proofs.lemmas.Cmp.{nat_eq_equiv}
-use Rattle.resource_set.specs.idset.Ids.{has}
+use Rattle.idset.specs.Ids.{has}
 use Rattle.resource_set.specs.Units.{AreDistinct}
 
 -- the element stands in the list

@@ -3,7 +3,7 @@ use Rattle.std.proofs.Common.{◌≡◌, ℕ, Bool, true, List, map, refl, sym, 
 use Rattle.std.specs.Prelude.{◌&&◌, Contains, IfSome, None}
 use Rattle.std.specs.Str.{bytes_eq}
 use Rattle.std.proofs.lemmas.Bool.{and_parts, false_from_ne_true}
-use Rattle.resource_set.specs.idset.Ids.{has}
+use Rattle.idset.specs.Ids.{has}
 use Rattle.job_spec.specs.declared.spec.JobSpec.{JobSpec}
 use Rattle.job_spec.specs.Sound.{IsCount, IsSpec as IsRead}
 use Rattle.resource_set.specs.declared.node.Node.{Node}

@@ -4,7 +4,7 @@ use Rattle.std.specs.Prelude.{Contains, filter}
 use Rattle.std.specs.List.Sorted.{IsStrictlyIncreasing}
 use Rattle.std.proofs.lemmas.Bool.{true≢false, false_from_ne_true, and_parts, and_from, eqb-false, ltb-true, lt-ltb, or_left, or_right, not-true, cases_lt}
 use Rattle.std.specs.Str.{bytes_eq}
-use Rattle.resource_set.specs.idset.Ids.{has}
+use Rattle.idset.specs.Ids.{has}
 use Rattle.job_spec.specs.declared.spec.JobSpec.{JobSpec}
 use Rattle.job_rules.specs.declared.hold.Hold.{Hold}
 use Rattle.resource_set.specs.declared.node.Node.{Node}

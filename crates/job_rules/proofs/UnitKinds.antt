@@ -2,7 +2,7 @@
 use Rattle.std.proofs.Common.{◌≡◌, ℕ, ◌*◌, Bool, true, false, List, take, map, refl, sym, ap, ◌∙◌, subst, inl, inr}
 use Rattle.std.specs.Prelude.{not, if◌then◌else◌}
 use Rattle.std.proofs.lemmas.Bool.{not-true}
-use Rattle.resource_set.specs.idset.Ids.{has, IsIdSet}
+use Rattle.idset.specs.Ids.{has, IsIdSet}
 use Rattle.job_spec.specs.declared.spec.JobSpec.{JobSpec}
 use Rattle.resource_set.specs.declared.node.Node.{Node}
 use Rattle.resource_set.specs.Units.{LiesIn, ResourceUnit, core_of, gpu_of, units_of, units_of_node}

@@ -1,6 +1,6 @@
 //! A live job with the units that it holds.
+use lists::Copied;
 use resource_set::NodeList;
-use resource_set::lists::Copied;
 use std::alloc::AllocError;
 
 /// A live job with the units that it holds.

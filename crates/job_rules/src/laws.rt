@@ -1,6 +1,6 @@
 //! The laws of units and first fit, each the contract of a function.
 ghost use Rattle.std.specs.Prelude.{◌≡◌, ℕ, List, Some, None, ◌↔◌, ◌≤◌, IsSome, ◌&&◌, ◌==◌, not, filter, Contains};
-ghost use Rattle.resource_set.specs.idset.Ids.{has};
+ghost use Rattle.idset.specs.Ids.{has};
 ghost use Rattle.job_spec.specs.declared.spec.JobSpec.{JobSpec};
 ghost use Rattle.resource_set.specs.declared.node.Node.{Node};
 ghost use Rattle.resource_set.specs.Units.{AreApart as ShareNoUnit, IsDifference, LiesIn};

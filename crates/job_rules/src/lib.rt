@@ -3,12 +3,6 @@
 //! their laws.
 #![tactic(auto)]
 
-// The crates below that those above reach through this one.
-pub use job_spec;
-pub use job_spec::{fl_json, fluid_ids};
-pub use resource_set;
-pub use resource_set::{idset, lists};
-
 pub mod hold;
 mod laws;
 

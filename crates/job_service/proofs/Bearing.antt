@@ -5,11 +5,11 @@ use Rattle.std.specs.List.{AllByRecursion as Each}
 use Rattle.std.specs.Option.{option_map_or}
 use Rattle.std.specs.List.Sorted.{IsStrictlyIncreasing}
 use Rattle.std.proofs.lemmas.Bool.{and_from, and_parts, eq-eqb, false_from_ne_true, or_left, or_right}
-use Rattle.answers.specs.instance_rules.Desks.{IsDeskOf}
-use Rattle.answers.specs.instance_rules.Legal.{IsLegalMoment, OfDesk}
-use Rattle.answers.specs.instance_rules.Log.{Born, Gone, Instance, Log, service_of}
-use Rattle.job_manager.proofs.job_deeds_proofs.Whys.{found_job}
-use Rattle.job_manager.specs.job_book.Contract.{BirthIn, IsFirstBirth as IsFirstIn, IsKept, NoBirth as NoneIn, r_at}
+use Rattle.instance_rules.specs.Desks.{IsDeskOf}
+use Rattle.instance_rules.specs.Legal.{IsLegalMoment, OfDesk}
+use Rattle.instance_rules.specs.Log.{Born, Gone, Instance, Log, service_of}
+use Rattle.job_deeds.proofs.Whys.{found_job}
+use Rattle.job_book.specs.Contract.{BirthIn, IsFirstBirth as IsFirstIn, IsKept, NoBirth as NoneIn, r_at}
 use Rattle.job_clock.proofs.Standing.{jobs_same, of_desk}
 use Rattle.job_clock.specs.Standing.{StandsWith}
 use Rattle.job_commands.proofs.Children.{living_told}
@@ -17,32 +17,32 @@ use Rattle.job_commands.proofs.Desks.{children_alone, children_stand}
 use Rattle.job_commands.specs.Children.{all_children}
 use Rattle.job_commands.specs.Desks.{asked_of, desk_of}
 use Rattle.job_commands.specs.Rows.{CommandsValue, job_at as job_named}
-use Rattle.job_manager.specs.job_book.Value.{BookValue}
+use Rattle.job_book.specs.Value.{BookValue}
 use Rattle.job_manager.specs.Managed.{IsManaged}
 use Rattle.job_manager.specs.Posts.{is_posted_for}
 use Rattle.job_manager.specs.Value.{ManagerValue}
-use Rattle.answers.proofs.job_rules_proofs.Among.{Among, among_from, among_mapped, contains_from, distinct_rising, each_at, each_from, same_image}
-use Rattle.answers.specs.job_states.Table.{is_state}
-use Rattle.answers.specs.job_states.declared.job.State.{State}
-use Rattle.answers.specs.job_states.declared.job.State.TheVariants as state
-use Rattle.job_manager.specs.kvs_core.Posted.{newest_of}
-use Rattle.answers.specs.kvs_rules.Namespaces.{newest_store, primary}
-use Rattle.answers.specs.job_rules.Fits.{IsUnitSet, Satisfies, SatisfiesAs}
-use Rattle.answers.specs.job_spec.Sound.{IsCount, IsSpec}
-use Rattle.answers.specs.job_spec.declared.spec.JobSpec.{JobSpec}
+use Rattle.job_deeds.proofs.job_rules_proofs.Among.{Among, among_from, among_mapped, contains_from, distinct_rising, each_at, each_from, same_image}
+use Rattle.job_deeds.specs.job_states.Table.{is_state}
+use Rattle.job_deeds.specs.job_states.declared.job.State.{State}
+use Rattle.job_deeds.specs.job_states.declared.job.State.TheVariants as state
+use Rattle.kvs_core.specs.Posted.{newest_of}
+use Rattle.kvs_rules.specs.Namespaces.{newest_store, primary}
+use Rattle.job_deeds.specs.job_rules.Fits.{IsUnitSet, Satisfies, SatisfiesAs}
+use Rattle.job_deeds.specs.job_spec.Sound.{IsCount, IsSpec}
+use Rattle.job_deeds.specs.job_spec.declared.spec.JobSpec.{JobSpec}
 use Rattle.job_submissions.specs.Made.{AreLabelled}
-use Rattle.answers.specs.manager_rules.Dependencies.{job_at}
-use Rattle.answers.specs.manager_rules.Due.{IsEnding}
-use Rattle.answers.specs.manager_rules.Jobs.{StoredJob, ids_of, is_live}
-use Rattle.answers.proofs.manager_rules_proofs.Unique.{jobs_are_one}
-use Rattle.answers.specs.manager_rules.Sound.{IsServed, IsSound}
-use Rattle.answers.specs.manager_rules.Posts.{Desk}
-use Rattle.answers.specs.manager_rules.Scene.{has_living_child}
-use Rattle.answers.specs.manager_rules.Times.{IsBirthDue, IsEndDue}
-use Rattle.answers.specs.manager_rules.declared.asked.Asked.{Asked}
-use Rattle.answers.specs.manager_rules.declared.asked.Asked.TheVariants as asked
-use Rattle.answers.specs.resource_set.declared.node.Node.{Node}
-use Rattle.answers.specs.resource_set.declared.node.Resources.{Resources}
+use Rattle.job_deeds.specs.manager_rules.Dependencies.{job_at}
+use Rattle.job_deeds.specs.manager_rules.Due.{IsEnding}
+use Rattle.job_deeds.specs.manager_rules.Jobs.{StoredJob, ids_of, is_live}
+use Rattle.job_deeds.proofs.manager_rules_proofs.Unique.{jobs_are_one}
+use Rattle.job_deeds.specs.manager_rules.Sound.{IsServed, IsSound}
+use Rattle.job_deeds.specs.manager_rules.Posts.{Desk}
+use Rattle.job_deeds.specs.manager_rules.Scene.{has_living_child}
+use Rattle.job_deeds.specs.manager_rules.Times.{IsBirthDue, IsEndDue}
+use Rattle.job_deeds.specs.manager_rules.declared.asked.Asked.{Asked}
+use Rattle.job_deeds.specs.manager_rules.declared.asked.Asked.TheVariants as asked
+use Rattle.job_deeds.specs.resource_set.declared.node.Node.{Node}
+use Rattle.job_deeds.specs.resource_set.declared.node.Resources.{Resources}
 use Rattle.job_service.specs.Agrees.{AgreesJobs}
 use Rattle.job_service.specs.Children.{IsBearing, IsFirstBirth, IsGrantedBy, NoBirth, grant_from, is_end_due, is_ending, may_end}
 use Rattle.job_service.specs.Value.{JobServiceValue}

@@ -4,10 +4,10 @@ use Rattle.std.specs.Prelude.{◌&&◌, is_some, not}
 use Rattle.std.specs.Option.{option_map_or}
 use Rattle.std.specs.List.{AllByRecursion as Each}
 use Rattle.std.proofs.lemmas.Bool.{and_parts, cases_eq, cond-false, eq-eqb, eqb-true, ne_eqb, not-true}
-use Rattle.answers.specs.instance_rules.Log.{Born, Gone, Instance, Log, Moment, child_of, service_of}
+use Rattle.instance_rules.specs.Log.{Born, Gone, Instance, Log, Moment, child_of, service_of}
 use Rattle.job_clock.proofs.Times.{in_time_as}
 use Rattle.job_clock.specs.Targets.{AreInTime}
-use Rattle.job_manager.specs.job_book.Value.{BookValue}
+use Rattle.job_book.specs.Value.{BookValue}
 use Rattle.job_commands.proofs.Children.{had_told, living_any, shut_told}
 use Rattle.job_commands.proofs.Desks.{children_stand, living_alone}
 use Rattle.job_commands.specs.Agrees.{AgreesCommands}
@@ -17,15 +17,15 @@ use Rattle.job_commands.specs.Rows.{CommandsValue}
 use Rattle.job_commands.specs.declared.child.Child.{Child}
 use Rattle.job_manager.specs.Managed.{IsManaged}
 use Rattle.job_manager.specs.Posts.{is_posted_for}
-use Rattle.answers.proofs.job_rules_proofs.Among.{among_from, among_mapped, any_at, any_from, contains_from}
-use Rattle.job_manager.specs.kvs_core.Agrees.{Agrees}
-use Rattle.job_manager.specs.kvs_core.Posted.{newest_of}
-use Rattle.answers.specs.kvs_rules.Answers.{IsLegalLog}
-use Rattle.answers.specs.kvs_rules.Namespaces.{newest_store, primary}
-use Rattle.answers.specs.manager_rules.Due.{IsEnding}
-use Rattle.answers.specs.manager_rules.Jobs.{StoredJob}
-use Rattle.answers.specs.manager_rules.Posts.{Does, Post, Submits}
-use Rattle.answers.specs.manager_rules.Scene.{has_living_child, has_shut_child, is_child_of}
+use Rattle.job_deeds.proofs.job_rules_proofs.Among.{among_from, among_mapped, any_at, any_from, contains_from}
+use Rattle.kvs_core.specs.Agrees.{Agrees}
+use Rattle.kvs_core.specs.Posted.{newest_of}
+use Rattle.kvs_rules.specs.Answers.{IsLegalLog}
+use Rattle.kvs_rules.specs.Namespaces.{newest_store, primary}
+use Rattle.job_deeds.specs.manager_rules.Due.{IsEnding}
+use Rattle.job_deeds.specs.manager_rules.Jobs.{StoredJob}
+use Rattle.job_deeds.specs.manager_rules.Posts.{Does, Post, Submits}
+use Rattle.job_deeds.specs.manager_rules.Scene.{has_living_child, has_shut_child, is_child_of}
 use Rattle.job_service.specs.Agrees.{AgreesJobs}
 use Rattle.job_service.specs.Children.{IsBearing, may_end}
 use Rattle.job_service.specs.Due.{IsFoundBeside, LeavesChildOf, LeavesOpen}

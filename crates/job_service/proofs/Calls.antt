@@ -5,13 +5,13 @@ use Rattle.std.specs.List.{AllByRecursion as Each}
 use Rattle.std.specs.Option.{option_copied}
 use Rattle.answers.specs.Jobs.{job_reply_of}
 use Rattle.answers.specs.declared.chronicle.Reply.{Reply}
-use Rattle.answers.specs.fl_digest.declared.Hash.TheVariants.{Sha1}
-use Rattle.answers.specs.instance_rules.Legal.{IsLegalMoment}
-use Rattle.answers.specs.instance_rules.Log.{Instance, Log, Moment, Served, service_of}
-use Rattle.answers.specs.instance_rules.Replies.{IsLegalReply}
-use Rattle.job_manager.specs.job_book.Contract.{Finds}
-use Rattle.job_manager.specs.job_deeds.Choices.{SaysAs}
-use Rattle.job_manager.specs.job_book.Value.{BookValue, scene_of}
+use Rattle.fl_digest.specs.declared.Hash.TheVariants.{Sha1}
+use Rattle.instance_rules.specs.Legal.{IsLegalMoment}
+use Rattle.instance_rules.specs.Log.{Instance, Log, Moment, Served, service_of}
+use Rattle.instance_rules.specs.Replies.{IsLegalReply}
+use Rattle.job_book.specs.Contract.{Finds}
+use Rattle.job_deeds.specs.Choices.{SaysAs}
+use Rattle.job_book.specs.Value.{BookValue, scene_of}
 use Rattle.job_clock.proofs.Times.{begins_in_time}
 use Rattle.job_clock.specs.Targets.{AreInTime, targets_of}
 use Rattle.job_commands.proofs.Desks.{submits_true}
@@ -28,34 +28,34 @@ use Rattle.job_landings.specs.Landings.{happening}
 use Rattle.job_manager.specs.Follows.{Keeps, Stays}
 use Rattle.job_manager.specs.Value.{ManagerValue}
 use Rattle.job_replies.specs.Told.{MayTell, Stands}
-use Rattle.answers.proofs.job_rules_proofs.Among.{Among, all_at, all_from, among_from, contains_from}
-use Rattle.answers.specs.job_rules.Fits.{IsGrant}
+use Rattle.job_deeds.proofs.job_rules_proofs.Among.{Among, all_at, all_from, among_from, contains_from}
+use Rattle.job_deeds.specs.job_rules.Fits.{IsGrant}
 use Rattle.job_submissions.specs.Made.{AreLabelled}
 use Rattle.job_submissions.specs.declared.faults.Fault.{Fault}
-use Rattle.job_manager.specs.kvs_core.Agrees.{Agrees}
-use Rattle.job_manager.specs.kvs_core.Makes as core
-use Rattle.job_manager.specs.kvs_core.Posted.{LandsUsers, posts_landed}
-use Rattle.answers.specs.kvs_model.Store.{Name}
-use Rattle.answers.proofs.kvs_rules_proofs.Asking.{command_is}
-use Rattle.answers.proofs.kvs_rules_proofs.Logs.{legal_joined}
-use Rattle.answers.specs.kvs_rules.Answers.{IsLegalAfter, IsLegalAnswer, IsLegalLog}
-use Rattle.answers.specs.kvs_rules.Log as service
-use Rattle.answers.specs.kvs_rules.Sequence.{EachAfter}
-use Rattle.answers.specs.kvs_rules.declared.events.KvsAnswer.{KvsAnswer}
-use Rattle.answers.specs.kvs_rules.declared.events.KvsAsk.{KvsAsk}
-use Rattle.answers.specs.kvs_rules.declared.events.KvsEvent.{KvsEvent}
-use Rattle.answers.specs.kvs_rules.declared.events.KvsEvent.TheVariants as event
-use Rattle.answers.specs.kvs_rules.declared.events.KvsStep.{KvsStep}
-use Rattle.answers.specs.kvs_txn.declared.txn.By.{By}
-use Rattle.answers.specs.manager_rules.Due.{IsDue}
-use Rattle.answers.specs.manager_rules.Jobs.{StoredJob, ids_of}
-use Rattle.answers.specs.manager_rules.Posts.{Does, IsDuePost, Post, Submits}
-use Rattle.answers.specs.manager_rules.declared.asked.Asked.{Asked}
-use Rattle.answers.specs.manager_rules.declared.due.Due.{Due}
-use Rattle.answers.specs.resource_set.Writing.{r_text}
-use Rattle.answers.specs.resource_set.declared.node.Resources.{Resources}
-use Rattle.answers.specs.tap.declared.Ask.{Ask}
-use Rattle.answers.specs.run_limits.Limits.{most_seconds, most_submits}
+use Rattle.kvs_core.specs.Agrees.{Agrees}
+use Rattle.kvs_core.specs.Makes as core
+use Rattle.kvs_core.specs.Posted.{LandsUsers, posts_landed}
+use Rattle.job_deeds.specs.kvs_model.Store.{Name}
+use Rattle.kvs_rules.proofs.Asking.{command_is}
+use Rattle.kvs_rules.proofs.Logs.{legal_joined}
+use Rattle.kvs_rules.specs.Answers.{IsLegalAfter, IsLegalAnswer, IsLegalLog}
+use Rattle.kvs_rules.specs.Log as service
+use Rattle.kvs_rules.specs.Sequence.{EachAfter}
+use Rattle.kvs_rules.specs.declared.events.KvsAnswer.{KvsAnswer}
+use Rattle.kvs_rules.specs.declared.events.KvsAsk.{KvsAsk}
+use Rattle.kvs_rules.specs.declared.events.KvsEvent.{KvsEvent}
+use Rattle.kvs_rules.specs.declared.events.KvsEvent.TheVariants as event
+use Rattle.kvs_rules.specs.declared.events.KvsStep.{KvsStep}
+use Rattle.job_deeds.specs.kvs_txn.declared.txn.By.{By}
+use Rattle.job_deeds.specs.manager_rules.Due.{IsDue}
+use Rattle.job_deeds.specs.manager_rules.Jobs.{StoredJob, ids_of}
+use Rattle.job_deeds.specs.manager_rules.Posts.{Does, IsDuePost, Post, Submits}
+use Rattle.job_deeds.specs.manager_rules.declared.asked.Asked.{Asked}
+use Rattle.job_deeds.specs.manager_rules.declared.due.Due.{Due}
+use Rattle.job_deeds.specs.resource_set.Writing.{r_text}
+use Rattle.job_deeds.specs.resource_set.declared.node.Resources.{Resources}
+use Rattle.job_deeds.specs.tap.declared.Ask.{Ask}
+use Rattle.run_limits.specs.Limits.{most_seconds, most_submits}
 use Rattle.job_service.specs.Agrees.{AgreesJobs, IsAgreed, IsNewAsk, IsServedBy}
 use Rattle.job_service.specs.Children.{IsBearing}
 use Rattle.job_service.specs.Due.{IsEventDue, IsFoundBeside, Owes}
@@ -68,8 +68,8 @@ use Rattle.job_service.specs.declared.refusals.Refused.{Refused}
 use Rattle.job_service.proofs.Facts.{Facts, besides_facts, served_facts, service_one}
 use Rattle.job_service.proofs.Judging.{judged_begun}
 use Rattle.job_service.proofs.Owing.{found-alone, found-named}
-use Rattle.answers.specs.tap.Factors.{priority_by}
-use Rattle.answers.specs.tap.declared.weights.Weights.{Weights}
+use Rattle.job_deeds.specs.tap.Factors.{priority_by}
+use Rattle.job_deeds.specs.tap.declared.weights.Weights.{Weights}
 
 -- the service with other parts
 abbrev pub with_parts : JobServiceValue → Bool → ManagerValue → CommandsValue → List Refused → Option Post → ℕ → JobServiceValue
@@ -223,7 +223,7 @@ module _ (v : JobServiceValue) (inst : Instance) (log : Log) (a : AgreesJobs v i
 
 module _ (spent : Bool) (weights : Weights) (birth size fanout : ℕ) (grant : Resources) (manager : ManagerValue) (commands : CommandsValue)
     (book : manager.book ≡ record { grant = grant; jobs = [] }) (posted : manager.posted ≡ None) (set : (inst : Instance) → AgreesCommands commands inst [])
-    (core : (s : Rattle.answers.specs.kvs_rules.Namespaces.Setting) → s.size ≡ size → s.fanout ≡ fanout → s.grant ≡ r_text grant → Agrees manager.core s []) where
+    (core : (s : Rattle.kvs_rules.specs.Namespaces.Setting) → s.size ≡ size → s.fanout ≡ fanout → s.grant ≡ r_text grant → Agrees manager.core s []) where
   abbrev begun : JobServiceValue
   begun = record { spent = spent; weights = weights; birth = birth; second = birth; manager = manager; commands = commands; refused = []; found = None; bearing = None; submitted = 0; span = 0 }
 

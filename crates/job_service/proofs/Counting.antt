@@ -4,18 +4,18 @@ use Rattle.std.specs.Prelude.{filter, nat_lt, if◌then◌else◌}
 use Rattle.std.proofs.lemmas.Bool.{cond-true}
 use Rattle.std.proofs.lemmas.List.{get_or-map, length-map, same_lists}
 use Rattle.std.proofs.lemmas.List.Sums.{sum_by-cons, sum_by_push}
-use Rattle.answers.proofs.job_rules_proofs.Among.{Among, among_from, contains_from}
+use Rattle.job_deeds.proofs.job_rules_proofs.Among.{Among, among_from, contains_from}
 use Rattle.job_commands.proofs.Tables.{carried_at, carried_past, is_its}
 use Rattle.job_commands.specs.Rows.{AreCarried, carried, is_of, is_submit}
 use Rattle.job_commands.specs.declared.row.Row.{Row}
-use Rattle.answers.specs.job_states.Changes.{change_of}
-use Rattle.answers.specs.job_states.declared.job.Change.{Change}
-use Rattle.answers.specs.job_states.declared.job.Change.TheVariants as change
-use Rattle.answers.specs.kvs_txn.declared.txn.By.{By}
-use Rattle.answers.proofs.manager_rules_proofs.Landing.{with_event_ids}
-use Rattle.answers.specs.manager_rules.Jobs.{StoredJob, ids_of}
-use Rattle.answers.specs.manager_rules.Posts.{Does, Post, Submission, Submits, begun_with, job_of, jobs_after, with_job}
-use Rattle.answers.specs.manager_rules.declared.due.Due.{Due}
+use Rattle.job_deeds.specs.job_states.Changes.{change_of}
+use Rattle.job_deeds.specs.job_states.declared.job.Change.{Change}
+use Rattle.job_deeds.specs.job_states.declared.job.Change.TheVariants as change
+use Rattle.job_deeds.specs.kvs_txn.declared.txn.By.{By}
+use Rattle.job_deeds.proofs.manager_rules_proofs.Landing.{with_event_ids}
+use Rattle.job_deeds.specs.manager_rules.Jobs.{StoredJob, ids_of}
+use Rattle.job_deeds.specs.manager_rules.Posts.{Does, Post, Submission, Submits, begun_with, job_of, jobs_after, with_job}
+use Rattle.job_deeds.specs.manager_rules.declared.due.Due.{Due}
 use Rattle.job_service.specs.Posted.{id_posted}
 
 -- ---- counts

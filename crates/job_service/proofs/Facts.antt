@@ -4,20 +4,20 @@ use Rattle.std.specs.Prelude.{filter, not}
 use Rattle.std.specs.List.{AllByRecursion as Each}
 use Rattle.std.proofs.lemmas.Bool.{not-true, or_from, or_parts, or_right}
 use Rattle.std.proofs.lemmas.List.Elements.{Contains-append_cases}
-use Rattle.answers.proofs.job_rules_proofs.Among.{Among, among_filter, among_from, contains_from}
-use Rattle.answers.specs.kvs_model.Store.{Store}
-use Rattle.answers.proofs.kvs_rules_proofs.Sequences.{latest_push}
-use Rattle.answers.proofs.kvs_rules_proofs.Stores.{any_push}
-use Rattle.answers.specs.kvs_rules.Log as service
-use Rattle.answers.specs.kvs_rules.Log.{same_command}
-use Rattle.answers.specs.kvs_rules.Namespaces.{newest_store, primary}
-use Rattle.answers.specs.kvs_rules.declared.events.KvsEvent.{KvsEvent}
-use Rattle.answers.specs.kvs_txn.declared.txn.By.{By}
-use Rattle.answers.specs.kvs_txn.declared.txn.Group.{Group}
-use Rattle.answers.specs.instance_rules.Desks.{HasSubmitted, Names}
-use Rattle.answers.specs.instance_rules.Log as rules
-use Rattle.answers.specs.instance_rules.Log.{Instance, IsOpen, IsPending, JobAsk as Asks, JobReply, Log, Moment, Served, Issued, Replied, Born, Gone, Shutdown, SinceIssued, Submit, Ticked, is_decided, is_issued, is_replied, issues_now, now_of, replies_now, service_of, ticked}
-use Rattle.answers.specs.instance_rules.Replies.{FindsNoJob, IsLegalReply, LacksJob}
+use Rattle.job_deeds.proofs.job_rules_proofs.Among.{Among, among_filter, among_from, contains_from}
+use Rattle.job_deeds.specs.kvs_model.Store.{Store}
+use Rattle.kvs_rules.proofs.Sequences.{latest_push}
+use Rattle.kvs_rules.proofs.Stores.{any_push}
+use Rattle.kvs_rules.specs.Log as service
+use Rattle.kvs_rules.specs.Log.{same_command}
+use Rattle.kvs_rules.specs.Namespaces.{newest_store, primary}
+use Rattle.kvs_rules.specs.declared.events.KvsEvent.{KvsEvent}
+use Rattle.job_deeds.specs.kvs_txn.declared.txn.By.{By}
+use Rattle.job_deeds.specs.kvs_txn.declared.txn.Group.{Group}
+use Rattle.instance_rules.specs.Desks.{HasSubmitted, Names}
+use Rattle.instance_rules.specs.Log as rules
+use Rattle.instance_rules.specs.Log.{Instance, IsOpen, IsPending, JobAsk as Asks, JobReply, Log, Moment, Served, Issued, Replied, Born, Gone, Shutdown, SinceIssued, Submit, Ticked, is_decided, is_issued, is_replied, issues_now, now_of, replies_now, service_of, ticked}
+use Rattle.instance_rules.specs.Replies.{FindsNoJob, IsLegalReply, LacksJob}
 use Rattle.job_commands.proofs.Landings.{aside_other}
 use Rattle.job_commands.proofs.Logs.{begun_before, differs, same_self, service_push, undecided_kept}
 use Rattle.job_commands.proofs.Steps.{beside_agrees, tick_beside}
@@ -28,11 +28,11 @@ use Rattle.job_commands.specs.Rows.{CommandsValue}
 use Rattle.job_commands.specs.declared.ask.JobAsk.{JobAsk}
 use Rattle.job_commands.specs.declared.ask.JobAsk.TheVariants as ask
 use Rattle.job_commands.specs.declared.ask.Named.{Named}
-use Rattle.answers.specs.job_spec.declared.spec.Depend.{Depend}
+use Rattle.job_deeds.specs.job_spec.declared.spec.Depend.{Depend}
 use Rattle.job_submissions.specs.Faults.{Lacks, LacksSome}
 use Rattle.job_submissions.specs.declared.faults.Fault.{Fault}
 use Rattle.job_submissions.specs.declared.faults.Fault.TheVariants as fault
-use Rattle.answers.specs.manager_rules.Jobs.{AreJobsOf, StoredJob}
+use Rattle.job_deeds.specs.manager_rules.Jobs.{AreJobsOf, StoredJob}
 use Rattle.job_service.specs.declared.refusals.Refused.{Refused}
 use Rattle.job_service.specs.Agrees.{IsUntold}
 use Rattle.job_landings.specs.Landings.{happening}

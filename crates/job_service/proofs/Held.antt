@@ -9,8 +9,8 @@ use Rattle.job_manager.specs.Follows.{Places}
 use Rattle.job_manager.specs.Posts.{post_of}
 use Rattle.job_manager.specs.Value.{ManagerValue}
 use Rattle.job_manager.specs.declared.post.Post.{Post}
-use Rattle.answers.specs.manager_rules.Posts as rules
-use Rattle.answers.specs.run_limits.Limits.{most_seconds, most_submits}
+use Rattle.job_deeds.specs.manager_rules.Posts as rules
+use Rattle.run_limits.specs.Limits.{most_seconds, most_submits}
 use Rattle.job_service.specs.Agrees.{IsAgreed}
 use Rattle.job_service.specs.Children.{IsBearing}
 use Rattle.job_service.specs.Times.{MayPassTo}

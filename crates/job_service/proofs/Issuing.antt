@@ -6,13 +6,13 @@ use Rattle.std.specs.Option.{option_map_or}
 use Rattle.std.proofs.lemmas.Bool.{and_parts, not-true}
 use mir.Val.{bool_byte}
 use Rattle.answers.specs.declared.chronicle.Reply.{Reply}
-use Rattle.answers.specs.instance_rules.Desks.{is_submission, submits_at}
-use Rattle.answers.specs.instance_rules.Log as rules
-use Rattle.answers.specs.instance_rules.Log.{Instance, IsPending, JobAsk as Asks, JobReply, Log, Moment, Issued, Replied, child_told, is_decided, is_issued, is_replied, now_of, service_of}
-use Rattle.answers.specs.instance_rules.Replies.{AsksForEvent}
+use Rattle.instance_rules.specs.Desks.{is_submission, submits_at}
+use Rattle.instance_rules.specs.Log as rules
+use Rattle.instance_rules.specs.Log.{Instance, IsPending, JobAsk as Asks, JobReply, Log, Moment, Issued, Replied, child_told, is_decided, is_issued, is_replied, now_of, service_of}
+use Rattle.instance_rules.specs.Replies.{AsksForEvent}
 use Rattle.job_clock.proofs.Times.{advance_in_time, other_in_time}
 use Rattle.job_clock.specs.Targets.{AreInTime}
-use Rattle.answers.specs.run_limits.Limits.{most_seconds, most_submits}
+use Rattle.run_limits.specs.Limits.{most_seconds, most_submits}
 use Rattle.job_service.specs.Times.{HasTime, seconds_asked}
 use Rattle.job_commands.proofs.Desks.{there_and_back}
 use Rattle.job_commands.proofs.Logs.{differs}
@@ -31,19 +31,19 @@ use Rattle.job_landings.proofs.Open.{event_open, submit_open}
 use Rattle.job_manager.specs.Managed.{IsManaged}
 use Rattle.job_manager.specs.Posts.{command_of}
 use Rattle.job_replies.specs.Told.{MayTell}
-use Rattle.answers.proofs.job_rules_proofs.Among.{among_from, among_left, contains_from}
-use Rattle.answers.specs.job_spec.declared.spec.Depend.{Depend}
+use Rattle.job_deeds.proofs.job_rules_proofs.Among.{among_from, among_left, contains_from}
+use Rattle.job_deeds.specs.job_spec.declared.spec.Depend.{Depend}
 use Rattle.job_submissions.specs.Faults.{Lacks, LacksSome}
 use Rattle.job_submissions.specs.Made.{AreLabelled}
 use Rattle.job_submissions.specs.declared.faults.Fault.{Fault}
-use Rattle.job_manager.specs.kvs_core.Agrees.{Agrees}
-use Rattle.job_manager.specs.kvs_core.Posted.{newest_of}
-use Rattle.answers.specs.kvs_rules.Answers.{IsLegalLog}
-use Rattle.answers.specs.kvs_rules.Namespaces.{newest_store, primary}
-use Rattle.answers.specs.kvs_txn.declared.txn.By.{By}
-use Rattle.answers.specs.manager_rules.Jobs.{StoredJob}
-use Rattle.answers.specs.manager_rules.Posts.{Does, IsDuePost, Post, Submits}
-use Rattle.answers.specs.manager_rules.declared.asked.Asked.{Asked}
+use Rattle.kvs_core.specs.Agrees.{Agrees}
+use Rattle.kvs_core.specs.Posted.{newest_of}
+use Rattle.kvs_rules.specs.Answers.{IsLegalLog}
+use Rattle.kvs_rules.specs.Namespaces.{newest_store, primary}
+use Rattle.job_deeds.specs.kvs_txn.declared.txn.By.{By}
+use Rattle.job_deeds.specs.manager_rules.Jobs.{StoredJob}
+use Rattle.job_deeds.specs.manager_rules.Posts.{Does, IsDuePost, Post, Submits}
+use Rattle.job_deeds.specs.manager_rules.declared.asked.Asked.{Asked}
 use Rattle.job_service.specs.Agrees.{AgreesJobs, HasRoom, IsNewCommand}
 use Rattle.job_service.specs.Due.{IsFoundBeside, LeavesChildOf, LeavesOpen, Owes}
 use Rattle.job_service.specs.Posted.{IsNamed}

@@ -2,8 +2,8 @@
 use Rattle.std.proofs.Common.{◌≡◌, ◌≢◌, ℕ, ◌⊎◌, inl, inr, List, [], ◌∷◌, ◌++◌, Bool, true, false, Option, Some, None, Contains, refl, sym, ap, ◌∙◌, subst, append_assoc, append-nil}
 use Rattle.std.specs.Prelude.{filter, nat_lt, not, option_and_then, option_map, if◌then◌else◌}
 use Rattle.std.proofs.lemmas.Bool.{false_from_ne_true, not_from_false}
-use Rattle.answers.specs.instance_rules.Desks.{Names}
-use Rattle.answers.specs.instance_rules.Log.{Instance, Log}
+use Rattle.instance_rules.specs.Desks.{Names}
+use Rattle.instance_rules.specs.Log.{Instance, Log}
 use Rattle.job_commands.proofs.Steps.{names_kept}
 use Rattle.job_commands.proofs.Tables.{carried_at, carried_past, from_carried, from_forgotten, of_other}
 use Rattle.job_commands.specs.Agrees.{AgreesCommands}
@@ -14,19 +14,19 @@ use Rattle.job_commands.specs.declared.ask.JobAsk.TheVariants as ask
 use Rattle.job_commands.specs.declared.ask.Named.{Named}
 use Rattle.job_commands.specs.declared.row.Row.{Row}
 use Rattle.job_commands.specs.declared.row.Stage.TheVariants as stage
-use Rattle.answers.proofs.job_rules_proofs.Among.{Among, among_append, among_from, among_kept, among_left, among_right, contains_from}
-use Rattle.answers.specs.job_spec.declared.spec.Depend.{Depend}
-use Rattle.answers.specs.job_states.Changes.{change_of}
-use Rattle.answers.specs.job_states.declared.job.Change.{Change}
-use Rattle.answers.specs.job_states.declared.job.Change.TheVariants as change
+use Rattle.job_deeds.proofs.job_rules_proofs.Among.{Among, among_append, among_from, among_kept, among_left, among_right, contains_from}
+use Rattle.job_deeds.specs.job_spec.declared.spec.Depend.{Depend}
+use Rattle.job_deeds.specs.job_states.Changes.{change_of}
+use Rattle.job_deeds.specs.job_states.declared.job.Change.{Change}
+use Rattle.job_deeds.specs.job_states.declared.job.Change.TheVariants as change
 use Rattle.job_submissions.specs.Faults.{AreKnown}
 use Rattle.job_submissions.specs.Made.{Submits as Asks}
 use Rattle.job_submissions.specs.declared.faults.Fault.{Fault}
-use Rattle.answers.proofs.kvs_rules_proofs.Asking.{command_is}
-use Rattle.answers.specs.kvs_txn.declared.txn.By.{By}
-use Rattle.answers.proofs.manager_rules_proofs.Landing.{with_event_ids}
-use Rattle.answers.specs.manager_rules.Jobs.{StoredJob, ids_of}
-use Rattle.answers.specs.manager_rules.Posts.{Does, Post, Submission, Submits, begun_with, job_of, jobs_after, with_job}
+use Rattle.kvs_rules.proofs.Asking.{command_is}
+use Rattle.job_deeds.specs.kvs_txn.declared.txn.By.{By}
+use Rattle.job_deeds.proofs.manager_rules_proofs.Landing.{with_event_ids}
+use Rattle.job_deeds.specs.manager_rules.Jobs.{StoredJob, ids_of}
+use Rattle.job_deeds.specs.manager_rules.Posts.{Does, Post, Submission, Submits, begun_with, job_of, jobs_after, with_job}
 use Rattle.job_service.specs.declared.refusals.Refused.{Refused}
 use Rattle.job_service.specs.Judged.{AreJudged, CanBeMade, WasRefused}
 use Rattle.job_service.specs.Landed.{IsLanded}

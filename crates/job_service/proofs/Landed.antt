@@ -4,10 +4,10 @@ use Rattle.std.specs.Prelude.{find, flat_map, option_and_then, slice_get, slice_
 use Rattle.std.specs.List.{AllByRecursion as Each, list_any}
 use Rattle.std.specs.Option.{option_map_or}
 use Rattle.std.proofs.lemmas.List.{map-append}
-use Rattle.answers.specs.instance_rules.Desks.{Begins}
-use Rattle.answers.specs.instance_rules.Log as rules
-use Rattle.answers.specs.instance_rules.Log.{Instance, JobAsk as Asks, Log, service_of}
-use Rattle.answers.specs.instance_rules.Replies.{AsksForEvent}
+use Rattle.instance_rules.specs.Desks.{Begins}
+use Rattle.instance_rules.specs.Log as rules
+use Rattle.instance_rules.specs.Log.{Instance, JobAsk as Asks, Log, service_of}
+use Rattle.instance_rules.specs.Replies.{AsksForEvent}
 use Rattle.job_clock.proofs.Times.{carried_in_time}
 use Rattle.job_clock.specs.Targets.{AreInTime}
 use Rattle.job_commands.proofs.Landings.{now_begun}
@@ -22,24 +22,24 @@ use Rattle.job_manager.specs.Follows.{Lands}
 use Rattle.job_manager.specs.Posts.{command_of}
 use Rattle.job_manager.specs.Value.{ManagerValue}
 use Rattle.job_submissions.specs.Made.{AreLabelled}
-use Rattle.job_manager.specs.kvs_core.Agrees.{Agrees}
-use Rattle.job_manager.specs.kvs_core.Makes as core
-use Rattle.job_manager.specs.kvs_core.Posted.{groups_in, posts_landed}
-use Rattle.answers.proofs.kvs_rules_proofs.Logs.{legal_joined}
-use Rattle.answers.specs.kvs_rules.Answers.{IsLegalLog}
-use Rattle.answers.specs.kvs_rules.Log as service
-use Rattle.answers.specs.kvs_rules.Namespaces.{primary}
-use Rattle.answers.specs.kvs_rules.declared.events.KvsEvent.{KvsEvent}
-use Rattle.answers.specs.kvs_rules.declared.events.KvsEvent.TheVariants as event
-use Rattle.answers.specs.kvs_rules.declared.events.KvsStep.{KvsStep}
-use Rattle.job_manager.proofs.kvs_space_proofs.Posting.{none-left, none-right, posts-append, with-post, with-user}
-use Rattle.answers.specs.kvs_txn.declared.txn.By.{By}
-use Rattle.answers.specs.kvs_txn.declared.txn.Group.{Group}
-use Rattle.answers.specs.kvs_txn.declared.txn.Txn.{Txn}
-use Rattle.answers.specs.manager_rules.Jobs.{StoredJob}
-use Rattle.answers.specs.manager_rules.Posts.{Desk, Does, IsDuePost, Post, Submits, group_of, jobs_after, txn_of}
-use Rattle.answers.specs.manager_rules.declared.due.Due.{Due}
-use Rattle.answers.specs.store_laws.Posts.{is_manager, posts_in}
+use Rattle.kvs_core.specs.Agrees.{Agrees}
+use Rattle.kvs_core.specs.Makes as core
+use Rattle.kvs_core.specs.Posted.{groups_in, posts_landed}
+use Rattle.kvs_rules.proofs.Logs.{legal_joined}
+use Rattle.kvs_rules.specs.Answers.{IsLegalLog}
+use Rattle.kvs_rules.specs.Log as service
+use Rattle.kvs_rules.specs.Namespaces.{primary}
+use Rattle.kvs_rules.specs.declared.events.KvsEvent.{KvsEvent}
+use Rattle.kvs_rules.specs.declared.events.KvsEvent.TheVariants as event
+use Rattle.kvs_rules.specs.declared.events.KvsStep.{KvsStep}
+use Rattle.kvs_space.proofs.Posting.{none-left, none-right, posts-append, with-post, with-user}
+use Rattle.job_deeds.specs.kvs_txn.declared.txn.By.{By}
+use Rattle.job_deeds.specs.kvs_txn.declared.txn.Group.{Group}
+use Rattle.job_deeds.specs.kvs_txn.declared.txn.Txn.{Txn}
+use Rattle.job_deeds.specs.manager_rules.Jobs.{StoredJob}
+use Rattle.job_deeds.specs.manager_rules.Posts.{Desk, Does, IsDuePost, Post, Submits, group_of, jobs_after, txn_of}
+use Rattle.job_deeds.specs.manager_rules.declared.due.Due.{Due}
+use Rattle.job_deeds.specs.store_laws.Posts.{is_manager, posts_in}
 use Rattle.job_service.specs.Agrees.{AgreesJobs}
 use Rattle.job_service.specs.Due.{IsFoundBeside}
 use Rattle.job_service.specs.Judged.{AreJudged}

@@ -4,10 +4,10 @@ use Rattle.std.specs.Prelude.{filter_map, find, is_some, nat_le, option_and_then
 use Rattle.std.specs.List.{list_any}
 use Rattle.std.specs.Option.{option_map_or}
 use Rattle.std.proofs.lemmas.Bool.{and_from, cases_lt, eqb-false, le-leb, or_parts}
-use Rattle.answers.specs.instance_rules.Desks.{HasBegun}
-use Rattle.answers.specs.instance_rules.Family.{IsLeftAdvance, Living}
-use Rattle.answers.specs.instance_rules.Log as rules
-use Rattle.answers.specs.instance_rules.Log.{Instance, IsOpen, JobAsk as Asks, Key as Part, Log, before_issue, now_of, service_of}
+use Rattle.instance_rules.specs.Desks.{HasBegun}
+use Rattle.instance_rules.specs.Family.{IsLeftAdvance, Living}
+use Rattle.instance_rules.specs.Log as rules
+use Rattle.instance_rules.specs.Log.{Instance, IsOpen, JobAsk as Asks, Key as Part, Log, before_issue, now_of, service_of}
 use Rattle.job_clock.proofs.Targets.{to_kept}
 use Rattle.job_clock.specs.Standing.{IsLiving}
 use Rattle.job_commands.proofs.Desks.{there_and_back}
@@ -26,28 +26,28 @@ use Rattle.job_commands.specs.declared.row.Row.{Row}
 use Rattle.job_commands.specs.declared.row.Stage.{Stage}
 use Rattle.job_commands.specs.declared.row.Stage.TheVariants as stage
 use Rattle.job_replies.specs.Ready.{fits, has_run, is_answered, is_ending, is_inactive, is_late_raise, is_ready, is_ready_at, job_in}
-use Rattle.answers.proofs.job_rules_proofs.Among.{Among, among_from, among_left, contains_from}
-use Rattle.answers.specs.job_states.Table.{is_state}
-use Rattle.answers.specs.job_states.declared.job.State.{State}
-use Rattle.answers.specs.job_states.declared.job.State.TheVariants as state
-use Rattle.job_manager.specs.kvs_core.Seen.{primary_heard}
-use Rattle.answers.proofs.kvs_rules_proofs.Logs.{landed_push, landed_rises, own_number}
-use Rattle.answers.specs.kvs_rules.Answers.{IsLegalLog}
-use Rattle.answers.specs.kvs_rules.Brokers.{heard}
-use Rattle.answers.specs.kvs_rules.Log as service
-use Rattle.answers.specs.kvs_rules.Log.{same_command}
-use Rattle.answers.specs.kvs_rules.Namespaces.{Setting, landed, primary}
-use Rattle.answers.specs.kvs_rules.Quiet.{AreAllTold}
-use Rattle.answers.specs.kvs_rules.declared.events.KvsEvent.TheVariants as event
-use Rattle.answers.specs.kvs_model.Store.{Name}
-use Rattle.answers.specs.kvs_txn.declared.txn.By.{By}
-use Rattle.answers.specs.kvs_txn.declared.txn.Group.{Group}
-use Rattle.answers.specs.manager_rules.Deeds.{Carries, Deed, Validates, due_of}
-use Rattle.answers.specs.manager_rules.Due.{MayCarry, MayDo}
-use Rattle.answers.specs.manager_rules.Jobs.{StoredJob}
-use Rattle.answers.specs.manager_rules.Scene.{Scene}
-use Rattle.answers.specs.manager_rules.declared.asked.Asked.{Asked}
-use Rattle.answers.specs.manager_rules.declared.asked.Asked.TheVariants as asked
+use Rattle.job_deeds.proofs.job_rules_proofs.Among.{Among, among_from, among_left, contains_from}
+use Rattle.job_deeds.specs.job_states.Table.{is_state}
+use Rattle.job_deeds.specs.job_states.declared.job.State.{State}
+use Rattle.job_deeds.specs.job_states.declared.job.State.TheVariants as state
+use Rattle.kvs_core.specs.Seen.{primary_heard}
+use Rattle.kvs_rules.proofs.Logs.{landed_push, landed_rises, own_number}
+use Rattle.kvs_rules.specs.Answers.{IsLegalLog}
+use Rattle.kvs_rules.specs.Brokers.{heard}
+use Rattle.kvs_rules.specs.Log as service
+use Rattle.kvs_rules.specs.Log.{same_command}
+use Rattle.kvs_rules.specs.Namespaces.{Setting, landed, primary}
+use Rattle.kvs_rules.specs.Quiet.{AreAllTold}
+use Rattle.kvs_rules.specs.declared.events.KvsEvent.TheVariants as event
+use Rattle.job_deeds.specs.kvs_model.Store.{Name}
+use Rattle.job_deeds.specs.kvs_txn.declared.txn.By.{By}
+use Rattle.job_deeds.specs.kvs_txn.declared.txn.Group.{Group}
+use Rattle.job_deeds.specs.manager_rules.Deeds.{Carries, Deed, Validates, due_of}
+use Rattle.job_deeds.specs.manager_rules.Due.{MayCarry, MayDo}
+use Rattle.job_deeds.specs.manager_rules.Jobs.{StoredJob}
+use Rattle.job_deeds.specs.manager_rules.Scene.{Scene}
+use Rattle.job_deeds.specs.manager_rules.declared.asked.Asked.{Asked}
+use Rattle.job_deeds.specs.manager_rules.declared.asked.Asked.TheVariants as asked
 use Rattle.job_service.specs.declared.refusals.Refused.{Refused}
 use Rattle.job_service.specs.Agrees.{AgreesJobs}
 use Rattle.job_service.specs.Due.{IsFound, IsFoundBeside, scene_now}

@@ -18,12 +18,11 @@ mod Resting
 mod Left
 -- what lies below, for the crates that stand on this one
 pub use Rattle.answers.proofs as answers_proofs
-pub use Rattle.job_manager.proofs.job_book_proofs as job_book_proofs
-pub use Rattle.job_clock.proofs as job_clock_proofs
+pub use Rattle.job_deeds.proofs.hostlist_proofs as hostlist_proofs
 pub use Rattle.job_commands.proofs as job_commands_proofs
 pub use Rattle.job_landings.proofs as job_landings_proofs
-pub use Rattle.answers.proofs.job_rules_proofs as job_rules_proofs
-pub use Rattle.job_manager.proofs.kvs_core_proofs as kvs_core_proofs
-pub use Rattle.job_manager.proofs.kvs_requests_proofs as kvs_requests_proofs
-pub use Rattle.answers.proofs.kvs_rules_proofs as kvs_rules_proofs
-pub use Rattle.job_manager.proofs.kvs_space_proofs as kvs_space_proofs
+pub use Rattle.job_deeds.proofs.job_rules_proofs as job_rules_proofs
+pub use Rattle.kvs_core.proofs as kvs_core_proofs
+pub use Rattle.kvs_requests.proofs as kvs_requests_proofs
+pub use Rattle.kvs_rules.proofs as kvs_rules_proofs
+pub use Rattle.kvs_space.proofs as kvs_space_proofs

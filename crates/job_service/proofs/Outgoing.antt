@@ -2,8 +2,8 @@
 use Rattle.std.proofs.Common.{◌≡◌, ℕ, ◌^◌, ◌<◌, [], Bool, true, false, Option, Some, None, IsSome, true≢false, refl, sym, ap, ◌∙◌, subst}
 use Rattle.std.proofs.lemmas.Bool.{false_from_ne_true, or_from, or_parts}
 use Rattle.std.specs.List.{list_any}
-use Rattle.answers.proofs.instance_rules_proofs.Sounds.{desk_kept}
-use Rattle.answers.specs.instance_rules.Log.{Instance, IsPending, Log, service_of}
+use Rattle.instance_rules.proofs.Sounds.{desk_kept}
+use Rattle.instance_rules.specs.Log.{Instance, IsPending, Log, service_of}
 use Rattle.job_commands.proofs.Desks.{desk_is}
 use Rattle.job_commands.specs.Desks.{desk_of}
 use Rattle.job_landings.proofs.Open.{event_open, submit_open}
@@ -11,17 +11,17 @@ use Rattle.job_manager.specs.Follows.{Places}
 use Rattle.job_manager.specs.Managed.{IsManaged, IsOutstanding, WasDuePost}
 use Rattle.job_manager.specs.Posts.{command_of}
 use Rattle.job_manager.specs.Value.{ManagerValue}
-use Rattle.job_manager.specs.kvs_core.Posted.{IsNewPost, newest_of, posted}
-use Rattle.answers.proofs.kvs_rules_proofs.Asking.{command_is}
-use Rattle.answers.proofs.kvs_rules_proofs.Logs.{along}
-use Rattle.answers.proofs.kvs_rules_proofs.Stores.{any_push}
-use Rattle.answers.specs.kvs_rules.Answers.{IsLegalLog, IsLegalMoment}
-use Rattle.answers.specs.kvs_rules.Log as service
-use Rattle.answers.specs.kvs_rules.Namespaces.{Setting}
-use Rattle.answers.specs.kvs_rules.declared.events.KvsEvent.TheVariants as event
-use Rattle.job_manager.specs.kvs_space.Space.{is_authored}
-use Rattle.answers.specs.kvs_txn.declared.txn.By.{By}
-use Rattle.answers.specs.manager_rules.Posts.{Desk, Does, IsDuePost, Post, Submits}
+use Rattle.kvs_core.specs.Posted.{IsNewPost, newest_of, posted}
+use Rattle.kvs_rules.proofs.Asking.{command_is}
+use Rattle.kvs_rules.proofs.Logs.{along}
+use Rattle.kvs_rules.proofs.Stores.{any_push}
+use Rattle.kvs_rules.specs.Answers.{IsLegalLog, IsLegalMoment}
+use Rattle.kvs_rules.specs.Log as service
+use Rattle.kvs_rules.specs.Namespaces.{Setting}
+use Rattle.kvs_rules.specs.declared.events.KvsEvent.TheVariants as event
+use Rattle.kvs_space.specs.Space.{is_authored}
+use Rattle.job_deeds.specs.kvs_txn.declared.txn.By.{By}
+use Rattle.job_deeds.specs.manager_rules.Posts.{Desk, Does, IsDuePost, Post, Submits}
 use Rattle.job_service.specs.Agrees.{AgreesJobs}
 use Rattle.job_service.specs.Due.{Owes}
 use Rattle.job_service.specs.Posted.{IsAlone}

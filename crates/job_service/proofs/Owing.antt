@@ -2,9 +2,9 @@
 use Rattle.std.proofs.Common.{◌≡◌, ℕ, ◌-◌, ◌*◌, ◌^◌, ◌<◌, ◌≤◌, ◌∙◌, ◌&&◌, List, true, length, None, Some, refl, sym, ap, subst, arith}
 use Rattle.std.specs.Prelude.{Contains, Option, false, is_some}
 use Rattle.std.specs.List.{AllByRecursion as Each}
-use Rattle.answers.specs.instance_rules.Desks.{is_submission}
-use Rattle.answers.specs.instance_rules.Log.{Instance, Log, IsInstance, now_of}
-use Rattle.job_manager.specs.job_book.Value.{BookValue}
+use Rattle.instance_rules.specs.Desks.{is_submission}
+use Rattle.instance_rules.specs.Log.{Instance, Log, IsInstance, now_of}
+use Rattle.job_book.specs.Value.{BookValue}
 use Rattle.job_commands.proofs.Desks.{asked_range}
 use Rattle.job_commands.specs.Agrees.{AgreesCommands, AreDrawn}
 use Rattle.job_commands.specs.Asks.{told}
@@ -12,15 +12,15 @@ use Rattle.job_commands.specs.Desks.{asked_of, desk_of, submits_of}
 use Rattle.job_commands.specs.Rows.{AreMarkedBy, CommandsValue, is_submit, is_waiting}
 use Rattle.job_commands.specs.declared.row.Row.{Row}
 use Rattle.job_submissions.specs.Made.{AreLabelled, IsMade, MakesNone}
-use Rattle.answers.specs.manager_rules.Due.{IsDue}
-use Rattle.answers.specs.manager_rules.Jobs.{StoredJob}
-use Rattle.answers.specs.manager_rules.Posts.{Desk, Does, IsDuePost, IsSubmission, Post, Submission, Submits}
-use Rattle.answers.specs.manager_rules.Scene.{Scene}
-use Rattle.answers.specs.manager_rules.declared.due.Due.{Due}
+use Rattle.job_deeds.specs.manager_rules.Due.{IsDue}
+use Rattle.job_deeds.specs.manager_rules.Jobs.{StoredJob}
+use Rattle.job_deeds.specs.manager_rules.Posts.{Desk, Does, IsDuePost, IsSubmission, Post, Submission, Submits}
+use Rattle.job_deeds.specs.manager_rules.Scene.{Scene}
+use Rattle.job_deeds.specs.manager_rules.declared.due.Due.{Due}
 use Rattle.job_service.specs.Due.{CanLook, IsFound, IsFoundBeside, Owes, scene_now}
 use Rattle.job_service.specs.Posted.{IsAlone, IsNamed}
-use Rattle.answers.specs.tap.Factors.{priority_by}
-use Rattle.answers.specs.tap.declared.weights.Weights.{Weights}
+use Rattle.job_deeds.specs.tap.Factors.{priority_by}
+use Rattle.job_deeds.specs.tap.declared.weights.Weights.{Weights}
 
 -- what the law of submissions says of one that is made, and of those that aren't
 abbrev pub MadeAreDue : Type 0

@@ -2,9 +2,9 @@
 use Rattle.std.proofs.Common.{◌≡◌, ℕ, ◌≤◌, List, [], ◌∷◌, Bool, true, false, ◌||◌, Option, Some, None, Contains, cond, refl, sym, ap, ◌∙◌, subst, true≢false}
 use Rattle.std.specs.Prelude.{All, is_some, nat_lt, option_and_then, option_map}
 use Rattle.std.proofs.lemmas.Bool.{false_from_ne_true, ltb-false}
-use Rattle.answers.specs.instance_rules.Family.{IsLeftResult, Living}
-use Rattle.answers.specs.instance_rules.Log.{Instance, IsOpen, Log, service_of}
-use Rattle.job_manager.proofs.job_deeds_proofs.Whys.{found_job}
+use Rattle.instance_rules.specs.Family.{IsLeftResult, Living}
+use Rattle.instance_rules.specs.Log.{Instance, IsOpen, Log, service_of}
+use Rattle.job_deeds.proofs.Whys.{found_job}
 use Rattle.job_clock.proofs.Standing.{at_living}
 use Rattle.job_clock.specs.Standing.{IsLiving}
 use Rattle.job_clock.specs.Targets.{targets_of}
@@ -18,13 +18,13 @@ use Rattle.job_commands.specs.declared.row.Row.{Row}
 use Rattle.job_manager.specs.Managed.{IsManaged, IsOutstanding}
 use Rattle.job_manager.specs.Value.{ManagerValue}
 use Rattle.job_replies.specs.Ready.{is_inactive, job_in, state_in}
-use Rattle.answers.proofs.job_rules_proofs.Among.{Among, all_from, among_kept, contains_from}
-use Rattle.answers.specs.job_states.declared.job.State.{State}
-use Rattle.job_manager.specs.kvs_core.Posted.{newest_of, posted}
-use Rattle.answers.specs.kvs_rules.Namespaces.{newest_store, primary}
-use Rattle.answers.specs.kvs_txn.declared.txn.By.{By}
-use Rattle.answers.specs.manager_rules.Dependencies.{job_at as stored_at}
-use Rattle.answers.specs.manager_rules.Jobs.{StoredJob}
+use Rattle.job_deeds.proofs.job_rules_proofs.Among.{Among, all_from, among_kept, contains_from}
+use Rattle.job_deeds.specs.job_states.declared.job.State.{State}
+use Rattle.kvs_core.specs.Posted.{newest_of, posted}
+use Rattle.kvs_rules.specs.Namespaces.{newest_store, primary}
+use Rattle.job_deeds.specs.kvs_txn.declared.txn.By.{By}
+use Rattle.job_deeds.specs.manager_rules.Dependencies.{job_at as stored_at}
+use Rattle.job_deeds.specs.manager_rules.Jobs.{StoredJob}
 use Rattle.job_service.specs.Children.{is_due}
 use Rattle.job_service.specs.Refusals.{row_in}
 use Rattle.job_service.specs.Still.{awaited, awaited_by, unless_over}

@@ -2,22 +2,22 @@
 use Rattle.std.proofs.Common.{◌≡◌, ℕ, ◌+◌, ◌||◌, ◌&&◌, ◌==◌, Bool, true, false, List, [], ◌∷◌, Option, Some, None, Contains, Result, Ok, Err, refl, sym, subst, true≢false}
 use Rattle.std.specs.Prelude.{not, option_and_then, if◌then◌else◌}
 use Rattle.std.specs.List.{list_any}
-use Rattle.answers.specs.event_log.declared.event.Event.{Event}
-use Rattle.answers.specs.event_log.Events.{◌>>=◌}
-use Rattle.answers.proofs.job_rules_proofs.Among.{among_from, each_at}
-use Rattle.answers.specs.job_states.Changes.{change_of}
-use Rattle.answers.specs.job_states.Replay.{allowed, begun, replay_on, replayed, stepped}
-use Rattle.answers.specs.job_states.Table.{begun_by, changed, is_state, made, stands_in, submitted_job}
-use Rattle.answers.specs.job_states.declared.job.Change.{Change}
-use Rattle.answers.specs.job_states.declared.job.Change.TheVariants as change
-use Rattle.answers.specs.job_states.declared.job.Job.{Job}
-use Rattle.answers.specs.job_states.declared.job.ReplayFault.{ReplayFault}
-use Rattle.answers.specs.job_states.declared.job.State.{State}
-use Rattle.answers.specs.job_states.declared.job.State.TheVariants as state
-use Rattle.answers.specs.kvs_model.Store.{Store}
-use Rattle.answers.proofs.manager_rules_proofs.Waiting.{made_early}
-use Rattle.answers.specs.manager_rules.Jobs.{AreJobsOf, IsStored, StoredJob, is_live}
-use Rattle.answers.specs.manager_rules.Sound.{IsUnserved, is_early}
+use Rattle.job_deeds.specs.event_log.declared.event.Event.{Event}
+use Rattle.job_deeds.specs.event_log.Events.{◌>>=◌}
+use Rattle.job_deeds.proofs.job_rules_proofs.Among.{among_from, each_at}
+use Rattle.job_deeds.specs.job_states.Changes.{change_of}
+use Rattle.job_deeds.specs.job_states.Replay.{allowed, begun, replay_on, replayed, stepped}
+use Rattle.job_deeds.specs.job_states.Table.{begun_by, changed, is_state, made, stands_in, submitted_job}
+use Rattle.job_deeds.specs.job_states.declared.job.Change.{Change}
+use Rattle.job_deeds.specs.job_states.declared.job.Change.TheVariants as change
+use Rattle.job_deeds.specs.job_states.declared.job.Job.{Job}
+use Rattle.job_deeds.specs.job_states.declared.job.ReplayFault.{ReplayFault}
+use Rattle.job_deeds.specs.job_states.declared.job.State.{State}
+use Rattle.job_deeds.specs.job_states.declared.job.State.TheVariants as state
+use Rattle.job_deeds.specs.kvs_model.Store.{Store}
+use Rattle.job_deeds.proofs.manager_rules_proofs.Waiting.{made_early}
+use Rattle.job_deeds.specs.manager_rules.Jobs.{AreJobsOf, IsStored, StoredJob, is_live}
+use Rattle.job_deeds.specs.manager_rules.Sound.{IsUnserved, is_early}
 
 -- before RUN it has had none, and in RUN it has them
 record HasInTime (job : Job) : Type 0 where

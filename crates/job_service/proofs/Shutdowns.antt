@@ -2,16 +2,16 @@
 use Rattle.std.proofs.Common.{◌≡◌, ◌≢◌, ℕ, List, [], ◌∷◌, ◌++◌, Bool, true, false, cond, inl, inr, Option, Some, None, Contains, refl, sym, ap, ap₂, ◌∙◌, subst}
 use Rattle.std.specs.Prelude.{filter, filter_map, not, option_map, slice_index}
 use Rattle.std.specs.List.{cons_option}
-use Rattle.answers.proofs.job_rules_proofs.Among.{Among, contains_from}
-use Rattle.job_manager.specs.kvs_core.Agrees.{Agrees}
-use Rattle.answers.proofs.kvs_rules_proofs.Asking.{command_is}
-use Rattle.answers.proofs.kvs_rules_proofs.Sequences.{latest_push}
-use Rattle.answers.specs.kvs_rules.Answers.{IsLegalLog}
-use Rattle.answers.specs.kvs_rules.Log.{same_command}
-use Rattle.answers.specs.kvs_txn.declared.txn.By.{By}
-use Rattle.answers.specs.instance_rules.Log as rules
-use Rattle.answers.specs.instance_rules.Log.{Instance, IsOpen, Log, Moment, Served, Issued, Replied, Ticked, Born, Gone, Shut, Shutdown, is_issued, issues_now, now_of, seconds_from, service_of, ticked}
-use Rattle.answers.specs.instance_rules.Replies.{HasGrounds, IsLegalReply}
+use Rattle.job_deeds.proofs.job_rules_proofs.Among.{Among, contains_from}
+use Rattle.kvs_core.specs.Agrees.{Agrees}
+use Rattle.kvs_rules.proofs.Asking.{command_is}
+use Rattle.kvs_rules.proofs.Sequences.{latest_push}
+use Rattle.kvs_rules.specs.Answers.{IsLegalLog}
+use Rattle.kvs_rules.specs.Log.{same_command}
+use Rattle.job_deeds.specs.kvs_txn.declared.txn.By.{By}
+use Rattle.instance_rules.specs.Log as rules
+use Rattle.instance_rules.specs.Log.{Instance, IsOpen, Log, Moment, Served, Issued, Replied, Ticked, Born, Gone, Shut, Shutdown, is_issued, issues_now, now_of, seconds_from, service_of, ticked}
+use Rattle.instance_rules.specs.Replies.{HasGrounds, IsLegalReply}
 use Rattle.job_commands.proofs.Logs.{differs, undecided_kept}
 use Rattle.job_commands.proofs.Steps.{reply_agrees, shutdown_agrees}
 use Rattle.job_commands.specs.Agrees.{AgreesCommands}
@@ -23,11 +23,11 @@ use Rattle.job_commands.specs.declared.ask.JobAsk.TheVariants as ask
 use Rattle.job_commands.specs.declared.row.Row.{Row}
 use Rattle.job_commands.specs.declared.row.Stage.{Stage}
 use Rattle.job_commands.specs.declared.row.Stage.TheVariants as stage
-use Rattle.answers.specs.job_spec.declared.spec.Depend.{Depend}
+use Rattle.job_deeds.specs.job_spec.declared.spec.Depend.{Depend}
 use Rattle.job_submissions.specs.declared.faults.Fault.{Fault}
 use Rattle.job_submissions.specs.declared.faults.Fault.TheVariants as fault
-use Rattle.answers.specs.manager_rules.Jobs.{StoredJob}
-use Rattle.answers.specs.manager_rules.Posts.{Desk, Submit}
+use Rattle.job_deeds.specs.manager_rules.Jobs.{StoredJob}
+use Rattle.job_deeds.specs.manager_rules.Posts.{Desk, Submit}
 use Rattle.job_service.specs.Agrees.{AgreesJobs}
 use Rattle.job_service.specs.Due.{Owes}
 use Rattle.job_service.specs.Refusals.{reply_to}

@@ -2,16 +2,16 @@
 use Rattle.std.proofs.Common.{◌≡◌, ℕ, inl, inr, List, [], ◌∷◌, ◌++◌, Bool, true, false, cond, ◌&&◌, ◌==◌, Some, None, Contains, refl, sym, ap, ◌∙◌, subst, count_by, arith}
 use Rattle.std.specs.Prelude.{filter_map, not, unwrap_or}
 use Rattle.std.specs.Option.{option_map_or}
-use Rattle.answers.proofs.kvs_rules_proofs.Sequences.{latest_push}
+use Rattle.kvs_rules.proofs.Sequences.{latest_push}
 use Rattle.std.proofs.lemmas.Bool.{cond-true, eq-eqb}
 use Rattle.std.proofs.lemmas.List.Elements.{filter_map-append}
-use Rattle.answers.proofs.job_rules_proofs.Among.{Among, among_from, among_left, contains_from}
-use Rattle.answers.specs.job_spec.declared.spec.Depend.{Depend}
-use Rattle.answers.specs.kvs_rules.Log.{same_command}
-use Rattle.answers.specs.kvs_txn.declared.txn.By.{By}
-use Rattle.answers.specs.instance_rules.Desks.{AreNamed, StandsAsked, StandsSubmitted, submits_at}
-use Rattle.answers.specs.instance_rules.Log as rules
-use Rattle.answers.specs.instance_rules.Log.{Instance, IsPending, Log, Moment, Served, Issued, Replied, Ticked, Born, Gone, child_of, child_told, is_decided, now_of, replies_now, seconds_from, seconds_open, ticked}
+use Rattle.job_deeds.proofs.job_rules_proofs.Among.{Among, among_from, among_left, contains_from}
+use Rattle.job_deeds.specs.job_spec.declared.spec.Depend.{Depend}
+use Rattle.kvs_rules.specs.Log.{same_command}
+use Rattle.job_deeds.specs.kvs_txn.declared.txn.By.{By}
+use Rattle.instance_rules.specs.Desks.{AreNamed, StandsAsked, StandsSubmitted, submits_at}
+use Rattle.instance_rules.specs.Log as rules
+use Rattle.instance_rules.specs.Log.{Instance, IsPending, Log, Moment, Served, Issued, Replied, Ticked, Born, Gone, child_of, child_told, is_decided, now_of, replies_now, seconds_from, seconds_open, ticked}
 use Rattle.job_commands.proofs.Children.{living_told, shut_told}
 use Rattle.job_commands.proofs.Desks.{asked_there, children_stand, asked_true, submits_there, submits_true}
 use Rattle.job_commands.proofs.Logs.{count_push, open_kept, undecided_kept}
@@ -19,15 +19,15 @@ use Rattle.job_commands.proofs.Steps.{names_kept}
 use Rattle.job_commands.specs.Agrees.{AgreesCommands}
 use Rattle.job_commands.specs.Desks.{asked_of, desk_of}
 use Rattle.job_commands.specs.Rows.{CommandsValue}
-use Rattle.answers.specs.manager_rules.Deeds.{command_asked}
-use Rattle.answers.specs.manager_rules.Due.{IsDue, IsEnding, IsLike, StillWaits}
-use Rattle.answers.specs.manager_rules.Jobs.{StoredJob, ids_of}
-use Rattle.answers.specs.manager_rules.Posts as posts
-use Rattle.answers.specs.manager_rules.Posts.{Desk, Does, IsDuePost, IsOpenStill, IsSubmission, Post, StillSubmits, Submission, Submits}
-use Rattle.answers.specs.manager_rules.Scene.{Scene, has_living_child, has_shut_child}
-use Rattle.answers.specs.manager_rules.declared.asked.Asked.{Asked}
-use Rattle.answers.specs.manager_rules.declared.asked.Asked.TheVariants as asked
-use Rattle.answers.specs.manager_rules.declared.due.Due.{Due}
+use Rattle.job_deeds.specs.manager_rules.Deeds.{command_asked}
+use Rattle.job_deeds.specs.manager_rules.Due.{IsDue, IsEnding, IsLike, StillWaits}
+use Rattle.job_deeds.specs.manager_rules.Jobs.{StoredJob, ids_of}
+use Rattle.job_deeds.specs.manager_rules.Posts as posts
+use Rattle.job_deeds.specs.manager_rules.Posts.{Desk, Does, IsDuePost, IsOpenStill, IsSubmission, Post, StillSubmits, Submission, Submits}
+use Rattle.job_deeds.specs.manager_rules.Scene.{Scene, has_living_child, has_shut_child}
+use Rattle.job_deeds.specs.manager_rules.declared.asked.Asked.{Asked}
+use Rattle.job_deeds.specs.manager_rules.declared.asked.Asked.TheVariants as asked
+use Rattle.job_deeds.specs.manager_rules.declared.due.Due.{Due}
 use Rattle.job_service.specs.Due.{IsOpenFor, LeavesChild, LeavesChildOf, LeavesOpen}
 
 -- ---- seconds stay

@@ -4,10 +4,10 @@ use Rattle.std.specs.Prelude.{All, is_some, nat_le, nat_lt}
 use Rattle.std.specs.List.{AllByRecursion as Each}
 use Rattle.std.specs.Option.{option_map_or}
 use Rattle.std.proofs.lemmas.Bool.{lt-ltb, ltb-true, or_parts, or_right}
-use Rattle.answers.specs.instance_rules.Family.{HasTarget, IsTarget, Living, OfLiving}
-use Rattle.answers.specs.instance_rules.Legal.{IsLegalMoment, OfDesk}
-use Rattle.answers.specs.instance_rules.Log.{Instance, Log, Ticked, before_issue, now_of, service_of}
-use Rattle.job_manager.specs.job_book.Contract.{seconds_left}
+use Rattle.instance_rules.specs.Family.{HasTarget, IsTarget, Living, OfLiving}
+use Rattle.instance_rules.specs.Legal.{IsLegalMoment, OfDesk}
+use Rattle.instance_rules.specs.Log.{Instance, Log, Ticked, before_issue, now_of, service_of}
+use Rattle.job_book.specs.Contract.{seconds_left}
 use Rattle.job_clock.proofs.Standing.{at_living, at_top, end_known, end_there, has_known, has_there, of_desk, pass_legal, target_here}
 use Rattle.job_clock.proofs.Targets.{reached_row}
 use Rattle.job_clock.specs.Standing.{IsLiving, IsTop, PassesNone, StandsWith}
@@ -23,14 +23,14 @@ use Rattle.job_commands.specs.declared.row.Stage.{Stage}
 use Rattle.job_commands.specs.declared.row.Stage.TheVariants as stage
 use Rattle.job_manager.specs.Managed.{IsManaged}
 use Rattle.job_replies.specs.Ready.{is_ready, is_ready_at}
-use Rattle.answers.proofs.job_rules_proofs.Among.{all_at, among_filter, among_from, among_kept, contains_from}
-use Rattle.job_manager.specs.kvs_core.Agrees.{Agrees}
-use Rattle.job_manager.specs.kvs_core.Posted.{newest_of}
-use Rattle.answers.specs.kvs_rules.Answers.{IsLegalLog}
-use Rattle.answers.specs.kvs_rules.Namespaces.{newest_store, primary}
-use Rattle.answers.specs.kvs_txn.declared.txn.By.{By}
-use Rattle.answers.specs.manager_rules.Posts.{Desk, Post}
-use Rattle.answers.specs.manager_rules.Times.{IsIdle, seconds_ahead}
+use Rattle.job_deeds.proofs.job_rules_proofs.Among.{all_at, among_filter, among_from, among_kept, contains_from}
+use Rattle.kvs_core.specs.Agrees.{Agrees}
+use Rattle.kvs_core.specs.Posted.{newest_of}
+use Rattle.kvs_rules.specs.Answers.{IsLegalLog}
+use Rattle.kvs_rules.specs.Namespaces.{newest_store, primary}
+use Rattle.job_deeds.specs.kvs_txn.declared.txn.By.{By}
+use Rattle.job_deeds.specs.manager_rules.Posts.{Desk, Post}
+use Rattle.job_deeds.specs.manager_rules.Times.{IsIdle, seconds_ahead}
 use Rattle.job_service.specs.Agrees.{AgreesJobs}
 use Rattle.job_service.specs.Children.{IsBearing, is_due}
 use Rattle.job_service.specs.Due.{IsFoundBeside, Owes, OwesNothing}

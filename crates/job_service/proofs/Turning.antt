@@ -2,8 +2,8 @@
 use Rattle.std.proofs.Common.{◌≡◌, ℕ, ◌+◌, ◌-◌, ◌*◌, ◌^◌, ◌<◌, ◌≤◌, inl, inr, List, [], ◌∷◌, ◌++◌, length, map, Bool, Option, Some, None, count_by, sym, ap, ◌∙◌, subst}
 use Rattle.std.specs.List.{AllByRecursion as Each}
 use Rattle.std.specs.Prelude.{slice_index}
-use Rattle.answers.specs.instance_rules.Legal.{IsLegalMoment}
-use Rattle.answers.specs.instance_rules.Log.{Instance, IsInstance, Log, service_of}
+use Rattle.instance_rules.specs.Legal.{IsLegalMoment}
+use Rattle.instance_rules.specs.Log.{Instance, IsInstance, Log, service_of}
 use Rattle.job_clock.specs.Targets.{AreInTime}
 use Rattle.job_commands.specs.Agrees.{AgreesCommands}
 use Rattle.job_commands.specs.Desks.{desk_of}
@@ -14,19 +14,19 @@ use Rattle.job_manager.specs.Follows.{Follows, Lands, Stays}
 use Rattle.job_manager.specs.Managed.{IsManaged}
 use Rattle.job_manager.specs.Posts.{command_of}
 use Rattle.job_manager.specs.Value.{ManagerValue}
-use Rattle.job_manager.specs.kvs_core.Agrees.{Agrees}
-use Rattle.job_manager.specs.kvs_core.Makes as core
-use Rattle.job_manager.specs.kvs_core.Posted.{newest_of, posts_landed}
-use Rattle.job_manager.specs.kvs_core.Value.{CoreValue}
-use Rattle.answers.specs.kvs_model.Store.{Store}
-use Rattle.answers.specs.kvs_rules.Answers.{IsLegalLog}
-use Rattle.answers.specs.kvs_rules.Namespaces.{newest_store, primary}
-use Rattle.answers.specs.kvs_rules.Sequence.{EachAfter}
-use Rattle.answers.specs.kvs_rules.declared.events.KvsEvent.{KvsEvent}
-use Rattle.answers.specs.kvs_rules.declared.events.KvsStep.{KvsStep}
-use Rattle.answers.specs.kvs_txn.declared.txn.By.{By}
-use Rattle.answers.specs.manager_rules.Jobs.{AreJobsOf, StoredJob}
-use Rattle.answers.specs.manager_rules.Posts.{IsDuePost, Post, group_of}
+use Rattle.kvs_core.specs.Agrees.{Agrees}
+use Rattle.kvs_core.specs.Makes as core
+use Rattle.kvs_core.specs.Posted.{newest_of, posts_landed}
+use Rattle.kvs_core.specs.Value.{CoreValue}
+use Rattle.job_deeds.specs.kvs_model.Store.{Store}
+use Rattle.kvs_rules.specs.Answers.{IsLegalLog}
+use Rattle.kvs_rules.specs.Namespaces.{newest_store, primary}
+use Rattle.kvs_rules.specs.Sequence.{EachAfter}
+use Rattle.kvs_rules.specs.declared.events.KvsEvent.{KvsEvent}
+use Rattle.kvs_rules.specs.declared.events.KvsStep.{KvsStep}
+use Rattle.job_deeds.specs.kvs_txn.declared.txn.By.{By}
+use Rattle.job_deeds.specs.manager_rules.Jobs.{AreJobsOf, StoredJob}
+use Rattle.job_deeds.specs.manager_rules.Posts.{IsDuePost, Post, group_of}
 use Rattle.job_service.specs.Agrees.{AgreesJobs}
 use Rattle.job_service.specs.Due.{IsFoundBeside}
 use Rattle.job_service.specs.Judged.{AreJudged}

@@ -1,22 +1,22 @@
 -- When a job service stands where the log of an instance leaves it.
 use Rattle.std.specs.Prelude.{◌≡◌, ℕ, ◌<◌, false, IsSome, Some, None, Contains}
-use Rattle.job_manager.specs.kvs_core.Agrees.{Agrees}
-use Rattle.answers.specs.kvs_rules.Answers.{IsLegalLog}
-use Rattle.answers.specs.kvs_rules.Log.{is_asked}
-use Rattle.answers.specs.kvs_rules.declared.events.KvsAsk.{KvsAsk}
-use Rattle.answers.specs.kvs_model.Store.{Name}
-use Rattle.answers.specs.kvs_txn.declared.txn.By.{By}
-use Rattle.answers.specs.instance_rules.Log.{Instance, IsInstance, Log, Shutdown, is_decided, is_issued, is_replied, now_of, service_of}
-use Rattle.answers.specs.instance_rules.Replies.{IsLegalReply}
+use Rattle.kvs_core.specs.Agrees.{Agrees}
+use Rattle.kvs_rules.specs.Answers.{IsLegalLog}
+use Rattle.kvs_rules.specs.Log.{is_asked}
+use Rattle.kvs_rules.specs.declared.events.KvsAsk.{KvsAsk}
+use Rattle.job_deeds.specs.kvs_model.Store.{Name}
+use Rattle.job_deeds.specs.kvs_txn.declared.txn.By.{By}
+use Rattle.instance_rules.specs.Log.{Instance, IsInstance, Log, Shutdown, is_decided, is_issued, is_replied, now_of, service_of}
+use Rattle.instance_rules.specs.Replies.{IsLegalReply}
 use Rattle.job_commands.specs.Agrees.{AgreesCommands, HasUniqueLabels}
 use Rattle.job_commands.specs.Asks.{told}
 use Rattle.job_commands.specs.Desks.{desk_of}
 use Rattle.job_commands.specs.declared.ask.JobAsk.{JobAsk}
 use Rattle.job_submissions.specs.Made.{AreLabelled}
-use Rattle.answers.specs.resource_set.declared.node.Resources.{Resources}
-use Rattle.answers.specs.tap.Factors.{priority_by}
-use Rattle.answers.specs.tap.declared.weights.Weights.{Weights}
-use Rattle.answers.specs.run_limits.Limits.{most_submits}
+use Rattle.job_deeds.specs.resource_set.declared.node.Resources.{Resources}
+use Rattle.job_deeds.specs.tap.Factors.{priority_by}
+use Rattle.job_deeds.specs.tap.declared.weights.Weights.{Weights}
+use Rattle.run_limits.specs.Limits.{most_submits}
 use Rattle.job_service.specs.declared.refusals.Refused.{Refused}
 use Rattle.job_service.specs.Due.{Owes}
 use Rattle.job_service.specs.Refusals.{reply_to}

@@ -2,22 +2,22 @@
 use Rattle.std.specs.Prelude.{◌≡◌, ◌||◌, ◌&&◌, ◌≤◌, ℕ, List, Bool, false, Option, Some, None, Contains, is_some, length, not}
 use Rattle.std.specs.Option.{option_map_or}
 use Rattle.child_grant.specs.Child.{numbered}
-use Rattle.answers.specs.instance_rules.Log.{Instance, Log, service_of}
-use Rattle.answers.specs.kvs_model.Store.{Store}
-use Rattle.answers.specs.kvs_rules.Namespaces.{newest_store, primary}
-use Rattle.answers.specs.resource_set.declared.node.Resources.{Resources}
-use Rattle.job_manager.specs.job_book.Contract.{IsFirstBirth as IsFirstIn, NoBirth as NoneIn}
-use Rattle.job_manager.specs.job_book.Value.{BookValue}
+use Rattle.instance_rules.specs.Log.{Instance, Log, service_of}
+use Rattle.job_deeds.specs.kvs_model.Store.{Store}
+use Rattle.kvs_rules.specs.Namespaces.{newest_store, primary}
+use Rattle.job_deeds.specs.resource_set.declared.node.Resources.{Resources}
+use Rattle.job_book.specs.Contract.{IsFirstBirth as IsFirstIn, NoBirth as NoneIn}
+use Rattle.job_book.specs.Value.{BookValue}
 use Rattle.job_commands.specs.Children.{all_children}
 use Rattle.job_commands.specs.Desks.{asked_of}
 use Rattle.job_commands.specs.Rows.{CommandsValue}
 use Rattle.job_manager.specs.Posts.{is_posted_for}
-use Rattle.answers.specs.job_states.Table.{is_state}
-use Rattle.answers.specs.job_states.declared.job.State.TheVariants as state
-use Rattle.answers.specs.manager_rules.Dependencies.{job_at}
-use Rattle.answers.specs.manager_rules.Jobs.{AreJobsOf, StoredJob}
-use Rattle.answers.specs.manager_rules.Scene.{Scene, has_living_child}
-use Rattle.answers.specs.manager_rules.Times.{IsBirthDue}
+use Rattle.job_deeds.specs.job_states.Table.{is_state}
+use Rattle.job_deeds.specs.job_states.declared.job.State.TheVariants as state
+use Rattle.job_deeds.specs.manager_rules.Dependencies.{job_at}
+use Rattle.job_deeds.specs.manager_rules.Jobs.{AreJobsOf, StoredJob}
+use Rattle.job_deeds.specs.manager_rules.Scene.{Scene, has_living_child}
+use Rattle.job_deeds.specs.manager_rules.Times.{IsBirthDue}
 use Rattle.job_service.specs.Value.{JobServiceValue}
 
 -- ---- births

@@ -1,7 +1,7 @@
 -- What is due of the job manager.
 use Rattle.std.specs.Prelude.{◌≡◌, ◌⊎◌, ℕ, ◌≤◌, ◌<◌, ◌-◌, ◌*◌, ◌^◌, false, All, Contains, List, Option, Some, None, length}
-use Rattle.answers.specs.instance_rules.Log.{Born, Moment, child_told, replies_now}
-use Rattle.job_manager.specs.job_book.Value.{BookValue, scene_of}
+use Rattle.instance_rules.specs.Log.{Born, Moment, child_told, replies_now}
+use Rattle.job_book.specs.Value.{BookValue, scene_of}
 use Rattle.job_commands.specs.Agrees.{AreDrawn}
 use Rattle.job_commands.specs.Desks.{asked_of}
 use Rattle.job_commands.specs.Rows.{AreMarkedBy, CommandsValue}
@@ -9,15 +9,15 @@ use Rattle.job_commands.specs.Moments.{decides_now}
 use Rattle.job_commands.specs.declared.row.Row.{Row}
 use Rattle.job_manager.specs.Posts.{command_of}
 use Rattle.job_submissions.specs.Made.{IsMade, MakesNone}
-use Rattle.answers.specs.kvs_txn.declared.txn.By.{By}
-use Rattle.answers.specs.manager_rules.Due.{IsDue, IsEnding}
-use Rattle.answers.specs.manager_rules.Jobs.{StoredJob}
-use Rattle.answers.specs.manager_rules.Posts.{Desk, Does, IsDuePost, Post, Submits}
-use Rattle.answers.specs.manager_rules.Scene.{IsAsked, Scene, has_shut_child}
-use Rattle.answers.specs.manager_rules.declared.asked.Asked.{Asked}
-use Rattle.answers.specs.manager_rules.declared.due.Due.{Due}
-use Rattle.answers.specs.tap.Factors.{priority_by}
-use Rattle.answers.specs.tap.declared.weights.Weights.{Weights}
+use Rattle.job_deeds.specs.kvs_txn.declared.txn.By.{By}
+use Rattle.job_deeds.specs.manager_rules.Due.{IsDue, IsEnding}
+use Rattle.job_deeds.specs.manager_rules.Jobs.{StoredJob}
+use Rattle.job_deeds.specs.manager_rules.Posts.{Desk, Does, IsDuePost, Post, Submits}
+use Rattle.job_deeds.specs.manager_rules.Scene.{IsAsked, Scene, has_shut_child}
+use Rattle.job_deeds.specs.manager_rules.declared.asked.Asked.{Asked}
+use Rattle.job_deeds.specs.manager_rules.declared.due.Due.{Due}
+use Rattle.job_deeds.specs.tap.Factors.{priority_by}
+use Rattle.job_deeds.specs.tap.declared.weights.Weights.{Weights}
 
 -- what the manager looks at of the jobs, which are given their priorities by these weights
 abbrev pub scene_now : Weights → CommandsValue → BookValue → ℕ → Scene

@@ -3,11 +3,11 @@ use Rattle.std.specs.Prelude.{◌≡◌, ◌⊎◌, ℕ, List, Contains}
 use Rattle.job_commands.specs.Rows.{CommandsValue, Labels}
 use Rattle.job_commands.specs.declared.ask.Named.{Named}
 use Rattle.job_commands.specs.declared.row.Row.{Row}
-use Rattle.answers.specs.job_spec.declared.spec.Depend.{Depend}
-use Rattle.answers.specs.job_spec.declared.spec.JobSpec.{JobSpec}
+use Rattle.job_deeds.specs.job_spec.declared.spec.Depend.{Depend}
+use Rattle.job_deeds.specs.job_spec.declared.spec.JobSpec.{JobSpec}
 use Rattle.job_submissions.specs.Made.{IsAccepted, Submits}
-use Rattle.answers.specs.kvs_txn.declared.txn.By.{By}
-use Rattle.answers.specs.manager_rules.Jobs.{StoredJob}
+use Rattle.job_deeds.specs.kvs_txn.declared.txn.By.{By}
+use Rattle.job_deeds.specs.manager_rules.Jobs.{StoredJob}
 use Rattle.job_service.specs.declared.refusals.Refused.{Refused}
 
 -- the command was refused

@@ -1,13 +1,13 @@
 -- What a landing does to the commands and to the refusals.
 use Rattle.std.specs.Prelude.{◌≡◌, ℕ, ◌++◌, List, [], ◌∷◌, Option, Some, None, filter, not, slice_get}
-use Rattle.answers.specs.instance_rules.Desks.{Begins}
-use Rattle.answers.specs.instance_rules.Log.{Instance, IsPending, JobAsk, Log, Named, Submit}
-use Rattle.answers.specs.instance_rules.Replies.{AsksForEvent}
+use Rattle.instance_rules.specs.Desks.{Begins}
+use Rattle.instance_rules.specs.Log.{Instance, IsPending, JobAsk, Log, Named, Submit}
+use Rattle.instance_rules.specs.Replies.{AsksForEvent}
 use Rattle.job_commands.specs.Agrees.{AgreesCommands, HasUniqueLabels, IsIdOf}
 use Rattle.job_commands.specs.Moments.{CarriesOut, landing}
 use Rattle.job_commands.specs.Rows.{AreCarried, CommandsValue}
-use Rattle.answers.specs.kvs_txn.declared.txn.By.{By}
-use Rattle.answers.specs.kvs_txn.declared.txn.Group.{Group}
+use Rattle.job_deeds.specs.kvs_txn.declared.txn.By.{By}
+use Rattle.job_deeds.specs.kvs_txn.declared.txn.Group.{Group}
 use Rattle.job_service.specs.declared.refusals.Refused.{Refused}
 use Rattle.job_service.specs.Refusals.{is_refusal_of}
 

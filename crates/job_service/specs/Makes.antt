@@ -1,13 +1,13 @@
 -- What a step of the service makes.
 use Rattle.std.specs.Prelude.{◌++◌, List, map}
 use Rattle.std.specs.List.{AllByRecursion as Each}
-use Rattle.job_manager.specs.kvs_core.Makes.{IsOfKeys}
-use Rattle.answers.specs.kvs_rules.Sequence.{EachAfter}
-use Rattle.answers.specs.kvs_rules.Steps.{AreMadeBy}
-use Rattle.answers.specs.kvs_rules.declared.events.KvsEvent.{KvsEvent}
-use Rattle.answers.specs.kvs_rules.declared.events.KvsStep.{KvsStep}
-use Rattle.answers.specs.instance_rules.Legal.{IsLegalMoment}
-use Rattle.answers.specs.instance_rules.Log.{Instance, Log, service_of}
+use Rattle.kvs_core.specs.Makes.{IsOfKeys}
+use Rattle.kvs_rules.specs.Sequence.{EachAfter}
+use Rattle.kvs_rules.specs.Steps.{AreMadeBy}
+use Rattle.kvs_rules.specs.declared.events.KvsEvent.{KvsEvent}
+use Rattle.kvs_rules.specs.declared.events.KvsStep.{KvsStep}
+use Rattle.instance_rules.specs.Legal.{IsLegalMoment}
+use Rattle.instance_rules.specs.Log.{Instance, Log, service_of}
 use Rattle.job_landings.specs.Landings.{happening}
 use Rattle.job_service.specs.Agrees.{AgreesJobs}
 use Rattle.job_service.specs.Value.{JobServiceValue}

@@ -2,7 +2,7 @@
 use Rattle.std.specs.Prelude.{◌≡◌, ℕ, Option, Some, None}
 use Rattle.job_commands.specs.Agrees.{IsIdOf}
 use Rattle.job_commands.specs.Rows.{CommandsValue}
-use Rattle.answers.specs.manager_rules.Posts.{Does, Post, Submits}
+use Rattle.job_deeds.specs.manager_rules.Posts.{Does, Post, Submits}
 
 -- where something is posted, nothing is found besides
 abbrev pub IsAlone : Option Post → Option Post → Type 0

@@ -1,8 +1,8 @@
 -- Submissions that are refused at their issue.
 use Rattle.std.specs.Prelude.{◌≡◌, Bool, List, [], ◌∷◌, Option, Some, None, find, option_map}
-use Rattle.answers.specs.kvs_rules.Log.{same_command}
-use Rattle.answers.specs.kvs_txn.declared.txn.By.{By}
-use Rattle.answers.specs.instance_rules.Log as rules
+use Rattle.kvs_rules.specs.Log.{same_command}
+use Rattle.job_deeds.specs.kvs_txn.declared.txn.By.{By}
+use Rattle.instance_rules.specs.Log as rules
 use Rattle.job_commands.specs.Rows.{CommandsValue, is_of}
 use Rattle.job_commands.specs.declared.ask.JobAsk.{JobAsk}
 use Rattle.job_commands.specs.declared.ask.JobAsk.TheVariants as ask
@@ -10,7 +10,7 @@ use Rattle.job_commands.specs.declared.row.Row.{Row}
 use Rattle.job_submissions.specs.Faults.{IsVerdict}
 use Rattle.job_submissions.specs.declared.faults.Fault.{Fault}
 use Rattle.job_submissions.specs.declared.faults.Fault.TheVariants as fault
-use Rattle.answers.specs.manager_rules.Jobs.{StoredJob}
+use Rattle.job_deeds.specs.manager_rules.Jobs.{StoredJob}
 use Rattle.job_service.specs.declared.refusals.Refused.{Refused}
 
 -- whether the refusal is of this command

@@ -3,9 +3,9 @@ use Rattle.std.specs.Prelude.{◌≡◌, ℕ, ◌||◌, ◌&&◌, ◌++◌, [], 
 use Rattle.std.specs.Option.{option_map_or}
 use Rattle.answers.specs.Jobs.{job_reply_of}
 use Rattle.answers.specs.declared.chronicle.Reply.{Reply}
-use Rattle.answers.specs.kvs_txn.declared.txn.By.{By}
-use Rattle.answers.specs.instance_rules.Log.{Instance, JobReply, Log, Replied}
-use Rattle.answers.specs.instance_rules.Replies.{IsLegalReply}
+use Rattle.job_deeds.specs.kvs_txn.declared.txn.By.{By}
+use Rattle.instance_rules.specs.Log.{Instance, JobReply, Log, Replied}
+use Rattle.instance_rules.specs.Replies.{IsLegalReply}
 use Rattle.job_commands.specs.Rows.{is_waiting}
 use Rattle.job_commands.specs.declared.ask.JobAsk.{JobAsk}
 use Rattle.job_commands.specs.declared.ask.JobAsk.TheVariants as ask

@@ -4,10 +4,10 @@ use Rattle.job_commands.specs.declared.ask.JobAsk.{JobAsk}
 use Rattle.job_commands.specs.declared.ask.JobAsk.TheVariants as ask
 use Rattle.job_commands.specs.Rows.{Labels}
 use Rattle.job_replies.specs.Ready.{is_inactive, state_in}
-use Rattle.answers.specs.job_states.declared.job.State.{State}
-use Rattle.job_manager.specs.kvs_core.Steps.{IsStill as CoreIsStill}
-use Rattle.answers.specs.kvs_txn.declared.txn.By.{By}
-use Rattle.answers.specs.manager_rules.Jobs.{StoredJob}
+use Rattle.job_deeds.specs.job_states.declared.job.State.{State}
+use Rattle.kvs_core.specs.Steps.{IsStill as CoreIsStill}
+use Rattle.job_deeds.specs.kvs_txn.declared.txn.By.{By}
+use Rattle.job_deeds.specs.manager_rules.Jobs.{StoredJob}
 use Rattle.job_service.specs.Children.{is_due}
 use Rattle.job_service.specs.Refusals.{row_in}
 use Rattle.job_service.specs.Replies.{can_reply}

@@ -1,11 +1,11 @@
 -- How far time goes on.
 use Rattle.std.specs.Prelude.{◌≡◌, ℕ, ◌+◌, ◌≤◌, List, None, filter, nat_lt}
-use Rattle.job_manager.specs.job_book.Contract.{seconds_left}
+use Rattle.job_book.specs.Contract.{seconds_left}
 use Rattle.job_clock.specs.Standing.{PassesNone}
 use Rattle.job_clock.specs.Targets.{targets_of}
 use Rattle.job_commands.specs.declared.ask.JobAsk.{JobAsk}
 use Rattle.job_commands.specs.declared.ask.JobAsk.TheVariants as ask
-use Rattle.answers.specs.run_limits.Limits.{most_seconds}
+use Rattle.run_limits.specs.Limits.{most_seconds}
 use Rattle.job_service.specs.Value.{JobServiceValue}
 
 -- the seconds by which a command lets time go on

@@ -2,8 +2,8 @@
 use Rattle.std.specs.Prelude.{ℕ, Bool, List, Option}
 use Rattle.job_commands.specs.Rows.{CommandsValue}
 use Rattle.job_manager.specs.Value.{ManagerValue}
-use Rattle.answers.specs.manager_rules.Posts.{Post}
-use Rattle.answers.specs.tap.declared.weights.Weights.{Weights}
+use Rattle.job_deeds.specs.manager_rules.Posts.{Post}
+use Rattle.job_deeds.specs.tap.declared.weights.Weights.{Weights}
 use Rattle.job_service.specs.declared.refusals.Refused.{Refused}
 
 -- the weights by which its jobs have their priorities, the second of its birth and the present one,

@@ -3,7 +3,7 @@ use Rattle.std.specs.Prelude.{◌≡◌, ℕ, ◌+◌, ◌≤◌, ◌<◌, ◌^�
 use Rattle.job_clock.specs.Targets.{AreInTime}
 use Rattle.job_commands.specs.Rows.{AreMarkedBy, is_submit}
 use Rattle.job_manager.specs.Posts.{post_of}
-use Rattle.answers.specs.run_limits.Limits.{most_seconds, most_submits}
+use Rattle.run_limits.specs.Limits.{most_seconds, most_submits}
 use Rattle.job_service.specs.declared.service.JobService.TheInside.{Inside}
 use Rattle.job_service.specs.Agrees.{IsAgreed}
 use Rattle.job_service.specs.Children.{IsBearing}

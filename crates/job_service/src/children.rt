@@ -1,12 +1,12 @@
 //! Which child is born next, and which may go.
 ghost use Rattle.std.specs.Prelude.{◌≡◌, ◌||◌, IfOk, false};
 ghost use Rattle.std.specs.Option.{option_map_or};
-ghost use Rattle.answers.specs.manager_rules.Dependencies.{job_at};
+ghost use Rattle.job_deeds.specs.manager_rules.Dependencies.{job_at};
 ghost use Rattle.job_service.specs.Children.{IsBearing, is_ending};
 
-use answers::job_states::State;
+use job_book::Book;
 use job_commands::Commands;
-use job_manager::job_book::Book;
+use job_deeds::job_states::State;
 use std::alloc::AllocError;
 
 /// The first job whose child is to be born: it has started with a command that begins an instance,

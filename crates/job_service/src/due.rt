@@ -2,13 +2,13 @@
 ghost use Rattle.std.specs.Prelude.{◌≡◌, All, IfOk, false, option_map};
 ghost use Rattle.job_commands.specs.Desks.{asked_of};
 ghost use Rattle.job_manager.specs.Posts.{post_of};
-ghost use Rattle.answers.specs.manager_rules.Scene.{IsAsked};
+ghost use Rattle.job_deeds.specs.manager_rules.Scene.{IsAsked};
 ghost use Rattle.job_service.specs.Due.{CanLook, IsEventDue, IsFound, IsFoundBeside};
 
-use answers::manager_rules::Due;
-use answers::tap::{Ask, Tap, Weights};
+use job_book::Book;
 use job_commands::Commands;
-use job_manager::job_book::Book;
+use job_deeds::manager_rules::Due;
+use job_deeds::tap::{Ask, Tap, Weights};
 use job_manager::{Manager, Post};
 use job_submissions::submission;
 use std::alloc::{AllocError, Global};

@@ -1,15 +1,15 @@
 //! What a landing of the job manager's transaction does to the commands and to the refusals.
 ghost use Rattle.std.specs.Prelude.{◌≡◌, find, slice_get, OnOk};
 ghost use Rattle.std.specs.Option.{option_copied};
-ghost use Rattle.job_manager.specs.kvs_core.Posted.{groups_in, posts_landed};
-ghost use Rattle.answers.specs.store_laws.Posts.{is_manager};
+ghost use Rattle.kvs_core.specs.Posted.{groups_in, posts_landed};
+ghost use Rattle.job_deeds.specs.store_laws.Posts.{is_manager};
 ghost use Rattle.job_service.specs.Landed.{LandsAs, IsLanded, command_of_first};
 
 use crate::refusals::{Refused, forget};
-use answers::kvs_rules::KvsEvent;
-use answers::kvs_txn::{Author, By, Group};
 use job_commands::Commands;
-use job_manager::kvs_space::KvsEvents;
+use job_deeds::kvs_txn::{Author, By, Group};
+use kvs_rules::KvsEvent;
+use kvs_space::KvsEvents;
 use std::alloc::AllocError;
 
 /// Whether the job manager wrote the transaction.

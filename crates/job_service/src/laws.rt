@@ -1,17 +1,17 @@
 //! What follows from the words of the contracts.
 ghost use Rattle.std.specs.Prelude.{◌≡◌, ◌++◌, ◌∷◌, List, [], None, Some, false};
-ghost use Rattle.answers.specs.instance_rules.Log.{Instance, IsOpen, Issued, Log, Moment, Replied, Shut, Shutdown, is_issued, now_of};
+ghost use Rattle.instance_rules.specs.Log.{Instance, IsOpen, Issued, Log, Moment, Replied, Shut, Shutdown, is_issued, now_of};
 ghost use Rattle.job_commands.specs.Agrees.{AgreesCommands};
 ghost use Rattle.job_commands.specs.Desks.{asked_of, desk_of};
 ghost use Rattle.job_commands.specs.Rows.{CommandsValue};
 ghost use Rattle.job_service.specs.Agrees.{AgreesJobs};
 ghost use Rattle.job_service.specs.Due.{LeavesChildOf, LeavesOpen};
 ghost use Rattle.job_service.specs.Value.{JobServiceValue};
-ghost use Rattle.answers.specs.kvs_txn.declared.txn.By.{By};
-ghost use Rattle.answers.specs.manager_rules.Jobs.{StoredJob};
-ghost use Rattle.answers.specs.manager_rules.Posts.{IsDuePost, Post};
+ghost use Rattle.job_deeds.specs.kvs_txn.declared.txn.By.{By};
+ghost use Rattle.job_deeds.specs.manager_rules.Jobs.{StoredJob};
+ghost use Rattle.job_deeds.specs.manager_rules.Posts.{IsDuePost, Post};
 
-use answers::manager_rules::what_is_due_stays_due;
+use job_deeds::manager_rules::what_is_due_stays_due;
 
 /// What is due by the log of an instance stays due through each further moment of the same second
 /// that leaves the jobs as they are, its command open, and the child of its job as it was, if that

@@ -4,17 +4,14 @@
 
 // The crates below that those above reach through this one.
 pub use answers;
-pub use answers::{
-    event_log, fl_digest, fl_json, job_spec, job_states, kvs_rules, kvs_txn, lists, manager_rules,
-    resource_set, tap, workload,
-};
-pub use job_clock;
+pub use fl_digest;
 pub use job_commands;
-pub use job_landings;
-pub use job_manager;
-pub use job_manager::{job_book, kvs_core, kvs_space};
+pub use job_deeds::{idset, job_states, kvs_txn, lists, resource_set, tap};
 pub use job_replies;
-pub use job_submissions;
+pub use kvs_core;
+pub use kvs_rules;
+pub use run_limits;
+pub use workload;
 
 mod children;
 mod due;

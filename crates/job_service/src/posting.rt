@@ -5,8 +5,8 @@ ghost use Rattle.job_manager.specs.Managed.{WasDuePost};
 ghost use Rattle.job_manager.specs.Posts.{post_of};
 ghost use Rattle.job_service.specs.Posted.{id_posted};
 
-use job_manager::kvs_core::CoreFault;
 use job_manager::{Manager, Post};
+use kvs_core::CoreFault;
 
 /// Posts what was found to be due, and gives the id of the job that is submitted.
 pub fn post(manager: &mut Manager, found: Post) -> Result<Option<u64>, CoreFault>

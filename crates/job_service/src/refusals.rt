@@ -7,9 +7,9 @@ ghost use Rattle.job_service.specs.Replies.{asks_manager, is_undone};
 ghost use Rattle.std.specs.Option.{option_copied};
 
 use answers::Reply;
-use answers::kvs_txn::By;
+use job_book::Book;
 use job_commands::{Commands, JobAsk, Row, Stage};
-use job_manager::job_book::Book;
+use job_deeds::kvs_txn::By;
 use job_submissions::{Fault, fault_of};
 use std::alloc::{AllocError, Global};
 

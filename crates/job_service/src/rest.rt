@@ -3,10 +3,10 @@ ghost use Rattle.std.specs.Prelude.{◌≡◌};
 ghost use Rattle.job_replies.specs.Ready.{state_in};
 ghost use Rattle.job_service.specs.Still.{awaited_by, unless_over};
 
-use answers::job_states::State;
-use answers::lists::Bytes;
+use job_book::Book;
 use job_commands::{Commands, JobAsk, Row};
-use job_manager::job_book::Book;
+use job_deeds::job_states::State;
+use job_deeds::lists::Bytes;
 
 /// The state of the job that a label names, if it names one.
 fn state_in(commands: &Commands, book: &Book, label: &Bytes) -> Option<State>

@@ -1,10 +1,10 @@
 //! How far time goes on.
 ghost use Rattle.std.specs.Prelude.{◌≡◌, ◌↔◌, ◌≤◌, ◌+◌, IsTrue};
-ghost use Rattle.answers.specs.run_limits.Limits.{most_seconds};
+ghost use Rattle.run_limits.specs.Limits.{most_seconds};
 ghost use Rattle.job_service.specs.Times.{seconds_asked};
 
-use answers::run_limits::MOST_SECONDS;
 use job_commands::JobAsk;
+use run_limits::MOST_SECONDS;
 
 /// The seconds by which a command lets time go on: those of an advance.
 pub fn seconds_asked(ask: &JobAsk) -> u64

@@ -1,10 +1,6 @@
 //! Jobspecs, version 1 (Flux RFC 14 and 25): what a job asks for, and its text.
 #![tactic(auto)]
 
-// The crates below that those above reach through this one.
-pub use fl_json;
-pub use fluid_ids;
-
 pub mod faults;
 mod fields;
 pub mod laws;

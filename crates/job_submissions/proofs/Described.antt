@@ -4,10 +4,10 @@ use Rattle.std.specs.Prelude.{codes}
 use Rattle.serde_json.specs.Data.{Data, item, no_members, object, string}
 use Rattle.serde_json.specs.View.{items_of}
 use Rattle.serde_json.specs.Written.{has_float, items_have_float}
-use Rattle.job_manager.specs.job_spec.declared.spec.Depend.{Depend}
-use Rattle.job_manager.specs.manager_rules.Jobs.{description_of}
-use Rattle.job_manager.specs.manager_rules.Deeds.{number_member}
-use Rattle.job_manager.specs.manager_rules.Posts.{depends_member, described}
+use Rattle.job_spec.specs.declared.spec.Depend.{Depend}
+use Rattle.manager_rules.specs.Jobs.{description_of}
+use Rattle.manager_rules.specs.Deeds.{number_member}
+use Rattle.manager_rules.specs.Posts.{depends_member, described}
 
 abbrev pub described_one : Depend → Data
 described_one need = string (description_of need)

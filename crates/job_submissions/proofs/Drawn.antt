@@ -1,7 +1,7 @@
 -- The numbers of a submission that waits are within their bits.
 use Rattle.std.proofs.Common.{◌≡◌, ℕ, zero, suc, ◌<◌, ◌≤◌, ◌^◌, ◌&&◌, true, List, [], ◌∷◌, length, ap₂, arith}
 use Rattle.std.specs.Prelude.{Some, Contains, slice_index}
-use Rattle.job_manager.specs.instance_rules.Desks.{is_submission}
+use Rattle.instance_rules.specs.Desks.{is_submission}
 use Rattle.job_commands.specs.Agrees.{AreDrawn}
 use Rattle.job_commands.specs.Asks.{told}
 use Rattle.job_commands.specs.Rows.{AreMarkedBy, CommandsValue, is_submit, is_waiting}

@@ -2,8 +2,8 @@
 use Rattle.std.proofs.Common.{◌≡◌, ◌≢◌, ◌∙◌, ◌⊎◌, inl, inr, ℕ, ◌+◌, ◌-◌, ◌*◌, ◌^◌, ◌<◌, ◌≤◌, List, [], ◌∷◌, ◌++◌, Option, Some, None, Ok, Contains, true, length, refl, sym, ap, subst, arith}
 use Rattle.std.specs.Prelude.{option_map, filter_map, slice_index}
 use Rattle.std.specs.List.{AllByRecursion as Each, cons_option}
-use Rattle.job_manager.specs.instance_rules.Log.{Instance, IsInstance, IsOpen, Log, before_issue, now_of, seconds_open}
-use Rattle.job_manager.specs.kvs_txn.declared.txn.By.{By}
+use Rattle.instance_rules.specs.Log.{Instance, IsInstance, IsOpen, Log, before_issue, now_of, seconds_open}
+use Rattle.kvs_txn.specs.declared.txn.By.{By}
 use Rattle.job_commands.specs.Agrees.{AgreesCommands, IsIdOf, RowAgrees}
 use Rattle.job_commands.specs.Asks.{told}
 use Rattle.job_commands.specs.Desks.{desk_of, needs_of, submit_at, submit_by, submits_of}
@@ -14,14 +14,14 @@ use Rattle.job_commands.specs.declared.ask.Named.{Named}
 use Rattle.job_commands.specs.declared.row.Row.{Row}
 use Rattle.job_commands.specs.declared.row.Stage.{Stage}
 use Rattle.job_commands.specs.declared.row.Stage.TheVariants as stage
-use Rattle.job_manager.proofs.job_rules_proofs.Among.{Among, among_from, contains_from}
-use Rattle.job_manager.specs.job_spec.Specs.{spec_reading}
-use Rattle.job_manager.specs.job_spec.declared.spec.Depend.{Depend}
-use Rattle.job_manager.specs.job_spec.declared.spec.JobSpec.{JobSpec}
-use Rattle.job_manager.proofs.manager_rules_proofs.Submitting.{submit_lists}
-use Rattle.job_manager.specs.manager_rules.Jobs.{AreNeeds, StoredJob, distinct, ids_of, listed_in}
-use Rattle.job_manager.specs.manager_rules.Posts as posts
-use Rattle.job_manager.specs.manager_rules.Posts.{IsNewId, IsOpenSubmit, IsSubmission, Submission, submit_event}
+use Rattle.job_rules.proofs.Among.{Among, among_from, contains_from}
+use Rattle.job_spec.specs.Specs.{spec_reading}
+use Rattle.job_spec.specs.declared.spec.Depend.{Depend}
+use Rattle.job_spec.specs.declared.spec.JobSpec.{JobSpec}
+use Rattle.manager_rules.proofs.Submitting.{submit_lists}
+use Rattle.manager_rules.specs.Jobs.{AreNeeds, StoredJob, distinct, ids_of, listed_in}
+use Rattle.manager_rules.specs.Posts as posts
+use Rattle.manager_rules.specs.Posts.{IsNewId, IsOpenSubmit, IsSubmission, Submission, submit_event}
 use Rattle.job_submissions.specs.Faults.{AreKnown}
 use Rattle.job_submissions.specs.Made.{AreLabelled, IsMade, IsMadeOf, MakesNone, Submits}
 use Rattle.job_submissions.proofs.Drawn.{rank-small, sequence-small, submits-now}

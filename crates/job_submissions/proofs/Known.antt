@@ -3,12 +3,12 @@ use Rattle.std.proofs.Common.{◌≡◌, ℕ, ◌==◌, ◌⊎◌, inl, inr, Lis
 use Rattle.std.specs.Prelude.{is_some, not, option_and_then, option_map}
 use Rattle.std.specs.List.{list_all}
 use Rattle.std.proofs.lemmas.Bool.{and_parts, and_cases, eqb-true, eq-eqb}
-use Rattle.job_manager.proofs.job_rules_proofs.Among.{Among, among_from, among_mapped, contains_from}
-use Rattle.job_manager.specs.job_spec.declared.spec.Depend.{Depend}
-use Rattle.job_manager.specs.manager_rules.Dependencies.{job_at as job_with}
-use Rattle.job_manager.specs.manager_rules.Jobs.{StoredJob, ids_of}
+use Rattle.job_rules.proofs.Among.{Among, among_from, among_mapped, contains_from}
+use Rattle.job_spec.specs.declared.spec.Depend.{Depend}
+use Rattle.manager_rules.specs.Dependencies.{job_at as job_with}
+use Rattle.manager_rules.specs.Jobs.{StoredJob, ids_of}
 use Rattle.job_commands.specs.Desks.{needs_of}
-use Rattle.job_manager.specs.instance_rules.Log.{Instance, Log}
+use Rattle.instance_rules.specs.Log.{Instance, Log}
 use Rattle.job_commands.specs.Agrees.{AgreesCommands}
 use Rattle.job_commands.specs.Asks.{named_of}
 use Rattle.job_commands.specs.Rows.{CommandsValue, Labels, job_at}

@@ -1,19 +1,19 @@
 -- Why submissions are refused.
 use Rattle.std.specs.Prelude.{◌≡◌, ◌⊎◌, ℕ, Bool, true, false, List, Option, Some, None, Result, Ok, Err, Contains, is_some}
 use Rattle.std.specs.List.{AllByRecursion as Each}
-use Rattle.job_manager.specs.job_spec.declared.faults.SpecFault.{SpecFault}
-use Rattle.job_manager.specs.job_spec.declared.spec.Depend.{Depend}
-use Rattle.job_manager.specs.job_spec.declared.spec.JobSpec.{JobSpec}
-use Rattle.job_manager.specs.job_spec.Numbers.{number_of}
-use Rattle.job_manager.specs.job_spec.Specs.{spec_reading}
-use Rattle.job_manager.specs.instance_rules.Log as rules
-use Rattle.job_manager.specs.instance_rules.Log.{Instance, Log}
-use Rattle.job_manager.specs.instance_rules.Replies.{NamesNone}
+use Rattle.job_spec.specs.declared.faults.SpecFault.{SpecFault}
+use Rattle.job_spec.specs.declared.spec.Depend.{Depend}
+use Rattle.job_spec.specs.declared.spec.JobSpec.{JobSpec}
+use Rattle.job_spec.specs.Numbers.{number_of}
+use Rattle.job_spec.specs.Specs.{spec_reading}
+use Rattle.instance_rules.specs.Log as rules
+use Rattle.instance_rules.specs.Log.{Instance, Log}
+use Rattle.instance_rules.specs.Replies.{NamesNone}
 use Rattle.job_commands.specs.Desks.{needs_of}
 use Rattle.job_commands.specs.Rows.{CommandsValue, Labels, job_at}
 use Rattle.job_commands.specs.declared.ask.Named.{Named}
-use Rattle.job_manager.specs.manager_rules.Dependencies.{job_at as job_with}
-use Rattle.job_manager.specs.manager_rules.Jobs.{StoredJob, ids_of}
+use Rattle.manager_rules.specs.Dependencies.{job_at as job_with}
+use Rattle.manager_rules.specs.Jobs.{StoredJob, ids_of}
 use Rattle.job_submissions.specs.declared.faults.Fault.{Fault}
 use Rattle.job_submissions.specs.declared.faults.Fault.TheVariants as fault
 

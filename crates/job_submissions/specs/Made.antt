@@ -1,10 +1,10 @@
 -- Submissions that are due, as they are made of open commands.
 use Rattle.std.specs.Prelude.{◌≡◌, ℕ, ◌≤◌, List, Some, Ok, Contains, codes}
 use Rattle.serde_json.specs.Data.{no_members}
-use Rattle.job_manager.specs.event_log.declared.event.Event.{Event}
-use Rattle.job_manager.specs.job_spec.declared.spec.Depend.{Depend}
-use Rattle.job_manager.specs.job_spec.declared.spec.JobSpec.{JobSpec}
-use Rattle.job_manager.specs.job_spec.Specs.{spec_reading}
+use Rattle.event_log.specs.declared.event.Event.{Event}
+use Rattle.job_spec.specs.declared.spec.Depend.{Depend}
+use Rattle.job_spec.specs.declared.spec.JobSpec.{JobSpec}
+use Rattle.job_spec.specs.Specs.{spec_reading}
 use Rattle.job_commands.specs.Agrees.{id_at}
 use Rattle.job_commands.specs.Desks.{needs_of}
 use Rattle.job_commands.specs.Rows.{CommandsValue, Labels, job_at}
@@ -12,9 +12,9 @@ use Rattle.job_commands.specs.declared.ask.JobAsk.TheVariants as ask
 use Rattle.job_commands.specs.declared.ask.Named.{Named}
 use Rattle.job_commands.specs.declared.row.Row.{Row}
 use Rattle.job_commands.specs.declared.row.Stage.TheVariants as stage
-use Rattle.job_manager.specs.manager_rules.Deeds.{event_with, number_member}
-use Rattle.job_manager.specs.manager_rules.Jobs.{AreNeeds, StoredJob, ids_of}
-use Rattle.job_manager.specs.manager_rules.Posts.{Submission, depends_member}
+use Rattle.manager_rules.specs.Deeds.{event_with, number_member}
+use Rattle.manager_rules.specs.Jobs.{AreNeeds, StoredJob, ids_of}
+use Rattle.manager_rules.specs.Posts.{Submission, depends_member}
 use Rattle.job_submissions.specs.Faults.{AreKnown}
 
 -- the text is this accepted jobspec, the labels name these dependencies, and all are on jobs

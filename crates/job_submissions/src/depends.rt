@@ -4,9 +4,9 @@ ghost use Rattle.std.specs.List.{list_all};
 ghost use Rattle.job_commands.specs.Desks.{needs_of};
 ghost use Rattle.job_submissions.specs.Faults.{is_on_job};
 
+use job_book::Book;
 use job_commands::{Commands, Named};
-use job_manager::job_book::Book;
-use job_manager::job_spec::{Depend, Needs};
+use job_spec::{Depend, Needs};
 use std::alloc::{AllocError, Global};
 
 /// Whether a dependency is on a job of the book.

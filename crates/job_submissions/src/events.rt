@@ -2,15 +2,15 @@
 ghost use Rattle.std.specs.Prelude.{◌≡◌, IfOk, codes};
 ghost use Rattle.serde_json.specs.Data.{array, member, no_members, object, string};
 ghost use Rattle.serde_json.specs.View.{view};
-ghost use Rattle.job_manager.specs.manager_rules.Deeds.{event_with, number_member};
-ghost use Rattle.job_manager.specs.manager_rules.Jobs.{description_of};
-ghost use Rattle.job_manager.specs.manager_rules.Posts.{depends_member, described};
+ghost use Rattle.manager_rules.specs.Deeds.{event_with, number_member};
+ghost use Rattle.manager_rules.specs.Jobs.{description_of};
+ghost use Rattle.manager_rules.specs.Posts.{depends_member, described};
 
-use job_manager::event_log::Event;
-use job_manager::fl_json::Value;
-use job_manager::job_spec::Depend;
-use job_manager::job_texts::description;
-use job_manager::lists::Bytes;
+use event_log::Event;
+use fl_json::Value;
+use job_spec::Depend;
+use job_texts::description;
+use lists::Bytes;
 use serde_json::json;
 use std::alloc::{AllocError, Global};
 
@@ -93,6 +93,6 @@ pub fn submit_event(
     Ok(Event {
         timestamp: now,
         name: Bytes::of(alloc, b"submit")?,
-        context: Some(Bytes::from_vec(job_manager::fl_json::text(alloc, &context)?)),
+        context: Some(Bytes::from_vec(fl_json::text(alloc, &context)?)),
     })
 }

@@ -3,10 +3,10 @@ ghost use Rattle.std.specs.Prelude.{◌≡◌, IfOk};
 ghost use Rattle.job_submissions.specs.Faults.{IsReadAs, IsVerdict, Lacks};
 
 use crate::depends::{are_known, named_needs};
+use job_book::Book;
 use job_commands::{Commands, NamedList};
-use job_manager::job_book::Book;
-use job_manager::job_spec::JobSpec;
-use job_manager::lists::Bytes;
+use job_spec::JobSpec;
+use lists::Bytes;
 use std::alloc::{AllocError, Global};
 
 /// Why a submission is refused.
@@ -22,7 +22,7 @@ pub enum Fault {
 pub(crate) fn read(alloc: Global, text: &[u8]) -> Result<Result<JobSpec, u32>, AllocError>
     ensures { IfOk result (IsReadAs text.now) }
 {
-    match job_manager::job_spec::read(alloc, text) {
+    match job_spec::read(alloc, text) {
         Ok(spec) => Ok(Ok(spec)),
         Err(fault) => match fault.number() {
             Some(number) => Ok(Err(number)),

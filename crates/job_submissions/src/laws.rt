@@ -1,18 +1,18 @@
 //! What follows from the words of the contracts.
 ghost use Rattle.std.specs.Prelude.{◌*◌, ◌-◌, ◌<◌, ◌≤◌, ◌^◌, List, Contains, length, map, true};
 ghost use Rattle.std.specs.List.{AllByRecursion as Each};
-ghost use Rattle.job_manager.specs.instance_rules.Log.{Instance, IsInstance, Log, now_of};
+ghost use Rattle.instance_rules.specs.Log.{Instance, IsInstance, Log, now_of};
 ghost use Rattle.job_commands.specs.Agrees.{AgreesCommands};
 ghost use Rattle.job_commands.specs.Asks.{named_of};
 ghost use Rattle.job_commands.specs.Desks.{desk_of, submits_of};
 ghost use Rattle.job_commands.specs.Rows.{CommandsValue};
 ghost use Rattle.job_commands.specs.declared.row.Row.{Row};
 ghost use Rattle.job_commands.specs.declared.ask.Named.{Named};
-ghost use Rattle.job_manager.specs.job_spec.declared.spec.Depend.{Depend};
+ghost use Rattle.job_spec.specs.declared.spec.Depend.{Depend};
 ghost use Rattle.job_submissions.specs.Faults.{Lacks, LacksSome};
 ghost use Rattle.job_submissions.specs.Made.{AreLabelled, IsMade, MakesNone};
-ghost use Rattle.job_manager.specs.manager_rules.Posts.{IsSubmission, Submission};
-ghost use Rattle.job_manager.specs.manager_rules.Jobs.{StoredJob};
+ghost use Rattle.manager_rules.specs.Posts.{IsSubmission, Submission};
+ghost use Rattle.manager_rules.specs.Jobs.{StoredJob};
 
 use job_commands::{new_ids_are_new, open_commands_are_open_at_their_issue};
 

@@ -1,23 +1,23 @@
 //! Which submission is due, and what it posts (Flux RFC 19 and 21).
 ghost use Rattle.std.specs.Prelude.{◌≡◌, ◌<◌, ◌≤◌, ◌*◌, ◌-◌, ◌^◌, ℕ, List, Contains, IfNone, IfOk, IfSome, length};
-ghost use Rattle.job_manager.specs.fluid_ids.Ids.{id_of as fluid_of};
+ghost use Rattle.fluid_ids.specs.Ids.{id_of as fluid_of};
 ghost use Rattle.job_commands.specs.Agrees.{AreDrawn};
 ghost use Rattle.job_commands.specs.Rows.{AreMarkedBy};
 ghost use Rattle.job_commands.specs.declared.row.Row.{Row as Open};
 ghost use Rattle.job_manager.specs.Posts.{told};
-ghost use Rattle.job_manager.specs.job_spec.declared.spec.Depend.{Depend as Need};
-ghost use Rattle.job_manager.specs.job_spec.declared.spec.JobSpec.{JobSpec as Spec};
+ghost use Rattle.job_spec.specs.declared.spec.Depend.{Depend as Need};
+ghost use Rattle.job_spec.specs.declared.spec.JobSpec.{JobSpec as Spec};
 ghost use Rattle.job_submissions.specs.Made.{IsAccepted, IsBuilt, IsMade, IsMadeOf, MakesNone};
 
 use crate::depends::{are_known, named_needs};
 use crate::events::submit_event;
 use crate::faults::read;
+use job_book::Book;
 use job_commands::{Commands, JobAsk, NamedList, Row, Stage};
 use job_manager::Submission;
-use job_manager::job_book::Book;
-use job_manager::job_spec::{JobSpec, Needs};
-use job_manager::job_texts::needs_of;
-use job_manager::lists::{Bytes, Copied};
+use job_spec::{JobSpec, Needs};
+use job_texts::needs_of;
+use lists::{Bytes, Copied};
 use std::alloc::{AllocError, Global};
 
 /// The id of a millisecond since an instance's birth, a rank and a sequence number (RFC 19).

@@ -1,6 +1,6 @@
 //! The R of a child instance.
 use child_grant::child;
-use job_rules::resource_set::{print, read};
+use resource_set::{print, read};
 use std::test::Fail;
 
 /// What stands under `execution` of a job's R, and of its child's.

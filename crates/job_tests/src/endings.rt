@@ -1,6 +1,6 @@
 //! How the commands of jobs end.
-use manager_rules::job_spec::JobSpec;
-use manager_rules::shells::{Ending, ending};
+use job_spec::JobSpec;
+use shells::{Ending, ending};
 use std::test::Fail;
 
 /// How commands end that start at second 5: a status and a second, or with a child. Commands are
@@ -62,7 +62,7 @@ fn job(rt: &HostRuntime, command: &str) -> Result<JobSpec, Fail> {
             \"count\":1}}],\"label\":\"task\"}}],\"tasks\":[{{\"command\":[{command}],\
             \"slot\":\"task\",\"count\":{{\"per_slot\":1}}}}],\"version\":1}}"
     )?;
-    Ok(manager_rules::job_spec::read(rt.alloc(), text.as_bytes())?)
+    Ok(job_spec::read(rt.alloc(), text.as_bytes())?)
 }
 
 /// How a command ends.

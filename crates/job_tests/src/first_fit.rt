@@ -5,9 +5,9 @@ ghost use Rattle.graph_match.specs.Answers.{Answers};
 ghost use Rattle.graph_match.specs.Holds.{IsNew};
 
 use graph_match::{Fit, Free, Graph};
-use job_rules::job_spec::{JobSpec, Needs, Tasks, WordList};
-use job_rules::lists::Bytes;
-use job_rules::resource_set::read;
+use job_spec::{JobSpec, Needs, Tasks, WordList};
+use lists::Bytes;
+use resource_set::read;
 use std::alloc::{AllocError, Global};
 use std::process::Abort;
 use std::test::Fail;

@@ -1,7 +1,7 @@
 //! Jobspecs (Flux RFC 14 and 25), and the faults of other texts.
-use job_rules::fl_json::JsonFault;
-use job_rules::job_spec::{JobSpec, Place, SpecFault, read};
-use job_rules::lists::Copied;
+use fl_json::JsonFault;
+use job_spec::{JobSpec, Place, SpecFault, read};
+use lists::Copied;
 use std::test::Fail;
 
 /// A job of one slot of one core.

@@ -1,5 +1,5 @@
 //! The queue of waiting jobs, and the dependencies that an end settles.
-use manager_rules::job_queue::{Outcome, Queue, Scheme, Settled};
+use job_queue::{Outcome, Queue, Scheme, Settled};
 use std::alloc::Global;
 use std::test::Fail;
 

@@ -1,9 +1,9 @@
 //! Texts of R (Flux RFC 20), and the faults of other texts.
 ghost use Rattle.std.specs.Prelude.{IfOk};
-ghost use Rattle.job_rules.specs.resource_set.Valid.{IsR};
+ghost use Rattle.resource_set.specs.Valid.{IsR};
 
-use job_rules::fl_json::JsonFault;
-use job_rules::resource_set::{RFault, Resources, minus, print, read, within};
+use fl_json::JsonFault;
+use resource_set::{RFault, Resources, minus, print, read, within};
 use std::alloc::Global;
 use std::test::Fail;
 

@@ -1,7 +1,7 @@
 //! What the eventlog of a job tells of it (Flux RFC 21).
-use manager_rules::event_log::Event;
-use manager_rules::job_states::{Job, ReplayFault, replay};
-use manager_rules::lists::Bytes;
+use event_log::Event;
+use job_states::{Job, ReplayFault, replay};
+use lists::Bytes;
 use std::test::Fail;
 
 /// Events by their names and contexts.

@@ -1,6 +1,6 @@
 //! What kept callbacks answer.
-use manager_rules::tap::{Ask, Check, Tap};
 use std::test::Fail;
+use tap::{Ask, Check, Tap};
 
 #[test]
 fn answers_of_a_callback(rt: HostRuntime) -> Result<(), Fail> {

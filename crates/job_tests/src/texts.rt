@@ -1,8 +1,8 @@
 //! The dependencies that a submission lists, and the texts of events.
+use event_log::Event;
+use job_spec::JobSpec;
 use job_texts::{description, needs_of, release_event};
-use manager_rules::event_log::Event;
-use manager_rules::job_spec::JobSpec;
-use manager_rules::lists::Bytes;
+use lists::Bytes;
 use std::alloc::Global;
 use std::test::Fail;
 
@@ -56,7 +56,7 @@ fn are_listed(alloc: Global, spec: &JobSpec, context: &str, wanted: &str) -> Res
 #[test]
 fn dependencies_are_listed_once(rt: HostRuntime) -> Result<(), Fail> {
     let alloc = rt.alloc();
-    let spec = manager_rules::job_spec::read(alloc, SPEC.as_bytes())?;
+    let spec = job_spec::read(alloc, SPEC.as_bytes())?;
     for (context, wanted) in &ROWS {
         assert!(rt; are_listed(alloc, &spec, context, wanted)?, "{context}");
     }

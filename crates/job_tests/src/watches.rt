@@ -1,12 +1,12 @@
 //! Watches of a job that are fed its log as it grows.
 ghost use Rattle.std.specs.Prelude.{◌≡◌, ◌<◌, length, IfOk};
 ghost use Rattle.std.specs.Fn.{FnReturnsAt};
-ghost use Rattle.manager_rules.specs.event_log.Events.{IsEvent};
+ghost use Rattle.event_log.specs.Events.{IsEvent};
 ghost use Rattle.job_watch.specs.Answers.{ShowsOnce};
 
+use event_log::{Event, line};
 use job_watch::{NameTexts, Show, Watcher};
-use manager_rules::event_log::{Event, line};
-use manager_rules::lists::Bytes;
+use lists::Bytes;
 use std::alloc::{AllocError, Global};
 use std::test::Fail;
 

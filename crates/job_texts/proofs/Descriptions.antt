@@ -1,11 +1,11 @@
 -- A description tells its dependency again.
 use Rattle.std.proofs.Common.{◌≡◌, ℕ, ◌<◌, ◌^◌, List, ◌++◌, get_or, drop, refl, sym, ap, ◌∙◌, arith, Ok}
-use Rattle.manager_rules.specs.fluid_ids.Texts.{meaning, printed}
-use Rattle.manager_rules.specs.fluid_ids.declared.forms.Form.TheVariants.{F58}
-use Rattle.manager_rules.proofs.fluid_ids_proofs.Rereads.{printed_again}
-use Rattle.manager_rules.specs.job_spec.declared.spec.Depend.{Depend}
-use Rattle.manager_rules.specs.job_spec.declared.spec.Scheme.{Scheme}
-use Rattle.manager_rules.specs.job_spec.declared.spec.Scheme.TheVariants.{After, AfterAny, AfterOk, AfterNotOk}
+use Rattle.fluid_ids.specs.Texts.{meaning, printed}
+use Rattle.fluid_ids.specs.declared.forms.Form.TheVariants.{F58}
+use Rattle.fluid_ids.proofs.Rereads.{printed_again}
+use Rattle.job_spec.specs.declared.spec.Depend.{Depend}
+use Rattle.job_spec.specs.declared.spec.Scheme.{Scheme}
+use Rattle.job_spec.specs.declared.spec.Scheme.TheVariants.{After, AfterAny, AfterOk, AfterNotOk}
 use Rattle.manager_rules.specs.Jobs.{description_of}
 use Rattle.job_texts.specs.Listed.{mark_of}
 

@@ -12,12 +12,12 @@ use Rattle.serde_json.specs.Data.{Data}
 use Rattle.serde_json.specs.Find.{as_str}
 use Rattle.serde_json.specs.View.{items_of, items_view, view}
 use Rattle.serde_json.specs.declared.value.Value.{Value}
-use Rattle.manager_rules.specs.fluid_ids.Texts.{printed}
-use Rattle.manager_rules.specs.fluid_ids.declared.forms.Form.TheVariants.{F58}
-use Rattle.manager_rules.proofs.job_rules_proofs.Few.{bytes_same, same_bytes}
-use Rattle.manager_rules.specs.job_spec.declared.spec.Depend.{Depend}
-use Rattle.manager_rules.specs.job_spec.declared.spec.Scheme.{Scheme}
-use Rattle.manager_rules.specs.job_spec.declared.spec.Scheme.TheVariants.{After}
+use Rattle.fluid_ids.specs.Texts.{printed}
+use Rattle.fluid_ids.specs.declared.forms.Form.TheVariants.{F58}
+use Rattle.job_rules.proofs.Few.{bytes_same, same_bytes}
+use Rattle.job_spec.specs.declared.spec.Depend.{Depend}
+use Rattle.job_spec.specs.declared.spec.Scheme.{Scheme}
+use Rattle.job_spec.specs.declared.spec.Scheme.TheVariants.{After}
 use Rattle.manager_rules.specs.Jobs.{description_of, distinct, same_need, texts_of}
 use Rattle.job_texts.specs.Listed.{AreSmall, mark_of, with_need}
 use Rattle.job_texts.proofs.Descriptions.{described, same_ids, same_rest, same_scheme}

@@ -1,8 +1,8 @@
 -- The ranks of hosts are small.
 use Rattle.std.proofs.Common.{◌<◌, List, map, subst}
 use Rattle.std.specs.Prelude.{All}
-use Rattle.manager_rules.proofs.job_rules_proofs.Among.{all_at, all_from, among_map}
-use Rattle.manager_rules.specs.resource_set.declared.node.Node.{Node}
+use Rattle.job_rules.proofs.Among.{all_at, all_from, among_map}
+use Rattle.resource_set.specs.declared.node.Node.{Node}
 
 pub ranks_small : (nodes : List Node) → All (λ node. node.rank < 65536) nodes → All (λ id. id < 65536) (map (λ node. node.rank) nodes)
 ranks_small nodes h = all_from (λ id. id < 65536) (map (λ node. node.rank) nodes) (λ id i.

@@ -1,9 +1,9 @@
 -- The dependencies that a submission lists, each once.
 use Rattle.std.specs.Prelude.{◌≡◌, ◌<◌, ◌^◌, ◌++◌, ◌∷◌, [], ℕ, List, Option, Some, map, if◌then◌else◌}
 use Rattle.std.specs.List.{list_any, AllByRecursion as Each}
-use Rattle.manager_rules.specs.lists.Ascii.{colon}
-use Rattle.manager_rules.specs.job_spec.declared.spec.Depend.{Depend}
-use Rattle.manager_rules.specs.job_spec.declared.spec.Scheme.{Scheme}
+use Rattle.lists.specs.Ascii.{colon}
+use Rattle.job_spec.specs.declared.spec.Depend.{Depend}
+use Rattle.job_spec.specs.declared.spec.Scheme.{Scheme}
 use Rattle.manager_rules.specs.Jobs.{description_of, same_need, scheme_name}
 
 -- a description begins with its scheme and a colon

@@ -3,16 +3,16 @@ ghost use Rattle.std.specs.Prelude.{◌≡◌, ◌≢◌, ◌<◌, ◌^◌, ◌+
 ghost use Rattle.std.specs.List.{list_any};
 ghost use Rattle.std.specs.Result.{result_ok};
 ghost use Rattle.serde_json.specs.Find.{as_array, as_str, get};
-ghost use Rattle.manager_rules.specs.fl_json.Reading.{reading};
+ghost use Rattle.fl_json.specs.Reading.{reading};
 ghost use Rattle.serde_json.specs.View.{view, items_view};
-ghost use Rattle.manager_rules.specs.job_spec.declared.spec.Depend.{Depend as Need};
-ghost use Rattle.manager_rules.specs.job_spec.declared.spec.Scheme.{Scheme as Way};
+ghost use Rattle.job_spec.specs.declared.spec.Depend.{Depend as Need};
+ghost use Rattle.job_spec.specs.declared.spec.Scheme.{Scheme as Way};
 ghost use Rattle.manager_rules.specs.Jobs.{AreNeeds, description_of, distinct, listed_in, same_need, texts_in, texts_of};
 ghost use Rattle.job_texts.specs.Listed.{AreDescribed, AreSmall, mark_of, with_need};
 
-use manager_rules::event_log::Event;
-use manager_rules::fl_json::{JsonFault, Value};
-use manager_rules::job_spec::{Depend, JobSpec, Needs, Scheme};
+use event_log::Event;
+use fl_json::{JsonFault, Value};
+use job_spec::{Depend, JobSpec, Needs, Scheme};
 use std::alloc::{AllocError, Global};
 
 /// What stands behind a mark.
@@ -64,7 +64,7 @@ fn need_in(text: &[u8]) -> Option<Depend>
         → text.now ≡ description_of need → result ≡ Some need }
 {
     let (scheme, id) = marked(text)?;
-    match manager_rules::fluid_ids::read(id) {
+    match fluid_ids::read(id) {
         Ok(on) => Some(Depend { scheme, on }),
         Err(_) => None,
     }
@@ -131,7 +131,7 @@ fn value_of(alloc: Global, context: &[u8]) -> Result<Option<Value>, AllocError>
     ensures { IfOk result (λ value.
         option_map (λ v. view v) value ≡ result_ok (reading context.now)) }
 {
-    match manager_rules::fl_json::read(alloc, context) {
+    match fl_json::read(alloc, context) {
         Ok(value) => Ok(Some(value)),
         Err(JsonFault::NoMemory) => Err(AllocError),
         Err(JsonFault::BadNumber { .. }) => Ok(None),

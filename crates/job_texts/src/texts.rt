@@ -5,18 +5,18 @@ ghost use Rattle.std.specs.Str.{IsUtf8};
 ghost use Rattle.serde_json.specs.Data.{boolean, member, no_members, object, string};
 ghost use Rattle.serde_json.specs.View.{view};
 ghost use Rattle.serde_json.specs.Written.{has_float};
-ghost use Rattle.manager_rules.specs.resource_set.Units.{AreHosts};
+ghost use Rattle.resource_set.specs.Units.{AreHosts};
 ghost use Rattle.manager_rules.specs.Jobs.{description_of, scheme_name};
 ghost use Rattle.manager_rules.specs.Deeds.{event_with as with_members, plain_event as bare_event, exception_context, ranks_text, release_context, text_member, number_member};
 ghost use Rattle.job_texts.specs.Texts.{event_telling};
 
-use manager_rules::event_log::Event;
-use manager_rules::fl_json::Value;
-use manager_rules::fluid_ids::Form;
-use manager_rules::idset::IdSet;
-use manager_rules::job_spec::{Depend, Scheme};
-use manager_rules::lists::{Bytes, ListOf};
-use manager_rules::resource_set::Resources;
+use event_log::Event;
+use fl_json::Value;
+use fluid_ids::Form;
+use idset::IdSet;
+use job_spec::{Depend, Scheme};
+use lists::{Bytes, ListOf};
+use resource_set::Resources;
 use serde_json::json;
 use std::alloc::{AllocError, Global};
 
@@ -39,7 +39,7 @@ pub fn description(alloc: Global, need: &Depend) -> Result<Bytes, AllocError>
 {
     let mut text = Bytes::of(alloc, name_of(need.scheme).as_bytes())?;
     text.add(b":")?;
-    let id = manager_rules::fluid_ids::print(alloc, need.on, Form::F58)?;
+    let id = fluid_ids::print(alloc, need.on, Form::F58)?;
     text.add(id.as_slice())?;
     Ok(text)
 }
@@ -85,7 +85,7 @@ fn event_with(alloc: Global, now: u64, name: &str, context: Value) -> Result<Eve
     Ok(Event {
         timestamp: now,
         name: Bytes::of(alloc, name.as_bytes())?,
-        context: Some(Bytes::from_vec(manager_rules::fl_json::text(alloc, &context)?)),
+        context: Some(Bytes::from_vec(fl_json::text(alloc, &context)?)),
     })
 }
 

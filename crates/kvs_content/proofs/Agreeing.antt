@@ -6,8 +6,8 @@ use Rattle.std.specs.Map.{lookup, remove_entry}
 use Rattle.std.proofs.lemmas.Bool.{cases_eq}
 use Rattle.std.proofs.lemmas.Bool.Decides.{nat_tests}
 use Rattle.std.proofs.lemmas.List.{length-set, get_or-set_same, get_or-set_other}
-use Rattle.kvs_rules.specs.fl_digest.declared.BlobRef.{BlobRef}
-use Rattle.kvs_rules.specs.fl_digest.Reference.{same_reference}
+use Rattle.fl_digest.specs.declared.BlobRef.{BlobRef}
+use Rattle.fl_digest.specs.Reference.{same_reference}
 use Rattle.cache_node.specs.declared.content.Held.{Held}
 use Rattle.cache_node.specs.Cache.{clean_at}
 use Rattle.cache_node.specs.Order.{filled, is_pinned, unpinned}

@@ -2,8 +2,8 @@
 use Rattle.std.proofs.Common.{◌≡◌, ℕ, ◌<◌, inl, List, ◌++◌, length, true, Some, None, map, refl, sym, ap, ◌∙◌, subst, get_or, set as put}
 use Rattle.std.specs.List.{AllByRecursion as Each, sum_by}
 use Rattle.std.proofs.lemmas.List.{length-set}
-use Rattle.kvs_rules.specs.fl_digest.declared.BlobRef.{BlobRef}
-use Rattle.kvs_rules.specs.fl_digest.Reference.{same_reference}
+use Rattle.fl_digest.specs.declared.BlobRef.{BlobRef}
+use Rattle.fl_digest.specs.Reference.{same_reference}
 use Rattle.blob_store.specs.Blobs.{HasOther, blob_at, stored}
 use Rattle.cache_node.specs.Cache.{clean_at}
 use Rattle.cache_node.specs.Order.{Names}

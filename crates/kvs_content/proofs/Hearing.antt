@@ -1,8 +1,8 @@
 -- A broker hears what became of a content that it offered.
 use Rattle.std.proofs.Common.{◌≡◌, ℕ, ◌<◌, List, [], true, false, Some, None, sym, ap, ◌∙◌, set as put}
 use Rattle.std.specs.Prelude.{is_some}
-use Rattle.kvs_rules.specs.fl_digest.declared.BlobRef.{BlobRef}
-use Rattle.kvs_rules.specs.fl_digest.Reference.{same_reference}
+use Rattle.fl_digest.specs.declared.BlobRef.{BlobRef}
+use Rattle.fl_digest.specs.Reference.{same_reference}
 use Rattle.blob_store.specs.Blobs.{blob_at}
 use Rattle.cache_node.specs.Cache.{acknowledged, clean_at, dirty_at}
 use Rattle.kvs_rules.specs.Log.{Log}

@@ -5,8 +5,8 @@ use Rattle.std.specs.List.{AllByRecursion as Each}
 use Rattle.std.specs.Map.{lookup}
 use Rattle.std.proofs.lemmas.Bool.{cases_eq}
 use Rattle.std.proofs.lemmas.List.{length-set, get_or-set_same, get_or-set_other, get_or_default}
-use Rattle.kvs_rules.specs.fl_digest.declared.BlobRef.{BlobRef}
-use Rattle.kvs_rules.specs.fl_digest.Reference.{same_reference}
+use Rattle.fl_digest.specs.declared.BlobRef.{BlobRef}
+use Rattle.fl_digest.specs.Reference.{same_reference}
 use Rattle.cache_node.specs.Cache.{clean_at, held_at}
 use Rattle.kvs_rules.specs.Log.{Log}
 use Rattle.kvs_rules.specs.Namespaces.{Setting}

@@ -2,8 +2,8 @@
 use Rattle.std.proofs.Common.{◌≡◌, ◌⊎◌, inl, inr, ℕ, List, [], ◌∷◌, ◌++◌, Bool, true, false, ◌||◌, cond, Option, Some, None, unwrap_or, refl, sym, ap, ◌∙◌, subst, true≢false}
 use Rattle.std.specs.List.{list_any}
 use Rattle.std.proofs.lemmas.List.Folds.{list_any-append}
-use Rattle.kvs_rules.specs.kvs_txn.declared.txn.By.{By}
-use Rattle.kvs_rules.specs.fl_digest.declared.BlobRef.{BlobRef}
+use Rattle.kvs_txn.specs.declared.txn.By.{By}
+use Rattle.fl_digest.specs.declared.BlobRef.{BlobRef}
 use Rattle.kvs_rules.specs.Log.{Log, Moment, asks_now, before_asked, is_asked}
 use Rattle.kvs_rules.specs.Namespaces.{Setting, Request}
 use Rattle.kvs_rules.specs.Sequence.{latest}

@@ -5,8 +5,8 @@ use Rattle.std.specs.List.{AllByRecursion as Each, list_any}
 use Rattle.std.proofs.lemmas.List.Folds.{list_any-append}
 use Rattle.std.proofs.lemmas.Bool.{cases_eq}
 use Rattle.std.proofs.lemmas.List.{length-set, get_or-set_same, get_or-set_other}
-use Rattle.kvs_rules.specs.fl_digest.declared.BlobRef.{BlobRef}
-use Rattle.kvs_rules.specs.fl_digest.Reference.{same_reference}
+use Rattle.fl_digest.specs.declared.BlobRef.{BlobRef}
+use Rattle.fl_digest.specs.Reference.{same_reference}
 use Rattle.blob_store.specs.Blobs.{blob_at}
 use Rattle.cache_node.specs.Cache.{dirty_at}
 use Rattle.cache_node.proofs.Entries.{all-remove}

@@ -1,13 +1,13 @@
 -- When the contents stand where a log leaves them.
 use Rattle.std.specs.Prelude.{◌≡◌, ℕ, ◌<◌, ◌⊎◌, List, ◌++◌, Bool, true, false, IsTrue, Option, Some, None, is_some, length, map, slice_index_or}
 use Rattle.std.specs.List.{AllByRecursion as Each, list_any}
-use Rattle.kvs_rules.specs.fl_digest.declared.BlobRef.{BlobRef}
-use Rattle.kvs_rules.specs.fl_digest.Reference.{reference_of, same_reference}
+use Rattle.fl_digest.specs.declared.BlobRef.{BlobRef}
+use Rattle.fl_digest.specs.Reference.{reference_of, same_reference}
 use Rattle.blob_store.specs.Blobs.{blob_at}
 use Rattle.cache_node.specs.declared.content.Held.{Held}
 use Rattle.cache_node.specs.Order.{is_pinned}
 use Rattle.cache_node.specs.Cache.{clean_at, held_at}
-use Rattle.kvs_rules.specs.kvs_txn.declared.txn.By.{By}
+use Rattle.kvs_txn.specs.declared.txn.By.{By}
 use Rattle.kvs_rules.specs.declared.events.KvsAsk.TheVariants as ask
 use Rattle.kvs_rules.specs.declared.events.KvsAnswer.{KvsAnswer}
 use Rattle.kvs_rules.specs.declared.events.KvsAnswer.TheVariants as answer

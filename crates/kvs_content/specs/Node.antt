@@ -1,8 +1,8 @@
 -- What one broker keeps of contents, and what it makes.
 use Rattle.std.specs.Prelude.{◌≡◌, ◌≢◌, ℕ, Bool, List, [], ◌∷◌, ◌++◌, None, not, filter, is_some, map, if◌then◌else◌}
 use Rattle.std.specs.Map.{remove_entry}
-use Rattle.kvs_rules.specs.fl_digest.declared.BlobRef.{BlobRef}
-use Rattle.kvs_rules.specs.fl_digest.Reference.{same_reference}
+use Rattle.fl_digest.specs.declared.BlobRef.{BlobRef}
+use Rattle.fl_digest.specs.Reference.{same_reference}
 use Rattle.cache_node.specs.Order.{filled, is_pinned}
 use Rattle.cache_node.specs.Cache.{Cache, HasDropped, empty_cache, clean_at, dirty_at, refused, with_clean}
 use Rattle.kvs_rules.specs.declared.events.KvsEvent.{KvsEvent}

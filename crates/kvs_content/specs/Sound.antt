@@ -1,7 +1,7 @@
 -- What holds of the contents between the calls.
 use Rattle.std.specs.Prelude.{◌≡◌, ◌⊎◌, ℕ, ◌<◌, List, [], true, IsSome, Option, Some, None, length, slice_index_or}
 use Rattle.std.specs.List.{AllByRecursion as Each, list_any}
-use Rattle.kvs_rules.specs.fl_digest.declared.BlobRef.{BlobRef}
+use Rattle.fl_digest.specs.declared.BlobRef.{BlobRef}
 use Rattle.blob_store.specs.Blobs.{blob_at}
 use Rattle.cache_node.specs.Cache.{clean_at, dirty_at}
 use Rattle.cache_node.specs.Order.{Names}

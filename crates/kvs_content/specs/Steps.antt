@@ -1,9 +1,9 @@
 -- Which deliveries can be made, and what the calls do to the loads that wait.
 use Rattle.std.specs.Prelude.{◌≡◌, ℕ, Bool, false, ◌||◌, List, Option, Some, None, if◌then◌else◌}
 use Rattle.std.specs.List.{list_any}
-use Rattle.kvs_rules.specs.fl_digest.declared.BlobRef.{BlobRef}
+use Rattle.fl_digest.specs.declared.BlobRef.{BlobRef}
 use Rattle.cache_node.specs.Cache.{dirty_at}
-use Rattle.kvs_rules.specs.kvs_txn.declared.txn.By.{By}
+use Rattle.kvs_txn.specs.declared.txn.By.{By}
 use Rattle.kvs_rules.specs.Log.{same_command}
 use Rattle.kvs_content.specs.declared.outcomes.Answer.{Answer}
 use Rattle.kvs_content.specs.declared.outcomes.Load.{Load}

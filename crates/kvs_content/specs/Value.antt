@@ -1,7 +1,7 @@
 -- The contents of an instance as the definitions see them.
 use Rattle.std.specs.Prelude.{ℕ, List, length, slice_index_or}
-use Rattle.kvs_rules.specs.fl_digest.declared.Hash.{Hash}
-use Rattle.kvs_rules.specs.fl_digest.declared.BlobRef.{BlobRef}
+use Rattle.fl_digest.specs.declared.Hash.{Hash}
+use Rattle.fl_digest.specs.declared.BlobRef.{BlobRef}
 use Rattle.kvs_content.specs.declared.offers.Offer.{Offer}
 use Rattle.kvs_content.specs.declared.wants.Want.{Want}
 use Rattle.kvs_content.specs.Node.{NodeValue, empty_node}

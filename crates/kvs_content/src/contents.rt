@@ -1,12 +1,12 @@
 //! The contents of an instance, at all brokers.
 ghost use Rattle.std.specs.Prelude.{◌≡◌, ◌≢◌, ℕ, ◌+◌, ◌-◌, ◌*◌, ◌<◌, ◌≤◌, ◌↔◌, ◌++◌, ◌∷◌, [], true, ◌⊎◌, IsTrue, IsSome, IfOk, IfSome, OnOk, List, Contains, Some, None, is_some, length, map, option_map, slice_index_or, slice_set, sum_by};
 ghost use Rattle.std.specs.List.{AllByRecursion as Each, list_any};
-ghost use Rattle.kvs_rules.specs.fl_digest.declared.BlobRef.{BlobRef as Reference};
-ghost use Rattle.kvs_rules.specs.fl_digest.Reference.{reference_of};
+ghost use Rattle.fl_digest.specs.declared.BlobRef.{BlobRef as Reference};
+ghost use Rattle.fl_digest.specs.Reference.{reference_of};
 ghost use Rattle.blob_store.specs.Blobs.{blob_at};
 ghost use Rattle.cache_node.specs.Order.{Names};
 ghost use Rattle.cache_node.specs.Cache.{any_at, clean_at, dirty_at};
-ghost use Rattle.kvs_rules.specs.kvs_txn.declared.txn.By.{By as Command};
+ghost use Rattle.kvs_txn.specs.declared.txn.By.{By as Command};
 ghost use Rattle.kvs_rules.specs.Log.{Happened, Log, same_command};
 ghost use Rattle.kvs_rules.specs.Namespaces.{Request as Asked, Setting};
 ghost use Rattle.kvs_rules.specs.Brokers.{IsContent, has_got, holds, parent};
@@ -23,9 +23,9 @@ use crate::offers::{Offer, OfferStage, first_offer, is_offered, settle};
 use crate::outcomes::{Answer, Delivery, Load, Loaded, Stored};
 use crate::wants::{Gift, Want, WantStage, bytes_of, first_want, is_waiting, is_wanted, toward};
 use blob_store::{BlobStore, PutFault};
-use kvs_rules::fl_digest::{BlobRef, Hash};
-use kvs_rules::kvs_txn::By;
-use kvs_rules::lists::{Bytes, Copied, ListOf};
+use fl_digest::{BlobRef, Hash};
+use kvs_txn::By;
+use lists::{Bytes, Copied, ListOf};
 use std::alloc::{AllocError, Global};
 use std::marker::Model;
 

@@ -6,9 +6,9 @@ ghost use Rattle.kvs_content.specs.Messages.{same_bytes};
 ghost use Rattle.kvs_content.specs.Node.{IsDropping, IsFlush, IsGetting, dropping, empty_node, getting, rejected, with_cache};
 
 use cache_node::CacheNode;
+use fl_digest::{BlobRef, RefList};
 use kvs_rules::KvsEvent;
-use kvs_rules::fl_digest::{BlobRef, RefList};
-use kvs_rules::lists::{Bytes, ListOf};
+use lists::{Bytes, ListOf};
 use std::alloc::{AllocError, Global};
 use std::collections::VecDeque;
 use std::marker::Model;

@@ -4,8 +4,8 @@ ghost use Rattle.std.specs.List.{list_any, position};
 ghost use Rattle.kvs_rules.specs.Brokers.{parent};
 ghost use Rattle.kvs_content.specs.Messages.{AreSettled, is_kept, is_offer_on, outcome, settled, waits_at};
 
-use kvs_rules::fl_digest::BlobRef;
-use kvs_rules::lists::Bytes;
+use fl_digest::BlobRef;
+use lists::Bytes;
 
 /// Where an offer is.
 #[derive(Drop)]

@@ -1,8 +1,8 @@
 //! What the calls on contents make.
 use crate::node::KvsEvents;
-use kvs_rules::fl_digest::BlobRef;
-use kvs_rules::kvs_txn::By;
-use kvs_rules::lists::Bytes;
+use fl_digest::BlobRef;
+use kvs_txn::By;
+use lists::Bytes;
 
 /// What a store made: the reference of the bytes, and what happened.
 #[derive(Drop)]

@@ -6,9 +6,9 @@ ghost use Rattle.kvs_rules.specs.Brokers.{parent};
 ghost use Rattle.kvs_content.specs.Messages.{IsAbove, is_want_on, link_now};
 
 use crate::offers::parent;
-use kvs_rules::fl_digest::BlobRef;
-use kvs_rules::kvs_txn::By;
-use kvs_rules::lists::Bytes;
+use fl_digest::BlobRef;
+use kvs_txn::By;
+use lists::Bytes;
 
 /// The bytes under a reference, and whether the broker that gave them had them clean: each broker
 /// on the way down keeps them then.

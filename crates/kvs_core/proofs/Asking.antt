@@ -7,7 +7,7 @@ use Rattle.std.specs.List.{position, list_any}
 use Rattle.std.proofs.Math.Bool.{or-false}
 use Rattle.std.proofs.lemmas.Option.{slice_get-get_or}
 use Rattle.std.proofs.lemmas.List.Elements.{All-push}
-use Rattle.kvs_rules.specs.kvs_txn.declared.txn.By.{By}
+use Rattle.kvs_txn.specs.declared.txn.By.{By}
 use Rattle.kvs_rules.specs.declared.events.KvsAsk.{KvsAsk}
 use Rattle.kvs_rules.specs.declared.events.KvsAsk.TheVariants as ask
 use Rattle.kvs_rules.specs.Sequence.{until}
@@ -19,7 +19,7 @@ use Rattle.kvs_rules.proofs.Logs.{landed_push}
 use Rattle.kvs_rules.proofs.Stores.{any_push}
 use Rattle.kvs_rules.proofs.Asking.{floor_at_push}
 use Rattle.std.specs.Cmp.Lexicographic.{bytes_decides}
-use Rattle.kvs_rules.specs.kvs_model.Store.{Name}
+use Rattle.kvs_model.specs.Store.{Name}
 use Rattle.kvs_core.specs.declared.service.Request.{Request as Request₀}
 use Rattle.kvs_core.specs.declared.service.Request.TheVariants as request
 use Rattle.kvs_core.specs.Requests.{IsKnown, IsMade, IfAsked}

@@ -1,8 +1,8 @@
 -- A commit joins the namespace of its name.
 use Rattle.std.proofs.Common.{◌≡◌, ℕ, ◌<◌, ◌+◌, List, [], ◌∷◌, length, Bool, true, false, Some, inl, refl, sym, ap, subst, get_or, set, append-nil}
 use Rattle.std.specs.List.{position}
-use Rattle.kvs_rules.specs.kvs_txn.declared.txn.By.{By}
-use Rattle.kvs_rules.specs.kvs_txn.declared.txn.Txn.{Txn}
+use Rattle.kvs_txn.specs.declared.txn.By.{By}
+use Rattle.kvs_txn.specs.declared.txn.Txn.{Txn}
 use Rattle.fence_merge.specs.declared.member.Member.{Member}
 use Rattle.fence_merge.specs.Groups.{group_of}
 use Rattle.fence_merge.specs.Merging.{pushed}

@@ -6,8 +6,8 @@ use Rattle.std.specs.Map.{remove_entry}
 use Rattle.indexmap.specs.IndexMap.{insert_entry}
 use Rattle.std.proofs.lemmas.List.Folds.{list_any-append}
 use Rattle.std.proofs.lemmas.List.Sums.{sum_by-cons, sum_by-append}
-use Rattle.kvs_rules.specs.kvs_txn.declared.txn.By.{By}
-use Rattle.kvs_rules.specs.kvs_txn.declared.txn.Group.{Group}
+use Rattle.kvs_txn.specs.declared.txn.By.{By}
+use Rattle.kvs_txn.specs.declared.txn.Group.{Group}
 use Rattle.fence_merge.specs.declared.member.Member.{Member}
 use Rattle.fence_merge.specs.Groups.{authors_of, group_of}
 use Rattle.fence_merge.specs.Fences.{Fence, Fences, fence_of, members_of}

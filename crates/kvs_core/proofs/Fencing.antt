@@ -1,8 +1,8 @@
 -- A member of a fence joins it in the namespace of its name.
 use Rattle.std.proofs.Common.{◌≡◌, ℕ, ◌<◌, ◌+◌, List, [], length, Bool, true, false, Some, None, option_map, sym, ap, subst, get_or, set}
 use Rattle.std.specs.List.{position, AllByRecursion as Each}
-use Rattle.kvs_rules.specs.kvs_txn.declared.txn.By.{By}
-use Rattle.kvs_rules.specs.kvs_txn.declared.txn.Txn.{Txn}
+use Rattle.kvs_txn.specs.declared.txn.By.{By}
+use Rattle.kvs_txn.specs.declared.txn.Txn.{Txn}
 use Rattle.fence_merge.specs.declared.member.Member.{Member}
 use Rattle.fence_merge.specs.Fences.{AreFences, fence_of}
 use Rattle.fence_merge.specs.Merging.{joined}

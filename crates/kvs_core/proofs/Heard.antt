@@ -2,7 +2,7 @@
 use Rattle.std.specs.Prelude.{slice_index}
 use Rattle.std.proofs.Common.{◌≡◌, ℕ, ◌<◌, List, [], ◌∷◌, map, Bool, false, ◌||◌, Some, None, refl, sym, ap, ◌∙◌, subst, get_or, bytes_eq}
 use Rattle.std.specs.List.{list_any, position}
-use Rattle.kvs_rules.specs.kvs_model.Store.{Name}
+use Rattle.kvs_model.specs.Store.{Name}
 use Rattle.kvs_rules.specs.Log.{Log}
 use Rattle.kvs_rules.specs.Namespaces.{Setting, is_opened}
 use Rattle.kvs_rules.specs.Brokers.{heard}

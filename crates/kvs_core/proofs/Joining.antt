@@ -6,8 +6,8 @@ use Rattle.std.specs.Option.{option_map_or}
 use Rattle.std.specs.Map.{remove_entry}
 use Rattle.std.specs.Cmp.Lexicographic.{bytes_decides}
 use Rattle.indexmap.specs.IndexMap.{insert_entry}
-use Rattle.kvs_rules.specs.kvs_txn.declared.txn.By.{By}
-use Rattle.kvs_rules.specs.kvs_model.Store.{Name, Store}
+use Rattle.kvs_txn.specs.declared.txn.By.{By}
+use Rattle.kvs_model.specs.Store.{Name, Store}
 use Rattle.fence_merge.specs.declared.member.Member.{Member}
 use Rattle.fence_merge.specs.Groups.{author_of, authors_of, ops_of, group_of}
 use Rattle.fence_merge.specs.Fences.{AreOpen, Fence, Fences, fence_of, members_of}

@@ -4,9 +4,9 @@ use Rattle.std.specs.List.{list_any, IsDistinct, AllByRecursion as Each}
 use Rattle.std.specs.Map.{keys_of}
 use Rattle.std.specs.Cmp.Lexicographic.{bytes_decides}
 use Rattle.std.proofs.lemmas.List.Folds.{list_any-append, list_any_at}
-use Rattle.kvs_rules.specs.kvs_txn.declared.txn.By.{By}
-use Rattle.kvs_rules.specs.kvs_txn.declared.txn.Txn.{Txn}
-use Rattle.kvs_rules.specs.kvs_model.Store.{Name}
+use Rattle.kvs_txn.specs.declared.txn.By.{By}
+use Rattle.kvs_txn.specs.declared.txn.Txn.{Txn}
+use Rattle.kvs_model.specs.Store.{Name}
 use Rattle.fence_merge.specs.declared.member.Member.{Member}
 use Rattle.fence_merge.specs.Groups.{authors_of, group_of}
 use Rattle.fence_merge.specs.Fences.{AreOpen, Fence, Fences, fence_of}

@@ -1,7 +1,7 @@
 -- The landings of `primary`: those that a core has made, and those that events tell.
 use Rattle.std.specs.Prelude.{◌≡◌, List, [], ◌++◌, Option, Some, None, filter_map, flat_map, slice_get, if◌then◌else◌}
 use Rattle.std.specs.Option.{option_map_or}
-use Rattle.kvs_rules.specs.kvs_txn.declared.txn.Group.{Group}
+use Rattle.kvs_txn.specs.declared.txn.Group.{Group}
 use Rattle.kvs_rules.specs.declared.events.KvsEvent.{KvsEvent}
 use Rattle.kvs_rules.specs.declared.events.KvsEvent.TheVariants as event
 use Rattle.kvs_rules.specs.Namespaces.{is_primary}

@@ -1,7 +1,7 @@
 //! What follows from the words of the contracts.
 ghost use Rattle.std.specs.Prelude.{◌≡◌, ◌++◌, ◌∷◌, List, []};
 ghost use Rattle.std.specs.List.{AllByRecursion as Each};
-ghost use Rattle.kvs_rules.specs.kvs_txn.declared.txn.Group.{Group};
+ghost use Rattle.kvs_txn.specs.declared.txn.Group.{Group};
 ghost use Rattle.kvs_rules.specs.declared.events.KvsEvent.{KvsEvent};
 ghost use Rattle.kvs_rules.specs.Log.{Log, Moment};
 ghost use Rattle.kvs_rules.specs.Namespaces.{Setting};

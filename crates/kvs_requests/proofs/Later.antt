@@ -3,9 +3,9 @@ use Rattle.std.proofs.Common.{◌≡◌, ◌≢◌, ℕ, zero, suc, ◌<◌, ◌
 use Rattle.std.specs.List.{list_any}
 use Rattle.std.proofs.Math.Bool.{or-false}
 use Rattle.std.proofs.lemmas.List.Elements.{Contains-append_left, Contains-append_cases}
-use Rattle.kvs_rules.specs.kvs_txn.declared.txn.By.{By}
-use Rattle.kvs_rules.specs.kvs_txn.declared.answers.Refusal.{Refusal}
-use Rattle.kvs_rules.specs.kvs_model.Store.{Name, Store}
+use Rattle.kvs_txn.specs.declared.txn.By.{By}
+use Rattle.kvs_txn.specs.declared.answers.Refusal.{Refusal}
+use Rattle.kvs_model.specs.Store.{Name, Store}
 use Rattle.kvs_rules.specs.declared.events.KvsAnswer.{KvsAnswer}
 use Rattle.kvs_rules.specs.declared.events.KvsAnswer.TheVariants as answer
 use Rattle.kvs_rules.specs.declared.events.KvsEvent.TheVariants as event

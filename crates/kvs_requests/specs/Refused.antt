@@ -1,10 +1,10 @@
 -- Where the requests go that are refused, carried or settled.
 use Rattle.std.specs.Prelude.{◌≡◌, ℕ, zero, suc, ◌<◌, ◌&&◌, [], ◌∷◌, ◌++◌, Option, Some, slice_set, ◌≤◌, List, true, false, length, slice_index_or}
 use Rattle.std.specs.List.{list_any, position, remove}
-use Rattle.kvs_rules.specs.kvs_txn.declared.txn.By.{By}
-use Rattle.kvs_rules.specs.kvs_txn.declared.txn.Group.{Group}
-use Rattle.kvs_rules.specs.kvs_txn.declared.answers.Refusal.{Refusal}
-use Rattle.kvs_rules.specs.kvs_model.Store.{Name}
+use Rattle.kvs_txn.specs.declared.txn.By.{By}
+use Rattle.kvs_txn.specs.declared.txn.Group.{Group}
+use Rattle.kvs_txn.specs.declared.answers.Refusal.{Refusal}
+use Rattle.kvs_model.specs.Store.{Name}
 use Rattle.kvs_rules.specs.Log.{same_command}
 use Rattle.kvs_rules.specs.declared.events.KvsAsk.{KvsAsk}
 use Rattle.kvs_rules.specs.declared.events.KvsAnswer.{KvsAnswer}

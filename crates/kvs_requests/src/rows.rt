@@ -1,7 +1,7 @@
 //! The open requests, each with the place where it is.
 ghost use Rattle.std.specs.Prelude.{◌≡◌, ◌≢◌, ℕ, ◌<◌, ◌≤◌, ◌&&◌, true, false, List, [], length, Option, None, Some, IfSome, IfOk, OnOk, slice_index_or, slice_set, count_by};
 ghost use Rattle.std.specs.List.{position, list_any};
-ghost use Rattle.kvs_rules.specs.kvs_txn.declared.txn.By.{By as Command};
+ghost use Rattle.kvs_txn.specs.declared.txn.By.{By as Command};
 ghost use Rattle.kvs_rules.specs.Log.{Log, same_command};
 ghost use Rattle.kvs_rules.specs.Namespaces.{Setting, Request};
 ghost use Rattle.kvs_rules.specs.declared.events.KvsAnswer.TheVariants as answer;
@@ -14,10 +14,10 @@ ghost use Rattle.kvs_requests.specs.Rows.{IsKnownAsk, IsPut, with_stage, AtPlace
 ghost use Rattle.kvs_rules.specs.Brokers.{parent};
 ghost use Rattle.kvs_requests.specs.Stages.{is_message, is_on, has_come, may_serve, is_held, is_arrived, is_arrived_stage, is_entering, kind_of, has_ended, kept_count, other_than, joined_in};
 
-use kvs_rules::kvs_txn::{By, GroupList, Refusal, Txn};
-use kvs_rules::lists::{Bytes, ListOf};
 use kvs_rules::{KvsAnswer, KvsAsk};
 use kvs_space::Space;
+use kvs_txn::{By, GroupList, Refusal, Txn};
+use lists::{Bytes, ListOf};
 use plain_store::Store;
 use std::alloc::AllocError;
 use std::mem::replace;

@@ -3,9 +3,9 @@ use Rattle.std.proofs.Common.{◌≡◌, ◌≢◌, ℕ, ◌<◌, inl, inr, List
 use Rattle.std.specs.Prelude.{slice_index}
 use Rattle.std.proofs.lemmas.Bool.{cases_eq}
 use Rattle.std.proofs.lemmas.List.{length-set, get_or-set_same, get_or-set_other, get_or_default}
-use Rattle.kvs_rules.specs.kvs_txn.declared.txn.Scope.{Scope}
-use Rattle.kvs_rules.specs.kvs_model.Store.{Store}
-use Rattle.kvs_rules.specs.kvs_model.History.{after}
+use Rattle.kvs_txn.specs.declared.txn.Scope.{Scope}
+use Rattle.kvs_model.specs.Store.{Store}
+use Rattle.kvs_model.specs.History.{after}
 use Rattle.kvs_rules.specs.Namespaces.{scope_of}
 use Rattle.kvs_space.specs.Links.{IsAnnounced}
 use Rattle.kvs_space.specs.Sound.{ArePosted, IsSoundSpace}

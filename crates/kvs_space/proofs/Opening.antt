@@ -3,9 +3,9 @@ use Rattle.std.proofs.Common.{◌≡◌, ℕ, zero, suc, ◌+◌, ◌==◌, ◌<
 use Rattle.std.specs.Prelude.{slice_index}
 use Rattle.std.proofs.lemmas.Bool.{cases_eq}
 use Rattle.std.proofs.lemmas.List.{length-set, get_or-set_same, get_or-set_other, get_or-replicate, length-replicate}
-use Rattle.kvs_rules.specs.kvs_txn.declared.txn.Group.{Group}
-use Rattle.kvs_rules.specs.kvs_model.Store.{Name, Store, empty_store}
-use Rattle.kvs_rules.specs.kvs_model.History.{after, first_store}
+use Rattle.kvs_txn.specs.declared.txn.Group.{Group}
+use Rattle.kvs_model.specs.Store.{Name, Store, empty_store}
+use Rattle.kvs_model.specs.History.{after, first_store}
 use Rattle.kvs_rules.specs.Brokers.{parent}
 use Rattle.kvs_rules.specs.Namespaces.{is_primary, scope_of}
 use Rattle.fence_merge.specs.Merging.{MergerValue}

@@ -3,14 +3,14 @@ use Rattle.std.proofs.Common.{ℕ, zero, suc, ◌<◌, ◌≤◌, length, replic
 use Rattle.std.specs.Prelude.{slice_index}
 use Rattle.std.proofs.lemmas.List.{length-replicate, get_or-replicate}
 use Rattle.std.specs.Cmp.Lexicographic.{bytes_decides}
-use Rattle.kvs_rules.specs.kvs_txn.declared.answers.Refusal.{Refusal}
-use Rattle.kvs_rules.specs.kvs_txn.declared.txn.Author.{Author}
-use Rattle.kvs_rules.specs.kvs_txn.declared.txn.Author.TheVariants as author
-use Rattle.kvs_rules.specs.kvs_txn.declared.txn.Group.{Group}
-use Rattle.kvs_rules.specs.kvs_txn.declared.txn.Scope.TheVariants as scope
-use Rattle.kvs_rules.specs.kvs_model.History.{after, after_groups, first_store, landed_on}
-use Rattle.kvs_rules.specs.kvs_model.Operation.{effect}
-use Rattle.kvs_rules.specs.kvs_model.Store.{Name, Store, empty_store}
+use Rattle.kvs_txn.specs.declared.answers.Refusal.{Refusal}
+use Rattle.kvs_txn.specs.declared.txn.Author.{Author}
+use Rattle.kvs_txn.specs.declared.txn.Author.TheVariants as author
+use Rattle.kvs_txn.specs.declared.txn.Group.{Group}
+use Rattle.kvs_txn.specs.declared.txn.Scope.TheVariants as scope
+use Rattle.kvs_model.specs.History.{after, after_groups, first_store, landed_on}
+use Rattle.kvs_model.specs.Operation.{effect}
+use Rattle.kvs_model.specs.Store.{Name, Store, empty_store}
 use Rattle.kvs_rules.specs.Landings.{IsUser}
 use Rattle.kvs_rules.specs.Namespaces.{is_primary, primary, scope_of}
 use Rattle.store_laws.specs.Reserved.{IsUserAuthor}

@@ -3,13 +3,13 @@ use Rattle.std.proofs.Common.{◌≡◌, ◌≢◌, ℕ, suc, ◌+◌, ◌<◌, 
 use Rattle.std.specs.Prelude.{slice_index, nat_lt, ◌==◌}
 use Rattle.std.proofs.lemmas.Bool.{cases_eq}
 use Rattle.std.proofs.lemmas.List.{length-set, get_or-set_same, get_or-set_other}
-use Rattle.kvs_rules.specs.kvs_txn.declared.txn.Group.{Group}
-use Rattle.kvs_rules.specs.kvs_txn.declared.txn.Scope.{Scope}
-use Rattle.kvs_rules.specs.kvs_txn.declared.answers.Refusal.{Refusal}
-use Rattle.kvs_rules.specs.kvs_model.Store.{Name, Store}
-use Rattle.kvs_rules.specs.kvs_model.History.{after, after_groups, landed_on}
-use Rattle.kvs_rules.specs.kvs_model.Operation.{effect}
-use Rattle.kvs_rules.proofs.kvs_model_proofs.Histories.{after-kept}
+use Rattle.kvs_txn.specs.declared.txn.Group.{Group}
+use Rattle.kvs_txn.specs.declared.txn.Scope.{Scope}
+use Rattle.kvs_txn.specs.declared.answers.Refusal.{Refusal}
+use Rattle.kvs_model.specs.Store.{Name, Store}
+use Rattle.kvs_model.specs.History.{after, after_groups, landed_on}
+use Rattle.kvs_model.specs.Operation.{effect}
+use Rattle.kvs_model.proofs.Histories.{after-kept}
 use Rattle.kvs_rules.specs.Namespaces.{is_primary, scope_of}
 use Rattle.kvs_rules.proofs.Stores.{after_push}
 use Rattle.std.specs.List.{AllByRecursion as Each}

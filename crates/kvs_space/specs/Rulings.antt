@@ -1,11 +1,11 @@
 -- What rank 0 makes of what is ready in a namespace, and what a broker hears of it.
 use Rattle.std.specs.Prelude.{◌≡◌, ◌≢◌, ℕ, ◌+◌, List, [], ◌∷◌, ◌++◌, true, false, Option, Some, None, Ok, Err, slice_index, slice_index_or, slice_set}
-use Rattle.kvs_rules.specs.kvs_txn.declared.txn.Group.{Group}
-use Rattle.kvs_rules.specs.kvs_txn.declared.txn.Scope.{Scope}
-use Rattle.kvs_rules.specs.kvs_txn.declared.answers.Refusal.{Refusal}
-use Rattle.kvs_rules.specs.kvs_model.Store.{Store}
-use Rattle.kvs_rules.specs.kvs_model.History.{after_groups}
-use Rattle.kvs_rules.specs.kvs_model.Operation.{effect}
+use Rattle.kvs_txn.specs.declared.txn.Group.{Group}
+use Rattle.kvs_txn.specs.declared.txn.Scope.{Scope}
+use Rattle.kvs_txn.specs.declared.answers.Refusal.{Refusal}
+use Rattle.kvs_model.specs.Store.{Store}
+use Rattle.kvs_model.specs.History.{after_groups}
+use Rattle.kvs_model.specs.Operation.{effect}
 use Rattle.fence_merge.specs.Merging.{MergerValue}
 use Rattle.kvs_rules.specs.Namespaces.{scope_of}
 use Rattle.kvs_rules.specs.Landings.{IsUser}

@@ -4,10 +4,10 @@ use Rattle.std.specs.List.{AllByRecursion as Each}
 use Rattle.fence_merge.specs.Fences.{AreFences}
 use Rattle.fence_merge.specs.Merging.{MergerValue}
 use Rattle.kvs_rules.specs.Landings.{IsUser}
-use Rattle.kvs_rules.specs.kvs_txn.declared.txn.Group.{Group}
-use Rattle.kvs_rules.specs.kvs_txn.declared.txn.Scope.{Scope}
-use Rattle.kvs_rules.specs.kvs_model.Store.{Name, Store}
-use Rattle.kvs_rules.specs.kvs_model.History.{after}
+use Rattle.kvs_txn.specs.declared.txn.Group.{Group}
+use Rattle.kvs_txn.specs.declared.txn.Scope.{Scope}
+use Rattle.kvs_model.specs.Store.{Name, Store}
+use Rattle.kvs_model.specs.History.{after}
 use Rattle.kvs_rules.specs.Namespaces.{is_primary, scope_of}
 use Rattle.store_laws.specs.Posts.{AreTaken, posts_in}
 use Rattle.kvs_space.specs.Links.{IsAnnounced}

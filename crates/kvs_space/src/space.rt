@@ -1,9 +1,9 @@
 //! One namespace, at all brokers.
 ghost use Rattle.std.specs.Prelude.{◌≡◌, ◌≢◌, ℕ, suc, ◌+◌, ◌-◌, ◌<◌, ◌≤◌, ◌==◌, cond, min, true, false, List, [], ◌∷◌, ◌++◌, Option, Some, None, IsSome, OnOk, IfOk, length, slice_get, slice_index, slice_index_or};
-ghost use Rattle.kvs_rules.specs.kvs_txn.declared.txn.Group.{Group as GroupValue};
-ghost use Rattle.kvs_rules.specs.kvs_txn.declared.answers.Refusal.{Refusal as RefusalValue};
-ghost use Rattle.kvs_rules.specs.kvs_model.Store.{Store as Contents};
-ghost use Rattle.kvs_rules.specs.kvs_model.History.{after, after_groups, first_store};
+ghost use Rattle.kvs_txn.specs.declared.txn.Group.{Group as GroupValue};
+ghost use Rattle.kvs_txn.specs.declared.answers.Refusal.{Refusal as RefusalValue};
+ghost use Rattle.kvs_model.specs.Store.{Store as Contents};
+ghost use Rattle.kvs_model.specs.History.{after, after_groups, first_store};
 ghost use Rattle.kvs_rules.specs.Namespaces.{is_primary, primary, scope_of};
 ghost use Rattle.kvs_space.specs.Space.{seen, number_of, has_heard_end, is_known_to, live_in, is_named, has_news, link_at, is_ready};
 ghost use Rattle.kvs_space.specs.Sound.{IsSoundSpace, idle};
@@ -15,8 +15,8 @@ ghost use Rattle.fence_merge.specs.Fences.{AreFences, fence_of};
 
 use crate::links::{Link, deliver, hear};
 use fence_merge::{JoinFault, Member, Merger, PushFault};
-use kvs_rules::kvs_txn::{Group, GroupList, Refusal, Scope};
-use kvs_rules::lists::{Bytes, Copied, ListOf};
+use kvs_txn::{Group, GroupList, Refusal, Scope};
+use lists::{Bytes, Copied, ListOf};
 use plain_store::{ApplyFault, Store};
 use std::alloc::{AllocError, AllocFailed, Global};
 use std::marker::Model;

@@ -4,8 +4,8 @@ ghost use Rattle.kvs_rules.specs.Landings.{names_of, names_of_group};
 ghost use Rattle.kvs_space.specs.Told.{changing, hearing, landed_so, landing, denial};
 
 use kvs_rules::KvsEvent;
-use kvs_rules::kvs_txn::{AuthorNames, By, Group, GroupList, Refusal};
-use kvs_rules::lists::{Bytes, Copied, ListOf};
+use kvs_txn::{AuthorNames, By, Group, GroupList, Refusal};
+use lists::{Bytes, Copied, ListOf};
 use std::alloc::{AllocError, Global};
 
 /// What happens in the service, the oldest first.

@@ -11,11 +11,11 @@ use Rattle.std.proofs.lemmas.List.{length-append, length-map}
 use Rattle.std.proofs.lemmas.Map.Made.{length-le_from_is_member}
 use Rattle.job_rules.proofs.Among.{Among, Distinct, among_from, among_left, among_mapped, among_right, any_at, any_from, contains_from, each_from}
 use Rattle.job_rules.proofs.Few.{other_bytes}
-use Rattle.kvs_model.specs.kvs_txn.declared.answers.Cause.TheVariants as cause
-use Rattle.kvs_model.specs.kvs_txn.declared.txn.Author.TheVariants as author
-use Rattle.kvs_model.specs.kvs_txn.declared.txn.Op.{Op}
-use Rattle.kvs_model.specs.kvs_txn.declared.txn.Op.TheVariants as op
-use Rattle.kvs_model.specs.kvs_txn.declared.txn.Scope.TheVariants as scope
+use Rattle.kvs_txn.specs.declared.answers.Cause.TheVariants as cause
+use Rattle.kvs_txn.specs.declared.txn.Author.TheVariants as author
+use Rattle.kvs_txn.specs.declared.txn.Op.{Op}
+use Rattle.kvs_txn.specs.declared.txn.Op.TheVariants as op
+use Rattle.kvs_txn.specs.declared.txn.Scope.TheVariants as scope
 use Rattle.kvs_model.specs.Operation.{changed, effect_at, effect_from_key, enters_full_from, first_cause, is_directory, is_link, key_of, most_names, op_effect, placed, refusals, unless_refused}
 use Rattle.kvs_model.specs.Store.{Directory, IsStore, Name, Node, Path, Store, Value, child_name, is_within, listed, names_in, node_at, path_cmp}
 use Rattle.kvs_model.proofs.Paths as paths

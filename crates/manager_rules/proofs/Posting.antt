@@ -5,19 +5,19 @@ use Rattle.std.specs.List.{AllByRecursion as Each}
 use Rattle.std.specs.Result.{result_ok}
 use Rattle.job_rules.proofs.Among.{among_from, each_at}
 use Rattle.job_rules.specs.Fits.{AreWithin, IsGrant, IsSpec}
-use Rattle.job_rules.specs.job_spec.declared.faults.SpecFault.{SpecFault}
-use Rattle.job_rules.specs.job_spec.declared.spec.JobSpec.{JobSpec}
-use Rattle.job_rules.specs.job_spec.Sound as read
-use Rattle.job_rules.specs.job_spec.Sound.{IsCount}
-use Rattle.job_rules.specs.job_spec.Specs.{spec_reading}
-use Rattle.job_rules.proofs.job_spec_proofs.Accepted.{accepted_tells}
+use Rattle.job_spec.specs.declared.faults.SpecFault.{SpecFault}
+use Rattle.job_spec.specs.declared.spec.JobSpec.{JobSpec}
+use Rattle.job_spec.specs.Sound as read
+use Rattle.job_spec.specs.Sound.{IsCount}
+use Rattle.job_spec.specs.Specs.{spec_reading}
+use Rattle.job_spec.proofs.Accepted.{accepted_tells}
 use Rattle.kvs_model.specs.Operation.{effect}
 use Rattle.kvs_model.specs.Store.{Store, IsStore}
-use Rattle.kvs_model.specs.kvs_txn.declared.txn.Scope.TheVariants as scope
-use Rattle.kvs_model.specs.kvs_txn.declared.txn.Txn.{Txn}
-use Rattle.job_rules.specs.resource_set.declared.node.Node.{Node}
-use Rattle.job_rules.specs.resource_set.declared.node.Resources.{Resources}
-use Rattle.job_rules.specs.resource_set.Units.{AreHosts}
+use Rattle.kvs_txn.specs.declared.txn.Scope.TheVariants as scope
+use Rattle.kvs_txn.specs.declared.txn.Txn.{Txn}
+use Rattle.resource_set.specs.declared.node.Node.{Node}
+use Rattle.resource_set.specs.declared.node.Resources.{Resources}
+use Rattle.resource_set.specs.Units.{AreHosts}
 use Rattle.store_laws.specs.Reserved.{IsUsers}
 use Rattle.manager_rules.specs.declared.due.Due.{Due}
 use Rattle.manager_rules.specs.Due.{IsDue}

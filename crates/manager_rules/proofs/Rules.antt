@@ -5,11 +5,11 @@ use Rattle.std.specs.List.{AllByRecursion as Each}
 use Rattle.std.specs.Option.{option_map_or}
 use Rattle.std.proofs.lemmas.Bool.{and_parts, eqb-true}
 use Rattle.job_rules.proofs.Among.{Among, among_filter, among_kept, among_left, among_right, contains_from, each_at, each_from}
-use Rattle.job_rules.specs.job_spec.declared.spec.Depend.{Depend}
-use Rattle.job_rules.specs.job_spec.declared.spec.JobSpec.{JobSpec}
+use Rattle.job_spec.specs.declared.spec.Depend.{Depend}
+use Rattle.job_spec.specs.declared.spec.JobSpec.{JobSpec}
 use Rattle.job_states.specs.declared.job.State.TheVariants as state
 use Rattle.job_states.specs.Table.{is_state, made}
-use Rattle.job_rules.specs.resource_set.declared.node.Resources.{Resources}
+use Rattle.resource_set.specs.declared.node.Resources.{Resources}
 use Rattle.shells.specs.declared.ends.Ending.{Ending}
 use Rattle.shells.specs.declared.ends.Ending.TheVariants as ending
 use Rattle.shells.specs.Endings.{ending_of}

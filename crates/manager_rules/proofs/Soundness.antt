@@ -14,11 +14,11 @@ use Rattle.job_states.specs.declared.job.State.TheVariants as state
 use Rattle.job_states.specs.declared.job.Job.{Job}
 use Rattle.job_states.specs.Changes.{change_of}
 use Rattle.job_states.specs.Table.{made}
-use Rattle.job_rules.specs.resource_set.declared.node.Node.{Node}
-use Rattle.job_rules.specs.resource_set.declared.node.Resources.{Resources}
-use Rattle.job_rules.specs.resource_set.Reading.{told}
-use Rattle.job_rules.specs.resource_set.Units.{AreHosts}
-use Rattle.job_rules.specs.resource_set.Writing.{r_text}
+use Rattle.resource_set.specs.declared.node.Node.{Node}
+use Rattle.resource_set.specs.declared.node.Resources.{Resources}
+use Rattle.resource_set.specs.Reading.{told}
+use Rattle.resource_set.specs.Units.{AreHosts}
+use Rattle.resource_set.specs.Writing.{r_text}
 use Rattle.kvs_model.specs.Store.{Store}
 use Rattle.manager_rules.specs.Jobs.{AreJobsOf, IsStored, StoredJob, ids_of, is_live}
 use Rattle.manager_rules.specs.Scene.{Scene, IsScene}

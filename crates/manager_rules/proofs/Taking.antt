@@ -7,12 +7,12 @@ use Rattle.std.proofs.lemmas.List.{length-map}
 use Rattle.event_log.specs.Events.{line_text}
 use Rattle.event_log.specs.Logs.{log_text}
 use Rattle.job_rules.proofs.Among.{Among, among_from, each_at}
-use Rattle.kvs_model.specs.kvs_txn.declared.answers.Refusal.{Refusal}
-use Rattle.kvs_model.specs.kvs_txn.declared.txn.Author.TheVariants as author
-use Rattle.kvs_model.specs.kvs_txn.declared.txn.Op.{Op}
-use Rattle.kvs_model.specs.kvs_txn.declared.txn.Op.TheVariants as op
-use Rattle.kvs_model.specs.kvs_txn.declared.txn.Scope.TheVariants as scope
-use Rattle.kvs_model.specs.kvs_txn.declared.txn.Txn.{Txn}
+use Rattle.kvs_txn.specs.declared.answers.Refusal.{Refusal}
+use Rattle.kvs_txn.specs.declared.txn.Author.TheVariants as author
+use Rattle.kvs_txn.specs.declared.txn.Op.{Op}
+use Rattle.kvs_txn.specs.declared.txn.Op.TheVariants as op
+use Rattle.kvs_txn.specs.declared.txn.Scope.TheVariants as scope
+use Rattle.kvs_txn.specs.declared.txn.Txn.{Txn}
 use Rattle.kvs_model.specs.History.{after_groups, first_store, landed_on}
 use Rattle.kvs_model.specs.Operation.{appended, changed, effect, op_effect, ops_effect, placed, then_rest}
 use Rattle.kvs_model.specs.Store.{IsStore, Name, Node, Path, Store, Value, is_within, node_at, path_cmp}

@@ -3,7 +3,7 @@ use Rattle.std.proofs.Common.{◌≡◌, ℕ, ◌<◌, ◌^◌, List, [], ◌∷
 use Rattle.std.specs.Prelude.{Contains, filter, not}
 use Rattle.std.specs.List.{AllByRecursion as Each}
 use Rattle.job_rules.proofs.Among.{Among, among_filter, among_from, each_at, each_from}
-use Rattle.job_rules.specs.job_spec.declared.spec.Depend.{Depend}
+use Rattle.job_spec.specs.declared.spec.Depend.{Depend}
 use Rattle.job_states.specs.declared.job.Change.TheVariants as change
 use Rattle.job_states.specs.Changes.{change_of}
 use Rattle.manager_rules.specs.Jobs.{AreNeeds, StoredJob, distinct, ids_of, listed_in, same_need}

@@ -9,7 +9,7 @@ use Rattle.job_states.specs.declared.job.Job.{Job}
 use Rattle.job_states.specs.declared.job.State.{State}
 use Rattle.job_states.specs.declared.job.State.TheVariants as state
 use Rattle.kvs_model.specs.Store.{Store}
-use Rattle.job_rules.specs.resource_set.declared.node.Node.{Node}
+use Rattle.resource_set.specs.declared.node.Node.{Node}
 use Rattle.manager_rules.specs.Jobs.{StoredJob, AreJobsOf, ids_of, is_live}
 
 -- what a job holds, if it is live

@@ -2,15 +2,6 @@
 //! and 26). The definitions stand in `specs/`, and the functions of `laws` state their laws.
 #![tactic(auto)]
 
-// The crates below that those above reach through this one.
-pub use event_log;
-pub use job_queue;
-pub use job_rules::{fl_json, fluid_ids, idset, job_spec, resource_set};
-pub use job_states;
-pub use kvs_model::{kvs_txn, lists};
-pub use shells;
-pub use tap;
-
 pub mod asked;
 pub mod due;
 pub mod laws;

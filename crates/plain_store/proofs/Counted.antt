@@ -9,7 +9,7 @@ use Rattle.std.specs.FinMap.Entries as entries
 use Rattle.std.specs.Map.{lookup, keys_of, remove_entry, set_value}
 use Rattle.std.specs.BTreeMap.{insert_entry}
 use Rattle.std.specs.Global.{Vec}
-use Rattle.kvs_model.specs.kvs_txn.declared.answers.Listed.{Listed}
+use Rattle.kvs_txn.specs.declared.answers.Listed.{Listed}
 use Rattle.kvs_model.specs.Store.{Name, Path, Node, Store, path_cmp, node_at, child_name, listed, names_in}
 use Rattle.kvs_model.proofs.Paths.{path_total, path_from_test, path_self}
 use Rattle.plain_store.specs.declared.slots.Item.{Item}

@@ -4,7 +4,7 @@ ghost use Rattle.kvs_model.specs.Store.{Path as Places};
 ghost use Rattle.plain_store.specs.Counted.{count_at, kept_at, weight, times, IsCountable};
 
 use crate::slots::copy_of;
-use kvs_model::lists::Bytes;
+use lists::Bytes;
 use std::alloc::{AllocError, Global};
 use std::collections::BTreeMap;
 

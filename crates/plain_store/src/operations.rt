@@ -9,8 +9,8 @@ ghost use Rattle.plain_store.specs.Effects.{Gives};
 use crate::slots::{Item, Table};
 use crate::walks::follow;
 use kvs_model::MOST_BYTES;
-use kvs_model::kvs_txn::{Author, Cause, Op, Path, Scope};
-use kvs_model::lists::{Bytes, Copied};
+use kvs_txn::{Author, Cause, Op, Path, Scope};
+use lists::{Bytes, Copied};
 use std::alloc::{AllocError, Global};
 
 /// Puts a directory at the path, unless one stands there.

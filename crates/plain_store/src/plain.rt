@@ -10,8 +10,8 @@ ghost use Rattle.plain_store.specs.Effects.{IsRefusalOf, Answers};
 use crate::operations::operate;
 use crate::slots::{Item, Table};
 use crate::walks::look;
-use kvs_model::kvs_txn::{Found, Path, Query, Refusal, Scope, Txn};
-use kvs_model::lists::{Bytes, Copied};
+use kvs_txn::{Found, Path, Query, Refusal, Scope, Txn};
+use lists::{Bytes, Copied};
 use std::alloc::{AllocError, Global};
 use std::marker::Model;
 

@@ -9,8 +9,8 @@ ghost use Rattle.plain_store.specs.Held.{node_of, store_of, slot_at, written, un
 
 use crate::counts::{Counts, count_in, forget_count, make_count, recount};
 use kvs_model::MOST_NAMES;
-use kvs_model::kvs_txn::{Kind, Listed, NameList, Path};
-use kvs_model::lists::{Bytes, Copied, ListOf};
+use kvs_txn::{Kind, Listed, NameList, Path};
+use lists::{Bytes, Copied, ListOf};
 use std::alloc::{AllocError, Global};
 use std::collections::BTreeMap;
 use std::collections::btree_map::Range;

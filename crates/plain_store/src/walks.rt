@@ -5,8 +5,8 @@ ghost use Rattle.plain_store.specs.Held.{store_of, node_of};
 ghost use Rattle.plain_store.specs.Next.{next_of, leaves_last, followed};
 
 use crate::slots::{Item, Table, copy_of, joined};
-use kvs_model::kvs_txn::{Found, Query};
-use kvs_model::lists::{Bytes, Copied};
+use kvs_txn::{Found, Query};
+use lists::{Bytes, Copied};
 use std::alloc::{AllocError, Global};
 
 /// How many components a walk along the path passes, up to the first place where no directory

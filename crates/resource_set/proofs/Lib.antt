@@ -15,6 +15,3 @@ pub mod Texts
 pub mod Again
 pub mod Ascii
 pub mod LeftOver
--- what lies below, for the crates that stand on this one
-pub use Rattle.hostlist.proofs as hostlist_proofs
-pub use Rattle.idset.proofs as idset_proofs

@@ -1,10 +1,6 @@
 //! Resources of a job or an instance: R, version 1 (Flux RFC 20), their text and their units.
 #![tactic(auto)]
 
-// The crates below that those above reach through this one.
-pub use idset;
-pub use lists;
-
 pub mod entries;
 pub mod faults;
 pub mod fields;

@@ -1,29 +1,29 @@
 -- A landing whose transactions of the manager are due only adds to the logs of jobs, at their end.
 use Rattle.std.proofs.Common.{◌≡◌, ℕ, ◌<◌, ◌^◌, List, [], ◌∷◌, ◌++◌, Option, Some, None, Result, Ok, Err, refl, sym, ap, subst, append-nil, append_assoc}
 use Rattle.std.specs.Prelude.{Contains, IfSome, option_and_then}
-use Rattle.answers.specs.event_log.declared.event.Event.{Event}
-use Rattle.answers.proofs.job_rules_proofs.Among.{among_from, each_at}
-use Rattle.answers.specs.job_rules.Fits.{AreWithin}
-use Rattle.answers.specs.kvs_model.History.{after_groups, landed_on}
-use Rattle.answers.specs.kvs_model.Operation.{effect}
-use Rattle.answers.specs.kvs_model.Store.{IsStore, Store}
-use Rattle.answers.specs.kvs_txn.declared.answers.Refusal.{Refusal}
-use Rattle.answers.specs.kvs_txn.declared.txn.Author.{Author}
-use Rattle.answers.specs.kvs_txn.declared.txn.Author.TheVariants as author
-use Rattle.answers.specs.kvs_txn.declared.txn.Group.{Group}
-use Rattle.answers.specs.kvs_txn.declared.txn.Scope.TheVariants as scope
-use Rattle.answers.specs.resource_set.Units.{AreHosts}
-use Rattle.answers.specs.resource_set.declared.node.Resources.{Resources}
-use Rattle.answers.specs.store_laws.Reserved.{IsUserAuthor}
-use Rattle.answers.specs.manager_rules.Jobs.{AreJobsOf, IsLogged, StoredJob}
-use Rattle.answers.specs.manager_rules.Posts.{Desk, Does, IsDesk, IsDuePost, Post, Submits, txn_of}
-use Rattle.answers.specs.manager_rules.Sound.{IsSound, IsSoundStore}
-use Rattle.answers.proofs.manager_rules_proofs.Others.{events_add, submissions_leave_logs, users_leave_logs}
-use Rattle.answers.proofs.manager_rules_proofs.Soundness.{jobs_within}
-use Rattle.answers.proofs.manager_rules_proofs.Unique.{jobs_are_one}
-use Rattle.answers.specs.instance_rules.Desks.{AreDueFrom, IsDueFor}
-use Rattle.answers.specs.instance_rules.Log.{Instance, IsInstance, Log, now_of}
-use Rattle.answers.proofs.instance_rules_proofs.Sounds.{desk_kept, groups_keep, store_after_group}
+use Rattle.event_log.specs.declared.event.Event.{Event}
+use Rattle.job_rules.proofs.Among.{among_from, each_at}
+use Rattle.job_rules.specs.Fits.{AreWithin}
+use Rattle.kvs_model.specs.History.{after_groups, landed_on}
+use Rattle.kvs_model.specs.Operation.{effect}
+use Rattle.kvs_model.specs.Store.{IsStore, Store}
+use Rattle.kvs_txn.specs.declared.answers.Refusal.{Refusal}
+use Rattle.kvs_txn.specs.declared.txn.Author.{Author}
+use Rattle.kvs_txn.specs.declared.txn.Author.TheVariants as author
+use Rattle.kvs_txn.specs.declared.txn.Group.{Group}
+use Rattle.kvs_txn.specs.declared.txn.Scope.TheVariants as scope
+use Rattle.resource_set.specs.Units.{AreHosts}
+use Rattle.resource_set.specs.declared.node.Resources.{Resources}
+use Rattle.store_laws.specs.Reserved.{IsUserAuthor}
+use Rattle.manager_rules.specs.Jobs.{AreJobsOf, IsLogged, StoredJob}
+use Rattle.manager_rules.specs.Posts.{Desk, Does, IsDesk, IsDuePost, Post, Submits, txn_of}
+use Rattle.manager_rules.specs.Sound.{IsSound, IsSoundStore}
+use Rattle.manager_rules.proofs.Others.{events_add, submissions_leave_logs, users_leave_logs}
+use Rattle.manager_rules.proofs.Soundness.{jobs_within}
+use Rattle.manager_rules.proofs.Unique.{jobs_are_one}
+use Rattle.instance_rules.specs.Desks.{AreDueFrom, IsDueFor}
+use Rattle.instance_rules.specs.Log.{Instance, IsInstance, Log, now_of}
+use Rattle.instance_rules.proofs.Sounds.{desk_kept, groups_keep, store_after_group}
 
 -- the new store keeps the log of the job, with further events behind it
 abbrev pub Grows : Store → ℕ → List Event → Type 0

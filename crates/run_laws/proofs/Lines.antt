@@ -5,10 +5,10 @@ use Rattle.std.specs.Option.{option_map_or}
 use Rattle.std.proofs.lemmas.Bool.{eq-eqb}
 use Rattle.std.proofs.lemmas.Bool.Decides.{eqb_tells}
 use Rattle.std.proofs.lemmas.List.Sums.{sum_by-cons, sum_by_push}
-use Rattle.answers.proofs.kvs_rules_proofs.Sequences.{each_along}
-use Rattle.answers.specs.kvs_rules.Sequence.{EachAfter}
-use Rattle.answers.specs.workload.Tallies.{seconds_in, seconds_of}
-use Rattle.answers.specs.workload.declared.work.Line.{Line}
+use Rattle.kvs_rules.proofs.Sequences.{each_along}
+use Rattle.kvs_rules.specs.Sequence.{EachAfter}
+use Rattle.workload.specs.Tallies.{seconds_in, seconds_of}
+use Rattle.workload.specs.declared.work.Line.{Line}
 use Rattle.answers.specs.declared.chronicle.Entry.{Entry}
 use Rattle.answers.specs.declared.chronicle.Entry.TheVariants as entry
 use Rattle.answers.specs.Chronicle.{Setup, issues_of}

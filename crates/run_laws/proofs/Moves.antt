@@ -2,16 +2,16 @@
 -- manager are due.
 use Rattle.std.proofs.Common.{◌≡◌, ◌⊎◌, inl, inr, List, [], ◌∷◌, ◌++◌, Option, Some, None, refl, sym, ap, ◌∙◌, subst, append-nil}
 use Rattle.std.specs.List.{cons_option}
-use Rattle.answers.specs.kvs_model.History.{after_groups}
-use Rattle.answers.specs.kvs_model.Store.{IsStore, Store}
-use Rattle.answers.proofs.kvs_rules_proofs.Logs.{legal_parts}
-use Rattle.answers.proofs.kvs_rules_proofs.Sequences.{each_push}
-use Rattle.answers.specs.kvs_rules.Answers.{IsLegalLog, IsLegalMoment}
-use Rattle.answers.specs.kvs_rules.Log as service
-use Rattle.answers.specs.kvs_rules.Namespaces.{newest_store, primary}
-use Rattle.answers.specs.kvs_txn.declared.txn.Group.{Group}
-use Rattle.answers.specs.kvs_txn.declared.txn.Scope.TheVariants as scope
-use Rattle.answers.specs.instance_rules.Desks.{AreDueFrom}
+use Rattle.kvs_model.specs.History.{after_groups}
+use Rattle.kvs_model.specs.Store.{IsStore, Store}
+use Rattle.kvs_rules.proofs.Logs.{legal_parts}
+use Rattle.kvs_rules.proofs.Sequences.{each_push}
+use Rattle.kvs_rules.specs.Answers.{IsLegalLog, IsLegalMoment}
+use Rattle.kvs_rules.specs.Log as service
+use Rattle.kvs_rules.specs.Namespaces.{newest_store, primary}
+use Rattle.kvs_txn.specs.declared.txn.Group.{Group}
+use Rattle.kvs_txn.specs.declared.txn.Scope.TheVariants as scope
+use Rattle.instance_rules.specs.Desks.{AreDueFrom}
 use Rattle.answers.specs.declared.chronicle.Entry.{Entry}
 use Rattle.answers.specs.declared.chronicle.Entry.TheVariants as entry
 use Rattle.answers.specs.Chronicle.{Setup, top}

@@ -3,19 +3,19 @@ use Rattle.std.proofs.Common.{◌≡◌, ℕ, suc, ◌⊎◌, inl, inr, List, []
 use Rattle.std.specs.Prelude.{IfSome}
 use Rattle.std.specs.List.{cons_option}
 use Rattle.std.proofs.lemmas.List.{length-append}
-use Rattle.answers.specs.kvs_model.History.{after, after_groups, first_store}
-use Rattle.answers.specs.kvs_model.Store.{IsStore, Store}
-use Rattle.answers.proofs.kvs_model_proofs.Histories.{IsStore-after_groups, IsStore-first_store}
-use Rattle.answers.proofs.kvs_rules_proofs.Logs.{along, landed_push, number_or_not, own_number}
-use Rattle.answers.proofs.kvs_rules_proofs.Stores.{after_push, landings_push}
-use Rattle.answers.specs.kvs_rules.Answers.{IsLegalLog, IsLegalMoment}
-use Rattle.answers.specs.kvs_rules.Landings.{IsAdvance, IsLegalLanding}
-use Rattle.answers.specs.kvs_rules.Log.{Asked, Happened, Log, Moment}
-use Rattle.answers.specs.kvs_rules.Namespaces.{Setting, groups_landed, landed, landings, newest_store, number_landed, primary}
-use Rattle.answers.specs.kvs_rules.declared.events.KvsEvent.TheVariants as event
-use Rattle.answers.specs.kvs_txn.declared.txn.By.{By}
-use Rattle.answers.specs.kvs_txn.declared.txn.Group.{Group}
-use Rattle.answers.specs.kvs_txn.declared.txn.Scope.TheVariants as scope
+use Rattle.kvs_model.specs.History.{after, after_groups, first_store}
+use Rattle.kvs_model.specs.Store.{IsStore, Store}
+use Rattle.kvs_model.proofs.Histories.{IsStore-after_groups, IsStore-first_store}
+use Rattle.kvs_rules.proofs.Logs.{along, landed_push, number_or_not, own_number}
+use Rattle.kvs_rules.proofs.Stores.{after_push, landings_push}
+use Rattle.kvs_rules.specs.Answers.{IsLegalLog, IsLegalMoment}
+use Rattle.kvs_rules.specs.Landings.{IsAdvance, IsLegalLanding}
+use Rattle.kvs_rules.specs.Log.{Asked, Happened, Log, Moment}
+use Rattle.kvs_rules.specs.Namespaces.{Setting, groups_landed, landed, landings, newest_store, number_landed, primary}
+use Rattle.kvs_rules.specs.declared.events.KvsEvent.TheVariants as event
+use Rattle.kvs_txn.specs.declared.txn.By.{By}
+use Rattle.kvs_txn.specs.declared.txn.Group.{Group}
+use Rattle.kvs_txn.specs.declared.txn.Scope.TheVariants as scope
 
 pub same_one : (x y : Store) → Some x ≡ Some y → x ≡ y
 same_one x y e = cc

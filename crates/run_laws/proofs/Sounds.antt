@@ -1,16 +1,16 @@
 -- Along a legal chronicle the store of `primary` stays sound, and the logs of its jobs only grow.
 use Rattle.std.proofs.Common.{◌≡◌, ℕ, ◌<◌, ◌^◌, inl, inr, List, [], ◌∷◌, ◌++◌, refl, sym, ◌∙◌, subst, arith, append-nil, append_assoc}
 use Rattle.std.specs.Prelude.{IsSome}
-use Rattle.answers.specs.event_log.declared.event.Event.{Event}
-use Rattle.answers.specs.kvs_model.History.{first_store}
-use Rattle.answers.proofs.kvs_rules_proofs.Sequences.{each_along, each_both, each_left, each_parts, each_push}
-use Rattle.answers.specs.kvs_rules.Sequence.{EachAfter}
-use Rattle.answers.specs.manager_rules.Jobs.{IsLogged}
-use Rattle.answers.specs.manager_rules.Sound.{IsSoundStore}
-use Rattle.answers.proofs.manager_rules_proofs.Others.{first_jobs}
-use Rattle.answers.specs.instance_rules.Legal.{IsSound}
-use Rattle.answers.specs.instance_rules.Log.{IsInstance}
-use Rattle.answers.proofs.instance_rules_proofs.Sounds.{groups_keep}
+use Rattle.event_log.specs.declared.event.Event.{Event}
+use Rattle.kvs_model.specs.History.{first_store}
+use Rattle.kvs_rules.proofs.Sequences.{each_along, each_both, each_left, each_parts, each_push}
+use Rattle.kvs_rules.specs.Sequence.{EachAfter}
+use Rattle.manager_rules.specs.Jobs.{IsLogged}
+use Rattle.manager_rules.specs.Sound.{IsSoundStore}
+use Rattle.manager_rules.proofs.Others.{first_jobs}
+use Rattle.instance_rules.specs.Legal.{IsSound}
+use Rattle.instance_rules.specs.Log.{IsInstance}
+use Rattle.instance_rules.proofs.Sounds.{groups_keep}
 use Rattle.answers.specs.declared.chronicle.Entry.{Entry}
 use Rattle.answers.specs.Chronicle.{Setup}
 use Rattle.answers.specs.Jobs.{instance_of, log_in, second_of}

@@ -4,19 +4,19 @@ use Rattle.std.specs.List.{cons_option, list_any}
 use Rattle.std.specs.Option.{option_and_then, option_map_or}
 use Rattle.std.proofs.lemmas.List.Folds.{list_any-append}
 use Rattle.std.proofs.lemmas.List.Sums.{sum_by_push}
-use Rattle.answers.proofs.kvs_rules_proofs.Sequences.{each_along, each_parts, latest_push, until-append}
-use Rattle.answers.specs.kvs_rules.Log as service
-use Rattle.answers.specs.kvs_rules.Sequence.{EachAfter, until}
-use Rattle.answers.specs.kvs_txn.declared.txn.By.{By}
-use Rattle.answers.specs.instance_rules.Family.{HasTarget, IsTarget, MayTick}
-use Rattle.answers.specs.instance_rules.Log as rules
-use Rattle.answers.specs.instance_rules.Log.{JobReply, Log, Moment, Born, Gone, Issued, Replied, Served, now_of, ticked}
-use Rattle.answers.proofs.instance_rules_proofs.Ends.{target_kept}
-use Rattle.answers.specs.workload.Laws.{KeepsTallies}
-use Rattle.answers.specs.workload.Tallies.{seconds_in, seconds_of}
-use Rattle.answers.specs.workload.declared.work.Command.{Command}
-use Rattle.answers.specs.workload.declared.work.Command.TheVariants as command
-use Rattle.answers.specs.workload.declared.work.Workload.{Workload}
+use Rattle.kvs_rules.proofs.Sequences.{each_along, each_parts, latest_push, until-append}
+use Rattle.kvs_rules.specs.Log as service
+use Rattle.kvs_rules.specs.Sequence.{EachAfter, until}
+use Rattle.kvs_txn.specs.declared.txn.By.{By}
+use Rattle.instance_rules.specs.Family.{HasTarget, IsTarget, MayTick}
+use Rattle.instance_rules.specs.Log as rules
+use Rattle.instance_rules.specs.Log.{JobReply, Log, Moment, Born, Gone, Issued, Replied, Served, now_of, ticked}
+use Rattle.instance_rules.proofs.Ends.{target_kept}
+use Rattle.workload.specs.Laws.{KeepsTallies}
+use Rattle.workload.specs.Tallies.{seconds_in, seconds_of}
+use Rattle.workload.specs.declared.work.Command.{Command}
+use Rattle.workload.specs.declared.work.Command.TheVariants as command
+use Rattle.workload.specs.declared.work.Workload.{Workload}
 use Rattle.answers.specs.declared.chronicle.Entry.{Entry}
 use Rattle.answers.specs.declared.chronicle.Entry.TheVariants as entry
 use Rattle.answers.specs.Chronicle.{Setup, before_issue, is_issued, issues, top}

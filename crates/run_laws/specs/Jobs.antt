@@ -1,11 +1,11 @@
 -- What stays of the jobs of a run.
 use Rattle.std.specs.Prelude.{◌≡◌, ◌<◌, ◌^◌, ℕ, List, ◌++◌, Option, Some}
-use Rattle.answers.specs.event_log.declared.event.Event.{Event}
-use Rattle.answers.specs.kvs_model.Store.{Store}
-use Rattle.answers.specs.kvs_rules.Namespaces.{newest_store, primary}
-use Rattle.answers.specs.manager_rules.Jobs.{IsLogged}
-use Rattle.answers.specs.instance_rules.Legal.{IsSound}
-use Rattle.answers.specs.instance_rules.Log.{service_of}
+use Rattle.event_log.specs.declared.event.Event.{Event}
+use Rattle.kvs_model.specs.Store.{Store}
+use Rattle.kvs_rules.specs.Namespaces.{newest_store, primary}
+use Rattle.manager_rules.specs.Jobs.{IsLogged}
+use Rattle.instance_rules.specs.Legal.{IsSound}
+use Rattle.instance_rules.specs.Log.{service_of}
 use Rattle.answers.specs.declared.chronicle.Entry.{Entry}
 use Rattle.answers.specs.Chronicle.{Setup}
 use Rattle.answers.specs.Jobs.{instance_of, log_in}

@@ -2,10 +2,10 @@
 use Rattle.std.specs.Prelude.{ℕ, ◌+◌, ◌<◌, ◌^◌, List, []}
 use Rattle.std.specs.List.{sum_by}
 use Rattle.std.specs.Option.{option_map_or}
-use Rattle.answers.specs.kvs_rules.Sequence.{EachAfter}
-use Rattle.answers.specs.kvs_txn.declared.txn.By.{By}
-use Rattle.answers.specs.workload.Tallies.{seconds_in, seconds_of}
-use Rattle.answers.specs.workload.declared.work.Workload.{Workload}
+use Rattle.kvs_rules.specs.Sequence.{EachAfter}
+use Rattle.kvs_txn.specs.declared.txn.By.{By}
+use Rattle.workload.specs.Tallies.{seconds_in, seconds_of}
+use Rattle.workload.specs.declared.work.Workload.{Workload}
 use Rattle.answers.specs.declared.chronicle.Entry.{Entry}
 use Rattle.answers.specs.declared.chronicle.Entry.TheVariants as entry
 use Rattle.answers.specs.Chronicle.{Setup}

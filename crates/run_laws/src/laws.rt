@@ -1,11 +1,11 @@
 //! The laws, each the contract of a function.
 ghost use Rattle.std.specs.Prelude.{◌≡◌, ◌+◌, ◌≤◌, IsSome, List};
-ghost use Rattle.answers.specs.workload.Laws.{KeepsTallies};
-ghost use Rattle.answers.specs.workload.Tallies.{seconds_in};
+ghost use Rattle.workload.specs.Laws.{KeepsTallies};
+ghost use Rattle.workload.specs.Tallies.{seconds_in};
 ghost use Rattle.answers.specs.declared.chronicle.Entry.{Entry};
 ghost use Rattle.answers.specs.Chronicle.{Setup};
 ghost use Rattle.answers.specs.Jobs.{instance_of, second_of};
-ghost use Rattle.answers.specs.instance_rules.Log.{IsInstance};
+ghost use Rattle.instance_rules.specs.Log.{IsInstance};
 ghost use Rattle.answers.specs.Legal.{IsLegal};
 ghost use Rattle.answers.specs.Runs.{IsInTime};
 ghost use Rattle.run_laws.specs.Jobs.{JobsStaySound, LogsOnlyGrow, store_of};

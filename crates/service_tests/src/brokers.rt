@@ -1,15 +1,15 @@
 //! What no command shows of a tree of brokers: transactions that land at once, and the numbers of
 //! steps.
 ghost use Rattle.std.specs.Prelude.{◌≡◌, ◌<◌, ◌≤◌, false, [], codes, IfOk, OnOk};
-ghost use Rattle.kvs_core.specs.kvs_model.History.{first_store};
+ghost use Rattle.kvs_model.specs.History.{first_store};
 ghost use Rattle.kvs_core.specs.Posted.{newest_of, posted};
-ghost use Rattle.kvs_core.specs.kvs_requests.Rows.{IsKnownAsk};
+ghost use Rattle.kvs_requests.specs.Rows.{IsKnownAsk};
 
-use kvs_core::fl_digest::Hash;
-use kvs_core::kvs_rules::{KvsAnswer, KvsAsk, KvsEvent, KvsStep};
-use kvs_core::kvs_txn::{Author, AuthorNames, By, Found, Op, Path, Txn};
-use kvs_core::lists::{Bytes, ListOf};
+use fl_digest::Hash;
 use kvs_core::{Core, Request, Setting};
+use kvs_rules::{KvsAnswer, KvsAsk, KvsEvent, KvsStep};
+use kvs_txn::{Author, AuthorNames, By, Found, Op, Path, Txn};
+use lists::{Bytes, ListOf};
 use std::alloc::Global;
 use std::test::Fail;
 

@@ -1,11 +1,11 @@
 //! Next seconds of small tables of commands.
 ghost use Rattle.std.specs.Prelude.{◌<◌, ◌^◌, All, IfSome, IsTrue, filter_map};
-ghost use Rattle.job_service.specs.job_clock.Targets.{target_in as target_of};
+ghost use Rattle.job_clock.specs.Targets.{target_in as target_of};
 
-use job_service::job_book::Book;
-use job_service::job_clock::next_tick;
-use job_service::job_commands::{Commands, JobAsk, Row};
-use job_service::kvs_txn::By;
+use job_book::Book;
+use job_clock::next_tick;
+use job_commands::{Commands, JobAsk, Row};
+use kvs_txn::By;
 use std::alloc::{AllocError, Global};
 use std::test::Fail;
 
@@ -62,7 +62,7 @@ fn by(command: u32) -> By {
 
 /// A book of no jobs.
 fn book(alloc: Global) -> Result<Book, Fail> {
-    let grant = job_service::resource_set::read(alloc, GRANT.as_bytes())?;
+    let grant = resource_set::read(alloc, GRANT.as_bytes())?;
     Ok(Book::new(alloc, &grant)?)
 }
 

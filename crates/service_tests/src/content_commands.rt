@@ -1,13 +1,13 @@
 //! A story of commands on contents at four brokers, with the answers that are known from the texts
 //! that were stored.
 ghost use Rattle.std.specs.Prelude.{◌≡◌, ◌<◌, false, true, IfOk, OnOk};
-ghost use Rattle.services.specs.content_service.Asks.{is_content};
+ghost use Rattle.content_service.specs.Asks.{is_content};
 
-use services::content_service::ContentService;
-use services::fl_digest::{BlobRef, Hash};
-use services::kvs_rules::{KvsAnswer, KvsAsk, KvsStep};
-use services::kvs_txn::By;
-use services::lists::Bytes;
+use content_service::ContentService;
+use fl_digest::{BlobRef, Hash};
+use kvs_rules::{KvsAnswer, KvsAsk, KvsStep};
+use kvs_txn::By;
+use lists::Bytes;
 use std::alloc::{AllocError, Global};
 use std::process::Abort;
 use std::test::Fail;

@@ -1,14 +1,14 @@
 //! Runs of trees of brokers, with what each load is told known from the texts that were stored.
 ghost use Rattle.std.specs.Prelude.{◌≡◌, ◌<◌, ◌≤◌, true, IfOk, OnOk};
-ghost use Rattle.services.specs.kvs_content.Sound.{IsSoundContent};
-ghost use Rattle.services.specs.kvs_content.Steps.{can_deliver};
-ghost use Rattle.services.specs.kvs_content.Value.{size_of};
+ghost use Rattle.kvs_content.specs.Sound.{IsSoundContent};
+ghost use Rattle.kvs_content.specs.Steps.{can_deliver};
+ghost use Rattle.kvs_content.specs.Value.{size_of};
 
-use services::fl_digest::{BlobRef, Hash};
-use services::kvs_content::{Contents, Delivery, Flush, KvsEvents, Load, Loaded, Stored};
-use services::kvs_rules::KvsEvent;
-use services::kvs_txn::By;
-use services::lists::{Bytes, ListOf};
+use fl_digest::{BlobRef, Hash};
+use kvs_content::{Contents, Delivery, Flush, KvsEvents, Load, Loaded, Stored};
+use kvs_rules::KvsEvent;
+use kvs_txn::By;
+use lists::{Bytes, ListOf};
 use std::alloc::{AllocError, Global};
 use std::process::Abort;
 use std::test::Fail;

@@ -1,9 +1,9 @@
 //! Under which number a post landed.
-use job_service::job_landings::number_of_post;
-use job_service::kvs_rules::KvsEvent;
-use job_service::kvs_space::KvsEvents;
-use job_service::kvs_txn::{Author, AuthorNames, Group, GroupList, Txn};
-use job_service::lists::{Bytes, ListOf};
+use job_landings::number_of_post;
+use kvs_rules::KvsEvent;
+use kvs_space::KvsEvents;
+use kvs_txn::{Author, AuthorNames, Group, GroupList, Txn};
+use lists::{Bytes, ListOf};
 use std::alloc::{AllocError, Global};
 use std::test::Fail;
 

@@ -1,10 +1,10 @@
 //! A request's way over the links of trees of 32 brokers, up to rank 0 and back.
 ghost use Rattle.std.specs.Prelude.{◌<◌};
 
-use kvs_core::kvs_requests::{Row, Stage, carry, entry, is_arrived, is_carried, send_back};
-use kvs_core::kvs_rules::KvsAsk;
-use kvs_core::kvs_txn::By;
-use kvs_core::lists::Bytes;
+use kvs_requests::{Row, Stage, carry, entry, is_arrived, is_carried, send_back};
+use kvs_rules::KvsAsk;
+use kvs_txn::By;
+use lists::Bytes;
 use std::alloc::{AllocError, Global};
 use std::test::Fail;
 

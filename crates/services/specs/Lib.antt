@@ -10,8 +10,10 @@ pub mod View
 pub mod Walk
 -- what lies below, for the crates that stand on this one
 pub use Rattle.job_service.specs.answers as answers
-pub use Rattle.content_service.specs as content_service
+pub use Rattle.job_service.specs.child_grant as child_grant
 pub use Rattle.job_service.specs.fl_digest as fl_digest
+pub use Rattle.job_service.specs.hostlist as hostlist
+pub use Rattle.job_service.specs.idset as idset
 pub use Rattle.job_service.specs.instance_rules as instance_rules
 pub use Rattle.job_service.specs.job_book as job_book
 pub use Rattle.job_service.specs.job_clock as job_clock
@@ -22,7 +24,6 @@ pub use Rattle.job_service.specs.job_replies as job_replies
 pub use Rattle.job_service.specs.job_rules as job_rules
 pub use Rattle.job_service.specs as job_service
 pub use Rattle.job_service.specs.job_states as job_states
-pub use Rattle.kvs_content.specs as kvs_content
 pub use Rattle.job_service.specs.kvs_core as kvs_core
 pub use Rattle.job_service.specs.kvs_model as kvs_model
 pub use Rattle.job_service.specs.kvs_rules as kvs_rules

@@ -3,13 +3,11 @@
 #![tactic(auto)]
 
 // The crates below that those above reach through this one.
-pub use content_service;
 pub use job_service;
 pub use job_service::{
-    answers, fl_digest, job_commands, job_states, kvs_core, kvs_rules, kvs_txn, lists,
-    resource_set, tap, workload,
+    answers, fl_digest, idset, job_commands, job_states, kvs_core, kvs_rules, kvs_txn, lists,
+    resource_set, run_limits, tap, workload,
 };
-pub use kvs_content;
 
 pub mod laws;
 mod services;

@@ -1,18 +1,18 @@
 -- Landings as one transaction of the manager's.
 use Rattle.std.proofs.Common.{◌≡◌, ◌∙◌, ℕ, ◌+◌, Bool, true, false, List, [], ◌∷◌, ◌++◌, length, flat_map, Option, Some, None, Result, Ok, Err, option_and_then, ap, refl}
-use Rattle.hierarchy.specs.kvs_txn.declared.answers.Cause.{Cause}
-use Rattle.hierarchy.specs.kvs_txn.declared.answers.Cause.TheVariants as cause
-use Rattle.hierarchy.specs.kvs_txn.declared.answers.Refusal.{Refusal}
-use Rattle.hierarchy.specs.kvs_txn.declared.txn.Author.{Author}
-use Rattle.hierarchy.specs.kvs_txn.declared.txn.Author.TheVariants as author
-use Rattle.hierarchy.specs.kvs_txn.declared.txn.Group.{Group}
-use Rattle.hierarchy.specs.kvs_txn.declared.txn.Op.{Op}
-use Rattle.hierarchy.specs.kvs_txn.declared.txn.Scope.{Scope}
-use Rattle.hierarchy.specs.kvs_model.Store.{Path, Store}
-use Rattle.hierarchy.specs.kvs_model.Walk.{resolved}
-use Rattle.hierarchy.specs.kvs_model.Operation.{and_then, appends_to_directory, appends_to_link, effect, effect_at, effect_from_key, enters_full_directory, first_cause, is_reserved, key_of, op_effect, ops_effect, overfills_value, then_rest, unless_refused}
-use Rattle.hierarchy.specs.kvs_model.History.{after, after_groups, landed_on}
-use Rattle.hierarchy.proofs.kvs_model_proofs.Sound.{ops_effect-append}
+use Rattle.kvs_txn.specs.declared.answers.Cause.{Cause}
+use Rattle.kvs_txn.specs.declared.answers.Cause.TheVariants as cause
+use Rattle.kvs_txn.specs.declared.answers.Refusal.{Refusal}
+use Rattle.kvs_txn.specs.declared.txn.Author.{Author}
+use Rattle.kvs_txn.specs.declared.txn.Author.TheVariants as author
+use Rattle.kvs_txn.specs.declared.txn.Group.{Group}
+use Rattle.kvs_txn.specs.declared.txn.Op.{Op}
+use Rattle.kvs_txn.specs.declared.txn.Scope.{Scope}
+use Rattle.kvs_model.specs.Store.{Path, Store}
+use Rattle.kvs_model.specs.Walk.{resolved}
+use Rattle.kvs_model.specs.Operation.{and_then, appends_to_directory, appends_to_link, effect, effect_at, effect_from_key, enters_full_directory, first_cause, is_reserved, key_of, op_effect, ops_effect, overfills_value, then_rest, unless_refused}
+use Rattle.kvs_model.specs.History.{after, after_groups, landed_on}
+use Rattle.kvs_model.proofs.Sound.{ops_effect-append}
 use Rattle.summaries.specs.Roots.{ops_of}
 
 -- an operation that five tests let pass passes where two of them are left out

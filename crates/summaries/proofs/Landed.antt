@@ -6,19 +6,19 @@ use Rattle.std.specs.List.{cons_option}
 use Rattle.std.proofs.lemmas.Bool.{false_from_ne_true}
 use Rattle.std.proofs.lemmas.List.{take_more}
 use Rattle.std.proofs.lemmas.List.Elements.{filter_map-append}
-use Rattle.hierarchy.specs.kvs_txn.declared.txn.By.{By}
-use Rattle.hierarchy.specs.kvs_txn.declared.txn.Group.{Group}
-use Rattle.hierarchy.specs.kvs_rules.declared.events.KvsAnswer.{KvsAnswer}
-use Rattle.hierarchy.specs.kvs_rules.declared.events.KvsEvent.TheVariants as event
-use Rattle.hierarchy.specs.kvs_rules.Log.{Happened, Moment}
-use Rattle.hierarchy.specs.kvs_rules.Namespaces.{groups_landed, is_primary, landings, primary}
-use Rattle.hierarchy.specs.workload.declared.work.Workload.{Workload}
-use Rattle.hierarchy.specs.answers.declared.chronicle.Entry.{Entry}
-use Rattle.hierarchy.specs.answers.declared.chronicle.Entry.TheVariants as entry
-use Rattle.hierarchy.specs.answers.Chronicle.{answer_of, top}
-use Rattle.hierarchy.specs.answers.Commands.{ask_at}
-use Rattle.hierarchy.specs.answers.Services.{asked_at, log_of, moment_of, moments_after}
-use Rattle.hierarchy.proofs.answers_proofs.Services.{eqb_is}
+use Rattle.kvs_txn.specs.declared.txn.By.{By}
+use Rattle.kvs_txn.specs.declared.txn.Group.{Group}
+use Rattle.kvs_rules.specs.declared.events.KvsAnswer.{KvsAnswer}
+use Rattle.kvs_rules.specs.declared.events.KvsEvent.TheVariants as event
+use Rattle.kvs_rules.specs.Log.{Happened, Moment}
+use Rattle.kvs_rules.specs.Namespaces.{groups_landed, is_primary, landings, primary}
+use Rattle.workload.specs.declared.work.Workload.{Workload}
+use Rattle.answers.specs.declared.chronicle.Entry.{Entry}
+use Rattle.answers.specs.declared.chronicle.Entry.TheVariants as entry
+use Rattle.answers.specs.Chronicle.{answer_of, top}
+use Rattle.answers.specs.Commands.{ask_at}
+use Rattle.answers.specs.Services.{asked_at, log_of, moment_of, moments_after}
+use Rattle.answers.proofs.Services.{eqb_is}
 use Rattle.summaries.specs.Landings.{groups_landed_by}
 
 not_zero : (n : ℕ) → (suc n == 0) ≡ false

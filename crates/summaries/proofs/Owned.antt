@@ -1,13 +1,13 @@
 -- The landings of `primary` in a run are those of the top's own chronicle.
 use Rattle.std.proofs.Common.{◌≡◌, ◌∙◌, ◌==◌, ◌&&◌, ◌||◌, ℕ, Bool, true, false, cond, not, List, [], ◌∷◌, length, filter_map, Option, Some, None, ap, refl, sym, true≢false}
 use Rattle.std.specs.List.{cons_option, list_any}
-use Rattle.hierarchy.specs.kvs_txn.declared.txn.Group.{Group}
-use Rattle.hierarchy.specs.kvs_rules.Namespaces.{is_primary, landings, primary}
-use Rattle.hierarchy.specs.kvs_rules.Sequence.{until}
-use Rattle.hierarchy.specs.workload.declared.work.Actor.{Actor}
-use Rattle.hierarchy.specs.answers.Chronicle.{Setup, top}
-use Rattle.hierarchy.specs.answers.declared.chronicle.Entry.{Entry}
-use Rattle.hierarchy.specs.answers.declared.chronicle.Entry.TheVariants as entry
+use Rattle.kvs_txn.specs.declared.txn.Group.{Group}
+use Rattle.kvs_rules.specs.Namespaces.{is_primary, landings, primary}
+use Rattle.kvs_rules.specs.Sequence.{until}
+use Rattle.workload.specs.declared.work.Actor.{Actor}
+use Rattle.answers.specs.Chronicle.{Setup, top}
+use Rattle.answers.specs.declared.chronicle.Entry.{Entry}
+use Rattle.answers.specs.declared.chronicle.Entry.TheVariants as entry
 use Rattle.hierarchy.specs.Births.{ends, is_gone}
 use Rattle.hierarchy.specs.Own.{only_if, own_entry, own_of, setup_in}
 use Rattle.summaries.specs.Landings.{groups_landed_by}

@@ -1,17 +1,17 @@
 -- The store that the landings of `primary` leave along a legal log.
 use Rattle.std.proofs.Common.{◌≡◌, ◌∙◌, ◌⊎◌, inl, inr, ℕ, suc, Bool, true, false, cond, List, [], ◌∷◌, ◌++◌, length, length-append, unwrap_or, Option, Some, None, ap, refl, sym, subst, arith, append-nil, true≢false, bytes_eq}
 use Rattle.std.specs.List.{cons_option}
-use Rattle.hierarchy.specs.kvs_txn.declared.txn.By.{By}
-use Rattle.hierarchy.specs.kvs_txn.declared.txn.Group.{Group}
-use Rattle.hierarchy.specs.kvs_model.Store.{Name, Store}
-use Rattle.hierarchy.specs.kvs_model.History.{after, after_groups}
-use Rattle.hierarchy.specs.kvs_rules.declared.events.KvsEvent.TheVariants as event
-use Rattle.hierarchy.specs.kvs_rules.Log.{Moment, Asked, Happened, Log}
-use Rattle.hierarchy.specs.kvs_rules.Namespaces.{Setting, begun_at, groups_landed, landed, landings, newest_store, number_landed, primary, scope_of}
-use Rattle.hierarchy.specs.kvs_rules.Landings.{IsAdvance, IsLegalLanding, IsOpening, IsRemoval}
-use Rattle.hierarchy.specs.kvs_rules.Answers.{IsLegalLog, IsLegalMoment}
-use Rattle.hierarchy.proofs.kvs_rules_proofs.Logs.{LandsIn, along, landed_push, number_or_not, own_number}
-use Rattle.hierarchy.proofs.kvs_rules_proofs.Stores.{after_push, landings_push}
+use Rattle.kvs_txn.specs.declared.txn.By.{By}
+use Rattle.kvs_txn.specs.declared.txn.Group.{Group}
+use Rattle.kvs_model.specs.Store.{Name, Store}
+use Rattle.kvs_model.specs.History.{after, after_groups}
+use Rattle.kvs_rules.specs.declared.events.KvsEvent.TheVariants as event
+use Rattle.kvs_rules.specs.Log.{Moment, Asked, Happened, Log}
+use Rattle.kvs_rules.specs.Namespaces.{Setting, begun_at, groups_landed, landed, landings, newest_store, number_landed, primary, scope_of}
+use Rattle.kvs_rules.specs.Landings.{IsAdvance, IsLegalLanding, IsOpening, IsRemoval}
+use Rattle.kvs_rules.specs.Answers.{IsLegalLog, IsLegalMoment}
+use Rattle.kvs_rules.proofs.Logs.{LandsIn, along, landed_push, number_or_not, own_number}
+use Rattle.kvs_rules.proofs.Stores.{after_push, landings_push}
 
 -- a moment that gives no number in the namespace has no transactions there
 no_groups : (space : Name) (m : Moment) → number_landed space m ≡ None → groups_landed space m ≡ None

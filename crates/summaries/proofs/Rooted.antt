@@ -1,17 +1,17 @@
 -- The root of the store that landings leave.
 use Rattle.std.proofs.Common.{◌≡◌, ◌∙◌, List, [], ◌∷◌, ◌++◌, Bor, flat_map, map, ap, ap₂, refl, sym, true≢false}
 use Rattle.std.specs.Prelude.{ℕ, Err, IsSome, None, Ok, Option, Result, Some}
-use Rattle.hierarchy.specs.fl_digest.declared.BlobRef.{BlobRef}
-use Rattle.hierarchy.specs.fl_digest.declared.Hash.{Hash}
-use Rattle.hierarchy.specs.kvs_txn.declared.answers.Refusal.{Refusal}
-use Rattle.hierarchy.specs.kvs_txn.declared.txn.Author.TheVariants as author
-use Rattle.hierarchy.specs.kvs_txn.declared.txn.Group.{Group}
-use Rattle.hierarchy.specs.kvs_txn.declared.txn.Scope.TheVariants as scope
-use Rattle.hierarchy.specs.kvs_txn.declared.txn.Txn.{Txn}
-use Rattle.hierarchy.specs.kvs_model.Store.{Store}
-use Rattle.hierarchy.specs.kvs_model.Operation.{effect, ops_effect}
-use Rattle.hierarchy.specs.kvs_model.History.{first_store}
-use Rattle.hierarchy.specs.tree_rules.Texts.{root_reference}
+use Rattle.fl_digest.specs.declared.BlobRef.{BlobRef}
+use Rattle.fl_digest.specs.declared.Hash.{Hash}
+use Rattle.kvs_txn.specs.declared.answers.Refusal.{Refusal}
+use Rattle.kvs_txn.specs.declared.txn.Author.TheVariants as author
+use Rattle.kvs_txn.specs.declared.txn.Group.{Group}
+use Rattle.kvs_txn.specs.declared.txn.Scope.TheVariants as scope
+use Rattle.kvs_txn.specs.declared.txn.Txn.{Txn}
+use Rattle.kvs_model.specs.Store.{Store}
+use Rattle.kvs_model.specs.Operation.{effect, ops_effect}
+use Rattle.kvs_model.specs.History.{first_store}
+use Rattle.tree_rules.specs.Texts.{root_reference}
 use Rattle.summaries.specs.Roots.{ops_of, store_left}
 use Rattle.summaries.proofs.InOneStep.{landings_joined}
 

@@ -1,16 +1,16 @@
 -- What a legal chronicle says of `primary`.
 use Rattle.std.proofs.Common.{◌≡◌, ◌∙◌, List, ap, ap₂, sym, length}
 use Rattle.std.specs.Prelude.{ℕ, IsSome, Some, is_some}
-use Rattle.hierarchy.specs.kvs_txn.declared.txn.Group.{Group}
-use Rattle.hierarchy.specs.kvs_txn.declared.txn.Scope.TheVariants as scope
-use Rattle.hierarchy.specs.kvs_model.Store.{Store}
-use Rattle.hierarchy.specs.kvs_model.History.{after, first_store}
-use Rattle.hierarchy.specs.kvs_rules.Namespaces.{landings, newest_store, primary}
-use Rattle.hierarchy.specs.answers.declared.chronicle.Entry.{Entry}
-use Rattle.hierarchy.specs.answers.Chronicle.{Setup, top}
-use Rattle.hierarchy.specs.answers.Legal.{IsLegal}
-use Rattle.hierarchy.specs.answers.Services.{log_of, setting_of}
-use Rattle.hierarchy.proofs.answers_proofs.Services.{service_legal}
+use Rattle.kvs_txn.specs.declared.txn.Group.{Group}
+use Rattle.kvs_txn.specs.declared.txn.Scope.TheVariants as scope
+use Rattle.kvs_model.specs.Store.{Store}
+use Rattle.kvs_model.specs.History.{after, first_store}
+use Rattle.kvs_rules.specs.Namespaces.{landings, newest_store, primary}
+use Rattle.answers.specs.declared.chronicle.Entry.{Entry}
+use Rattle.answers.specs.Chronicle.{Setup, top}
+use Rattle.answers.specs.Legal.{IsLegal}
+use Rattle.answers.specs.Services.{log_of, setting_of}
+use Rattle.answers.proofs.Services.{service_legal}
 use Rattle.summaries.specs.Roots.{store_left}
 use Rattle.summaries.proofs.Primary.{left, newest_left}
 

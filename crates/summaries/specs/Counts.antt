@@ -7,7 +7,7 @@ use Rattle.std.specs.List.Sorted.{IsStrictlySortedBy}
 use Rattle.std.specs.Map.{keys_of, lookup}
 use Rattle.std.specs.Ordering.{nat_cmp}
 use Rattle.std.specs.Str.{bytes_eq}
-use Rattle.hierarchy.specs.lists.Ascii.{newline, space}
+use Rattle.lists.specs.Ascii.{newline, space}
 
 -- a word of a line ends before a space
 abbrev pub is_space : ℕ → Bool

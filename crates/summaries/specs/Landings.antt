@@ -1,10 +1,10 @@
 -- The landings of `primary` in a chronicle.
 use Rattle.std.specs.Prelude.{◌==◌, ◌&&◌, List, Option, Some, None, length, not, if◌then◌else◌}
-use Rattle.hierarchy.specs.kvs_txn.declared.txn.Group.{Group}
-use Rattle.hierarchy.specs.kvs_rules.Namespaces.{is_primary}
-use Rattle.hierarchy.specs.answers.Chronicle.{top}
-use Rattle.hierarchy.specs.answers.declared.chronicle.Entry.{Entry}
-use Rattle.hierarchy.specs.answers.declared.chronicle.Entry.TheVariants as entry
+use Rattle.kvs_txn.specs.declared.txn.Group.{Group}
+use Rattle.kvs_rules.specs.Namespaces.{is_primary}
+use Rattle.answers.specs.Chronicle.{top}
+use Rattle.answers.specs.declared.chronicle.Entry.{Entry}
+use Rattle.answers.specs.declared.chronicle.Entry.TheVariants as entry
 
 -- the transactions that land by an entry in the top instance's `primary`, if it is such a landing
 abbrev pub groups_landed_by : Entry → Option (List Group)

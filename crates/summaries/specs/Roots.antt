@@ -1,10 +1,10 @@
 -- The store that landings leave.
 use Rattle.std.specs.Prelude.{ℕ, List, Option, flat_map, length}
-use Rattle.hierarchy.specs.kvs_txn.declared.txn.Group.{Group}
-use Rattle.hierarchy.specs.kvs_txn.declared.txn.Op.{Op}
-use Rattle.hierarchy.specs.kvs_txn.declared.txn.Scope.TheVariants as scope
-use Rattle.hierarchy.specs.kvs_model.Store.{Store}
-use Rattle.hierarchy.specs.kvs_model.History.{after, first_store}
+use Rattle.kvs_txn.specs.declared.txn.Group.{Group}
+use Rattle.kvs_txn.specs.declared.txn.Op.{Op}
+use Rattle.kvs_txn.specs.declared.txn.Scope.TheVariants as scope
+use Rattle.kvs_model.specs.Store.{Store}
+use Rattle.kvs_model.specs.History.{after, first_store}
 
 -- the operations of a landing's transactions
 abbrev pub ops_of : List Group → List Op

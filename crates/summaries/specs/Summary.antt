@@ -1,19 +1,19 @@
 -- What the summary of a run says.
 use Rattle.std.specs.Prelude.{◌≡◌, ℕ, List, [], ◌∷◌, ◌++◌, false, Some, codes, decimal, flat_map, length}
-use Rattle.hierarchy.specs.lists.Ascii.{newline}
-use Rattle.hierarchy.specs.fl_digest.declared.BlobRef.{BlobRef}
-use Rattle.hierarchy.specs.fl_digest.Reference.{reference_text}
-use Rattle.hierarchy.specs.kvs_model.Store.{Store}
-use Rattle.hierarchy.specs.kvs_rules.Namespaces.{landings, newest_store, primary}
-use Rattle.hierarchy.specs.tree_rules.Texts.{root_reference}
-use Rattle.hierarchy.specs.answers.declared.chronicle.Entry.{Entry}
-use Rattle.hierarchy.specs.answers.Chronicle.{Setup, top}
-use Rattle.hierarchy.specs.answers.Legal.{IsLegal}
-use Rattle.hierarchy.specs.answers.Services.{log_of, setting_of}
-use Rattle.hierarchy.specs.answers.Text.{answers_text}
+use Rattle.lists.specs.Ascii.{newline}
+use Rattle.fl_digest.specs.declared.BlobRef.{BlobRef}
+use Rattle.fl_digest.specs.Reference.{reference_text}
+use Rattle.kvs_model.specs.Store.{Store}
+use Rattle.kvs_rules.specs.Namespaces.{landings, newest_store, primary}
+use Rattle.tree_rules.specs.Texts.{root_reference}
+use Rattle.answers.specs.declared.chronicle.Entry.{Entry}
+use Rattle.answers.specs.Chronicle.{Setup, top}
+use Rattle.answers.specs.Legal.{IsLegal}
+use Rattle.answers.specs.Services.{log_of, setting_of}
+use Rattle.answers.specs.Text.{answers_text}
 use Rattle.hierarchy.specs.Births.{is_gone}
 use Rattle.hierarchy.specs.Own.{own_of, setup_in}
-use Rattle.hierarchy.specs.kvs_rules.Log.{Log}
+use Rattle.kvs_rules.specs.Log.{Log}
 use Rattle.summaries.specs.Counts.{first_words, row_text, IsTally}
 
 -- how often `primary` landed, and its last root

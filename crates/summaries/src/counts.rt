@@ -5,8 +5,8 @@ ghost use Rattle.std.specs.Cmp.Lexicographic.{slice_cmp};
 ghost use Rattle.std.specs.Ordering.{nat_cmp};
 ghost use Rattle.summaries.specs.Counts.{first_word, first_words, is_space, row_text, CountsOneMore, IsTally};
 
-use hierarchy::lists::Bytes;
 use itoa::Buffer;
+use lists::Bytes;
 use std::alloc::{AllocError, Global};
 use std::collections::BTreeMap;
 

@@ -1,14 +1,14 @@
 //! The landings of `primary` in a chronicle.
 ghost use Rattle.std.specs.Prelude.{◌≡◌, ◌++◌, [], map, option_map, IfOk, OnOk};
 ghost use Rattle.std.specs.List.{cons_option};
-ghost use Rattle.hierarchy.specs.answers.Chronicle.{top};
-ghost use Rattle.hierarchy.specs.answers.Services.{log_of};
-ghost use Rattle.hierarchy.specs.kvs_rules.Namespaces.{landings, primary};
-ghost use Rattle.hierarchy.specs.workload.declared.work.Workload.{Workload};
+ghost use Rattle.answers.specs.Chronicle.{top};
+ghost use Rattle.answers.specs.Services.{log_of};
+ghost use Rattle.kvs_rules.specs.Namespaces.{landings, primary};
+ghost use Rattle.workload.specs.declared.work.Workload.{Workload};
 ghost use Rattle.summaries.specs.Landings.{groups_landed_by};
 
-use hierarchy::answers::{Chronicle, Entry};
-use hierarchy::kvs_txn::GroupList;
+use answers::{Chronicle, Entry};
+use kvs_txn::GroupList;
 use std::alloc::{AllocError, Global};
 
 /// The transactions that land by an entry in the top instance's `primary`, if it is such a landing.

@@ -3,19 +3,19 @@
 #![tactic(auto)]
 
 ghost use Rattle.std.specs.Prelude.{◌≡◌, ◌++◌, IfOk, OnOk};
-ghost use Rattle.hierarchy.specs.answers.Chronicle.{Setup};
-ghost use Rattle.hierarchy.specs.answers.Text.{answers_text};
+ghost use Rattle.answers.specs.Chronicle.{Setup};
+ghost use Rattle.answers.specs.Text.{answers_text};
 ghost use Rattle.summaries.specs.Summary.{last_lines, IsSummary, IsTopLegal};
 
 mod counts;
 mod landings;
 mod roots;
 
+use answers::Chronicle;
 use counts::{add_number, add_rows, first_words, tally};
-use hierarchy::answers::Chronicle;
-use hierarchy::fl_digest::{BlobRef, Hash};
-use hierarchy::lists::Bytes;
+use fl_digest::{BlobRef, Hash};
 use landings::landings;
+use lists::Bytes;
 use roots::root_after;
 use std::alloc::{AllocError, Global};
 

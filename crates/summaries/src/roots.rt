@@ -1,13 +1,13 @@
 //! The root that landings leave.
 ghost use Rattle.std.specs.Prelude.{◌≡◌, ◌++◌, flat_map, map, IfOk, IsSome, OnOk, Some};
-ghost use Rattle.hierarchy.specs.kvs_model.Store.{Store};
-ghost use Rattle.hierarchy.specs.tree_rules.Texts.{root_reference};
+ghost use Rattle.kvs_model.specs.Store.{Store};
+ghost use Rattle.tree_rules.specs.Texts.{root_reference};
 ghost use Rattle.summaries.specs.Roots.{ops_of, store_left};
 
 use blob_store::BlobStore;
-use hierarchy::fl_digest::{BlobRef, Hash};
-use hierarchy::kvs_txn::{Author, GroupList, OpList, Scope, Txn};
-use hierarchy::lists::{Bytes, Copied, ListOf};
+use fl_digest::{BlobRef, Hash};
+use kvs_txn::{Author, GroupList, OpList, Scope, Txn};
+use lists::{Bytes, Copied, ListOf};
 use std::alloc::{AllocError, Global};
 use tree_store::{TreeFault, apply, first};
 

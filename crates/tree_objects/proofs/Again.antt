@@ -7,14 +7,14 @@ use Rattle.std.specs.FinMap.Entries as finite
 use Rattle.base64.specs.Engines.{standard}
 use Rattle.base64.specs.GeneralPurpose.{encode_of, decode_of, IsBytes}
 use Rattle.base64.proofs.EngineFacts.{decode_of-encode_of}
-use Rattle.tree_rules.specs.fl_digest.declared.BlobRef.{BlobRef}
-use Rattle.tree_rules.specs.fl_digest.Reference.{reference_text, IsWhole}
-use Rattle.tree_rules.proofs.fl_digest_proofs.References.{reference_text_once, whole_text}
+use Rattle.fl_digest.specs.declared.BlobRef.{BlobRef}
+use Rattle.fl_digest.specs.Reference.{reference_text, IsWhole}
+use Rattle.fl_digest.proofs.References.{reference_text_once, whole_text}
 use Rattle.fl_json.specs.Valid.{IsValid, AreValid, HaveValid, IsBefore}
-use Rattle.tree_rules.specs.kvs_txn.Keys.{components, IsKey}
-use Rattle.tree_rules.specs.kvs_txn.Words.{path_text}
-use Rattle.tree_rules.proofs.kvs_txn_proofs.Components.{read_again}
-use Rattle.tree_rules.specs.kvs_model.Store.{Path, Name}
+use Rattle.kvs_txn.specs.Keys.{components, IsKey}
+use Rattle.kvs_txn.specs.Words.{path_text}
+use Rattle.kvs_txn.proofs.Components.{read_again}
+use Rattle.kvs_model.specs.Store.{Path, Name}
 use Rattle.serde_json.specs.Data.{Data, string, array, object, Items, no_items, item, Members, no_members, member}
 use Rattle.serde_json.specs.View.{items_of}
 use Rattle.tree_rules.specs.Objects.{Tree, val, valref, dir, dirref, symlink, Entries, no_entries, entry, listed, framed, references_data, target_data, tree_data, entries_data}

@@ -5,13 +5,13 @@ use Rattle.std.specs.FinMap.Entries as finite
 use Rattle.std.specs.List.{All, AllPass}
 use Rattle.std.proofs.lemmas.List.Elements.{All-cons, All-head, All-nil, All-tail}
 use Rattle.std.proofs.lemmas.List.{append_cancel_left}
-use Rattle.tree_rules.specs.fl_digest.declared.BlobRef.{BlobRef}
-use Rattle.tree_rules.specs.fl_digest.declared.Digest.{Digest}
-use Rattle.tree_rules.specs.fl_digest.declared.Digest.TheVariants as digest
-use Rattle.tree_rules.specs.fl_digest.Reference.{hex_digit, hex_text, digest_text, reference_text, is_lower_digit, AreBytes, IsReferenceText, IsWhole, IsWholeDigest}
+use Rattle.fl_digest.specs.declared.BlobRef.{BlobRef}
+use Rattle.fl_digest.specs.declared.Digest.{Digest}
+use Rattle.fl_digest.specs.declared.Digest.TheVariants as digest
+use Rattle.fl_digest.specs.Reference.{hex_digit, hex_text, digest_text, reference_text, is_lower_digit, AreBytes, IsReferenceText, IsWhole, IsWholeDigest}
 use Rattle.serde_json.specs.Data.{depth, members_depth}
 use Rattle.serde_json.specs.Read.{max_depth}
-use Rattle.tree_rules.specs.kvs_model.Store.{Name}
+use Rattle.kvs_model.specs.Store.{Name}
 use Rattle.tree_rules.specs.Objects.{Tree, dir, Entries, entries_of, listed, tree_data, entries_data}
 use Rattle.tree_rules.specs.Names.{name_cmp}
 use Rattle.tree_objects.specs.Reading.{IsReadable, AreReadable, IsFlat}

@@ -5,7 +5,7 @@ use Rattle.std.specs.Ordering.{is_lt}
 use Rattle.std.specs.FinMap.Entries as finite
 use Rattle.std.specs.List.{AllByRecursion}
 use Rattle.std.specs.Str.{IsUtf8}
-use Rattle.tree_rules.specs.kvs_model.Store.{Name}
+use Rattle.kvs_model.specs.Store.{Name}
 use Rattle.tree_rules.specs.Objects.{Tree, Entries, no_entries, entry, listed, entries_of}
 use Rattle.tree_objects.specs.Directories.{names_of, tree_size, entries_size, with_last, IsDirectory}
 use Rattle.tree_rules.specs.Names.{name_cmp}

@@ -9,7 +9,7 @@ use Rattle.std.specs.FinMap.Entries as finite
 use Rattle.std.specs.Str.{IsUtf8}
 use Rattle.std.proofs.Math.ListN.{set}
 use Rattle.std.proofs.lemmas.Cmp.{nat_list_cmp_total}
-use Rattle.tree_rules.specs.kvs_model.Store.{Name}
+use Rattle.kvs_model.specs.Store.{Name}
 use Rattle.tree_rules.specs.Objects.{Tree, Entries, listed}
 use Rattle.tree_objects.specs.Directories.{IsDirectory}
 use Rattle.tree_rules.specs.Names.{name_cmp}

@@ -7,7 +7,7 @@ use Rattle.std.specs.Ordering.{is_lt, is_eq, eq_by_cmp, ordering_index}
 use Rattle.std.specs.FinMap.Entries as finite
 use Rattle.std.specs.Str.{IsUtf8}
 use Rattle.std.proofs.lemmas.List.Edits.{length-remove}
-use Rattle.tree_rules.specs.kvs_model.Store.{Name}
+use Rattle.kvs_model.specs.Store.{Name}
 use Rattle.tree_rules.specs.Objects.{Tree, Entries, listed}
 use Rattle.tree_rules.specs.Names.{name_cmp}
 use Rattle.tree_objects.specs.Directories.{IsDirectory}

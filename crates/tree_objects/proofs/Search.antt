@@ -7,7 +7,7 @@ use Rattle.std.specs.Ordering.{is_lt, is_eq, ordering_reverse, ordering_index}
 use Rattle.std.specs.FinMap.{nat_cmp-IsAntisymmetric, slice_cmp-IsAntisymmetric}
 use Rattle.std.specs.FinMap.Entries as finite
 use Rattle.std.proofs.lemmas.Cmp.{nat_list_cmp_total, tied_itself}
-use Rattle.tree_rules.specs.kvs_model.Store.{Name}
+use Rattle.kvs_model.specs.Store.{Name}
 use Rattle.tree_rules.specs.Objects.{listed}
 use Rattle.tree_rules.specs.Names.{name_cmp}
 use Rattle.tree_objects.specs.Level.{tree_of, paired}

@@ -12,11 +12,11 @@ use Rattle.std.proofs.lemmas.Str.{IsUtf8-append, IsUtf8-nil, IsUtf8-from_ascii}
 use Rattle.base64.specs.Engines.{standard}
 use Rattle.base64.specs.GeneralPurpose.{encode_of}
 use Rattle.base64.proofs.EngineFacts.{IsAscii-encode_of}
-use Rattle.tree_rules.specs.fl_digest.declared.BlobRef.{BlobRef}
-use Rattle.tree_rules.specs.fl_digest.declared.Digest.{Digest}
-use Rattle.tree_rules.specs.fl_digest.declared.Digest.TheVariants as digest
-use Rattle.tree_rules.specs.fl_digest.Reference.{reference_text, digest_text, IsWhole, IsWholeDigest}
-use Rattle.tree_rules.proofs.fl_digest_proofs.References.{digest_is_text}
+use Rattle.fl_digest.specs.declared.BlobRef.{BlobRef}
+use Rattle.fl_digest.specs.declared.Digest.{Digest}
+use Rattle.fl_digest.specs.declared.Digest.TheVariants as digest
+use Rattle.fl_digest.specs.Reference.{reference_text, digest_text, IsWhole, IsWholeDigest}
+use Rattle.fl_digest.proofs.References.{digest_is_text}
 use Rattle.fl_json.specs.Reading.{reading}
 use Rattle.fl_json.specs.Valid.{IsValid}
 use Rattle.fl_json.proofs.Canonical.{canonical_reading}
@@ -28,8 +28,8 @@ use Rattle.json.proofs.Printed.Decimals.{IsNumber-decimal}
 use Rattle.json.proofs.Printed.Tokens.{tokens-print}
 use Rattle.json.proofs.Printed.Trees.{ArePrintable-json_tokens, value-json_tokens}
 use Rattle.json.proofs.Printed.Utf8.{IsUtf8-are_ascii, IsUtf8-quoted, IsUtf8-boolean}
-use Rattle.tree_rules.proofs.kvs_txn_proofs.Components.{key_text}
-use Rattle.tree_rules.specs.kvs_model.Store.{Name}
+use Rattle.kvs_txn.proofs.Components.{key_text}
+use Rattle.kvs_model.specs.Store.{Name}
 use Rattle.serde_json.specs.Data.{Num, unsigned, negative, float, Data, null, boolean, number, string, array, object, Items, no_items, item, Members, no_members, member, put, depth, items_depth, members_depth}
 use Rattle.serde_json.specs.Read.{number_of, of_json, of_items, of_members, max_depth, read}
 use Rattle.serde_json.specs.View.{items_of}

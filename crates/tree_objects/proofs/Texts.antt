@@ -6,7 +6,7 @@ use Rattle.std.proofs.Math.ListN.{set}
 use Rattle.json.specs.Token.{Token, string}
 use Rattle.json.specs.Print.{escape_byte, quoted, print, print_from}
 use Rattle.serde_json.specs.Written.{comma_if, members_text}
-use Rattle.tree_rules.specs.kvs_model.Store.{Name}
+use Rattle.kvs_model.specs.Store.{Name}
 use Rattle.tree_rules.specs.Objects.{Tree, dir, Entries, entries_of, entries_data, tree_text}
 use Rattle.tree_objects.specs.Level.{tree_of}
 use Rattle.tree_objects.specs.Pieces.{entry_text, IsTextOf, AreTexts}

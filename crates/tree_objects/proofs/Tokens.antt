@@ -4,8 +4,8 @@ use Rattle.std.proofs.Math.Seq.{drop-cons}
 use Rattle.std.proofs.lemmas.List.{drop_all, length-map}
 use Rattle.std.specs.List.{AllByRecursion}
 use Rattle.std.specs.Str.{IsUtf8}
-use Rattle.tree_rules.specs.fl_digest.declared.BlobRef.{BlobRef}
-use Rattle.tree_rules.specs.fl_digest.Reference.{reference_text}
+use Rattle.fl_digest.specs.declared.BlobRef.{BlobRef}
+use Rattle.fl_digest.specs.Reference.{reference_text}
 use Rattle.json.specs.Token.{Token, begin_object, end_object, end_array, key, string, number}
 use Rattle.json.specs.Print.{print}
 use Rattle.json.specs.Tree.{items_tokens, members_tokens}
@@ -14,7 +14,7 @@ use Rattle.serde_json.specs.Data as value
 use Rattle.serde_json.specs.View.{items_of}
 use Rattle.serde_json.specs.Written.{items_outline, members_outline}
 use Rattle.serde_json.proofs.Texts.{print-outline}
-use Rattle.tree_rules.specs.kvs_model.Store.{Name}
+use Rattle.kvs_model.specs.Store.{Name}
 use Rattle.tree_rules.specs.Objects.{Tree, Entries, listed, entries_of, framed, tree_data, entries_data, tree_text}
 use Rattle.tree_objects.specs.Directories.{names_of}
 use Rattle.tree_objects.specs.Level.{tree_of, paired}

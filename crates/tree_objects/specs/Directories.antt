@@ -3,7 +3,7 @@ use Rattle.std.specs.Prelude.{ℕ, ◌+◌, List, map, IsTrue}
 use Rattle.std.specs.FinMap.Entries as finite
 use Rattle.std.specs.List.{AllByRecursion}
 use Rattle.std.specs.Str.{IsUtf8}
-use Rattle.tree_rules.specs.kvs_model.Store.{Name}
+use Rattle.kvs_model.specs.Store.{Name}
 use Rattle.tree_rules.specs.Names.{name_cmp}
 use Rattle.tree_rules.specs.Objects.{Tree, val, valref, dir, dirref, symlink, Entries, no_entries, entry, listed}
 

@@ -1,8 +1,8 @@
 -- The texts of entries, of which that of their directory is made.
 use Rattle.std.specs.Prelude.{◌≡◌, ℕ, List, [], ◌∷◌, ◌++◌, ⊤}
 use Rattle.json.specs.Print.{quoted}
-use Rattle.tree_rules.specs.lists.Ascii.{colon}
-use Rattle.tree_rules.specs.kvs_model.Store.{Name}
+use Rattle.lists.specs.Ascii.{colon}
+use Rattle.kvs_model.specs.Store.{Name}
 use Rattle.tree_rules.specs.Objects.{Tree, tree_text}
 use Rattle.tree_objects.specs.Level.{tree_of}
 use Rattle.tree_objects.specs.declared.object.Object.{Object}

@@ -6,11 +6,11 @@ use Rattle.std.specs.Option.{option_map_or}
 use Rattle.std.specs.Str.{IsUtf8, bytes_eq}
 use Rattle.base64.specs.Engines.{standard}
 use Rattle.base64.specs.GeneralPurpose.{decode_of, IsBytes}
-use Rattle.tree_rules.specs.fl_digest.declared.BlobRef.{BlobRef}
-use Rattle.tree_rules.specs.fl_digest.Reference.{reference_text, IsReferenceText, IsWhole}
+use Rattle.fl_digest.specs.declared.BlobRef.{BlobRef}
+use Rattle.fl_digest.specs.Reference.{reference_text, IsReferenceText, IsWhole}
 use Rattle.fl_json.specs.Reading.{as_natural, reading}
-use Rattle.tree_rules.specs.kvs_model.Store.{Path}
-use Rattle.tree_rules.specs.kvs_txn.Keys.{components, IsKey}
+use Rattle.kvs_model.specs.Store.{Path}
+use Rattle.kvs_txn.specs.Keys.{components, IsKey}
 use Rattle.serde_json.specs.Data.{Data, string, array, object, Items, no_items, item, Members, no_members, member, depth}
 use Rattle.serde_json.specs.Find.{get, as_str}
 use Rattle.tree_rules.specs.Objects.{Tree, val, valref, dir, dirref, symlink, Entries, no_entries, entry, listed, tree_data}

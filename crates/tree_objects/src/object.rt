@@ -12,11 +12,11 @@ ghost use Rattle.tree_objects.specs.Level.{tree_of, paired};
 ghost use Rattle.tree_rules.specs.Objects.{dir, tree_text};
 
 use crate::pieces::directory_text;
+use fl_digest::{BlobRef, RefList};
+use kvs_txn::Path;
+use lists::{Bytes, Copied};
 use std::alloc::{AllocError, Global};
 use std::marker::Model;
-use tree_rules::fl_digest::{BlobRef, RefList};
-use tree_rules::kvs_txn::Path;
-use tree_rules::lists::{Bytes, Copied};
 
 /// An object: a value or references to its bytes, a directory or the reference of its text, or a
 /// link to a path.

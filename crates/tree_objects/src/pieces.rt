@@ -11,8 +11,8 @@ use crate::object::Object;
 use crate::printing::print;
 use crate::writing::add_text;
 use json::Writer;
+use lists::Bytes;
 use std::alloc::{AllocError, Global};
-use tree_rules::lists::Bytes;
 
 /// The room for the text of an entry that isn't printed yet.
 const ROOM: usize = 128;

@@ -10,12 +10,12 @@ use crate::object::{Object, ObjectMap};
 use crate::scanning::at_once;
 use base64::DecodeAllocError;
 use base64::engine::general_purpose::STANDARD;
+use fl_digest::{BlobRef, RefList};
 use fl_json::{JsonFault, Value};
+use kvs_txn::{Path, PathFault};
+use lists::Bytes;
 use serde_json::Map;
 use std::alloc::Global;
-use tree_rules::fl_digest::{BlobRef, RefList};
-use tree_rules::kvs_txn::{Path, PathFault};
-use tree_rules::lists::Bytes;
 
 /// The types of objects.
 #[derive(Clone, Copy, Debug, PartialEq, Eq)]

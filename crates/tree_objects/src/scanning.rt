@@ -2,7 +2,7 @@
 ghost use Rattle.std.specs.Prelude.{◌<◌, ◌≤◌, Ok, IfSome, IsTrue, length};
 ghost use Rattle.base64.specs.GeneralPurpose.{IsBytes};
 ghost use Rattle.std.specs.List.{All};
-ghost use Rattle.tree_rules.specs.fl_digest.Reference.{IsWhole};
+ghost use Rattle.fl_digest.specs.Reference.{IsWhole};
 ghost use Rattle.serde_json.specs.Data.{depth};
 ghost use Rattle.serde_json.specs.Read.{max_depth};
 ghost use Rattle.tree_rules.specs.Objects.{dir, tree_data};
@@ -13,10 +13,10 @@ ghost use Rattle.tree_objects.specs.declared.object.Object.TheVariants.{Dir};
 use crate::object::{Object, ObjectMap};
 use crate::printing::print;
 use base64::engine::general_purpose::STANDARD;
+use fl_digest::{BlobRef, RefList};
+use kvs_txn::Path;
+use lists::Bytes;
 use std::alloc::Global;
-use tree_rules::fl_digest::{BlobRef, RefList};
-use tree_rules::kvs_txn::Path;
-use tree_rules::lists::Bytes;
 
 /// How long the string is that ends at the next quote. None where an escape comes first.
 fn length_inside(text: &[u8]) -> Option<usize>

@@ -2,7 +2,7 @@
 ghost use Rattle.std.specs.Prelude.{OnOk, ◌∷◌, [], decimal};
 ghost use Rattle.std.specs.Str.{IsUtf8};
 ghost use Rattle.json.specs.Token.{begin_object, end_object, key, string, number};
-ghost use Rattle.tree_rules.specs.kvs_txn.Keys.{IsKey};
+ghost use Rattle.kvs_txn.specs.Keys.{IsKey};
 ghost use Rattle.std.specs.Prelude.{codes};
 ghost use Rattle.tree_rules.specs.Objects.{references_data, target_data, entries_data, tree_data};
 ghost use Rattle.serde_json.specs.Data.{object};
@@ -12,11 +12,11 @@ ghost use Rattle.tree_objects.specs.Tokens.{Adds, tokens_of};
 
 use crate::object::{Object, ObjectMap};
 use base64::engine::general_purpose::STANDARD;
+use fl_digest::BlobRef;
 use json::Writer;
+use kvs_txn::Path;
+use lists::Bytes;
 use std::alloc::{AllocError, Global};
-use tree_rules::fl_digest::BlobRef;
-use tree_rules::kvs_txn::Path;
-use tree_rules::lists::Bytes;
 
 /// Begins an object of a type, up to its data.
 fn begin(out: &mut Writer) -> Result<(), AllocError>
@@ -71,7 +71,7 @@ fn add_target(alloc: Global, out: &mut Writer, path: &Path) -> Result<(), AllocE
     ensures { OnOk result (Adds out.old out.new (tokens_of (target_data path.now))) }
 {
     path.is_key();
-    tree_rules::kvs_txn::words::keys_are_read_again();
+    kvs_txn::words::keys_are_read_again();
     out.begin_object()?;
     out.key("target")?;
     add_text(out, path.print(alloc)?.as_slice())?;

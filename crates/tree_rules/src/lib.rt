@@ -7,17 +7,12 @@ ghost use Rattle.std.specs.Prelude.{◌≡◌, ◌++◌, ◌∷◌, [], List, �
 ghost use Rattle.std.specs.FinMap.Entries as finite;
 ghost use Rattle.fl_digest.specs.declared.BlobRef.{BlobRef};
 ghost use Rattle.fl_digest.specs.declared.Hash.{Hash};
-ghost use Rattle.kvs_model.specs.kvs_txn.declared.answers.Query.{Query};
+ghost use Rattle.kvs_txn.specs.declared.answers.Query.{Query};
 ghost use Rattle.kvs_model.specs.Store.{Name, Path, Store, Directory, Value, IsStore, node_at, is_within};
 ghost use Rattle.tree_rules.specs.Texts.{is_long, objects, objects_in, stored_at, directory_text, blobs, IsOfBlob};
 ghost use Rattle.tree_rules.specs.Needs.{needs};
 ghost use Rattle.tree_rules.specs.Held.{Table, Keeps, IsRootOf};
 ghost use Rattle.tree_rules.specs.Names.{name_cmp};
-
-// The crates below that those above reach through this one.
-pub use fl_digest;
-pub use kvs_model;
-pub use kvs_model::{kvs_txn, lists};
 
 /// In the text of a directory each name has the object of its path in the store, and the names
 /// rise.

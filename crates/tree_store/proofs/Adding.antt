@@ -2,10 +2,10 @@
 use Rattle.std.proofs.Common.{◌≡◌, ℕ, true, false, cond, List, [], ◌∷◌, ◌++◌, Option, Some, None, refl, sym, ap, ◌∙◌, subst, append_assoc, append-nil}
 use Rattle.std.specs.Option.{option_map_or}
 use Rattle.std.proofs.lemmas.Slice.Eq.{bytes_eq-Decides}
-use Rattle.tree_rules.specs.fl_digest.declared.BlobRef.{BlobRef}
-use Rattle.tree_rules.specs.fl_digest.declared.Digest.{Digest}
-use Rattle.tree_rules.specs.fl_digest.declared.Digest.TheVariants as digest
-use Rattle.tree_rules.specs.fl_digest.Reference.{same_digest, same_reference}
+use Rattle.fl_digest.specs.declared.BlobRef.{BlobRef}
+use Rattle.fl_digest.specs.declared.Digest.{Digest}
+use Rattle.fl_digest.specs.declared.Digest.TheVariants as digest
+use Rattle.fl_digest.specs.Reference.{same_digest, same_reference}
 use Rattle.blob_store.specs.Blobs.{blob_at, stored}
 use Rattle.tree_store.specs.Fresh.{Blobs, AreNew}
 

@@ -5,12 +5,12 @@ use Rattle.std.specs.FinMap.Entries as finite
 use Rattle.std.specs.List.{AllByRecursion}
 use Rattle.std.specs.Option.{option_map_or}
 use Rattle.std.specs.Ordering.{eq_by_cmp}
-use Rattle.tree_rules.specs.fl_digest.declared.BlobRef.{BlobRef}
-use Rattle.tree_rules.specs.fl_digest.declared.Hash.{Hash}
-use Rattle.tree_rules.specs.fl_digest.Reference.{reference_of}
+use Rattle.fl_digest.specs.declared.BlobRef.{BlobRef}
+use Rattle.fl_digest.specs.declared.Hash.{Hash}
+use Rattle.fl_digest.specs.Reference.{reference_of}
 use Rattle.blob_store.specs.Blobs.{blob_at}
-use Rattle.tree_rules.specs.kvs_model.Store.{Name, Path, Directory, Store, root, path_cmp}
-use Rattle.tree_rules.proofs.kvs_model_proofs.Paths.{path_self, path_total}
+use Rattle.kvs_model.specs.Store.{Name, Path, Directory, Store, root, path_cmp}
+use Rattle.kvs_model.proofs.Paths.{path_self, path_total}
 use Rattle.tree_rules.specs.Held.{Table, IsRootOf}
 use Rattle.tree_rules.specs.Names.{name_cmp}
 use Rattle.tree_rules.specs.Objects.{Tree, Entries, dirref, listed}

@@ -6,11 +6,11 @@ use Rattle.std.specs.FinMap.{nat_cmp-IsAntisymmetric, slice_cmp-IsAntisymmetric}
 use Rattle.std.specs.List.{cons_option}
 use Rattle.std.specs.Ordering.{is_lt, eq_by_cmp}
 use Rattle.std.proofs.lemmas.Cmp.{nat_list_cmp_total}
-use Rattle.tree_rules.specs.fl_digest.declared.Hash.{Hash}
-use Rattle.tree_rules.specs.kvs_txn.declared.answers.Listed.{Listed}
-use Rattle.tree_rules.specs.kvs_model.Operation.{most_names}
-use Rattle.tree_rules.specs.kvs_model.Store.{Name, Path, Node, Directory, Store, IsStore, node_at, names_in, child_name}
-use Rattle.tree_rules.specs.kvs_model.Store as stores
+use Rattle.fl_digest.specs.declared.Hash.{Hash}
+use Rattle.kvs_txn.specs.declared.answers.Listed.{Listed}
+use Rattle.kvs_model.specs.Operation.{most_names}
+use Rattle.kvs_model.specs.Store.{Name, Path, Node, Directory, Store, IsStore, node_at, names_in, child_name}
+use Rattle.kvs_model.specs.Store as stores
 use Rattle.tree_rules.specs.Held.{Table}
 use Rattle.tree_rules.specs.Names.{name_cmp}
 use Rattle.tree_rules.specs.Objects.{Tree, Entries, listed}

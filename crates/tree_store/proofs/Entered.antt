@@ -5,12 +5,12 @@ use Rattle.std.specs.FinMap.Entries as finite
 use Rattle.std.specs.List.{AllByRecursion}
 use Rattle.std.specs.Ordering.{eq_by_cmp}
 use Rattle.std.specs.Str.{IsUtf8}
-use Rattle.tree_rules.specs.fl_digest.declared.BlobRef.{BlobRef}
-use Rattle.tree_rules.specs.fl_digest.declared.Hash.{Hash}
+use Rattle.fl_digest.specs.declared.BlobRef.{BlobRef}
+use Rattle.fl_digest.specs.declared.Hash.{Hash}
 use Rattle.fl_json.specs.Reading.{reading}
-use Rattle.tree_rules.specs.kvs_model.Store.{Name, Path, Node, Store, root, node_at, path_cmp}
-use Rattle.tree_rules.specs.kvs_model.Operation.{is_directory}
-use Rattle.tree_rules.proofs.kvs_model_proofs.Paths.{within_self, path_from_test}
+use Rattle.kvs_model.specs.Store.{Name, Path, Node, Store, root, node_at, path_cmp}
+use Rattle.kvs_model.specs.Operation.{is_directory}
+use Rattle.kvs_model.proofs.Paths.{within_self, path_from_test}
 use Rattle.blob_store.specs.Blobs.{blob_at}
 use Rattle.tree_rules.specs.Held.{Table, IsRootOf}
 use Rattle.tree_rules.specs.Names.{name_cmp}

@@ -1,7 +1,7 @@
 -- The path behind links, one after another.
 use Rattle.std.proofs.Common.{◌≡◌, ℕ, zero, suc, ◌+◌, ◌-◌, ◌<◌, Option, Some, None, sym, ap, ◌∙◌, arith}
-use Rattle.tree_rules.specs.kvs_model.Store.{Path, Store}
-use Rattle.tree_rules.specs.kvs_model.Walk.{at_end, past_inner_link, follow}
+use Rattle.kvs_model.specs.Store.{Path, Store}
+use Rattle.kvs_model.specs.Walk.{at_end, past_inner_link, follow}
 use Rattle.tree_store.specs.Shown.{followed}
 
 one_more : (next : Path → Option Path) (n : ℕ) (p q : Path) → Some q ≡ next p → follow next (suc n) p ≡ follow next n q

@@ -3,12 +3,12 @@ use Rattle.std.proofs.Common.{◌≡◌, ℕ, ◌<◌, ◌==◌, false, cond, Li
 use Rattle.std.specs.List.{All}
 use Rattle.std.proofs.lemmas.List.Elements.{All-from_recursion}
 use Rattle.std.proofs.lemmas.Str.{IsUtf8-from_ascii}
-use Rattle.tree_rules.specs.fl_digest.declared.Hash.{Hash}
-use Rattle.tree_rules.specs.kvs_txn.Keys.{IsComponent}
-use Rattle.tree_rules.specs.kvs_model.History.{first_store}
-use Rattle.tree_rules.specs.kvs_model.Store.{Path, Value, Directory, Store, node_at, with_node, empty_store}
-use Rattle.tree_rules.proofs.kvs_model_proofs.Histories.{IsStore-first_store}
-use Rattle.tree_rules.proofs.kvs_model_proofs.Paths.{node_at-with_node}
+use Rattle.fl_digest.specs.declared.Hash.{Hash}
+use Rattle.kvs_txn.specs.Keys.{IsComponent}
+use Rattle.kvs_model.specs.History.{first_store}
+use Rattle.kvs_model.specs.Store.{Path, Value, Directory, Store, node_at, with_node, empty_store}
+use Rattle.kvs_model.proofs.Histories.{IsStore-first_store}
+use Rattle.kvs_model.proofs.Paths.{node_at-with_node}
 use Rattle.tree_rules.specs.Held.{Table, IsStorable}
 use Rattle.tree_rules.specs.Objects.{val, no_entries}
 use Rattle.tree_store.specs.Shown.{Directories, opened_at, Shows, with_object, closed_within, with_open}

@@ -5,11 +5,11 @@ use Rattle.std.specs.List.{cons_option}
 use Rattle.std.specs.FinMap.Entries as finite
 use Rattle.std.specs.Ordering.{is_lt, is_eq, eq_by_cmp, ordering_reverse}
 use Rattle.std.proofs.lemmas.List.Elements.{Contains-append_cases}
-use Rattle.tree_rules.specs.fl_digest.declared.BlobRef.{BlobRef}
-use Rattle.tree_rules.specs.fl_digest.declared.Hash.{Hash}
-use Rattle.tree_rules.specs.fl_digest.Reference.{reference_of}
-use Rattle.tree_rules.specs.kvs_model.Store.{Path, Node, Value, Directory, Link, Store, IsStore, root, path_cmp, node_at}
-use Rattle.tree_rules.proofs.kvs_model_proofs.Paths.{path_total, path_self}
+use Rattle.fl_digest.specs.declared.BlobRef.{BlobRef}
+use Rattle.fl_digest.specs.declared.Hash.{Hash}
+use Rattle.fl_digest.specs.Reference.{reference_of}
+use Rattle.kvs_model.specs.Store.{Path, Node, Value, Directory, Link, Store, IsStore, root, path_cmp, node_at}
+use Rattle.kvs_model.proofs.Paths.{path_total, path_self}
 use Rattle.tree_rules.specs.Held.{Table, Holds, IsRootOf, IsStorable}
 use Rattle.tree_rules.specs.Texts.{is_long, directory_text, directory_of, bytes_of, directory_texts, values}
 use Rattle.tree_rules.proofs.Blobs.{from_map}

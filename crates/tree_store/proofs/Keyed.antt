@@ -9,8 +9,8 @@ use Rattle.std.specs.List.Sorted.{IsStrictlySortedBy}
 use Rattle.std.specs.Map.{lookup, keys_of, set_value}
 use Rattle.std.specs.Ordering.{is_eq, is_lt, eq_by_cmp, match_ordering}
 use Rattle.std.proofs.lemmas.List.Elements.{All-head, All-tail}
-use Rattle.tree_rules.specs.kvs_model.Store.{Name, Path, path_cmp}
-use Rattle.tree_rules.proofs.kvs_model_proofs.Paths.{path_total, path_from_test}
+use Rattle.kvs_model.specs.Store.{Name, Path, path_cmp}
+use Rattle.kvs_model.proofs.Paths.{path_total, path_from_test}
 use Rattle.tree_rules.specs.Objects.{Entries}
 use Rattle.tree_store.specs.Shown.{Directories, keyed, opened_at, IsBefore}
 use Rattle.tree_store.proofs.Opening.{not_both}

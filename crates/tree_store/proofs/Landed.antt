@@ -3,13 +3,13 @@ use Rattle.std.proofs.Common.{◌≡◌, ℕ, true, false, cond, true≢false, L
 use Rattle.std.specs.Prelude.{Contains, Result, Ok, Err, IsErrAnd, ◌⊎◌}
 use Rattle.std.specs.List.{AllByRecursion}
 use Rattle.std.proofs.lemmas.Slice.Eq.{bytes_eq-Decides}
-use Rattle.tree_rules.specs.fl_digest.declared.BlobRef.{BlobRef}
-use Rattle.tree_rules.specs.fl_digest.declared.Hash.{Hash}
-use Rattle.tree_rules.specs.fl_digest.declared.Digest.{Digest}
-use Rattle.tree_rules.specs.fl_digest.declared.Digest.TheVariants as digest
-use Rattle.tree_rules.specs.fl_digest.Reference.{reference_of, same_digest, same_reference}
-use Rattle.tree_rules.specs.kvs_txn.declared.answers.Refusal.{Refusal}
-use Rattle.tree_rules.specs.kvs_model.Store.{Store}
+use Rattle.fl_digest.specs.declared.BlobRef.{BlobRef}
+use Rattle.fl_digest.specs.declared.Hash.{Hash}
+use Rattle.fl_digest.specs.declared.Digest.{Digest}
+use Rattle.fl_digest.specs.declared.Digest.TheVariants as digest
+use Rattle.fl_digest.specs.Reference.{reference_of, same_digest, same_reference}
+use Rattle.kvs_txn.specs.declared.answers.Refusal.{Refusal}
+use Rattle.kvs_model.specs.Store.{Store}
 use Rattle.blob_store.specs.Blobs.{blob_at}
 use Rattle.tree_rules.specs.Held.{Adds, Keeps, IsRootOf}
 use Rattle.tree_rules.specs.Texts.{blobs}

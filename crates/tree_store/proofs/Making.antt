@@ -2,11 +2,11 @@
 use Rattle.std.proofs.Common.{◌≡◌, false, cond, [], ◌∷◌, ◌++◌, length, take, Some, refl, sym, ap, ◌∙◌, subst, inl, inr, arith, length-append}
 use Rattle.std.specs.Prelude.{IsSome}
 use Rattle.std.proofs.lemmas.List.{take_at}
-use Rattle.tree_rules.specs.fl_digest.declared.Hash.{Hash}
-use Rattle.tree_rules.specs.kvs_model.Store.{Name, Path, Node, Directory, Store, IsStore, node_at, with_node, without}
-use Rattle.tree_rules.specs.kvs_model.Operation.{with_places_above, placed, is_directory}
-use Rattle.tree_rules.proofs.kvs_model_proofs.Paths.{node_at-with_places_above, is_above}
-use Rattle.tree_rules.proofs.kvs_model_proofs.Paths as paths
+use Rattle.fl_digest.specs.declared.Hash.{Hash}
+use Rattle.kvs_model.specs.Store.{Name, Path, Node, Directory, Store, IsStore, node_at, with_node, without}
+use Rattle.kvs_model.specs.Operation.{with_places_above, placed, is_directory}
+use Rattle.kvs_model.proofs.Paths.{node_at-with_places_above, is_above}
+use Rattle.kvs_model.proofs.Paths as paths
 use Rattle.tree_rules.specs.Held.{Table, IsStorable, IsStorableNode}
 use Rattle.tree_rules.specs.Objects.{Tree, val, valref, dir, dirref, symlink, no_entries}
 use Rattle.tree_store.specs.Shown.{Directories, opened_at, Stands, Shows, OpensAbove, IsNodeOf, with_object, without_object, closed_within, with_open}

@@ -5,11 +5,11 @@ use Rattle.std.specs.FinMap.Entries as finite
 use Rattle.std.specs.Ordering.{is_eq, eq_by_cmp}
 use Rattle.std.specs.Str.{bytes_eq}
 use Rattle.std.proofs.lemmas.Cmp.{nat_list_cmp_total}
-use Rattle.tree_rules.specs.fl_digest.declared.Hash.{Hash}
-use Rattle.tree_rules.specs.fl_digest.declared.BlobRef.{BlobRef}
-use Rattle.tree_rules.specs.fl_digest.Reference.{reference_of}
-use Rattle.tree_rules.specs.kvs_model.Store.{Name, Path, Node, Value, Directory, Link, Store, root, node_at, path_cmp, is_within}
-use Rattle.tree_rules.proofs.kvs_model_proofs.Paths.{path_from_test, path_self, within_self}
+use Rattle.fl_digest.specs.declared.Hash.{Hash}
+use Rattle.fl_digest.specs.declared.BlobRef.{BlobRef}
+use Rattle.fl_digest.specs.Reference.{reference_of}
+use Rattle.kvs_model.specs.Store.{Name, Path, Node, Value, Directory, Link, Store, root, node_at, path_cmp, is_within}
+use Rattle.kvs_model.proofs.Paths.{path_from_test, path_self, within_self}
 use Rattle.tree_rules.specs.Held.{Table}
 use Rattle.tree_rules.specs.Names.{name_cmp}
 use Rattle.tree_rules.specs.Objects.{Tree, val, valref, dir, dirref, symlink, Entries, no_entries, entries_of, listed}

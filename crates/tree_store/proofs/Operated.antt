@@ -1,13 +1,13 @@
 -- What an operation does at the path that it is led to.
 use Rattle.std.proofs.Common.{◌≡◌, ℕ, zero, suc, ◌<◌, List, [], ◌∷◌, ◌++◌, length, Option, Some, None, Ok, Err, ok_or, refl, sym, ap, ◌∙◌, subst, arith, length-append, append-nil}
-use Rattle.tree_rules.specs.kvs_txn.declared.answers.Cause.{Cause}
-use Rattle.tree_rules.specs.kvs_txn.declared.answers.Cause.TheVariants as cause
-use Rattle.tree_rules.specs.kvs_txn.declared.txn.Author.{Author}
-use Rattle.tree_rules.specs.kvs_txn.declared.txn.Op.{Op}
-use Rattle.tree_rules.specs.kvs_txn.declared.txn.Scope.{Scope}
-use Rattle.tree_rules.specs.kvs_model.Operation.{appended, op_effect, effect_from_key, effect_at, key_of, unless_refused, first_cause, refusals, changed}
-use Rattle.tree_rules.specs.kvs_model.Store.{Path, Node, Value, Directory, Link, Store, node_at}
-use Rattle.tree_rules.specs.kvs_model.Walk.{resolved, stop, at_end, behind_inner_link, past_inner_link, follow}
+use Rattle.kvs_txn.specs.declared.answers.Cause.{Cause}
+use Rattle.kvs_txn.specs.declared.answers.Cause.TheVariants as cause
+use Rattle.kvs_txn.specs.declared.txn.Author.{Author}
+use Rattle.kvs_txn.specs.declared.txn.Op.{Op}
+use Rattle.kvs_txn.specs.declared.txn.Scope.{Scope}
+use Rattle.kvs_model.specs.Operation.{appended, op_effect, effect_from_key, effect_at, key_of, unless_refused, first_cause, refusals, changed}
+use Rattle.kvs_model.specs.Store.{Path, Node, Value, Directory, Link, Store, node_at}
+use Rattle.kvs_model.specs.Walk.{resolved, stop, at_end, behind_inner_link, past_inner_link, follow}
 use Rattle.tree_rules.specs.Held.{IsStorable}
 use Rattle.tree_store.specs.Shown.{followed}
 use Rattle.tree_store.proofs.Storable.{IsNamed, follow_named}

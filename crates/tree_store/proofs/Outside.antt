@@ -2,10 +2,10 @@
 use Rattle.std.proofs.Common.{◌≡◌, ◌≢◌, true, false, cond, not, [], ◌∷◌, ◌++◌, Option, Some, None, refl, sym, ap, ◌∙◌, subst, inl, inr, true≢false}
 use Rattle.std.specs.Prelude.{IsSome}
 use Rattle.std.specs.Ordering.{eq_by_cmp}
-use Rattle.tree_rules.specs.kvs_model.Store.{Name, Path, Node, Directory, Store, IsStore, root, path_cmp, node_at, with_node, without, is_within}
-use Rattle.tree_rules.specs.kvs_model.Operation.{with_places_above, placed, is_directory}
-use Rattle.tree_rules.proofs.kvs_model_proofs.Paths.{node_at-with_node, node_at-without, sorted-with_node, path_self, within_self}
-use Rattle.tree_rules.proofs.kvs_model_proofs.Sound.{IsStore-placed, IsStore-without}
+use Rattle.kvs_model.specs.Store.{Name, Path, Node, Directory, Store, IsStore, root, path_cmp, node_at, with_node, without, is_within}
+use Rattle.kvs_model.specs.Operation.{with_places_above, placed, is_directory}
+use Rattle.kvs_model.proofs.Paths.{node_at-with_node, node_at-without, sorted-with_node, path_self, within_self}
+use Rattle.kvs_model.proofs.Sound.{IsStore-placed, IsStore-without}
 use Rattle.tree_rules.specs.Held.{IsStorable, IsStorableNode}
 use Rattle.tree_rules.specs.Objects.{Entries}
 use Rattle.tree_store.specs.Shown.{Directories, opened_at}

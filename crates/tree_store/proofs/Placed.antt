@@ -1,11 +1,11 @@
 -- What is shown after directories are made on the way to a path, and a node is put there.
 use Rattle.std.proofs.Common.{◌≡◌, ℕ, zero, suc, ◌+◌, ◌-◌, ◌<◌, ◌≤◌, true, false, cond, [], ◌∷◌, ◌++◌, length, take, get_or, Option, Some, None, refl, sym, ap, ◌∙◌, subst, inl, inr, true≢false, arith, length-take}
 use Rattle.std.specs.Prelude.{IsSome}
-use Rattle.tree_rules.specs.fl_digest.declared.Hash.{Hash}
-use Rattle.tree_rules.specs.kvs_model.Operation.{with_places_above, placed, is_directory}
-use Rattle.tree_rules.specs.kvs_model.Store.{Name, Path, Node, Value, Directory, Link, Store, IsStore, node_at, with_node, without}
-use Rattle.tree_rules.proofs.kvs_model_proofs.Paths as paths
-use Rattle.tree_rules.proofs.kvs_model_proofs.Paths.{node_at-with_node, node_at-with_places_above, path_self, is_above, above_not_within, within_self}
+use Rattle.fl_digest.specs.declared.Hash.{Hash}
+use Rattle.kvs_model.specs.Operation.{with_places_above, placed, is_directory}
+use Rattle.kvs_model.specs.Store.{Name, Path, Node, Value, Directory, Link, Store, IsStore, node_at, with_node, without}
+use Rattle.kvs_model.proofs.Paths as paths
+use Rattle.kvs_model.proofs.Paths.{node_at-with_node, node_at-with_places_above, path_self, is_above, above_not_within, within_self}
 use Rattle.plain_store.proofs.Placing.{upto, upto_none, upto_more, upto_all, same_directory, placed_bare}
 use Rattle.plain_store.proofs.Walking.{place_at}
 use Rattle.tree_rules.specs.Held.{Table, IsStorableNode}

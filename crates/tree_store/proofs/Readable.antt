@@ -5,13 +5,13 @@ use Rattle.std.specs.FinMap.Entries as finite
 use Rattle.std.specs.List.{All, AllByRecursion, cons_option}
 use Rattle.std.specs.Str.{IsUtf8}
 use Rattle.std.proofs.lemmas.List.Elements.{All-head, All-tail}
-use Rattle.tree_rules.specs.fl_digest.declared.BlobRef.{BlobRef}
-use Rattle.tree_rules.specs.fl_digest.declared.Hash.{Hash}
-use Rattle.tree_rules.specs.fl_digest.Reference.{reference_of}
+use Rattle.fl_digest.specs.declared.BlobRef.{BlobRef}
+use Rattle.fl_digest.specs.declared.Hash.{Hash}
+use Rattle.fl_digest.specs.Reference.{reference_of}
 use Rattle.fl_json.specs.Reading.{reading}
 use Rattle.fl_json.specs.declared.faults.JsonFault.{JsonFault}
-use Rattle.tree_rules.specs.kvs_txn.Keys.{IsComponent}
-use Rattle.tree_rules.specs.kvs_model.Store.{Name, Path, Node, Value, Directory, Link, Store, IsStore, child_name}
+use Rattle.kvs_txn.specs.Keys.{IsComponent}
+use Rattle.kvs_model.specs.Store.{Name, Path, Node, Value, Directory, Link, Store, IsStore, child_name}
 use Rattle.serde_json.specs.Data.{Data, depth, members_depth}
 use Rattle.tree_rules.specs.Held.{IsStorable, IsStorableNode}
 use Rattle.tree_rules.specs.Names.{name_cmp}

@@ -1,16 +1,16 @@
 -- Why an operation is refused.
 use Rattle.std.proofs.Common.{◌≡◌, ℕ, Bool, true, false, cond, List, [], ◌∷◌, ◌++◌, length, Option, Some, None, nat_lt, refl, ap, ◌∙◌, true≢false, append-nil}
-use Rattle.tree_rules.specs.fl_digest.declared.BlobRef.{BlobRef}
-use Rattle.tree_rules.specs.fl_digest.declared.Hash.{Hash}
-use Rattle.tree_rules.specs.kvs_txn.declared.answers.Cause.{Cause}
-use Rattle.tree_rules.specs.kvs_txn.declared.answers.Cause.TheVariants as cause
-use Rattle.tree_rules.specs.kvs_txn.declared.txn.Author.{Author}
-use Rattle.tree_rules.specs.kvs_txn.declared.txn.Author.TheVariants as author
-use Rattle.tree_rules.specs.kvs_txn.declared.txn.Scope.{Scope}
-use Rattle.tree_rules.specs.kvs_txn.declared.txn.Op.{Op}
-use Rattle.tree_rules.specs.kvs_txn.declared.txn.Op.TheVariants as op
-use Rattle.tree_rules.specs.kvs_model.Operation.{appended, is_reserved, first_cause, refusals, enters_full_from, overfills_value, is_directory, is_link, most_bytes}
-use Rattle.tree_rules.specs.kvs_model.Store.{Path, Node, Value, Directory, Link, Store, node_at}
+use Rattle.fl_digest.specs.declared.BlobRef.{BlobRef}
+use Rattle.fl_digest.specs.declared.Hash.{Hash}
+use Rattle.kvs_txn.specs.declared.answers.Cause.{Cause}
+use Rattle.kvs_txn.specs.declared.answers.Cause.TheVariants as cause
+use Rattle.kvs_txn.specs.declared.txn.Author.{Author}
+use Rattle.kvs_txn.specs.declared.txn.Author.TheVariants as author
+use Rattle.kvs_txn.specs.declared.txn.Scope.{Scope}
+use Rattle.kvs_txn.specs.declared.txn.Op.{Op}
+use Rattle.kvs_txn.specs.declared.txn.Op.TheVariants as op
+use Rattle.kvs_model.specs.Operation.{appended, is_reserved, first_cause, refusals, enters_full_from, overfills_value, is_directory, is_link, most_bytes}
+use Rattle.kvs_model.specs.Store.{Path, Node, Value, Directory, Link, Store, node_at}
 use Rattle.tree_rules.specs.Held.{Table}
 use Rattle.tree_rules.specs.Objects.{val, valref}
 use Rattle.tree_store.specs.Shown.{Directories, Stands, too_long, append_cause}

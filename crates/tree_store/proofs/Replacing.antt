@@ -5,11 +5,11 @@ use Rattle.std.specs.FinMap.Entries as finite
 use Rattle.std.specs.Ordering.{eq_by_cmp}
 use Rattle.std.specs.Str.{bytes_eq}
 use Rattle.std.specs.Cmp.Lexicographic.{bytes_decides}
-use Rattle.tree_rules.specs.fl_digest.declared.Hash.{Hash}
-use Rattle.tree_rules.specs.fl_digest.Reference.{reference_of}
-use Rattle.tree_rules.specs.kvs_model.Store.{Name, Path, Directory, Store, IsStore, root, node_at, is_within}
-use Rattle.tree_rules.proofs.kvs_model_proofs.Paths.{within_self, within_longer, above_not_within}
-use Rattle.tree_rules.proofs.kvs_model_proofs.Paths as paths
+use Rattle.fl_digest.specs.declared.Hash.{Hash}
+use Rattle.fl_digest.specs.Reference.{reference_of}
+use Rattle.kvs_model.specs.Store.{Name, Path, Directory, Store, IsStore, root, node_at, is_within}
+use Rattle.kvs_model.proofs.Paths.{within_self, within_longer, above_not_within}
+use Rattle.kvs_model.proofs.Paths as paths
 use Rattle.tree_rules.specs.Held.{Table, IsStorable}
 use Rattle.tree_rules.specs.Names.{name_cmp}
 use Rattle.tree_rules.specs.Objects.{Tree, val, valref, dir, dirref, symlink, Entries, listed}

@@ -7,7 +7,7 @@ use Rattle.std.specs.Map.{keys_of, set_value}
 use Rattle.std.specs.Option.{option_map_or}
 use Rattle.std.specs.Ordering.{is_eq, eq_by_cmp}
 use Rattle.std.specs.Str.{IsUtf8}
-use Rattle.tree_rules.specs.kvs_model.Store.{Name, Path, path_cmp}
+use Rattle.kvs_model.specs.Store.{Name, Path, path_cmp}
 use Rattle.tree_rules.specs.Names.{name_cmp}
 use Rattle.tree_rules.specs.Objects.{Tree, Entries, entries_of, listed}
 use Rattle.tree_objects.proofs.Pairs.{entries_of_listed}

@@ -7,9 +7,9 @@ use Rattle.std.specs.Ordering.{is_lt, ordering_reverse}
 use Rattle.std.specs.Str.{IsUtf8}
 use Rattle.std.proofs.lemmas.Cmp.{nat_list_cmp_total}
 use Rattle.std.proofs.lemmas.List.Elements.{Contains-append_left, Contains-append_right}
-use Rattle.tree_rules.specs.fl_digest.declared.Hash.{Hash}
-use Rattle.tree_rules.specs.fl_digest.Reference.{reference_of}
-use Rattle.tree_rules.specs.kvs_model.Store.{Name}
+use Rattle.fl_digest.specs.declared.Hash.{Hash}
+use Rattle.fl_digest.specs.Reference.{reference_of}
+use Rattle.kvs_model.specs.Store.{Name}
 use Rattle.tree_rules.specs.Names.{name_cmp}
 use Rattle.tree_rules.specs.Objects.{Tree, val, valref, dir, dirref, symlink, Entries, no_entries, entry, entries_of, listed}
 use Rattle.tree_rules.specs.Texts.{is_long}

@@ -4,10 +4,10 @@ use Rattle.std.specs.FinMap.Entries as finite
 use Rattle.std.specs.Option.{option_map_or}
 use Rattle.std.specs.Ordering.{eq_by_cmp}
 use Rattle.std.proofs.lemmas.Cmp.{nat_list_cmp_total}
-use Rattle.tree_rules.specs.fl_digest.declared.Hash.{Hash}
-use Rattle.tree_rules.specs.kvs_model.Store.{Name, Path, Directory, Store, node_at, path_cmp, is_within}
-use Rattle.tree_rules.proofs.kvs_model_proofs.Paths.{path_total, same_path, path_from_test, path_self, within_self, above_not_within}
-use Rattle.tree_rules.proofs.kvs_model_proofs.Paths as paths
+use Rattle.fl_digest.specs.declared.Hash.{Hash}
+use Rattle.kvs_model.specs.Store.{Name, Path, Directory, Store, node_at, path_cmp, is_within}
+use Rattle.kvs_model.proofs.Paths.{path_total, same_path, path_from_test, path_self, within_self, above_not_within}
+use Rattle.kvs_model.proofs.Paths as paths
 use Rattle.tree_rules.specs.Held.{Table}
 use Rattle.tree_rules.specs.Names.{name_cmp}
 use Rattle.tree_rules.specs.Objects.{Tree, dir, Entries, no_entries, entries_of, listed}

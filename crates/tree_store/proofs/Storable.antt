@@ -4,10 +4,10 @@ use Rattle.std.specs.Prelude.{fold, not}
 use Rattle.std.specs.List.{AllByRecursion}
 use Rattle.std.specs.Ordering.{eq_by_cmp}
 use Rattle.std.specs.FinMap.Entries as finite
-use Rattle.tree_rules.specs.kvs_txn.Keys.{IsComponent, IsKey}
-use Rattle.tree_rules.specs.kvs_model.Store.{Name, Path, Node, Value, Directory, Link, Store, path_cmp, node_at, with_node, without, is_within}
-use Rattle.tree_rules.specs.kvs_model.Walk.{Stop, go_on, stop_from, stop, behind_inner_link, past_inner_link, at_end, follow}
-use Rattle.tree_rules.specs.kvs_model.Operation.{places_above, with_places_above, placed}
+use Rattle.kvs_txn.specs.Keys.{IsComponent, IsKey}
+use Rattle.kvs_model.specs.Store.{Name, Path, Node, Value, Directory, Link, Store, path_cmp, node_at, with_node, without, is_within}
+use Rattle.kvs_model.specs.Walk.{Stop, go_on, stop_from, stop, behind_inner_link, past_inner_link, at_end, follow}
+use Rattle.kvs_model.specs.Operation.{places_above, with_places_above, placed}
 use Rattle.tree_rules.specs.Held.{IsStorable, IsStorableNode}
 
 abbrev pub IsNamed : Path → Type 0

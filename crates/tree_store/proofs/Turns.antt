@@ -2,11 +2,11 @@
 use Rattle.std.proofs.Common.{◌≡◌, ℕ, cond, List, [], ◌∷◌, ◌++◌, Option, Some, refl, sym, ap, subst, inl, inr, Less, Equal, Greater}
 use Rattle.std.specs.Prelude.{IsSome, IsTrue, Contains, ◌⊎◌}
 use Rattle.std.specs.FinMap.Entries as finite
-use Rattle.tree_rules.specs.fl_digest.declared.Hash.{Hash}
-use Rattle.tree_rules.specs.fl_digest.declared.BlobRef.{BlobRef}
-use Rattle.tree_rules.specs.fl_digest.Reference.{reference_of}
-use Rattle.tree_rules.specs.kvs_model.Store.{Name, Path, Store, root, path_cmp}
-use Rattle.tree_rules.proofs.kvs_model_proofs.Paths.{path_self}
+use Rattle.fl_digest.specs.declared.Hash.{Hash}
+use Rattle.fl_digest.specs.declared.BlobRef.{BlobRef}
+use Rattle.fl_digest.specs.Reference.{reference_of}
+use Rattle.kvs_model.specs.Store.{Name, Path, Store, root, path_cmp}
+use Rattle.kvs_model.proofs.Paths.{path_self}
 use Rattle.tree_rules.specs.Held.{Table, Keeps, IsRootOf}
 use Rattle.tree_rules.specs.Names.{name_cmp}
 use Rattle.tree_rules.specs.Objects.{Entries, dirref, listed}

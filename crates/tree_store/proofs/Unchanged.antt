@@ -4,9 +4,9 @@ use Rattle.std.specs.Prelude.{IsSome}
 use Rattle.std.specs.FinMap.Entries as finite
 use Rattle.std.specs.Option.{option_map_or}
 use Rattle.std.specs.Ordering.{eq_by_cmp}
-use Rattle.tree_rules.specs.fl_digest.declared.Hash.{Hash}
-use Rattle.tree_rules.specs.kvs_model.Store.{Name, Path, Node, Directory, Store, IsStore, path_cmp, node_at, without, is_within}
-use Rattle.tree_rules.proofs.kvs_model_proofs.Paths.{path_self, node_at-without, sorted-without, same_store}
+use Rattle.fl_digest.specs.declared.Hash.{Hash}
+use Rattle.kvs_model.specs.Store.{Name, Path, Node, Directory, Store, IsStore, path_cmp, node_at, without, is_within}
+use Rattle.kvs_model.proofs.Paths.{path_self, node_at-without, sorted-without, same_store}
 use Rattle.tree_rules.specs.Held.{Table}
 use Rattle.tree_rules.specs.Objects.{Entries}
 use Rattle.tree_store.specs.Shown.{Directories, opened_at, Shows, without_object, take_from, closed_within}

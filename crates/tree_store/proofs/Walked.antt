@@ -1,9 +1,9 @@
 -- A walk opens the directories that it passes.
 use Rattle.std.proofs.Common.{◌≡◌, ℕ, zero, suc, ◌<◌, ◌≤◌, false, List, [], ◌∷◌, ◌++◌, length, take, drop, Option, Some, None, option_map, refl, sym, ap, ◌∙◌, subst, inl, inr, true≢false, arith, append_assoc}
 use Rattle.std.specs.Prelude.{IsSome, ◌⊎◌}
-use Rattle.tree_rules.specs.kvs_model.Operation.{is_directory}
-use Rattle.tree_rules.specs.kvs_model.Store.{Path, Node, Value, Directory, Link, Store, IsStore, node_at}
-use Rattle.tree_rules.specs.kvs_model.Walk.{stop, past_inner_link, behind_inner_link}
+use Rattle.kvs_model.specs.Operation.{is_directory}
+use Rattle.kvs_model.specs.Store.{Path, Node, Value, Directory, Link, Store, IsStore, node_at}
+use Rattle.kvs_model.specs.Walk.{stop, past_inner_link, behind_inner_link}
 use Rattle.std.proofs.lemmas.List.{drop_all}
 use Rattle.tree_store.specs.Shown.{Directories, opened_at, OpensAbove, link_target}
 use Rattle.tree_store.proofs.Opening.{is_some}

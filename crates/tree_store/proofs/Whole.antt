@@ -6,9 +6,9 @@ use Rattle.std.specs.Int.{w32, to_be_bytes}
 use Rattle.std.proofs.lemmas.List.Elements.{All-append}
 use Rattle.sha2.specs.Sha256.{digest_bytes, sha256}
 use Rattle.sha2.proofs.Facts256.{length-sha256}
-use Rattle.tree_rules.specs.fl_digest.declared.Hash.{Hash}
-use Rattle.tree_rules.specs.fl_digest.declared.Hash.TheVariants as hash
-use Rattle.tree_rules.specs.fl_digest.Reference.{reference_of, IsWhole}
+use Rattle.fl_digest.specs.declared.Hash.{Hash}
+use Rattle.fl_digest.specs.declared.Hash.TheVariants as hash
+use Rattle.fl_digest.specs.Reference.{reference_of, IsWhole}
 use Rattle.tree_store.proofs.Sha1.{Small, none_small, word_small, sha1_length, sha1_small}
 
 small : (h : List ℕ) (n : ℕ) → All Small (digest_bytes h n)

@@ -1,9 +1,9 @@
 -- Blobs that are added behind those of a store.
 use Rattle.std.specs.Prelude.{◌≡◌, ◌≢◌, ℕ, List, [], ◌∷◌, ◌++◌, Some, None, ⊤, Contains}
 use Rattle.std.specs.List.{AllByRecursion}
-use Rattle.tree_rules.specs.fl_digest.declared.BlobRef.{BlobRef}
-use Rattle.tree_rules.specs.fl_digest.declared.Hash.{Hash}
-use Rattle.tree_rules.specs.fl_digest.Reference.{reference_of}
+use Rattle.fl_digest.specs.declared.BlobRef.{BlobRef}
+use Rattle.fl_digest.specs.declared.Hash.{Hash}
+use Rattle.fl_digest.specs.Reference.{reference_of}
 use Rattle.blob_store.specs.Blobs.{blob_at}
 use Rattle.tree_rules.specs.Objects.{Entries}
 use Rattle.tree_store.specs.Shown.{long_values_at}

@@ -1,10 +1,10 @@
 -- What a transaction does to the blobs of a store.
 use Rattle.std.specs.Prelude.{◌≡◌, ◌++◌, ℕ, List, Option, Some, None, Result, Ok, Err, ⊤}
-use Rattle.tree_rules.specs.fl_digest.declared.BlobRef.{BlobRef}
-use Rattle.tree_rules.specs.fl_digest.declared.Hash.{Hash}
-use Rattle.tree_rules.specs.kvs_txn.declared.answers.Refusal.{Refusal}
-use Rattle.tree_rules.specs.kvs_model.Store.{Store, empty_store}
-use Rattle.tree_rules.specs.kvs_model.History.{first_store}
+use Rattle.fl_digest.specs.declared.BlobRef.{BlobRef}
+use Rattle.fl_digest.specs.declared.Hash.{Hash}
+use Rattle.kvs_txn.specs.declared.answers.Refusal.{Refusal}
+use Rattle.kvs_model.specs.Store.{Store, empty_store}
+use Rattle.kvs_model.specs.History.{first_store}
 use Rattle.blob_store.specs.Blobs.{blob_at}
 use Rattle.tree_rules.specs.Held.{Table, IsRootOf, Adds, IsClash}
 use Rattle.tree_store.specs.declared.faults.TreeFault.{TreeFault}

@@ -4,16 +4,16 @@ use Rattle.std.specs.FinMap.Entries as finite
 use Rattle.std.specs.Global.{Vec}
 use Rattle.std.specs.Option.{option_map_or}
 use Rattle.std.specs.Ordering.{is_lt, eq_by_cmp}
-use Rattle.tree_rules.specs.fl_digest.declared.BlobRef.{BlobRef}
-use Rattle.tree_rules.specs.fl_digest.declared.Hash.{Hash}
-use Rattle.tree_rules.specs.fl_digest.Reference.{reference_of}
-use Rattle.tree_rules.specs.kvs_txn.declared.answers.Cause.{Cause}
-use Rattle.tree_rules.specs.kvs_txn.declared.answers.Cause.TheVariants as cause
-use Rattle.tree_rules.specs.kvs_txn.declared.txn.Author.{Author}
-use Rattle.tree_rules.specs.kvs_txn.declared.txn.Author.TheVariants as author
-use Rattle.tree_rules.specs.kvs_model.Store.{Name, Path, Node, Value, Directory, Link, Store, IsStore, root, node_at, path_cmp, is_within}
-use Rattle.tree_rules.specs.kvs_model.Operation.{most_bytes}
-use Rattle.tree_rules.specs.kvs_model.Walk.{past_inner_link, follow}
+use Rattle.fl_digest.specs.declared.BlobRef.{BlobRef}
+use Rattle.fl_digest.specs.declared.Hash.{Hash}
+use Rattle.fl_digest.specs.Reference.{reference_of}
+use Rattle.kvs_txn.specs.declared.answers.Cause.{Cause}
+use Rattle.kvs_txn.specs.declared.answers.Cause.TheVariants as cause
+use Rattle.kvs_txn.specs.declared.txn.Author.{Author}
+use Rattle.kvs_txn.specs.declared.txn.Author.TheVariants as author
+use Rattle.kvs_model.specs.Store.{Name, Path, Node, Value, Directory, Link, Store, IsStore, root, node_at, path_cmp, is_within}
+use Rattle.kvs_model.specs.Operation.{most_bytes}
+use Rattle.kvs_model.specs.Walk.{past_inner_link, follow}
 use Rattle.tree_rules.specs.Held.{Table, IsStorable}
 use Rattle.tree_rules.specs.Names.{name_cmp}
 use Rattle.tree_rules.specs.Objects.{Tree, val, valref, dir, dirref, symlink, Entries, no_entries, entry, entries_of, listed, tree_text}

@@ -3,8 +3,8 @@ ghost use Rattle.std.specs.Prelude.{◌≡◌, ◌<◌, ◌++◌, ◌∷◌, [],
 ghost use Rattle.std.specs.Prelude.{length, List, ℕ, Ok};
 ghost use Rattle.std.specs.Prelude.{option_copied};
 ghost use Rattle.blob_store.specs.Blobs.{blob_at};
-ghost use Rattle.tree_rules.specs.fl_digest.Reference.{reference_of};
-ghost use Rattle.tree_rules.specs.kvs_model.Store.{Store};
+ghost use Rattle.fl_digest.specs.Reference.{reference_of};
+ghost use Rattle.kvs_model.specs.Store.{Store};
 ghost use Rattle.tree_rules.specs.Held.{IsRootOf};
 ghost use Rattle.tree_objects.specs.Directories.{names_of};
 ghost use Rattle.tree_objects.specs.Level.{tree_of};
@@ -24,12 +24,12 @@ use crate::faults::TreeFault;
 use crate::kept::Kept;
 use crate::opened::Opened;
 use blob_store::{BlobStore, PutFault};
+use fl_digest::{BlobRef, Hash, RefList};
 use indexmap::IndexMap;
+use lists::{Bytes, Copied};
 use std::alloc::{AllocError, Global};
 use std::marker::Model;
 use tree_objects::{Object, ObjectMap};
-use tree_rules::fl_digest::{BlobRef, Hash, RefList};
-use tree_rules::lists::{Bytes, Copied};
 
 /// The most bytes of a value that stands in the text of its directory.
 const MOST_INLINE: usize = 64;
@@ -55,7 +55,7 @@ pub struct Fresh {
 
 impl Model for Fresh {
     ghost use Rattle.std.specs.Prelude.{List, ℕ};
-    ghost use Rattle.tree_rules.specs.fl_digest.declared.BlobRef.{BlobRef};
+    ghost use Rattle.fl_digest.specs.declared.BlobRef.{BlobRef};
 
     ghost Value = { List (BlobRef × List ℕ) };
 

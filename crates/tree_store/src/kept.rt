@@ -4,11 +4,11 @@ ghost use Rattle.tree_objects.specs.Reading.{Gives};
 ghost use Rattle.tree_objects.specs.declared.object.Object.TheVariants as object;
 ghost use Rattle.tree_store.specs.Kept.{most_kept};
 
+use fl_digest::BlobRef;
+use lists::Bytes;
 use std::alloc::{AllocError, Global};
 use std::marker::Model;
 use tree_objects::ObjectMap;
-use tree_rules::fl_digest::BlobRef;
-use tree_rules::lists::Bytes;
 
 /// The most directories that stay decoded.
 const MOST_KEPT: usize = 32;

@@ -2,9 +2,9 @@
 #![tactic(auto)]
 
 ghost use Rattle.std.specs.Prelude.{Ok, IfOk, option_map};
-ghost use Rattle.tree_rules.specs.fl_digest.declared.Hash.{Hash};
-ghost use Rattle.tree_rules.specs.kvs_model.Operation.{effect};
-ghost use Rattle.tree_rules.specs.kvs_model.Store.{Store};
+ghost use Rattle.fl_digest.specs.declared.Hash.{Hash};
+ghost use Rattle.kvs_model.specs.Operation.{effect};
+ghost use Rattle.kvs_model.specs.Store.{Store};
 ghost use Rattle.tree_rules.specs.Held.{IsRootOf, IsRootIn};
 ghost use Rattle.tree_store.specs.Landing.{table, opening, Leaves};
 ghost use Rattle.tree_store.specs.Shown.{Shows, IsShown, Gives};
@@ -18,14 +18,14 @@ mod walks;
 
 use blob_store::BlobStore;
 pub use faults::TreeFault;
+use fl_digest::{BlobRef, Hash};
 use fresh::Fresh;
 pub use kept::Kept;
+use kvs_txn::{Refusal, Scope, Txn};
+use lists::Bytes;
 use opened::Opened;
 use operations::operate;
 use std::alloc::{AllocError, Global};
-use tree_rules::fl_digest::{BlobRef, Hash};
-use tree_rules::kvs_txn::{Refusal, Scope, Txn};
-use tree_rules::lists::Bytes;
 
 /// Does the operations of a transaction in their order, up to the first that is refused.
 fn run(

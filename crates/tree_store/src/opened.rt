@@ -5,11 +5,11 @@ ghost use Rattle.std.specs.Prelude.{option_copied, not};
 ghost use Rattle.std.specs.FinMap.Entries as finite;
 ghost use Rattle.std.specs.Ordering.{eq_by_cmp};
 ghost use Rattle.std.specs.Str.{IsUtf8};
-ghost use Rattle.tree_rules.specs.fl_digest.declared.Hash.{Hash};
-ghost use Rattle.tree_rules.specs.kvs_model.History.{first_store};
-ghost use Rattle.tree_rules.specs.kvs_model.Operation.{is_directory, most_names};
-ghost use Rattle.tree_rules.specs.kvs_model.Store.{Path as Place, Store, Directory, root, node_at, names_in};
-ghost use Rattle.tree_rules.specs.kvs_model.Store.{empty_store, is_within, path_cmp};
+ghost use Rattle.fl_digest.specs.declared.Hash.{Hash};
+ghost use Rattle.kvs_model.specs.History.{first_store};
+ghost use Rattle.kvs_model.specs.Operation.{is_directory, most_names};
+ghost use Rattle.kvs_model.specs.Store.{Path as Place, Store, Directory, root, node_at, names_in};
+ghost use Rattle.kvs_model.specs.Store.{empty_store, is_within, path_cmp};
 ghost use Rattle.tree_objects.specs.Level.{tree_of};
 ghost use Rattle.tree_rules.specs.Held.{Table, IsRootOf, IsRootIn};
 ghost use Rattle.tree_rules.specs.Names.{name_cmp};
@@ -24,14 +24,14 @@ ghost use Rattle.tree_store.specs.Shown.{with_open};
 
 use crate::kept::Kept;
 use blob_store::BlobStore;
+use fl_digest::BlobRef;
+use kvs_model::MOST_NAMES;
+use kvs_txn::Path;
+use lists::{Bytes, Copied};
 use std::alloc::{AllocError, Global};
 use std::collections::BTreeMap;
 use std::marker::Model;
 use tree_objects::{Object, ObjectFault, ObjectMap, read};
-use tree_rules::fl_digest::BlobRef;
-use tree_rules::kvs_model::MOST_NAMES;
-use tree_rules::kvs_txn::Path;
-use tree_rules::lists::{Bytes, Copied};
 
 /// Decoded directories, which contracts see as a list in the order of their paths. In the directory
 /// above, an open one stands as one without names. What the transaction wrote stands as a whole
@@ -43,7 +43,7 @@ pub struct Opened {
 
 impl Model for Opened {
     ghost use Rattle.std.specs.Prelude.{List};
-    ghost use Rattle.tree_rules.specs.kvs_model.Store.{Path};
+    ghost use Rattle.kvs_model.specs.Store.{Path};
     ghost use Rattle.tree_rules.specs.Objects.{Entries};
     ghost use Rattle.tree_store.specs.Shown.{keyed};
 

@@ -2,30 +2,30 @@
 ghost use Rattle.std.specs.Prelude.{◌≡◌, ◌<◌, ◌∷◌, ◌++◌, [], ℕ, List, length, IfOk, OnOk};
 ghost use Rattle.std.specs.Prelude.{Some, None, if◌then◌else◌, option_map};
 ghost use Rattle.std.specs.List.{AllByRecursion};
-ghost use Rattle.tree_rules.specs.fl_digest.declared.Hash.{Hash};
-ghost use Rattle.tree_rules.specs.kvs_model.Operation.{is_reserved, key_of, op_effect, with_places_above};
-ghost use Rattle.tree_rules.specs.kvs_model.Operation.{placed, appended, changed, enters_full_from};
-ghost use Rattle.tree_rules.specs.kvs_model.Operation.{first_cause, refusals};
-ghost use Rattle.tree_rules.specs.kvs_model.Store.{Path as Place, Node, Store, Directory, is_within, node_at};
-ghost use Rattle.tree_rules.specs.kvs_model.Store.{with_node};
-ghost use Rattle.tree_rules.specs.kvs_txn.Keys.{IsComponent};
+ghost use Rattle.fl_digest.specs.declared.Hash.{Hash};
+ghost use Rattle.kvs_model.specs.Operation.{is_reserved, key_of, op_effect, with_places_above};
+ghost use Rattle.kvs_model.specs.Operation.{placed, appended, changed, enters_full_from};
+ghost use Rattle.kvs_model.specs.Operation.{first_cause, refusals};
+ghost use Rattle.kvs_model.specs.Store.{Path as Place, Node, Store, Directory, is_within, node_at};
+ghost use Rattle.kvs_model.specs.Store.{with_node};
+ghost use Rattle.kvs_txn.specs.Keys.{IsComponent};
 ghost use Rattle.tree_objects.specs.Level.{tree_of};
 ghost use Rattle.tree_rules.specs.Held.{Table, IsStorableNode};
 ghost use Rattle.tree_store.specs.Landing.{table};
 ghost use Rattle.tree_store.specs.Shown.{Directories, Stands, Shows, IsShown, OpensAbove, Gives};
 ghost use Rattle.tree_store.specs.Shown.{IsNodeOf, IsInDirectory, HasBlob, too_long, append_cause};
-ghost use Rattle.tree_rules.specs.fl_digest.Reference.{reference_of};
+ghost use Rattle.fl_digest.specs.Reference.{reference_of};
 
 use crate::kept::Kept;
 use crate::opened::{Opened, are_bytes};
 use crate::walks::resolve;
 use blob_store::BlobStore;
+use fl_digest::BlobRef;
+use kvs_model::MOST_BYTES;
+use kvs_txn::{Author, Cause, Op, Path, Scope};
+use lists::{Bytes, Copied};
 use std::alloc::{AllocError, Global};
 use tree_objects::Object;
-use tree_rules::fl_digest::BlobRef;
-use tree_rules::kvs_model::MOST_BYTES;
-use tree_rules::kvs_txn::{Author, Cause, Op, Path, Scope};
-use tree_rules::lists::{Bytes, Copied};
 
 /// Puts a directory at a path below the root, unless one stands there. The one above is open.
 fn make_place(alloc: Global, opened: &mut Opened, at: &[Bytes]) -> Result<(), AllocError>

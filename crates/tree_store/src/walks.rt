@@ -1,18 +1,18 @@
 //! Where a path leads.
 ghost use Rattle.std.specs.Prelude.{◌≡◌, ◌≤◌, ◌<◌, ◌++◌, ℕ, length, take, drop, None, IfOk, IfSome};
 ghost use Rattle.std.specs.Prelude.{OnOk, IsSome, option_map, false};
-ghost use Rattle.tree_rules.specs.fl_digest.declared.Hash.{Hash};
-ghost use Rattle.tree_rules.specs.kvs_model.Operation.{is_directory};
-ghost use Rattle.tree_rules.specs.kvs_model.Store.{Store, node_at};
-ghost use Rattle.tree_rules.specs.kvs_model.Walk.{stop, past_inner_link, most_links};
+ghost use Rattle.fl_digest.specs.declared.Hash.{Hash};
+ghost use Rattle.kvs_model.specs.Operation.{is_directory};
+ghost use Rattle.kvs_model.specs.Store.{Store, node_at};
+ghost use Rattle.kvs_model.specs.Walk.{stop, past_inner_link, most_links};
 ghost use Rattle.tree_store.specs.Landing.{table};
 ghost use Rattle.tree_store.specs.Shown.{opened_at, followed, Shows, IsShown, OpensAbove};
 
 use crate::kept::Kept;
 use crate::opened::{Opened, copy_of};
 use blob_store::BlobStore;
+use lists::{Bytes, Copied};
 use std::alloc::{AllocError, Global};
-use tree_rules::lists::{Bytes, Copied};
 
 /// How many components a walk along the path passes, to the first place where no directory stands.
 /// Those that it passes are open then.

@@ -1,11 +1,11 @@
 -- A root stays one.
 use Rattle.std.proofs.Common.{◌≡◌, List, refl, sym, subst}
 use Rattle.std.specs.Prelude.{Result, Ok, Err}
-use Rattle.tree_rules.specs.fl_digest.declared.BlobRef.{BlobRef}
-use Rattle.tree_rules.specs.fl_digest.declared.Hash.{Hash}
-use Rattle.tree_rules.specs.fl_digest.Reference.{reference_of}
-use Rattle.tree_rules.specs.kvs_txn.declared.answers.Refusal.{Refusal}
-use Rattle.tree_rules.specs.kvs_model.Store.{Store}
+use Rattle.fl_digest.specs.declared.BlobRef.{BlobRef}
+use Rattle.fl_digest.specs.declared.Hash.{Hash}
+use Rattle.fl_digest.specs.Reference.{reference_of}
+use Rattle.kvs_txn.specs.declared.answers.Refusal.{Refusal}
+use Rattle.kvs_model.specs.Store.{Store}
 use Rattle.tree_rules.specs.Held.{Keeps, IsRootOf, IsRootIn}
 use Rattle.tree_store.specs.Fresh.{Blobs}
 use Rattle.tree_store.specs.Landing.{table, AddsAtMost, Leaves}

@@ -3,13 +3,13 @@ ghost use Rattle.tree_rules.specs.Held.{IsRootIn};
 ghost use Rattle.tree_store.specs.Landing.{table};
 
 use blob_store::BlobStore;
+use fl_digest::{BlobRef, Hash};
+use kvs_txn::{Path, Scope, Txn};
+use lists::Bytes;
 use rand_core::utils::NextWord;
 use rand_pcg::Pcg32;
 use std::alloc::Global;
 use std::test::Fail;
-use tree_rules::fl_digest::{BlobRef, Hash};
-use tree_rules::kvs_txn::{Path, Scope, Txn};
-use tree_rules::lists::Bytes;
 use tree_store::{Kept, TreeFault, apply, apply_kept};
 
 const SIZES: [usize; 6] = [0, 1, 30, 64, 65, 200];

@@ -1,9 +1,9 @@
 //! Tree objects and their texts (Flux RFC 11).
 use fl_json::JsonFault;
+use lists::{Bytes, Copied};
 use std::alloc::Global;
 use std::test::Fail;
 use tree_objects::{Object, ObjectFault, ObjectMap, print, read};
-use tree_rules::lists::{Bytes, Copied};
 
 /// The directory with the value `hello` under the name `k` (Flux RFC 11).
 const HELLO: &str =

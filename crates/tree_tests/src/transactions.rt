@@ -1,15 +1,15 @@
 //! Transactions on blobs against those on a store in memory, and the reference of a first store.
 use crate::drawn::{key, land, land_kept, value, word};
 use blob_store::BlobStore;
+use fl_digest::{BlobRef, Hash};
+use kvs_txn::{Author, Found, Kind, Listed, Op, Path, Query, Scope, Txn};
+use lists::Bytes;
 use plain_store::{ApplyFault, Store};
 use rand_core::SeedableRng;
 use rand_pcg::Pcg32;
 use std::alloc::Global;
 use std::test::Fail;
 use tree_objects::{Object, ObjectMap, read};
-use tree_rules::fl_digest::{BlobRef, Hash};
-use tree_rules::kvs_txn::{Author, Found, Kind, Listed, Op, Path, Query, Scope, Txn};
-use tree_rules::lists::Bytes;
 use tree_store::{Kept, TreeFault, first};
 
 /// The grant of seven hosts with four cores each.

@@ -3,15 +3,15 @@
 use crate::drawn::{key, land, value, word};
 use blob_store::BlobStore;
 use cache_node::CacheNode;
+use fl_digest::{BlobRef, Hash, RefList};
+use kvs_txn::{Author, Found, Kind, Op, Path, Query, Scope, Txn};
+use lists::{Bytes, Copied};
 use plain_store::Store;
 use rand_core::SeedableRng;
 use rand_pcg::Pcg32;
 use std::alloc::Global;
 use std::test::Fail;
 use tree_objects::{Object, read};
-use tree_rules::fl_digest::{BlobRef, Hash, RefList};
-use tree_rules::kvs_txn::{Author, Found, Kind, Op, Path, Query, Scope, Txn};
-use tree_rules::lists::{Bytes, Copied};
 use tree_store::{apply, first};
 use tree_walk::{Advance, Cursor};
 

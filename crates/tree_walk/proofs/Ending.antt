@@ -1,15 +1,15 @@
 -- What a query finds at the end of a path, and what it needs there.
 use Rattle.std.proofs.Common.{◌≡◌, ℕ, ◌<◌, Bool, true, false, cond, List, [], ◌∷◌, ◌++◌, length, Option, Some, None, refl, sym, ap, ◌∙◌, subst, arith, append_assoc, append-nil, true≢false}
 use Rattle.std.specs.Prelude.{IsSome, is_some as is_there, slice_get}
-use Rattle.tree_rules.specs.fl_digest.declared.BlobRef.{BlobRef}
-use Rattle.tree_rules.specs.fl_digest.declared.Hash.{Hash}
-use Rattle.tree_rules.specs.fl_digest.Reference.{reference_of}
-use Rattle.tree_rules.specs.kvs_txn.declared.answers.Query.{Query}
-use Rattle.tree_rules.specs.kvs_txn.declared.answers.Query.TheVariants as query
-use Rattle.tree_rules.specs.kvs_txn.declared.answers.Found.{Found}
-use Rattle.tree_rules.specs.kvs_txn.declared.answers.Found.TheVariants as found
-use Rattle.tree_rules.specs.kvs_model.Store.{Path, Node, Value, Directory, Link, Store, root, node_at, names_in}
-use Rattle.tree_rules.specs.kvs_model.Walk.{Stop, go_on, stop, stop_from, found_at, found_from, found_along}
+use Rattle.fl_digest.specs.declared.BlobRef.{BlobRef}
+use Rattle.fl_digest.specs.declared.Hash.{Hash}
+use Rattle.fl_digest.specs.Reference.{reference_of}
+use Rattle.kvs_txn.specs.declared.answers.Query.{Query}
+use Rattle.kvs_txn.specs.declared.answers.Query.TheVariants as query
+use Rattle.kvs_txn.specs.declared.answers.Found.{Found}
+use Rattle.kvs_txn.specs.declared.answers.Found.TheVariants as found
+use Rattle.kvs_model.specs.Store.{Path, Node, Value, Directory, Link, Store, root, node_at, names_in}
+use Rattle.kvs_model.specs.Walk.{Stop, go_on, stop, stop_from, found_at, found_from, found_along}
 use Rattle.cache_node.specs.Cache.{Cache, clean_at}
 use Rattle.tree_rules.specs.Needs.{found_needs}
 use Rattle.tree_rules.specs.Objects.{Tree, val, valref, dir, dirref, symlink}

@@ -3,14 +3,14 @@ use Rattle.std.proofs.Common.{◌≡◌, ◌==◌, ℕ, zero, suc, ◌+◌, ◌-
 use Rattle.std.specs.Prelude.{flat_map}
 use Rattle.std.specs.Option.{option_map_or}
 use Rattle.std.proofs.lemmas.List.{map-append, drop_all}
-use Rattle.tree_rules.specs.fl_digest.declared.BlobRef.{BlobRef}
-use Rattle.tree_rules.specs.fl_digest.declared.Hash.{Hash}
-use Rattle.tree_rules.specs.kvs_txn.declared.answers.Query.{Query}
-use Rattle.tree_rules.specs.kvs_txn.declared.answers.Query.TheVariants as query
-use Rattle.tree_rules.specs.kvs_txn.declared.answers.Found.{Found}
-use Rattle.tree_rules.specs.kvs_txn.declared.answers.Found.TheVariants as found
-use Rattle.tree_rules.specs.kvs_model.Store.{Path, Node, Value, Directory, Link, Store, node_at}
-use Rattle.tree_rules.specs.kvs_model.Walk.{Stop, stop, at_end, follow, walk, walk_end, found_along, behind_link, behind_inner_link}
+use Rattle.fl_digest.specs.declared.BlobRef.{BlobRef}
+use Rattle.fl_digest.specs.declared.Hash.{Hash}
+use Rattle.kvs_txn.specs.declared.answers.Query.{Query}
+use Rattle.kvs_txn.specs.declared.answers.Query.TheVariants as query
+use Rattle.kvs_txn.specs.declared.answers.Found.{Found}
+use Rattle.kvs_txn.specs.declared.answers.Found.TheVariants as found
+use Rattle.kvs_model.specs.Store.{Path, Node, Value, Directory, Link, Store, node_at}
+use Rattle.kvs_model.specs.Walk.{Stop, stop, at_end, follow, walk, walk_end, found_along, behind_link, behind_inner_link}
 use Rattle.cache_node.specs.Cache.{Cache}
 use Rattle.tree_rules.specs.Needs.{next_path, followed, looked_in, passed, found_needs, needs}
 use Rattle.tree_rules.specs.Texts.{stored_at, directory_reference}

@@ -1,9 +1,9 @@
 -- The names of a directory, one after another.
 use Rattle.std.proofs.Common.{◌≡◌, ℕ, zero, suc, ◌+◌, ◌<◌, ◌≤◌, List, [], ◌∷◌, ◌++◌, length, map, take, get_or, sym, ap, ap₂, ◌∙◌, subst, arith, add-one}
 use Rattle.std.proofs.lemmas.List.{map-append, take_all, length-map}
-use Rattle.tree_rules.specs.kvs_txn.declared.answers.Kind.{Kind}
-use Rattle.tree_rules.specs.kvs_txn.declared.answers.Listed.{Listed}
-use Rattle.tree_rules.specs.kvs_model.Store.{Name}
+use Rattle.kvs_txn.specs.declared.answers.Kind.{Kind}
+use Rattle.kvs_txn.specs.declared.answers.Listed.{Listed}
+use Rattle.kvs_model.specs.Store.{Name}
 use Rattle.tree_rules.specs.Objects.{Tree, Entries, listed}
 use Rattle.tree_objects.specs.Directories.{names_of}
 use Rattle.tree_objects.specs.Level.{tree_of, paired}

@@ -4,11 +4,11 @@ use Rattle.std.specs.Prelude.{IsSome, ◌⊎◌}
 use Rattle.std.specs.FinMap.Entries as finite
 use Rattle.std.proofs.lemmas.List.{map-append}
 use Rattle.std.proofs.lemmas.List.Elements.{Contains-append_cases, Contains-push_cases}
-use Rattle.tree_rules.specs.fl_digest.declared.BlobRef.{BlobRef}
-use Rattle.tree_rules.specs.fl_digest.declared.Hash.{Hash}
-use Rattle.tree_rules.specs.kvs_model.Operation.{is_directory, places_above}
-use Rattle.tree_rules.specs.kvs_model.Store.{Name, Path, Node, Value, Directory, Link, Store, IsStore, node_at}
-use Rattle.tree_rules.specs.kvs_model.Walk.{Stop, go_on, stop, stop_from}
+use Rattle.fl_digest.specs.declared.BlobRef.{BlobRef}
+use Rattle.fl_digest.specs.declared.Hash.{Hash}
+use Rattle.kvs_model.specs.Operation.{is_directory, places_above}
+use Rattle.kvs_model.specs.Store.{Name, Path, Node, Value, Directory, Link, Store, IsStore, node_at}
+use Rattle.kvs_model.specs.Walk.{Stop, go_on, stop, stop_from}
 use Rattle.cache_node.specs.Cache.{Cache, clean_at}
 use Rattle.plain_store.proofs.Walking.{stop_more, stop_here, stop_end, place_at}
 use Rattle.tree_rules.specs.Names.{name_cmp}

@@ -7,17 +7,17 @@ use Rattle.std.proofs.Math.Seq.{take-suc}
 use Rattle.std.proofs.lemmas.List.{take_all}
 use Rattle.std.specs.Map.{lookup, remove_entry}
 use Rattle.std.proofs.lemmas.List.Elements.{Contains-append_left, Contains-append_right, Contains-append_cases, Contains-push, Contains-push_cases}
-use Rattle.tree_rules.specs.fl_digest.declared.BlobRef.{BlobRef}
-use Rattle.tree_rules.specs.fl_digest.declared.Hash.{Hash}
-use Rattle.tree_rules.specs.fl_digest.Reference.{same_reference}
-use Rattle.tree_rules.specs.kvs_txn.declared.answers.Query.{Query}
-use Rattle.tree_rules.specs.kvs_model.Store.{Path, Store}
-use Rattle.tree_rules.specs.kvs_model.Walk.{walk}
+use Rattle.fl_digest.specs.declared.BlobRef.{BlobRef}
+use Rattle.fl_digest.specs.declared.Hash.{Hash}
+use Rattle.fl_digest.specs.Reference.{same_reference}
+use Rattle.kvs_txn.specs.declared.answers.Query.{Query}
+use Rattle.kvs_model.specs.Store.{Path, Store}
+use Rattle.kvs_model.specs.Walk.{walk}
 use Rattle.cache_node.specs.declared.content.Held.{Held}
 use Rattle.cache_node.specs.Order.{pinned, used}
 use Rattle.cache_node.specs.Cache.{Cache, held_at, clean_at, with_pin, with_clean}
 use Rattle.cache_node.proofs.Same.{same_true, derived_same}
-use Rattle.tree_rules.specs.fl_digest.contracts.BlobRefPartialEq.TheImpl.{eq-value as derived}
+use Rattle.fl_digest.specs.contracts.BlobRefPartialEq.TheImpl.{eq-value as derived}
 use Rattle.tree_rules.specs.Needs.{needs}
 use Rattle.tree_walk.specs.declared.Advance.{Advance}
 use Rattle.tree_walk.specs.declared.Advance.TheVariants.{Done, Needs}

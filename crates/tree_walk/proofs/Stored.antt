@@ -2,13 +2,13 @@
 use Rattle.std.proofs.Common.{◌≡◌, ℕ, Bool, true, false, cond, List, [], ◌∷◌, map, Option, Some, None, option_map, refl, sym, ap, ◌∙◌, true≢false}
 use Rattle.std.specs.Prelude.{Result, Ok, Err, IfOk, IsErr}
 use Rattle.std.specs.List.{cons_option}
-use Rattle.tree_rules.specs.fl_digest.declared.BlobRef.{BlobRef}
-use Rattle.tree_rules.specs.fl_digest.declared.Hash.{Hash}
-use Rattle.tree_rules.specs.fl_digest.Reference.{reference_of}
+use Rattle.fl_digest.specs.declared.BlobRef.{BlobRef}
+use Rattle.fl_digest.specs.declared.Hash.{Hash}
+use Rattle.fl_digest.specs.Reference.{reference_of}
 use Rattle.fl_json.specs.Reading.{reading}
-use Rattle.tree_rules.specs.kvs_txn.declared.answers.Listed.{Listed}
-use Rattle.tree_rules.specs.kvs_model.Operation.{is_directory}
-use Rattle.tree_rules.specs.kvs_model.Store.{Name, Path, Node, Value, Directory, Link, Store, IsStore, root, node_at, child_name, names_in, kind_of, listed as line_of}
+use Rattle.kvs_txn.specs.declared.answers.Listed.{Listed}
+use Rattle.kvs_model.specs.Operation.{is_directory}
+use Rattle.kvs_model.specs.Store.{Name, Path, Node, Value, Directory, Link, Store, IsStore, root, node_at, child_name, names_in, kind_of, listed as line_of}
 use Rattle.cache_node.specs.Cache.{Cache, clean_at}
 use Rattle.tree_rules.specs.Held.{IsStorable}
 use Rattle.tree_rules.specs.Objects.{Tree, val, valref, dir, dirref, symlink, Entries, entries_of, listed}

@@ -1,15 +1,15 @@
 -- How a walk passes the directories along a path, and what it tells at a path's end.
 use Rattle.std.specs.Prelude.{◌≡◌, ◌≤◌, ◌<◌, ◌++◌, ◌∷◌, ℕ, Bool, true, false, List, [], length, take, drop, map, Option, Some, None, option_map, Contains, IsSome, ⊤}
-use Rattle.tree_rules.specs.fl_digest.declared.BlobRef.{BlobRef}
-use Rattle.tree_rules.specs.fl_digest.declared.Hash.{Hash}
-use Rattle.tree_rules.specs.kvs_txn.declared.answers.Found.{Found}
-use Rattle.tree_rules.specs.kvs_txn.declared.answers.Kind.{Kind}
-use Rattle.tree_rules.specs.kvs_txn.declared.answers.Kind.TheVariants as kind
-use Rattle.tree_rules.specs.kvs_txn.declared.answers.Listed.{Listed}
-use Rattle.tree_rules.specs.kvs_txn.declared.answers.Query.{Query}
-use Rattle.tree_rules.specs.kvs_txn.declared.answers.Query.TheVariants as query
-use Rattle.tree_rules.specs.kvs_model.Store.{Name, Path, Store}
-use Rattle.tree_rules.specs.kvs_model.Walk.{stop}
+use Rattle.fl_digest.specs.declared.BlobRef.{BlobRef}
+use Rattle.fl_digest.specs.declared.Hash.{Hash}
+use Rattle.kvs_txn.specs.declared.answers.Found.{Found}
+use Rattle.kvs_txn.specs.declared.answers.Kind.{Kind}
+use Rattle.kvs_txn.specs.declared.answers.Kind.TheVariants as kind
+use Rattle.kvs_txn.specs.declared.answers.Listed.{Listed}
+use Rattle.kvs_txn.specs.declared.answers.Query.{Query}
+use Rattle.kvs_txn.specs.declared.answers.Query.TheVariants as query
+use Rattle.kvs_model.specs.Store.{Name, Path, Store}
+use Rattle.kvs_model.specs.Walk.{stop}
 use Rattle.cache_node.specs.Cache.{Cache, clean_at}
 use Rattle.tree_rules.specs.Needs.{next_path, looked_in}
 use Rattle.tree_rules.specs.Objects.{Tree, val, valref, dir, dirref, symlink}

@@ -1,6 +1,6 @@
 -- References that are to be pinned.
 use Rattle.std.specs.Prelude.{◌≡◌, ◌⊎◌, ◌++◌, List, Contains}
-use Rattle.tree_rules.specs.fl_digest.declared.BlobRef.{BlobRef}
+use Rattle.fl_digest.specs.declared.BlobRef.{BlobRef}
 
 -- a reference is among those that are pinned or are to be, as all that were, and nothing else came
 -- to them

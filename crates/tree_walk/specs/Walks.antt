@@ -1,10 +1,10 @@
 -- Walks over the clean contents of a cache.
 use Rattle.std.specs.Prelude.{◌≡◌, ◌⊎◌, ◌++◌, ◌∷◌, ℕ, List, fold, Some, None, Contains, IsSome}
-use Rattle.tree_rules.specs.fl_digest.declared.BlobRef.{BlobRef}
-use Rattle.tree_rules.specs.fl_digest.declared.Hash.{Hash}
-use Rattle.tree_rules.specs.kvs_txn.declared.answers.Query.{Query}
-use Rattle.tree_rules.specs.kvs_model.Store.{Path, Store}
-use Rattle.tree_rules.specs.kvs_model.Walk.{walk}
+use Rattle.fl_digest.specs.declared.BlobRef.{BlobRef}
+use Rattle.fl_digest.specs.declared.Hash.{Hash}
+use Rattle.kvs_txn.specs.declared.answers.Query.{Query}
+use Rattle.kvs_model.specs.Store.{Path, Store}
+use Rattle.kvs_model.specs.Walk.{walk}
 use Rattle.cache_node.specs.Cache.{Cache, clean_at, with_pin, without_pin}
 use Rattle.tree_rules.specs.Held.{Table, IsRootOf}
 use Rattle.tree_rules.specs.Needs.{needs}

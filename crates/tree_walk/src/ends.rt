@@ -1,10 +1,10 @@
 //! What a query finds at the end of a path.
 ghost use Rattle.std.specs.Prelude.{◌≡◌, ◌∷◌, [], ℕ, List, Some, true, map, IfOk};
-ghost use Rattle.tree_rules.specs.fl_digest.declared.BlobRef.{BlobRef as Reference};
-ghost use Rattle.tree_rules.specs.fl_digest.declared.Hash.{Hash};
-ghost use Rattle.tree_rules.specs.fl_digest.Reference.{reference_of};
-ghost use Rattle.tree_rules.specs.kvs_model.Store.{Path as Place, Node, Value, Directory, Store, node_at, names_in};
-ghost use Rattle.tree_rules.specs.kvs_model.Walk.{found_at, found_along};
+ghost use Rattle.fl_digest.specs.declared.BlobRef.{BlobRef as Reference};
+ghost use Rattle.fl_digest.specs.declared.Hash.{Hash};
+ghost use Rattle.fl_digest.specs.Reference.{reference_of};
+ghost use Rattle.kvs_model.specs.Store.{Path as Place, Node, Value, Directory, Store, node_at, names_in};
+ghost use Rattle.kvs_model.specs.Walk.{found_at, found_along};
 ghost use Rattle.tree_rules.specs.Needs.{found_needs};
 ghost use Rattle.tree_rules.specs.Objects.{listed};
 ghost use Rattle.tree_rules.specs.Texts.{is_long, directory_reference, stored_at};
@@ -15,11 +15,11 @@ ghost use Rattle.tree_walk.specs.Walks.{Reads};
 use crate::Advance;
 use crate::texts::directory_at;
 use cache_node::CacheNode;
+use fl_digest::BlobRef;
+use kvs_txn::{Found, Kind, Listed, NameList, Query};
+use lists::{Copied, ListOf};
 use std::alloc::{AllocError, Global};
 use tree_objects::{Object, ObjectMap};
-use tree_rules::fl_digest::BlobRef;
-use tree_rules::kvs_txn::{Found, Kind, Listed, NameList, Query};
-use tree_rules::lists::{Copied, ListOf};
 
 /// What an object is, as a listing shows it.
 fn kind_of(object: &Object) -> Kind

@@ -1,8 +1,8 @@
 //! Where a walk comes to along a path, and past links.
 ghost use Rattle.std.specs.Prelude.{◌≡◌, ◌≤◌, ◌++◌, length, option_map, option_copied, IfOk};
-ghost use Rattle.tree_rules.specs.fl_digest.declared.Hash.{Hash};
-ghost use Rattle.tree_rules.specs.kvs_model.Store.{Store};
-ghost use Rattle.tree_rules.specs.kvs_model.Walk.{walk};
+ghost use Rattle.fl_digest.specs.declared.Hash.{Hash};
+ghost use Rattle.kvs_model.specs.Store.{Store};
+ghost use Rattle.kvs_model.specs.Walk.{walk};
 ghost use Rattle.tree_rules.specs.Needs.{needs};
 ghost use Rattle.tree_objects.specs.Level.{tree_of};
 ghost use Rattle.tree_walk.specs.Legs.{directory_in, target_in, leaves_link, LegTells, StopsAt, StopsWithin, TurnTells, GoesFrom, EndTells};
@@ -12,11 +12,11 @@ use crate::Advance;
 use crate::ends::found;
 use crate::texts::directory_at;
 use cache_node::CacheNode;
+use fl_digest::BlobRef;
+use kvs_txn::{Found, Path, Query};
+use lists::{Bytes, Copied};
 use std::alloc::{AllocError, Global};
 use tree_objects::Object;
-use tree_rules::fl_digest::BlobRef;
-use tree_rules::kvs_txn::{Found, Path, Query};
-use tree_rules::lists::{Bytes, Copied};
 
 /// The most links that one walk follows.
 const MOST_LINKS: u32 = 10;

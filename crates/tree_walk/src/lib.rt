@@ -2,8 +2,8 @@
 #![tactic(auto)]
 
 ghost use Rattle.std.specs.Prelude.{◌≡◌, [], Contains, IfOk, OnOk, OnErr, IsTrue};
-ghost use Rattle.tree_rules.specs.fl_digest.declared.Hash.{Hash};
-ghost use Rattle.tree_rules.specs.kvs_model.Store.{Store};
+ghost use Rattle.fl_digest.specs.declared.Hash.{Hash};
+ghost use Rattle.kvs_model.specs.Store.{Store};
 ghost use Rattle.tree_walk.specs.Pins.{AddsOnce, AreFresh};
 ghost use Rattle.tree_walk.specs.Walks.{Reads, GoesOn, Tells, without_pins, with_pins};
 
@@ -12,12 +12,12 @@ mod legs;
 mod texts;
 
 use cache_node::CacheNode;
+use fl_digest::BlobRef;
+use kvs_txn::{Found, Path, Query};
 use legs::look;
+use lists::Copied;
 use std::alloc::{AllocError, Global};
 use std::marker::Model;
-use tree_rules::fl_digest::BlobRef;
-use tree_rules::kvs_txn::{Found, Path, Query};
-use tree_rules::lists::Copied;
 
 /// How far a walk has come: what it finds, or the reference of the content that is missing.
 #[derive(Drop)]

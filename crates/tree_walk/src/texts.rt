@@ -1,8 +1,8 @@
 //! The directories that clean texts tell.
 ghost use Rattle.std.specs.Prelude.{◌≡◌, is_some, IsErr, IfOk, IfSome};
-ghost use Rattle.tree_rules.specs.fl_digest.declared.BlobRef.{BlobRef as Reference};
-ghost use Rattle.tree_rules.specs.fl_digest.declared.Hash.{Hash};
-ghost use Rattle.tree_rules.specs.kvs_model.Store.{Path as Place, Store, Directory, IsStore, node_at};
+ghost use Rattle.fl_digest.specs.declared.BlobRef.{BlobRef as Reference};
+ghost use Rattle.fl_digest.specs.declared.Hash.{Hash};
+ghost use Rattle.kvs_model.specs.Store.{Path as Place, Store, Directory, IsStore, node_at};
 ghost use Rattle.cache_node.specs.Cache.{clean_at};
 ghost use Rattle.tree_rules.specs.Held.{IsStorable};
 ghost use Rattle.tree_rules.specs.Objects.{Entries, listed, dir};
@@ -11,9 +11,9 @@ ghost use Rattle.tree_objects.specs.Level.{tree_of};
 ghost use Rattle.tree_walk.specs.Walks.{Reads};
 
 use cache_node::CacheNode;
+use fl_digest::BlobRef;
 use std::alloc::{AllocError, Global};
 use tree_objects::{Object, ObjectFault, ObjectMap, read};
-use tree_rules::fl_digest::BlobRef;
 
 /// The directory that an object is. Another object counts as one without names.
 fn directory_of(alloc: Global, object: Object) -> ObjectMap

@@ -8,7 +8,7 @@ use Rattle.std.proofs.lemmas.Bool.{and_parts}
 use Rattle.std.proofs.lemmas.Bool.Decides.{nat_tests}
 use Rattle.std.proofs.Math.Seq.{drop-append_seam}
 use Rattle.std.proofs.lemmas.Fmt.{length-decimal-le}
-use Rattle.job_spec.specs.outcomes.Outcomes.{first_of}
+use Rattle.outcomes.specs.Outcomes.{first_of}
 use Rattle.kvs_txn.specs.Keys.{components}
 use Rattle.run_limits.specs.Limits.{most_seconds, most_submits}
 use Rattle.workload.specs.Laws.{IsWord}

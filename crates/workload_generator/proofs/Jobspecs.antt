@@ -4,8 +4,8 @@ use Rattle.std.specs.Fmt.{digits}
 use Rattle.std.specs.List.{list_all, range_with_len}
 use Rattle.std.specs.Str.{is_utf8, chars}
 use Rattle.serde_json.proofs.OnLiterals.{serde_json_on_literals}
-use Rattle.job_spec.specs.fl_json.Numbers.{all_kept, first_lost, is_whole, kept, kept_number, natural, pieces_behind}
-use Rattle.job_spec.specs.fl_json.Reading.{reading}
+use Rattle.fl_json.specs.Numbers.{all_kept, first_lost, is_whole, kept, kept_number, natural, pieces_behind}
+use Rattle.fl_json.specs.Reading.{reading}
 use Rattle.job_spec.specs.Limits.{attributes_of, duration_of, limits_of, needs_of, system_of}
 use Rattle.job_spec.specs.Resources.{exclusive_of, is_core, nodes_of, slots_of, spread_of, units_alone, units_at, units_of, units_of_one, units_of_two, wanted_of}
 use Rattle.job_spec.specs.Specs.{spec_of, spec_reading}

@@ -13,7 +13,7 @@ use Rattle.std.proofs.lemmas.List.Sums.{sum_by_push}
 use Rattle.std.proofs.lemmas.Slice.Eq.{bytes_eq-Decides}
 use Rattle.std.proofs.lemmas.Str.{IsUtf8-from_ascii, is_utf8-from_IsUtf8}
 use Rattle.std.specs.Str.{bytes_eq}
-use Rattle.job_spec.specs.outcomes.Outcomes.{first_of, or_else}
+use Rattle.outcomes.specs.Outcomes.{first_of, or_else}
 use Rattle.run_limits.specs.Limits.{most_submits, most_text}
 use Rattle.workload.specs.Laws.{empty}
 use Rattle.workload.specs.Limits.{most_commands, most_line}

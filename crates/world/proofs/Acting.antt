@@ -1,22 +1,22 @@
 -- What an actor does whose instance lives.
 use Rattle.std.proofs.Common.{◌≡◌, ◌∙◌, ℕ, ◌+◌, ◌-◌, ◌≤◌, List, [], ◌∷◌, ◌++◌, Bool, true, false, Option, Some, None, cond, count_by, length, map, refl, sym, ap, subst, arith}
 use Rattle.std.specs.Prelude.{option_map, slice_get, slice_set}
-use Rattle.homes.specs.kvs_rules.Log.{Log}
-use Rattle.homes.specs.answers.Chronicle.{Setup, issues_of, replies_to, top}
-use Rattle.homes.specs.answers.Services.{log_of}
-use Rattle.homes.specs.answers.declared.chronicle.Entry.{Entry}
-use Rattle.homes.specs.answers.declared.steps.Step.{Step}
-use Rattle.homes.specs.answers.declared.steps.Step.TheVariants as step
-use Rattle.homes.specs.hierarchy.Births.{is_at, label_of, lives}
-use Rattle.homes.specs.hierarchy.Growing.{ActsAlike}
-use Rattle.homes.specs.hierarchy.Grows.{GrowsByOwn}
-use Rattle.homes.specs.hierarchy.Own.{own_of, setup_in}
-use Rattle.homes.specs.hierarchy.Stretches.{IsRunStretch, entered_in}
-use Rattle.homes.specs.instance.Agrees.{ActorStands, Stands}
-use Rattle.homes.specs.instance.Makes.{Follows, Makes}
-use Rattle.homes.specs.instance.Seats.{is_free, replied_of}
-use Rattle.homes.specs.instance.Value.{InstanceValue}
-use Rattle.homes.specs.instance.declared.seats.Seat.{Seat}
+use Rattle.instance.specs.kvs_rules.Log.{Log}
+use Rattle.instance.specs.answers.Chronicle.{Setup, issues_of, replies_to, top}
+use Rattle.instance.specs.answers.Services.{log_of}
+use Rattle.instance.specs.answers.declared.chronicle.Entry.{Entry}
+use Rattle.instance.specs.answers.declared.steps.Step.{Step}
+use Rattle.instance.specs.answers.declared.steps.Step.TheVariants as step
+use Rattle.hierarchy.specs.Births.{is_at, label_of, lives}
+use Rattle.hierarchy.specs.Growing.{ActsAlike}
+use Rattle.hierarchy.specs.Grows.{GrowsByOwn}
+use Rattle.hierarchy.specs.Own.{own_of, setup_in}
+use Rattle.hierarchy.specs.Stretches.{IsRunStretch, entered_in}
+use Rattle.instance.specs.Agrees.{ActorStands, Stands}
+use Rattle.instance.specs.Makes.{Follows, Makes}
+use Rattle.instance.specs.Seats.{is_free, replied_of}
+use Rattle.instance.specs.Value.{InstanceValue}
+use Rattle.instance.specs.declared.seats.Seat.{Seat}
 use Rattle.world.specs.Advances.{Advances}
 use Rattle.homes.specs.Homes.{ArePlaces, IsPlace}
 use Rattle.world.specs.Sound.{IsSound}

@@ -1,6 +1,6 @@
 -- A step, said of the world as its callers see it.
 use Rattle.std.proofs.Common.{◌≡◌, subst}
-use Rattle.homes.specs.answers.declared.steps.Step.{Step}
+use Rattle.instance.specs.answers.declared.steps.Step.{Step}
 use Rattle.world.specs.Advances.{Advances}
 use Rattle.world.specs.Value.{WorldValue}
 

@@ -2,16 +2,16 @@
 use Rattle.std.proofs.Common.{◌≡◌, ◌∙◌, ℕ, zero, suc, ◌<◌, ◌≤◌, List, [], ◌∷◌, Bool, true, false, not, length, Option, refl, sym, ap, subst, true≢false, arith, count_by}
 use Rattle.std.specs.Prelude.{Some, None, ◌-◌, option_and_then, slice_get, if◌then◌else◌}
 use Rattle.std.proofs.lemmas.Bool.{and_parts, lt-ltb}
-use Rattle.homes.specs.kvs_txn.declared.txn.By.{By}
-use Rattle.homes.specs.answers.Chronicle.{IsOpenCommand, replies_to, top}
-use Rattle.homes.specs.workload.Actors.{are_together}
-use Rattle.homes.specs.workload.declared.work.Actor.{Actor}
-use Rattle.homes.specs.hierarchy.Births.{has_lost_home, is_at, is_born, is_gone, label_of}
-use Rattle.homes.proofs.hierarchy_proofs.Homes.{left_so}
-use Rattle.homes.proofs.hierarchy_proofs.Members.{gone_was_born}
-use Rattle.homes.proofs.hierarchy_proofs.Numbering.{born_exactly, top_lives}
-use Rattle.homes.proofs.hierarchy_proofs.OneEntry.{one_home}
-use Rattle.homes.proofs.hierarchy_proofs.Open.{issued_below}
+use Rattle.instance.specs.kvs_txn.declared.txn.By.{By}
+use Rattle.instance.specs.answers.Chronicle.{IsOpenCommand, replies_to, top}
+use Rattle.instance.specs.workload.Actors.{are_together}
+use Rattle.instance.specs.workload.declared.work.Actor.{Actor}
+use Rattle.hierarchy.specs.Births.{has_lost_home, is_at, is_born, is_gone, label_of}
+use Rattle.hierarchy.proofs.Homes.{left_so}
+use Rattle.hierarchy.proofs.Members.{gone_was_born}
+use Rattle.hierarchy.proofs.Numbering.{born_exactly, top_lives}
+use Rattle.hierarchy.proofs.OneEntry.{one_home}
+use Rattle.hierarchy.proofs.Open.{issued_below}
 use Rattle.homes.specs.Homes.{answered}
 use Rattle.world.specs.Sound.{IsSound}
 use Rattle.world.specs.Value.{WorldValue}

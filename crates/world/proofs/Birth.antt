@@ -3,25 +3,25 @@ use Rattle.std.proofs.Common.{◌≡◌, ◌∙◌, ℕ, ◌+◌, ◌<◌, ◌^�
 use Rattle.std.specs.Prelude.{slice_get, slice_set}
 use Rattle.std.proofs.lemmas.Bool.{eqb-true}
 use Rattle.std.proofs.lemmas.Option.{get_or_from_slice_get}
-use Rattle.homes.specs.workload.Actors.{are_together}
-use Rattle.homes.specs.answers.Chronicle.{top}
-use Rattle.homes.specs.answers.declared.chronicle.Entry.{Entry}
-use Rattle.homes.specs.answers.declared.steps.Step.{Step}
-use Rattle.homes.specs.answers.declared.steps.Step.TheVariants as step
-use Rattle.homes.specs.hierarchy.Births.{Birth, births, is_born, label_of, lives}
-use Rattle.homes.specs.hierarchy.Families.{second_in}
-use Rattle.homes.specs.hierarchy.Grows.{GrowsByBirth, born_by, born_to}
-use Rattle.homes.specs.hierarchy.Legal.{IsLegalBirth}
-use Rattle.homes.specs.hierarchy.Own.{own_of, setup_in}
-use Rattle.homes.specs.hierarchy.Stretches.{IsRunStretch}
-use Rattle.homes.proofs.hierarchy_proofs.Advances.{time_within}
-use Rattle.homes.proofs.hierarchy_proofs.Labels.{new_label}
-use Rattle.homes.proofs.hierarchy_proofs.Numbering.{numbers_count, top_lives}
-use Rattle.homes.proofs.hierarchy_proofs.Owning.{alive}
-use Rattle.homes.proofs.hierarchy_proofs.Settling.{nothing_issued}
-use Rattle.homes.specs.instance.Agrees.{AgreesOwn}
-use Rattle.homes.specs.instance.Makes.{Bears, Follows}
-use Rattle.homes.specs.instance.Value.{InstanceValue}
+use Rattle.instance.specs.workload.Actors.{are_together}
+use Rattle.instance.specs.answers.Chronicle.{top}
+use Rattle.instance.specs.answers.declared.chronicle.Entry.{Entry}
+use Rattle.instance.specs.answers.declared.steps.Step.{Step}
+use Rattle.instance.specs.answers.declared.steps.Step.TheVariants as step
+use Rattle.hierarchy.specs.Births.{Birth, births, is_born, label_of, lives}
+use Rattle.hierarchy.specs.Families.{second_in}
+use Rattle.hierarchy.specs.Grows.{GrowsByBirth, born_by, born_to}
+use Rattle.hierarchy.specs.Legal.{IsLegalBirth}
+use Rattle.hierarchy.specs.Own.{own_of, setup_in}
+use Rattle.hierarchy.specs.Stretches.{IsRunStretch}
+use Rattle.hierarchy.proofs.Advances.{time_within}
+use Rattle.hierarchy.proofs.Labels.{new_label}
+use Rattle.hierarchy.proofs.Numbering.{numbers_count, top_lives}
+use Rattle.hierarchy.proofs.Owning.{alive}
+use Rattle.hierarchy.proofs.Settling.{nothing_issued}
+use Rattle.instance.specs.Agrees.{AgreesOwn}
+use Rattle.instance.specs.Makes.{Bears, Follows}
+use Rattle.instance.specs.Value.{InstanceValue}
 use Rattle.world.specs.Advances.{Advances}
 use Rattle.homes.specs.Homes.{AreHomes}
 use Rattle.homes.specs.Inside.{AreSettled, IsChildHome}

@@ -3,9 +3,9 @@ use Rattle.std.proofs.Common.{◌≡◌, ◌∙◌, ℕ, List, [], ◌++◌, fal
 use Rattle.std.specs.Prelude.{Contains, IfOk, Result, Ok, Err}
 use Rattle.std.proofs.lemmas.List.{nil_from_length}
 use Rattle.std.proofs.lemmas.Option.{slice_get-get_or}
-use Rattle.homes.specs.kvs_core.Walk.{nth}
-use Rattle.homes.specs.answers.declared.steps.Step.{Step}
-use Rattle.homes.specs.answers.declared.steps.Step.TheVariants as step
+use Rattle.instance.specs.kvs_core.Walk.{nth}
+use Rattle.instance.specs.answers.declared.steps.Step.{Step}
+use Rattle.instance.specs.answers.declared.steps.Step.TheVariants as step
 use Rattle.homes.specs.Homes.{ListTurns}
 use Rattle.world.specs.Order.{before_end, steps_of}
 use Rattle.world.specs.Sound.{IsRunning}

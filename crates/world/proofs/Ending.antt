@@ -4,26 +4,26 @@ use Rattle.std.specs.Prelude.{filter_map, not, slice_get, slice_set}
 use Rattle.std.specs.Option.{option_map_or}
 use Rattle.std.proofs.lemmas.Bool.{and_parts, not-true}
 use Rattle.std.proofs.lemmas.Option.{get_or_from_slice_get}
-use Rattle.homes.specs.answers.Chronicle.{Setup, top}
-use Rattle.homes.specs.answers.declared.chronicle.Entry.{Entry}
-use Rattle.homes.specs.answers.declared.chronicle.Entry.TheVariants as entry
-use Rattle.homes.specs.answers.declared.steps.Step.{Step}
-use Rattle.homes.specs.answers.declared.steps.Step.TheVariants as step
-use Rattle.homes.specs.hierarchy.Births.{Birth, birth_of, lives}
-use Rattle.homes.specs.hierarchy.Families.{family_of, living_in}
-use Rattle.homes.specs.hierarchy.Inside.{GoesWithAll, ends_within, marked_below}
-use Rattle.homes.specs.hierarchy.Legal.{IsLegalRun}
-use Rattle.homes.specs.hierarchy.Own.{own_of, setup_in}
-use Rattle.homes.proofs.hierarchy_proofs.Inside.{goes_with_all}
-use Rattle.homes.proofs.hierarchy_proofs.Nested.{parent_lives}
-use Rattle.homes.proofs.hierarchy_proofs.Numbering.{number_of}
-use Rattle.homes.proofs.hierarchy_proofs.Owning.{alive}
-use Rattle.homes.proofs.hierarchy_proofs.Settling.{nothing_issued}
-use Rattle.homes.specs.instance.Agrees.{AgreesOwn}
-use Rattle.homes.specs.instance.Family.{may_end}
-use Rattle.homes.specs.instance.Makes.{Follows, LetsGo}
-use Rattle.homes.specs.instance.Value.{InstanceValue}
-use Rattle.homes.specs.instance_rules.Family.{IsEndOf}
+use Rattle.instance.specs.answers.Chronicle.{Setup, top}
+use Rattle.instance.specs.answers.declared.chronicle.Entry.{Entry}
+use Rattle.instance.specs.answers.declared.chronicle.Entry.TheVariants as entry
+use Rattle.instance.specs.answers.declared.steps.Step.{Step}
+use Rattle.instance.specs.answers.declared.steps.Step.TheVariants as step
+use Rattle.hierarchy.specs.Births.{Birth, birth_of, lives}
+use Rattle.hierarchy.specs.Families.{family_of, living_in}
+use Rattle.hierarchy.specs.Inside.{GoesWithAll, ends_within, marked_below}
+use Rattle.hierarchy.specs.Legal.{IsLegalRun}
+use Rattle.hierarchy.specs.Own.{own_of, setup_in}
+use Rattle.hierarchy.proofs.Inside.{goes_with_all}
+use Rattle.hierarchy.proofs.Nested.{parent_lives}
+use Rattle.hierarchy.proofs.Numbering.{number_of}
+use Rattle.hierarchy.proofs.Owning.{alive}
+use Rattle.hierarchy.proofs.Settling.{nothing_issued}
+use Rattle.instance.specs.Agrees.{AgreesOwn}
+use Rattle.instance.specs.Family.{may_end}
+use Rattle.instance.specs.Makes.{Follows, LetsGo}
+use Rattle.instance.specs.Value.{InstanceValue}
+use Rattle.instance.specs.instance_rules.Family.{IsEndOf}
 use Rattle.world.specs.Advances.{Advances}
 use Rattle.homes.specs.Homes.{AreHomes}
 use Rattle.homes.specs.Inside.{AreInside, HaveGone, end_at}

@@ -5,10 +5,10 @@ use Rattle.std.specs.List.{range_with_len}
 use Rattle.std.specs.Option.{option_map_or}
 use Rattle.std.proofs.lemmas.Bool.{and_parts, ltb-true}
 use Rattle.std.proofs.lemmas.Option.{get_or_from_slice_get, slice_get_within}
-use Rattle.homes.specs.instance.Steps.{can_answer as instance_can_answer}
+use Rattle.instance.specs.Steps.{can_answer as instance_can_answer}
 use Rattle.world.specs.Acting.{IsGoneAt, IsPlacedIn}
-use Rattle.homes.specs.hierarchy.Births.{is_at, label_of, numbers}
-use Rattle.homes.proofs.hierarchy_proofs.Numbering.{numbers_are}
+use Rattle.hierarchy.specs.Births.{is_at, label_of, numbers}
+use Rattle.hierarchy.proofs.Numbering.{numbers_are}
 use Rattle.homes.specs.Homes.{home_in}
 use Rattle.world.specs.Sound.{IsSound}
 use Rattle.homes.specs.Times.{at_home}

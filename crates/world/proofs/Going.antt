@@ -1,9 +1,9 @@
 -- The world is closed exactly where its chronicle has the end.
 use Rattle.std.proofs.Common.{◌≡◌, ◌∙◌, [], ◌∷◌, ◌++◌, Bool, true, false, ◌||◌, refl, sym, ap}
 use Rattle.std.proofs.lemmas.List.Folds.{list_any-append}
-use Rattle.homes.specs.answers.declared.chronicle.Entry.TheVariants as entry
-use Rattle.homes.specs.answers.Whole.{has_ended, is_end}
-use Rattle.homes.proofs.hierarchy_proofs.Steps.{unended}
+use Rattle.instance.specs.answers.declared.chronicle.Entry.TheVariants as entry
+use Rattle.instance.specs.answers.Whole.{has_ended, is_end}
+use Rattle.hierarchy.proofs.Steps.{unended}
 use Rattle.world.specs.Sound.{IsSound}
 use Rattle.world.specs.Value.{WorldValue}
 

@@ -5,26 +5,26 @@ use Rattle.std.specs.List.{range_with_len}
 use Rattle.std.proofs.lemmas.Option.{slice_get_read, slice_get_within}
 use Rattle.std.proofs.lemmas.List.{length-map, take-append-drop}
 use Rattle.std.proofs.lemmas.List.Sums.{sum_by-append}
-use Rattle.homes.specs.answers.Chronicle.{Setup, top}
-use Rattle.homes.specs.answers.Services.{log_of}
-use Rattle.homes.specs.answers.declared.chronicle.Entry.{Entry}
-use Rattle.homes.specs.hierarchy.Births.{Birth, birth_of, is_at, label_of, numbers}
-use Rattle.homes.specs.hierarchy.Growing.{GoesOn}
-use Rattle.homes.specs.hierarchy.Own.{own_of, placed, setup_in}
-use Rattle.homes.proofs.hierarchy_proofs.Numbering.{born_exactly, numbers_are, parents_first}
-use Rattle.homes.proofs.hierarchy_proofs.OneEntry.{one_home}
-use Rattle.homes.proofs.hierarchy_proofs.Steps.{work_in}
-use Rattle.homes.proofs.hierarchy_proofs.Within.{no_lines}
-use Rattle.homes.specs.instance.Agrees.{ActorStands, AgreesOwn, Waits, is_of}
-use Rattle.homes.specs.instance.Seats.{has_come, last_command}
-use Rattle.homes.specs.instance.Steps.{can_answer}
-use Rattle.homes.specs.instance.declared.seats.Seat.{Seat}
-use Rattle.homes.specs.instance.declared.seats.Waiting.{Waiting}
-use Rattle.homes.specs.instance.declared.seats.Waiting.TheVariants as waiting
-use Rattle.homes.specs.kvs_rules.Log.{Log}
-use Rattle.homes.specs.services.Value.{ServicesValue}
-use Rattle.homes.specs.kvs_txn.declared.txn.By.{By}
-use Rattle.homes.specs.workload.declared.work.Line.{Line}
+use Rattle.instance.specs.answers.Chronicle.{Setup, top}
+use Rattle.instance.specs.answers.Services.{log_of}
+use Rattle.instance.specs.answers.declared.chronicle.Entry.{Entry}
+use Rattle.hierarchy.specs.Births.{Birth, birth_of, is_at, label_of, numbers}
+use Rattle.hierarchy.specs.Growing.{GoesOn}
+use Rattle.hierarchy.specs.Own.{own_of, placed, setup_in}
+use Rattle.hierarchy.proofs.Numbering.{born_exactly, numbers_are, parents_first}
+use Rattle.hierarchy.proofs.OneEntry.{one_home}
+use Rattle.hierarchy.proofs.Steps.{work_in}
+use Rattle.hierarchy.proofs.Within.{no_lines}
+use Rattle.instance.specs.Agrees.{ActorStands, AgreesOwn, Waits, is_of}
+use Rattle.instance.specs.Seats.{has_come, last_command}
+use Rattle.instance.specs.Steps.{can_answer}
+use Rattle.instance.specs.declared.seats.Seat.{Seat}
+use Rattle.instance.specs.declared.seats.Waiting.{Waiting}
+use Rattle.instance.specs.declared.seats.Waiting.TheVariants as waiting
+use Rattle.instance.specs.kvs_rules.Log.{Log}
+use Rattle.instance.specs.services.Value.{ServicesValue}
+use Rattle.instance.specs.kvs_txn.declared.txn.By.{By}
+use Rattle.instance.specs.workload.declared.work.Line.{Line}
 use Rattle.homes.specs.Homes.{AreReady, home_in, living_at}
 use Rattle.world.specs.Sound.{IsRunning}
 use Rattle.world.specs.Value.{WorldValue}

@@ -5,22 +5,22 @@ use Rattle.std.specs.List.{list_any}
 use Rattle.std.proofs.lemmas.Bool.{cases_lt, eq-eqb, eqb-true, le-ltb, lt-ltb, ne_eqb}
 use Rattle.std.proofs.lemmas.Bool.Decides.{nat_tests}
 use Rattle.std.proofs.lemmas.List.Folds.{list_any-append}
-use Rattle.homes.proofs.kvs_rules_proofs.Sequences.{each_along}
-use Rattle.homes.specs.workload.declared.work.Line.{Line}
-use Rattle.homes.specs.answers.Chronicle.{IsOpenCommand, Setup, is_issued, issues, issues_of, replies_to}
-use Rattle.homes.specs.answers.Legal.{IsLegalIssue}
-use Rattle.homes.specs.answers.declared.chronicle.Entry.{Entry}
-use Rattle.homes.specs.answers.declared.chronicle.Entry.TheVariants as entry
-use Rattle.homes.specs.answers.declared.chronicle.Reply.TheVariants as reply
-use Rattle.homes.specs.answers.declared.steps.Step.{Step}
-use Rattle.homes.specs.answers.declared.steps.Step.TheVariants as step
-use Rattle.homes.specs.hierarchy.Births.{has_lost_home, is_at, label_of, numbers}
-use Rattle.homes.specs.hierarchy.Grows.{GrowsByLost}
-use Rattle.homes.specs.hierarchy.Legal.{HasRunRest, IsLegalRun, IsLegalRunEntry, RunRestsFirst}
-use Rattle.homes.specs.hierarchy.Stretches.{IsRunStretch}
-use Rattle.homes.proofs.hierarchy_proofs.Growth.{issue_grown, reply_grown}
-use Rattle.homes.proofs.hierarchy_proofs.Homes.{lost_so}
-use Rattle.homes.specs.instance.Steps.{IsStart}
+use Rattle.instance.proofs.kvs_rules_proofs.Sequences.{each_along}
+use Rattle.instance.specs.workload.declared.work.Line.{Line}
+use Rattle.instance.specs.answers.Chronicle.{IsOpenCommand, Setup, is_issued, issues, issues_of, replies_to}
+use Rattle.instance.specs.answers.Legal.{IsLegalIssue}
+use Rattle.instance.specs.answers.declared.chronicle.Entry.{Entry}
+use Rattle.instance.specs.answers.declared.chronicle.Entry.TheVariants as entry
+use Rattle.instance.specs.answers.declared.chronicle.Reply.TheVariants as reply
+use Rattle.instance.specs.answers.declared.steps.Step.{Step}
+use Rattle.instance.specs.answers.declared.steps.Step.TheVariants as step
+use Rattle.hierarchy.specs.Births.{has_lost_home, is_at, label_of, numbers}
+use Rattle.hierarchy.specs.Grows.{GrowsByLost}
+use Rattle.hierarchy.specs.Legal.{HasRunRest, IsLegalRun, IsLegalRunEntry, RunRestsFirst}
+use Rattle.hierarchy.specs.Stretches.{IsRunStretch}
+use Rattle.hierarchy.proofs.Growth.{issue_grown, reply_grown}
+use Rattle.hierarchy.proofs.Homes.{lost_so}
+use Rattle.instance.specs.Steps.{IsStart}
 use Rattle.world.specs.Advances.{Advances}
 use Rattle.homes.specs.Homes.{IsNextLine, IsPlace, answered, home_in}
 use Rattle.world.specs.Sound.{IsSound}

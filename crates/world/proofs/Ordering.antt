@@ -6,19 +6,19 @@ use Rattle.std.specs.Option.{option_map_or}
 use Rattle.std.proofs.lemmas.Bool.{eq-eqb, eqb-true, ltb-true}
 use Rattle.std.proofs.lemmas.Option.{slice_get_within, unwrap_or-slice_get}
 use Rattle.std.proofs.lemmas.List.Elements.{Contains-append_left, Contains-append_right, Contains-append_cases}
-use Rattle.homes.specs.kvs_core.Order.{all_steps}
-use Rattle.homes.specs.kvs_core.Walk.{nth}
-use Rattle.homes.specs.kvs_rules.declared.events.KvsStep.{KvsStep}
-use Rattle.homes.specs.services.Order.{possible as turns}
-use Rattle.homes.specs.services.Steps.{can_step}
-use Rattle.homes.specs.workload.declared.work.Line.{Line}
-use Rattle.homes.specs.answers.declared.steps.Step.{Step}
-use Rattle.homes.specs.answers.declared.steps.Step.TheVariants as step
-use Rattle.homes.specs.instance.Family.{bearing, may_end}
-use Rattle.homes.specs.instance.Order.{answers}
-use Rattle.homes.specs.instance.Seats.{has_come, last_command}
-use Rattle.homes.specs.instance.Steps.{can_answer as instance_can_answer, can_post}
-use Rattle.homes.specs.instance.declared.seats.Seat.{Seat}
+use Rattle.instance.specs.kvs_core.Order.{all_steps}
+use Rattle.instance.specs.kvs_core.Walk.{nth}
+use Rattle.instance.specs.kvs_rules.declared.events.KvsStep.{KvsStep}
+use Rattle.instance.specs.services.Order.{possible as turns}
+use Rattle.instance.specs.services.Steps.{can_step}
+use Rattle.instance.specs.workload.declared.work.Line.{Line}
+use Rattle.instance.specs.answers.declared.steps.Step.{Step}
+use Rattle.instance.specs.answers.declared.steps.Step.TheVariants as step
+use Rattle.instance.specs.Family.{bearing, may_end}
+use Rattle.instance.specs.Order.{answers}
+use Rattle.instance.specs.Seats.{has_come, last_command}
+use Rattle.instance.specs.Steps.{can_answer as instance_can_answer, can_post}
+use Rattle.instance.specs.declared.seats.Seat.{Seat}
 use Rattle.homes.specs.Homes.{ListTurns, if_living, living_at}
 use Rattle.world.specs.Order.{before_end, is_next, issue_at, issues, left_in, only_if, steps_at, steps_in, steps_left, steps_of, waits_in}
 use Rattle.homes.specs.Times.{at_home, may_go}

@@ -6,29 +6,29 @@ use Rattle.std.specs.List.{cons_option, enumerate_from, range_with_len}
 use Rattle.std.specs.Option.{option_map_or}
 use Rattle.std.proofs.lemmas.Bool.{and_parts, eq-eqb}
 use Rattle.std.proofs.lemmas.Option.{slice_get_within}
-use Rattle.homes.specs.kvs_txn.declared.txn.By.{By}
-use Rattle.homes.specs.answers.Chronicle.{IsOpenCommand}
-use Rattle.homes.specs.answers.declared.steps.Step.{Step}
-use Rattle.homes.specs.answers.declared.steps.Step.TheVariants as step
-use Rattle.homes.specs.hierarchy.Births.{Birth, birth_of, has_lost_home, is_born, is_gone, lives}
-use Rattle.homes.specs.hierarchy.Families.{family_of, living_in}
-use Rattle.homes.specs.hierarchy.Legal.{HasRunRest}
-use Rattle.homes.specs.hierarchy.Own.{own_of, setup_in}
-use Rattle.homes.proofs.hierarchy_proofs.Homes.{in_family_only}
-use Rattle.homes.proofs.hierarchy_proofs.Numbering.{born_exactly}
-use Rattle.homes.proofs.hierarchy_proofs.Resting.{all_rest}
-use Rattle.homes.specs.instance.Family.{OfOwn, bearing, is_due, is_end_due, may_end}
-use Rattle.homes.specs.instance.Order.{answers}
-use Rattle.homes.specs.instance.Seats.{has_come, last_command}
-use Rattle.homes.specs.instance.Steps.{IsStart, can_answer, can_post}
-use Rattle.homes.specs.instance.Value.{InstanceValue}
-use Rattle.homes.specs.instance.declared.seats.Seat.{Seat}
-use Rattle.homes.specs.instance_rules.Family.{IsEndOf, Living, OfLiving}
-use Rattle.homes.specs.job_manager.Posts.{is_posted_for}
-use Rattle.homes.proofs.job_rules_proofs.Among.{Among, among_append, among_from, among_kept, among_left, among_map, among_right}
-use Rattle.homes.specs.kvs_core.Walk.{nth}
-use Rattle.homes.specs.manager_rules.Times.{IsEndDue}
-use Rattle.homes.specs.services.Order.{possible}
+use Rattle.instance.specs.kvs_txn.declared.txn.By.{By}
+use Rattle.instance.specs.answers.Chronicle.{IsOpenCommand}
+use Rattle.instance.specs.answers.declared.steps.Step.{Step}
+use Rattle.instance.specs.answers.declared.steps.Step.TheVariants as step
+use Rattle.hierarchy.specs.Births.{Birth, birth_of, has_lost_home, is_born, is_gone, lives}
+use Rattle.hierarchy.specs.Families.{family_of, living_in}
+use Rattle.hierarchy.specs.Legal.{HasRunRest}
+use Rattle.hierarchy.specs.Own.{own_of, setup_in}
+use Rattle.hierarchy.proofs.Homes.{in_family_only}
+use Rattle.hierarchy.proofs.Numbering.{born_exactly}
+use Rattle.hierarchy.proofs.Resting.{all_rest}
+use Rattle.instance.specs.Family.{OfOwn, bearing, is_due, is_end_due, may_end}
+use Rattle.instance.specs.Order.{answers}
+use Rattle.instance.specs.Seats.{has_come, last_command}
+use Rattle.instance.specs.Steps.{IsStart, can_answer, can_post}
+use Rattle.instance.specs.Value.{InstanceValue}
+use Rattle.instance.specs.declared.seats.Seat.{Seat}
+use Rattle.instance.specs.instance_rules.Family.{IsEndOf, Living, OfLiving}
+use Rattle.instance.specs.job_manager.Posts.{is_posted_for}
+use Rattle.instance.proofs.job_rules_proofs.Among.{Among, among_append, among_from, among_kept, among_left, among_map, among_right}
+use Rattle.instance.specs.kvs_core.Walk.{nth}
+use Rattle.instance.specs.manager_rules.Times.{IsEndDue}
+use Rattle.instance.specs.services.Order.{possible}
 use Rattle.homes.specs.Homes.{ListTurns}
 use Rattle.world.specs.Order.{left_in, only_if, steps_at, steps_in, steps_left, steps_of, waits_in}
 use Rattle.world.specs.Sound.{IsSound}

@@ -3,21 +3,21 @@ use Rattle.std.proofs.Common.{◌≡◌, ◌∙◌, ℕ, ◌<◌, List, ◌++◌
 use Rattle.std.specs.Prelude.{Some, slice_get, slice_set}
 use Rattle.std.specs.List.{AllByRecursion as Each}
 use Rattle.std.proofs.lemmas.Option.{slice_get_within}
-use Rattle.homes.specs.answers.Whole.{IsEarlierEntry}
-use Rattle.homes.specs.answers.declared.chronicle.Entry.{Entry}
-use Rattle.homes.specs.answers.declared.steps.Step.{Step}
-use Rattle.homes.specs.hierarchy.Births.{birth_of, is_born, label_of, lives, numbers}
-use Rattle.homes.specs.hierarchy.Families.{living_in}
-use Rattle.homes.specs.hierarchy.Growing.{IsMadeIn, StartsNothing}
-use Rattle.homes.specs.hierarchy.Grows.{GrowsByOwn}
-use Rattle.homes.specs.hierarchy.Own.{own_of, setup_in}
-use Rattle.homes.specs.hierarchy.Stretches.{entered_in}
-use Rattle.homes.proofs.hierarchy_proofs.Growth.{own_grown}
-use Rattle.homes.proofs.hierarchy_proofs.Numbering.{born_exactly}
-use Rattle.homes.proofs.hierarchy_proofs.Owning.{is_alive}
-use Rattle.homes.specs.instance.Agrees.{AgreesOwn}
-use Rattle.homes.specs.instance.Makes.{Follows}
-use Rattle.homes.specs.instance.Value.{InstanceValue}
+use Rattle.instance.specs.answers.Whole.{IsEarlierEntry}
+use Rattle.instance.specs.answers.declared.chronicle.Entry.{Entry}
+use Rattle.instance.specs.answers.declared.steps.Step.{Step}
+use Rattle.hierarchy.specs.Births.{birth_of, is_born, label_of, lives, numbers}
+use Rattle.hierarchy.specs.Families.{living_in}
+use Rattle.hierarchy.specs.Growing.{IsMadeIn, StartsNothing}
+use Rattle.hierarchy.specs.Grows.{GrowsByOwn}
+use Rattle.hierarchy.specs.Own.{own_of, setup_in}
+use Rattle.hierarchy.specs.Stretches.{entered_in}
+use Rattle.hierarchy.proofs.Growth.{own_grown}
+use Rattle.hierarchy.proofs.Numbering.{born_exactly}
+use Rattle.hierarchy.proofs.Owning.{is_alive}
+use Rattle.instance.specs.Agrees.{AgreesOwn}
+use Rattle.instance.specs.Makes.{Follows}
+use Rattle.instance.specs.Value.{InstanceValue}
 use Rattle.homes.specs.Homes.{AreHomes, ArePlaces, IsHome}
 use Rattle.world.specs.Sound.{IsRunning, IsSound}
 use Rattle.world.specs.Value.{WorldValue}

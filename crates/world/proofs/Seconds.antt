@@ -3,9 +3,9 @@ use Rattle.std.proofs.Common.{◌≡◌, ◌∙◌, ℕ, ◌<◌, List, [], ◌�
 use Rattle.std.specs.Prelude.{Some, None, IfSome, is_some, not}
 use Rattle.std.specs.List.{list_any}
 use Rattle.std.proofs.lemmas.Bool.{lt-ltb}
-use Rattle.homes.specs.job_book.Seconds.{IsSoonest}
-use Rattle.homes.proofs.job_rules_proofs.Among.{Among, among_from, among_left}
-use Rattle.homes.specs.manager_rules.Times.{IsLeast}
+use Rattle.instance.specs.job_book.Seconds.{IsSoonest}
+use Rattle.instance.proofs.job_rules_proofs.Among.{Among, among_from, among_left}
+use Rattle.instance.specs.manager_rules.Times.{IsLeast}
 use Rattle.homes.specs.Times.{all_ends, all_targets, has_due, is_left, may_go}
 use Rattle.world.specs.Steps.{can_tick, keeps_time}
 use Rattle.world.specs.Value.{WorldValue}

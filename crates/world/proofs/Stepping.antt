@@ -2,19 +2,19 @@
 use Rattle.std.proofs.Common.{◌≡◌, ◌∙◌, ℕ, List, [], ◌∷◌, ◌++◌, true, false, ◌||◌, None, length, refl, sym, ap, subst, true≢false}
 use Rattle.std.specs.Prelude.{◌==◌, is_some}
 use Rattle.std.specs.Option.{option_map_or}
-use Rattle.homes.specs.kvs_rules.Sequence.{EachAfter}
-use Rattle.homes.proofs.kvs_rules_proofs.Sequences.{each_joined}
-use Rattle.homes.specs.answers.Chronicle.{Setup, top}
-use Rattle.homes.specs.answers.Jobs.{instance_of}
-use Rattle.homes.specs.answers.declared.chronicle.Entry.{Entry}
-use Rattle.homes.specs.answers.declared.steps.Step.{Step}
-use Rattle.homes.specs.hierarchy.Births.{birth_of, is_born}
-use Rattle.homes.specs.hierarchy.Grows.{LivesSo}
-use Rattle.homes.specs.hierarchy.Legal.{HasRunRest, IsLegalRunEntry, IsSettledRun, RunRestsFirst}
-use Rattle.homes.specs.hierarchy.Own.{child_setup, work_for}
-use Rattle.homes.specs.hierarchy.Stretches.{AreRunStretches, IsRunStretch}
-use Rattle.homes.specs.instance.Steps.{IsStart}
-use Rattle.homes.specs.instance_rules.Log.{IsInstance}
+use Rattle.instance.specs.kvs_rules.Sequence.{EachAfter}
+use Rattle.instance.proofs.kvs_rules_proofs.Sequences.{each_joined}
+use Rattle.instance.specs.answers.Chronicle.{Setup, top}
+use Rattle.instance.specs.answers.Jobs.{instance_of}
+use Rattle.instance.specs.answers.declared.chronicle.Entry.{Entry}
+use Rattle.instance.specs.answers.declared.steps.Step.{Step}
+use Rattle.hierarchy.specs.Births.{birth_of, is_born}
+use Rattle.hierarchy.specs.Grows.{LivesSo}
+use Rattle.hierarchy.specs.Legal.{HasRunRest, IsLegalRunEntry, IsSettledRun, RunRestsFirst}
+use Rattle.hierarchy.specs.Own.{child_setup, work_for}
+use Rattle.hierarchy.specs.Stretches.{AreRunStretches, IsRunStretch}
+use Rattle.instance.specs.Steps.{IsStart}
+use Rattle.instance.specs.instance_rules.Log.{IsInstance}
 use Rattle.world.specs.Advances.{Advances}
 use Rattle.homes.specs.Homes.{AreValid}
 use Rattle.world.specs.Sound.{IsRunning, IsSound}

@@ -5,26 +5,26 @@ use Rattle.std.specs.List.{list_any}
 use Rattle.std.specs.Option.{option_map_or}
 use Rattle.std.proofs.lemmas.Bool.{and_parts, ltb-true}
 use Rattle.std.proofs.lemmas.Option.{slice_get_within}
-use Rattle.homes.specs.kvs_txn.declared.txn.By.{By}
-use Rattle.homes.specs.answers.Chronicle.{IsOpenCommand, issues}
-use Rattle.homes.specs.answers.declared.chronicle.Entry.{Entry}
-use Rattle.homes.specs.answers.declared.chronicle.Entry.TheVariants as entry
-use Rattle.homes.specs.answers.declared.steps.Step.{Step}
-use Rattle.homes.specs.answers.declared.steps.Step.TheVariants as step
-use Rattle.homes.specs.hierarchy.Births.{birth_of, has_lost_home}
-use Rattle.homes.specs.hierarchy.Families.{family_of, left_in, living_in, second_in}
-use Rattle.homes.specs.hierarchy.Grows.{GrowsBySecond}
-use Rattle.homes.specs.hierarchy.Own.{child_setup, own_of, setup_in, work_for}
-use Rattle.homes.proofs.hierarchy_proofs.Advances.{next_within}
-use Rattle.homes.proofs.hierarchy_proofs.Growth.{second_grown}
-use Rattle.homes.proofs.hierarchy_proofs.Homes.{all_idle, in_family_only}
-use Rattle.homes.proofs.hierarchy_proofs.Nested.{in_family}
-use Rattle.homes.proofs.hierarchy_proofs.Resting.{left_answered}
-use Rattle.homes.proofs.hierarchy_proofs.Seconds.{at_once}
-use Rattle.homes.specs.instance.Family.{LivesAs, ends_left, is_due, present, targets_left}
-use Rattle.homes.specs.instance_rules.Family.{EndsIn, HasTarget, IsAhead, IsTarget, Living, MayTick, OfLiving}
-use Rattle.homes.proofs.job_rules_proofs.Among.{Among, all_at, all_from, among_append, among_filter, among_from, among_left, among_right, any_at, contains_from}
-use Rattle.homes.specs.manager_rules.Times.{IsLeast, seconds_ahead, seconds_of}
+use Rattle.instance.specs.kvs_txn.declared.txn.By.{By}
+use Rattle.instance.specs.answers.Chronicle.{IsOpenCommand, issues}
+use Rattle.instance.specs.answers.declared.chronicle.Entry.{Entry}
+use Rattle.instance.specs.answers.declared.chronicle.Entry.TheVariants as entry
+use Rattle.instance.specs.answers.declared.steps.Step.{Step}
+use Rattle.instance.specs.answers.declared.steps.Step.TheVariants as step
+use Rattle.hierarchy.specs.Births.{birth_of, has_lost_home}
+use Rattle.hierarchy.specs.Families.{family_of, left_in, living_in, second_in}
+use Rattle.hierarchy.specs.Grows.{GrowsBySecond}
+use Rattle.hierarchy.specs.Own.{child_setup, own_of, setup_in, work_for}
+use Rattle.hierarchy.proofs.Advances.{next_within}
+use Rattle.hierarchy.proofs.Growth.{second_grown}
+use Rattle.hierarchy.proofs.Homes.{all_idle, in_family_only}
+use Rattle.hierarchy.proofs.Nested.{in_family}
+use Rattle.hierarchy.proofs.Resting.{left_answered}
+use Rattle.hierarchy.proofs.Seconds.{at_once}
+use Rattle.instance.specs.Family.{LivesAs, ends_left, is_due, present, targets_left}
+use Rattle.instance.specs.instance_rules.Family.{EndsIn, HasTarget, IsAhead, IsTarget, Living, MayTick, OfLiving}
+use Rattle.instance.proofs.job_rules_proofs.Among.{Among, all_at, all_from, among_append, among_filter, among_from, among_left, among_right, any_at, contains_from}
+use Rattle.instance.specs.manager_rules.Times.{IsLeast, seconds_ahead, seconds_of}
 use Rattle.world.specs.Advances.{Advances}
 use Rattle.homes.specs.Homes.{AreHomes, ArePlaces, IsHome}
 use Rattle.world.specs.Sound.{IsSound}

@@ -1,10 +1,10 @@
 -- What a step leaves of a world.
 use Rattle.std.specs.Prelude.{◌≡◌, List, [], ◌∷◌, ◌++◌, false, length}
-use Rattle.homes.specs.answers.declared.chronicle.Entry.{Entry}
-use Rattle.homes.specs.answers.declared.steps.Step.{Step}
-use Rattle.homes.specs.hierarchy.Legal.{HasRunRest, IsSettledRun}
-use Rattle.homes.specs.hierarchy.Stretches.{IsRunStretch}
-use Rattle.homes.specs.instance.Steps.{IsStart}
+use Rattle.instance.specs.answers.declared.chronicle.Entry.{Entry}
+use Rattle.instance.specs.answers.declared.steps.Step.{Step}
+use Rattle.hierarchy.specs.Legal.{HasRunRest, IsSettledRun}
+use Rattle.hierarchy.specs.Stretches.{IsRunStretch}
+use Rattle.instance.specs.Steps.{IsStart}
 use Rattle.world.specs.Value.{WorldValue}
 
 -- the step is kept with the entries that it made, which stand behind all that had happened;

@@ -1,8 +1,8 @@
 -- Which of the steps that can be made comes next.
 use Rattle.std.specs.Prelude.{◌%◌, List, length, Option, slice_get}
 use Rattle.rand_pcg.specs.Pcg.{pcg32}
-use Rattle.homes.specs.workload.Draws.{seeded}
-use Rattle.homes.specs.answers.declared.steps.Step.{Step}
+use Rattle.instance.specs.workload.Draws.{seeded}
+use Rattle.instance.specs.answers.declared.steps.Step.{Step}
 use Rattle.world.specs.declared.order.Order.{Order}
 use Rattle.world.specs.declared.order.Order.TheVariants as order
 use Rattle.world.specs.declared.order.Schedule.{Schedule}

@@ -2,12 +2,12 @@
 use Rattle.std.specs.Prelude.{◌==◌, ◌&&◌, ℕ, List, [], ◌∷◌, ◌++◌, Bool, false, Option, Some, None, filter_map, flat_map, length, map, option_and_then, option_map, slice_get, if◌then◌else◌}
 use Rattle.std.specs.List.{cons_option, enumerate_from, filter, range_with_len}
 use Rattle.std.specs.Option.{option_map_or}
-use Rattle.homes.specs.services.Order.{possible}
-use Rattle.homes.specs.answers.declared.steps.Step.{Step}
-use Rattle.homes.specs.answers.declared.steps.Step.TheVariants as step
-use Rattle.homes.specs.instance.Family.{bearing}
-use Rattle.homes.specs.instance.Order.{answers}
-use Rattle.homes.specs.instance.Steps.{can_post}
+use Rattle.instance.specs.services.Order.{possible}
+use Rattle.instance.specs.answers.declared.steps.Step.{Step}
+use Rattle.instance.specs.answers.declared.steps.Step.TheVariants as step
+use Rattle.instance.specs.Family.{bearing}
+use Rattle.instance.specs.Order.{answers}
+use Rattle.instance.specs.Steps.{can_post}
 use Rattle.homes.specs.Times.{may_go}
 use Rattle.world.specs.Steps.{can_issue, can_tick}
 use Rattle.world.specs.Value.{WorldValue}

@@ -1,8 +1,8 @@
 -- The steps that can be made, as a walk goes over them.
 use Rattle.std.specs.Prelude.{ℕ, List, [], ◌∷◌, ◌++◌, flat_map, map, slice_get}
 use Rattle.std.specs.Option.{option_map_or}
-use Rattle.homes.specs.answers.declared.steps.Step.{Step}
-use Rattle.homes.specs.answers.declared.steps.Step.TheVariants as step
+use Rattle.instance.specs.answers.declared.steps.Step.{Step}
+use Rattle.instance.specs.answers.declared.steps.Step.TheVariants as step
 use Rattle.world.specs.Order.{issues, only_if, steps_of}
 use Rattle.world.specs.Steps.{can_tick}
 use Rattle.world.specs.Value.{WorldValue}

@@ -2,7 +2,7 @@
 ghost use Rattle.std.specs.Prelude.{◌≡◌};
 ghost use Rattle.world.specs.Choice.{behind, order_of};
 
-use homes::workload::Draws;
+use instance::workload::Draws;
 
 /// Which of the steps that can be made comes next.
 #[derive(Clone, Copy, Debug, PartialEq, Eq)]

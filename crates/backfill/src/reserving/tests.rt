@@ -1,16 +1,16 @@
 //! Reserved seconds over grants of a few hosts.
 ghost use Rattle.std.specs.Prelude.{◌≡◌, ◌+◌, ◌≤◌, ◌<◌, ◌++◌, [], ◌∷◌, IfOk, IfSome, IsTrue};
-ghost use Rattle.job_rules.specs.resource_set.Units.{AreHosts};
+ghost use Rattle.resource_set.specs.Units.{AreHosts};
 ghost use Rattle.job_rules.specs.Fits.{IsSpec};
 ghost use Rattle.backfill.specs.Held.{AreHeld};
 
 use super::{graph_at, passes, reserve};
 use crate::Hold;
 use graph_match::Fit;
-use job_rules::idset::IdSet;
-use job_rules::job_spec::{JobSpec, Needs, Tasks, WordList};
-use job_rules::lists::{Bytes, Copied};
-use job_rules::resource_set::{Node, NodeList, Resources};
+use idset::IdSet;
+use job_spec::{JobSpec, Needs, Tasks, WordList};
+use lists::{Bytes, Copied};
+use resource_set::{Node, NodeList, Resources};
 use std::alloc::{AllocError, Global};
 use std::process::Abort;
 use std::test::Fail;

@@ -15,10 +15,10 @@ use kvs_requests::{
     Entrant, Kind, Row, Stage, Work, dismiss, falling, kept_count, kind_of, put_stage, send_back,
     take_entrant,
 };
-use kvs_rules::kvs_txn::By;
-use kvs_rules::lists::{Copied, ListOf};
 use kvs_rules::{KvsAnswer, KvsStep};
 use kvs_space::{KvsEvents, Space, changing, count_live, find};
+use kvs_txn::By;
+use lists::{Copied, ListOf};
 
 /// The most namespaces that live at a time, `primary` included.
 const MOST_LIVE: usize = 16;

@@ -1,13 +1,13 @@
 use Rattle.std.proofs.Common.{◌≡◌, ◌∙◌, ◌++◌, List, map, flat_map, length, ap, ap₂, sym, subst}
 use Rattle.std.proofs.lemmas.List.{length-map}
-use Rattle.hierarchy.specs.kvs_txn.declared.txn.Group.{Group}
-use Rattle.hierarchy.specs.kvs_rules.Namespaces.{landings, primary}
-use Rattle.hierarchy.specs.answers.Chronicle.{Setup, top}
-use Rattle.hierarchy.specs.answers.Services.{log_of}
-use Rattle.hierarchy.specs.answers.Text.{answers_text}
-use Rattle.hierarchy.specs.answers.declared.chronicle.Entry.{Entry}
+use Rattle.kvs_txn.specs.declared.txn.Group.{Group}
+use Rattle.kvs_rules.specs.Namespaces.{landings, primary}
+use Rattle.answers.specs.Chronicle.{Setup, top}
+use Rattle.answers.specs.Services.{log_of}
+use Rattle.answers.specs.Text.{answers_text}
+use Rattle.answers.specs.declared.chronicle.Entry.{Entry}
 use Rattle.hierarchy.specs.Own.{own_of, setup_in}
-use Rattle.hierarchy.specs.tree_rules.Texts.{root_reference}
+use Rattle.tree_rules.specs.Texts.{root_reference}
 use Rattle.summaries.specs.Counts.{first_words, row_text, IsTally}
 use Rattle.summaries.specs.Summary.{last_lines, top_log, IsTopLegal}
 use Rattle.summaries.proofs.Landed.{landings_in}

@@ -1,5 +1,5 @@
 use Rattle.std.proofs.Common.{refl, sym, subst}
-use Rattle.tree_rules.specs.kvs_model.Operation.{effect}
+use Rattle.kvs_model.specs.Operation.{effect}
 use Rattle.tree_store.specs.Landing.{table, Leaves}
 use Rattle.tree_store.specs.Shown.{Directories, Shows, Gives}
 use Rattle.tree_store.proofs.Rooted.{rooted_shows}

@@ -1,6 +1,6 @@
 use Rattle.std.proofs.Common.{option_map, sym, subst}
-use Rattle.tree_rules.specs.kvs_model.History.{first_store}
-use Rattle.tree_rules.specs.kvs_model.Store.{empty_store}
+use Rattle.kvs_model.specs.History.{first_store}
+use Rattle.kvs_model.specs.Store.{empty_store}
 use Rattle.tree_store.specs.Landing.{table, opening}
 use Rattle.tree_store.specs.Shown.{Directories, Shows}
 use Rattle.tree_store.proofs.Rooted.{empty_shows}

@@ -1,5 +1,5 @@
 use Rattle.std.proofs.Common.{◌+◌, sym, ap, ◌∙◌, drop, subst}
-use Rattle.tree_rules.specs.kvs_model.Operation.{op_effect, ops_effect}
+use Rattle.kvs_model.specs.Operation.{op_effect, ops_effect}
 use Rattle.plain_store.proofs.Working.{ops_refused, ops_more, ops_end}
 use Rattle.tree_store.specs.Landing.{table}
 use Rattle.tree_store.specs.Shown.{Gives}

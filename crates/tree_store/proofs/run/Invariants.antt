@@ -1,7 +1,7 @@
 use Rattle.std.proofs.Common.{◌≡◌, drop}
-use Rattle.tree_rules.specs.fl_digest.declared.Hash.{Hash}
-use Rattle.tree_rules.specs.kvs_model.Operation.{effect, ops_effect}
-use Rattle.tree_rules.specs.kvs_model.Store.{Store}
+use Rattle.fl_digest.specs.declared.Hash.{Hash}
+use Rattle.kvs_model.specs.Operation.{effect, ops_effect}
+use Rattle.kvs_model.specs.Store.{Store}
 use Rattle.tree_store.specs.Landing.{table}
 use Rattle.tree_store.specs.Shown.{Shows}
 use Rattle.tree_store.proofs.run.Given as goal

@@ -1,6 +1,6 @@
 use Rattle.std.proofs.Common.{List, sym, subst}
 use Rattle.std.specs.Prelude.{Contains}
-use Rattle.tree_rules.specs.fl_digest.declared.BlobRef.{BlobRef}
+use Rattle.fl_digest.specs.declared.BlobRef.{BlobRef}
 use Rattle.tree_walk.specs.Pins.{AddsOnce}
 use Rattle.tree_walk.proofs.Pinning.{adds_pinned, adds_old, adds_new}
 use Rattle.tree_walk.proofs.add_once.Goals as goal

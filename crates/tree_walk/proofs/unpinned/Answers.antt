@@ -1,5 +1,5 @@
 use Rattle.std.proofs.Common.{List, [], sym, subst}
-use Rattle.tree_rules.specs.fl_digest.declared.BlobRef.{BlobRef}
+use Rattle.fl_digest.specs.declared.BlobRef.{BlobRef}
 use Rattle.tree_walk.specs.Pins.{AreFresh}
 use Rattle.tree_walk.proofs.Pinning.{fresh_none, fresh_next, fresh_all}
 use Rattle.tree_walk.proofs.unpinned.Goals as goal

@@ -4,8 +4,8 @@ ghost use Rattle.world.specs.Advances.{Advances};
 ghost use Rattle.world.specs.Steps.{CanMake};
 
 use super::{World, keep};
-use homes::answers::{Entry, Step};
 use homes::{rest, tell_all_unborn, tell_living};
+use instance::answers::{Entry, Step};
 use std::alloc::AllocError;
 
 impl World {

@@ -2,9 +2,9 @@
 ghost use Rattle.std.specs.Prelude.{◌≡◌, ◌≤◌, ◌<◌, ◌↔◌, ◌&&◌, ◌==◌, ◌^◌, ◌-◌, ◌%◌, ℕ, [], false, true, length, map, min, slice_get, IfOk, IfSome, None, Some};
 ghost use Rattle.std.specs.List.{cons_option};
 ghost use Rattle.std.specs.Option.{option_map_or};
-ghost use Rattle.homes.specs.hierarchy.Legal.{HasRunRest};
-ghost use Rattle.homes.specs.instance.Steps.{IsStart};
-ghost use Rattle.homes.specs.kvs_core.Walk.{nth};
+ghost use Rattle.hierarchy.specs.Legal.{HasRunRest};
+ghost use Rattle.instance.specs.Steps.{IsStart};
+ghost use Rattle.instance.specs.kvs_core.Walk.{nth};
 ghost use Rattle.homes.specs.Homes.{living_at};
 ghost use Rattle.world.specs.Order.{before_end, issues, left_in, possible_steps, steps_at, steps_in, steps_of};
 ghost use Rattle.world.specs.Steps.{CanMake, can_issue};
@@ -12,8 +12,8 @@ ghost use Rattle.world.specs.Walks.{by_instances, by_the_run, next_at};
 ghost use Rattle.homes.specs.declared.homes.Home.{Home as HomeValue};
 
 use super::World;
-use homes::answers::Step;
 use homes::{Home, Place, rest, turns_are_listed};
+use instance::answers::Step;
 
 /// The kinds of steps that instances have, in their fixed order.
 #[derive(Clone, Copy, Debug, PartialEq, Eq)]

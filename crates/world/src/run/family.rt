@@ -1,17 +1,17 @@
 //! Births and ends of instances.
 ghost use Rattle.std.specs.Prelude.{◌≡◌, ◌+◌, ◌<◌, OnErr, OnOk, Some, true, false};
-ghost use Rattle.homes.specs.hierarchy.Births.{Birth};
+ghost use Rattle.hierarchy.specs.Births.{Birth};
 ghost use Rattle.world.specs.Advances.{Advances};
 ghost use Rattle.homes.specs.Times.{may_go};
 ghost use Rattle.world.specs.Steps.{CanMake};
 
 use super::{World, keep};
-use homes::answers::{Entry, Step};
-use homes::instance::CoreFault;
-use homes::lists::Copied;
 use homes::{
     Home, Origin, bear_for, child_home, let_go, may_go, release, settle, tell_ends, within,
 };
+use instance::CoreFault;
+use instance::answers::{Entry, Step};
+use instance::lists::Copied;
 use std::alloc::AllocError;
 
 impl World {

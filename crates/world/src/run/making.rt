@@ -1,18 +1,18 @@
 //! Steps of one instance and its actors.
 ghost use Rattle.std.specs.Prelude.{◌≡◌, ◌+◌, ◌<◌, ◌^◌, ◌||◌, OnErr, OnOk, Some, false, is_some, length, true};
-ghost use Rattle.homes.specs.hierarchy.Families.{is_shutdown};
-ghost use Rattle.homes.specs.instance.Steps.{can_answer as instance_can_answer};
+ghost use Rattle.hierarchy.specs.Families.{is_shutdown};
+ghost use Rattle.instance.specs.Steps.{can_answer as instance_can_answer};
 ghost use Rattle.world.specs.Acting.{IsGoneAt, IsPlacedIn};
 ghost use Rattle.world.specs.Advances.{Advances};
 ghost use Rattle.homes.specs.Homes.{IsNextLine, living_at};
 ghost use Rattle.world.specs.Steps.{CanMake, can_answer, can_issue, of_home};
 
 use super::{World, keep};
-use homes::answers::{Entry, Reply, Step};
-use homes::instance::CoreFault;
-use homes::kvs_rules::KvsStep;
-use homes::workload::{Command, Line};
 use homes::{Place, enter, next_line};
+use instance::CoreFault;
+use instance::answers::{Entry, Reply, Step};
+use instance::kvs_rules::KvsStep;
+use instance::workload::{Command, Line};
 use std::alloc::AllocError;
 
 /// Whether an instance shuts down that is issued a command, and did so before it or not.

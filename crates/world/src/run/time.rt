@@ -1,14 +1,14 @@
 //! Time, which goes on for all instances.
 ghost use Rattle.std.specs.Prelude.{◌≡◌, ◌++◌, false, IfSome, None, OnErr, OnOk, Some, is_some, true};
-ghost use Rattle.homes.specs.manager_rules.Times.{IsLeast};
+ghost use Rattle.instance.specs.manager_rules.Times.{IsLeast};
 ghost use Rattle.world.specs.Advances.{Advances};
 ghost use Rattle.homes.specs.Times.{all_ends, all_targets};
 ghost use Rattle.world.specs.Steps.{CanMake, can_tick};
 ghost use Rattle.homes.specs.Tells.{TellAll};
 
 use super::{World, keep};
-use homes::answers::{Entry, Step};
 use homes::{are_left, is_due, is_ending, least_end, least_target, pass_to, sooner};
+use instance::answers::{Entry, Step};
 use std::alloc::AllocError;
 
 impl World {

@@ -1,5 +1,5 @@
 use Rattle.std.proofs.Common.{List, ◌++◌, map, take}
-use Rattle.job_rules.specs.resource_set.declared.node.Node.{Node}
+use Rattle.resource_set.specs.declared.node.Node.{Node}
 use Rattle.job_rules.specs.Fits.{AreApart}
 use Rattle.graph_match.specs.Places.{node_of}
 use Rattle.graph_match.specs.Rooms.{AreRooms}

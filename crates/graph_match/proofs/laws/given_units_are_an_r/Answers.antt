@@ -1,6 +1,6 @@
 use Rattle.std.proofs.Common.{sym, subst}
-use Rattle.job_rules.specs.hostlist.Names.{AreHostNames}
-use Rattle.job_rules.specs.resource_set.Units.{host_names}
+use Rattle.hostlist.specs.Names.{AreHostNames}
+use Rattle.resource_set.specs.Units.{host_names}
 use Rattle.graph_match.proofs.Named.{names_within}
 use Rattle.graph_match.proofs.laws.given_units_are_an_r.Goals as goal
 

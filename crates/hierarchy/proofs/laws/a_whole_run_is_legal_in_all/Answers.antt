@@ -1,5 +1,5 @@
 use Rattle.std.proofs.Common.{◌++◌, ◌∷◌, [], refl, sym, subst}
-use Rattle.answers.proofs.kvs_rules_proofs.Sequences.{each_at}
+use Rattle.kvs_rules.proofs.Sequences.{each_at}
 use Rattle.answers.specs.declared.chronicle.Entry.TheVariants as entry
 use Rattle.hierarchy.specs.Legal.{AreOwnLegal, IsLegalRun, IsLegalRunEntry}
 use Rattle.hierarchy.proofs.laws.a_whole_run_is_legal_in_all.Goals as goal

@@ -1,5 +1,5 @@
 use Rattle.std.proofs.Common.{[]}
-use Rattle.answers.proofs.kvs_rules_proofs.Sequences.{each_at}
+use Rattle.kvs_rules.proofs.Sequences.{each_at}
 use Rattle.run_laws.proofs.Sounds.{only_grow, stay_sound}
 use Rattle.hierarchy.specs.Legal.{IsLegalRunEntry}
 use Rattle.hierarchy.specs.Own.{own_of, setup_in}

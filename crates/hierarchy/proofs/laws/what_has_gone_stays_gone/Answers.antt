@@ -1,4 +1,4 @@
-use Rattle.answers.proofs.kvs_rules_proofs.Sequences.{each_parts}
+use Rattle.kvs_rules.proofs.Sequences.{each_parts}
 use Rattle.std.proofs.Common.{[]}
 use Rattle.hierarchy.specs.Legal.{IsLegalRunEntry}
 use Rattle.hierarchy.proofs.Members.{all_of_others, ends_with_it}

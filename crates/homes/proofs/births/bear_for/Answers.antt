@@ -1,11 +1,11 @@
 use Rattle.std.proofs.Common.{◌≡◌, ◌∙◌, ◌+◌, ℕ, suc, List, [], ◌∷◌, ap, length, refl, sym, subst, arith}
-use Rattle.hierarchy.specs.child_grant.Child.{numbered}
-use Rattle.hierarchy.specs.resource_set.declared.node.Node.{Node}
-use Rattle.hierarchy.specs.answers.Jobs.{instance_of, log_in}
+use Rattle.instance.specs.child_grant.Child.{numbered}
+use Rattle.instance.specs.resource_set.declared.node.Node.{Node}
+use Rattle.instance.specs.answers.Jobs.{instance_of, log_in}
 use Rattle.hierarchy.specs.Families.{living_in}
 use Rattle.hierarchy.specs.Own.{own_of, setup_in}
 use Rattle.hierarchy.proofs.Nested.{in_family}
-use Rattle.hierarchy.specs.instance_rules.Desks.{Names}
+use Rattle.instance.specs.instance_rules.Desks.{Names}
 use Rattle.homes.proofs.births.bear_for.Goals as goal
 
 long : (rank : ℕ) (nodes : List Node) → length (numbered rank nodes) ≡ length nodes

@@ -2,9 +2,9 @@ use Rattle.std.proofs.Common.{◌≡◌, ◌<◌, ◌≤◌, ℕ, All, List, Som
 use Rattle.std.specs.Prelude.{min, slice_index_or}
 use Rattle.std.proofs.lemmas.List.Elements.{All-map}
 use Rattle.std.proofs.lemmas.Nat.{mod_below}
-use Rattle.hierarchy.specs.workload.Laws.{HasOwnLabels, IsBuilt, IsWithin, KeepsTallies}
-use Rattle.hierarchy.specs.workload.declared.work.Actor.{Actor}
-use Rattle.hierarchy.specs.resource_set.Writing.{r_text}
+use Rattle.instance.specs.workload.Laws.{HasOwnLabels, IsBuilt, IsWithin, KeepsTallies}
+use Rattle.instance.specs.workload.declared.work.Actor.{Actor}
+use Rattle.instance.specs.resource_set.Writing.{r_text}
 use Rattle.hierarchy.specs.Own.{child_setup, placed}
 use Rattle.hierarchy.proofs.Within.{built, own_labels, tallies, within}
 use Rattle.homes.proofs.Bearing.{child_is}

@@ -1,5 +1,5 @@
 use Rattle.std.proofs.Common.{◌≡◌, ◌++◌, List}
-use Rattle.hierarchy.specs.answers.declared.chronicle.Entry.{Entry}
+use Rattle.instance.specs.answers.declared.chronicle.Entry.{Entry}
 use Rattle.homes.specs.Closing.{AreLeft}
 use Rattle.homes.proofs.closing.tell_living.Given as goal
 

@@ -1,6 +1,6 @@
 use Rattle.std.proofs.Common.{◌≡◌, ◌∙◌, ◌++◌, arith, ap, count_by, length, map, sym}
 use Rattle.std.specs.List.{range_with_len}
-use Rattle.hierarchy.specs.answers.Commands.{commands_of}
+use Rattle.instance.specs.answers.Commands.{commands_of}
 use Rattle.hierarchy.proofs.Parts.{lines_counted}
 use Rattle.instance.specs.Agrees.{is_of}
 use Rattle.homes.proofs.Telling.{replies_more, unborn_told}

@@ -1,6 +1,6 @@
 use Rattle.std.proofs.Common.{◌≡◌, ◌++◌, None, map}
 use Rattle.std.specs.List.{range_with_len}
-use Rattle.hierarchy.specs.answers.declared.chronicle.Entry.TheVariants as entry
+use Rattle.instance.specs.answers.declared.chronicle.Entry.TheVariants as entry
 use Rattle.hierarchy.specs.Closing.{unborn_reply}
 use Rattle.homes.proofs.closing.tell_unborn.Given as goal
 

@@ -1,6 +1,6 @@
 use Rattle.std.proofs.Common.{◌≡◌, ◌∙◌, ap, arith, map}
 use Rattle.std.specs.List.{range_with_len}
-use Rattle.hierarchy.specs.resource_set.declared.node.Resources.{Resources}
+use Rattle.instance.specs.resource_set.declared.node.Resources.{Resources}
 use Rattle.homes.specs.Grant.{host_at}
 use Rattle.homes.proofs.Hosts.{hosts_valid, one_more}
 use Rattle.homes.proofs.grant.hosts_of_brokers.Goals as goal

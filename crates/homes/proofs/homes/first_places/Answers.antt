@@ -2,8 +2,8 @@ use Rattle.std.proofs.Common.{◌≡◌, ◌≢◌, ◌∙◌, ◌<◌, ◌≤�
 use Rattle.std.specs.Prelude.{slice_get, slice_index_or}
 use Rattle.std.proofs.lemmas.List.{length-append}
 use Rattle.std.proofs.lemmas.Option.{slice_get_read}
-use Rattle.hierarchy.specs.answers.Chronicle.{Setup}
-use Rattle.hierarchy.specs.workload.declared.work.Line.{Line}
+use Rattle.instance.specs.answers.Chronicle.{Setup}
+use Rattle.instance.specs.workload.declared.work.Line.{Line}
 use Rattle.homes.specs.Homes.{IsPlace}
 use Rattle.homes.specs.declared.homes.Place.{Place}
 use Rattle.homes.proofs.Beginning.{first_place, get_pushed, home_at}

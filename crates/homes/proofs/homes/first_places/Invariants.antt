@@ -1,6 +1,6 @@
 use Rattle.std.proofs.Common.{◌≡◌, ℕ, [], Some, length}
 use Rattle.std.specs.Prelude.{slice_get}
-use Rattle.hierarchy.specs.answers.Chronicle.{Setup}
+use Rattle.instance.specs.answers.Chronicle.{Setup}
 use Rattle.homes.specs.Homes.{IsPlace}
 use Rattle.homes.specs.declared.homes.Place.{Place}
 use Rattle.homes.proofs.homes.first_places.Given as goal

@@ -1,6 +1,6 @@
 use Rattle.std.proofs.Common.{◌≢◌, ◌-◌, ◌<◌, ◌≤◌, ℕ, length}
 use Rattle.std.specs.Prelude.{slice_index_or}
-use Rattle.hierarchy.specs.workload.declared.work.Line.{Line}
+use Rattle.instance.specs.workload.declared.work.Line.{Line}
 use Rattle.homes.proofs.homes.next_line.Given as goal
 
 abbrev pub invariant-loop-at : goal.invariant-loop-at

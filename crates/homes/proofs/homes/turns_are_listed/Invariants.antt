@@ -1,6 +1,6 @@
 use Rattle.std.proofs.Common.{◌≡◌, ◌<◌, ℕ, [], Some, false}
 use Rattle.std.specs.Prelude.{slice_get}
-use Rattle.hierarchy.specs.kvs_rules.declared.events.KvsStep.{KvsStep}
+use Rattle.instance.specs.kvs_rules.declared.events.KvsStep.{KvsStep}
 use Rattle.instance.specs.services.Order.{possible}
 use Rattle.instance.specs.services.Steps.{can_step}
 use Rattle.homes.specs.declared.homes.Home.{Home}

@@ -1,6 +1,6 @@
 use Rattle.std.proofs.Common.{sym, subst}
 use Rattle.std.specs.Prelude.{◌++◌}
-use Rattle.hierarchy.specs.manager_rules.Times.{IsLeast}
+use Rattle.instance.specs.manager_rules.Times.{IsLeast}
 use Rattle.instance.specs.job_book.Seconds.{IsSoonest}
 use Rattle.homes.proofs.Walking.{soonest_both}
 use Rattle.homes.proofs.time.sooner.Goals as goal

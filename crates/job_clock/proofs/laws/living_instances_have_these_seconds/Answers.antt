@@ -2,7 +2,7 @@ use Rattle.std.proofs.Common.{Contains}
 use Rattle.instance_rules.specs.Family.{HasTarget, OfLiving}
 use Rattle.job_commands.specs.Agrees.{AgreesCommands}
 use Rattle.job_commands.specs.Desks.{desk_of}
-use Rattle.instance_rules.specs.manager_rules.Times.{IsIdle, seconds_ahead}
+use Rattle.manager_rules.specs.Times.{IsIdle, seconds_ahead}
 use Rattle.job_clock.specs.Standing.{StandsWith}
 use Rattle.job_clock.specs.Targets.{targets_of}
 use Rattle.job_clock.proofs.Standing.{at_living, end_known, end_there, has_known, has_there, of_desk}

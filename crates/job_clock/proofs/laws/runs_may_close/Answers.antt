@@ -2,8 +2,8 @@ use Rattle.std.proofs.Common.{[], ◌∷◌}
 use Rattle.instance_rules.specs.Family.{MayClose}
 use Rattle.instance_rules.specs.Log.{service_of}
 use Rattle.job_commands.specs.Desks.{desk_of}
-use Rattle.instance_rules.specs.kvs_rules.Quiet.{AreAllTold}
-use Rattle.instance_rules.specs.manager_rules.Times.{IsIdle}
+use Rattle.kvs_rules.specs.Quiet.{AreAllTold}
+use Rattle.manager_rules.specs.Times.{IsIdle}
 use Rattle.job_clock.specs.Standing.{StandsWith}
 use Rattle.job_clock.proofs.Standing.{at_top, may_close}
 use Rattle.job_clock.proofs.laws.runs_may_close.Goals as goal

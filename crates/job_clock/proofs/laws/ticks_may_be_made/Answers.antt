@@ -2,7 +2,7 @@ use Rattle.std.proofs.Common.{[], ◌∷◌}
 use Rattle.instance_rules.specs.Family.{MayTick}
 use Rattle.instance_rules.specs.Log.{now_of}
 use Rattle.job_commands.specs.Desks.{desk_of}
-use Rattle.instance_rules.specs.manager_rules.Times.{IsIdle, seconds_ahead}
+use Rattle.manager_rules.specs.Times.{IsIdle, seconds_ahead}
 use Rattle.job_clock.specs.Standing.{StandsWith}
 use Rattle.job_clock.specs.Targets.{IsNextTick, targets_of}
 use Rattle.job_clock.proofs.Standing.{at_top, may_tick, pass_legal, tick_legal}

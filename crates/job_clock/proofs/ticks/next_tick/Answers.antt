@@ -2,7 +2,7 @@ use Rattle.std.proofs.Common.{Option, Some, None, sym, subst}
 use Rattle.std.specs.Prelude.{IfNone, filter, flat_map, nat_lt}
 use Rattle.job_book.specs.Contract.{seconds_left}
 use Rattle.job_book.specs.Seconds.{IsSoonest}
-use Rattle.instance_rules.specs.manager_rules.Times.{seconds_of}
+use Rattle.manager_rules.specs.Times.{seconds_of}
 use Rattle.job_clock.specs.Targets.{IsNextTick, targets_of}
 use Rattle.job_clock.proofs.Least.{next_alone, next_of_two, none_ahead}
 use Rattle.job_clock.proofs.ticks.next_tick.Goals as goal

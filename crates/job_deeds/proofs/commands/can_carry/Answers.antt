@@ -1,6 +1,6 @@
 use Rattle.std.proofs.Common.{◌≡◌, ap, sym, subst, ◌∙◌, rules}
 use Rattle.std.specs.Prelude.{IsTrue}
-use Rattle.manager_rules.specs.job_states.declared.job.Change.TheVariants as change
+use Rattle.job_states.specs.declared.job.Change.TheVariants as change
 use Rattle.manager_rules.specs.Due.{may_stand}
 use Rattle.job_deeds.proofs.commands.can_carry.Goals as goal
 

@@ -1,10 +1,10 @@
 use Rattle.std.proofs.Common.{◌≡◌, None, Ok, sym, subst}
 use Rattle.graph_match.specs.Answers.{Answers, AreFirstFit}
-use Rattle.manager_rules.proofs.job_rules_proofs.Lying.{read_is}
-use Rattle.manager_rules.proofs.job_rules_proofs.Sets.{free_is, none_exactly}
-use Rattle.manager_rules.specs.job_rules.Fits.{NeverFits, first_fit, free_of, nodes_of}
+use Rattle.job_rules.proofs.Lying.{read_is}
+use Rattle.job_rules.proofs.Sets.{free_is, none_exactly}
+use Rattle.job_rules.specs.Fits.{NeverFits, first_fit, free_of, nodes_of}
 use Rattle.manager_rules.specs.Dependencies.{IsHead}
-use Rattle.manager_rules.specs.resource_set.Reading.{told}
+use Rattle.resource_set.specs.Reading.{told}
 use Rattle.job_deeds.specs.Actions.{Finds}
 use Rattle.job_deeds.proofs.Fitting.{is_head, seen_fit, taken_are_r}
 use Rattle.job_deeds.proofs.decisions.first_fit.Goals as goal

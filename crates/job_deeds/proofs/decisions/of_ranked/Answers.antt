@@ -1,7 +1,7 @@
 use Rattle.std.proofs.Common.{◌≡◌, Some, sym, ◌∙◌, subst, true≢false}
-use Rattle.manager_rules.proofs.job_rules_proofs.Lying.{read_is}
-use Rattle.manager_rules.proofs.job_rules_proofs.Sets.{free_is, none_exactly}
-use Rattle.manager_rules.specs.job_rules.Fits.{NeverFits, free_of, nodes_of}
+use Rattle.job_rules.proofs.Lying.{read_is}
+use Rattle.job_rules.proofs.Sets.{free_is, none_exactly}
+use Rattle.job_rules.specs.Fits.{NeverFits, free_of, nodes_of}
 use Rattle.manager_rules.specs.Dependencies.{IsHead}
 use Rattle.job_deeds.proofs.Fitting.{other_head, seen_fits, unseen_fit}
 use Rattle.job_deeds.proofs.Rest.{none_waiting}

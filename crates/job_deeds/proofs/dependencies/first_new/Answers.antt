@@ -1,6 +1,6 @@
 use Rattle.std.proofs.Common.{◌≡◌, not, false, true, sym, subst, arith, rules, slice_index_or, Some}
 use Rattle.std.specs.Prelude.{find}
-use Rattle.manager_rules.specs.job_spec.declared.spec.Scheme.TheVariants.{After}
+use Rattle.job_spec.specs.declared.spec.Scheme.TheVariants.{After}
 use Rattle.manager_rules.specs.Dependencies.{is_added}
 use Rattle.job_deeds.proofs.Finding.{find_at, none_at}
 use Rattle.job_deeds.proofs.dependencies.first_new.Goals as goal

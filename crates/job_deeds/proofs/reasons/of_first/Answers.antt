@@ -1,8 +1,8 @@
 use Rattle.std.proofs.Common.{◌≡◌, None, inl, inr, subst}
 use Rattle.graph_match.specs.Answers.{Answers, IsBlocked}
-use Rattle.manager_rules.specs.job_rules.Fits.{AreBlockers, NeverFits, first_fit, free_of}
+use Rattle.job_rules.specs.Fits.{AreBlockers, NeverFits, first_fit, free_of}
 use Rattle.manager_rules.specs.Sound.{holds_of}
-use Rattle.manager_rules.proofs.job_rules_proofs.Lying.{never_first, read_is}
+use Rattle.job_rules.proofs.Lying.{never_first, read_is}
 use Rattle.job_deeds.proofs.reasons.of_first.Goals as goal
 
 pub returns-in-Busy : goal.returns-in-Busy

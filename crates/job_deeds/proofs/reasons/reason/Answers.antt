@@ -1,5 +1,5 @@
 use Rattle.std.proofs.Common.{◌≡◌, ◌≢◌, None, Some, subst, rules}
-use Rattle.manager_rules.specs.job_states.declared.job.State.TheVariants as state
+use Rattle.job_states.specs.declared.job.State.TheVariants as state
 use Rattle.job_deeds.specs.Waiting.{IsFirstOf}
 use Rattle.job_deeds.proofs.Finding.{none_of}
 use Rattle.job_deeds.proofs.Whys.{waits_above}

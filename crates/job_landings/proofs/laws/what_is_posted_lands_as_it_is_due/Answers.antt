@@ -1,4 +1,4 @@
-use Rattle.job_manager.specs.instance_rules.Log.{service_of}
+use Rattle.instance_rules.specs.Log.{service_of}
 use Rattle.job_landings.proofs.Landing.{lands_as_due}
 use Rattle.job_landings.proofs.laws.what_is_posted_lands_as_it_is_due.Goals as goal
 

@@ -1,8 +1,8 @@
 use Rattle.std.proofs.Common.{◌∙◌, ◌<◌, ◌^◌, ap, sym, subst}
 use Rattle.std.specs.Prelude.{Contains}
 use Rattle.std.specs.List.{AllByRecursion as Each}
-use Rattle.instance_rules.specs.manager_rules.Jobs.{ids_of}
-use Rattle.instance_rules.specs.manager_rules.Posts.{IsDuePost}
+use Rattle.manager_rules.specs.Jobs.{ids_of}
+use Rattle.manager_rules.specs.Posts.{IsDuePost}
 use Rattle.job_manager.specs.Follows.{after_post}
 use Rattle.job_manager.specs.Managed.{WasDuePost}
 use Rattle.job_manager.specs.Posts.{post_of, told}

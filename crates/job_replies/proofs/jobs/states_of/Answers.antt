@@ -1,7 +1,7 @@
 use Rattle.std.proofs.Common.{◌≡◌, ◌∙◌, ◌<◌, ◌≤◌, ◌++◌, ◌∷◌, [], Some, None, length, ap, sym, subst, get_or}
 use Rattle.std.specs.Prelude.{option_map}
 use Rattle.answers.specs.declared.chronicle.JobState.{JobState}
-use Rattle.answers.specs.manager_rules.Dependencies.{job_at}
+use Rattle.job_deeds.specs.manager_rules.Dependencies.{job_at}
 use Rattle.job_replies.proofs.States.{all-told, one-more, stands}
 use Rattle.job_replies.proofs.jobs.states_of.Goals as goal
 

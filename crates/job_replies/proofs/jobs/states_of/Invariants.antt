@@ -1,5 +1,5 @@
 use Rattle.std.proofs.Common.{◌≡◌, take}
-use Rattle.answers.specs.manager_rules.Jobs.{ids_of}
+use Rattle.job_deeds.specs.manager_rules.Jobs.{ids_of}
 use Rattle.job_replies.specs.Jobs.{states_of}
 use Rattle.job_replies.proofs.jobs.states_of.Given as goal
 

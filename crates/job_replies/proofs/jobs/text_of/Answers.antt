@@ -1,7 +1,7 @@
 use Rattle.std.proofs.Common.{◌≡◌, ◌∙◌, Some, ap, sym, subst}
-use Rattle.job_manager.specs.kvs_core.Agrees.{Agrees}
-use Rattle.job_manager.specs.kvs_core.Posted.{newest_of}
-use Rattle.answers.specs.kvs_model.Store.{Store}
+use Rattle.kvs_core.specs.Agrees.{Agrees}
+use Rattle.kvs_core.specs.Posted.{newest_of}
+use Rattle.job_deeds.specs.kvs_model.Store.{Store}
 use Rattle.job_replies.proofs.Paths.{newest-text}
 use Rattle.job_replies.proofs.Reading.{no-text, text_in}
 use Rattle.job_replies.proofs.jobs.text_of.Goals as goal

@@ -1,8 +1,8 @@
 use Rattle.std.proofs.Common.{◌≡◌, Some, subst}
 use Rattle.std.proofs.lemmas.Result.{IfOk-weaker}
 use Rattle.std.specs.Prelude.{option_map}
-use Rattle.job_manager.specs.job_book.Value.{BookValue}
-use Rattle.answers.specs.manager_rules.Dependencies.{job_at as stored_at}
+use Rattle.job_book.specs.Value.{BookValue}
+use Rattle.job_deeds.specs.manager_rules.Dependencies.{job_at as stored_at}
 use Rattle.job_commands.specs.Rows.{job_at}
 use Rattle.job_replies.proofs.Saying.{said-of}
 use Rattle.job_replies.proofs.telling.of_label.Goals as goal

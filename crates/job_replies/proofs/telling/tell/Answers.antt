@@ -1,13 +1,13 @@
 use Rattle.std.proofs.Common.{◌≡◌, ◌<◌, ℕ, Some, sym, subst}
 use Rattle.std.proofs.lemmas.Result.{IfOk-weaker}
-use Rattle.answers.specs.instance_rules.Log.{Instance, Log, service_of}
-use Rattle.job_manager.specs.kvs_core.Agrees.{Agrees}
-use Rattle.job_manager.specs.kvs_core.Posted.{newest_of}
-use Rattle.job_manager.specs.kvs_core.Seen.{primary_heard}
-use Rattle.job_manager.specs.kvs_core.Value.{CoreValue}
-use Rattle.answers.specs.kvs_rules.Brokers.{heard}
-use Rattle.answers.specs.kvs_rules.Log as service
-use Rattle.answers.specs.kvs_rules.Namespaces.{Setting, landed, newest_store, primary}
+use Rattle.instance_rules.specs.Log.{Instance, Log, service_of}
+use Rattle.kvs_core.specs.Agrees.{Agrees}
+use Rattle.kvs_core.specs.Posted.{newest_of}
+use Rattle.kvs_core.specs.Seen.{primary_heard}
+use Rattle.kvs_core.specs.Value.{CoreValue}
+use Rattle.kvs_rules.specs.Brokers.{heard}
+use Rattle.kvs_rules.specs.Log as service
+use Rattle.kvs_rules.specs.Namespaces.{Setting, landed, newest_store, primary}
 use Rattle.job_commands.specs.declared.row.Stage.{Stage}
 use Rattle.job_replies.specs.Jobs.{IsToldAt, KnowsNewest}
 use Rattle.job_replies.proofs.telling.tell.Goals as goal

@@ -1,6 +1,6 @@
 use Rattle.std.proofs.Common.{◌∙◌, sym, subst}
 use Rattle.std.specs.Str.{IsUtf8}
-use Rattle.job_manager.proofs.manager_rules_proofs.Texts.{description_utf8}
+use Rattle.manager_rules.proofs.Texts.{description_utf8}
 use Rattle.job_submissions.proofs.events.description_value.Goals as goal
 
 pub unwrap-requires : goal.unwrap-requires

@@ -1,6 +1,6 @@
 use Rattle.std.proofs.Common.{◌∙◌, ℕ, List, Some, ap, ap₂}
 use Rattle.serde_json.specs.Written.{compact_text, has_float}
-use Rattle.job_manager.specs.event_log.declared.event.Event.{Event}
+use Rattle.event_log.specs.declared.event.Event.{Event}
 use Rattle.job_submissions.proofs.Described.{no_floats}
 use Rattle.job_submissions.proofs.events.submit_event.Goals as goal
 

@@ -1,9 +1,9 @@
 use Rattle.std.proofs.Common.{◌≡◌, ◌∙◌, Ok, Result, Some, List, ℕ, ap, sym, subst}
 use Rattle.std.specs.List.{list_all}
 use Rattle.job_commands.specs.Desks.{needs_of}
-use Rattle.job_manager.specs.job_spec.Specs.{spec_reading}
-use Rattle.job_manager.specs.job_spec.declared.spec.Depend.{Depend}
-use Rattle.job_manager.specs.job_spec.declared.spec.JobSpec.{JobSpec}
+use Rattle.job_spec.specs.Specs.{spec_reading}
+use Rattle.job_spec.specs.declared.spec.Depend.{Depend}
+use Rattle.job_spec.specs.declared.spec.JobSpec.{JobSpec}
 use Rattle.job_submissions.specs.Faults.{AreKnown, IsReadAs, is_on_job}
 use Rattle.job_submissions.proofs.Known.{all_known, not_known}
 use Rattle.job_submissions.proofs.posting.take_up.Goals as goal

@@ -3,9 +3,9 @@ use Rattle.std.specs.Prelude.{All}
 use Rattle.std.proofs.lemmas.List.{append-nil}
 use Rattle.std.proofs.lemmas.List.Concat.{flat_map-append}
 use Rattle.std.proofs.lemmas.List.Elements.{All-append, All-from_recursion}
-use Rattle.manager_rules.specs.event_log.declared.event.Event.{Event}
-use Rattle.manager_rules.specs.event_log.Events.{IsEvent, line_text}
-use Rattle.manager_rules.specs.event_log.Logs.{log_text}
+use Rattle.event_log.specs.declared.event.Event.{Event}
+use Rattle.event_log.specs.Events.{IsEvent, line_text}
+use Rattle.event_log.specs.Logs.{log_text}
 use Rattle.job_tests.proofs.watches.watched.Goals as goal
 use Rattle.job_tests.proofs.watches.watched.Goals.{then-not-is_empty+in_ok-event+in_ok-text+in_ok-extend_from_slice+in_ok-feed, else-not-is_empty}
 

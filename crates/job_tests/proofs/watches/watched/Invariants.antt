@@ -1,8 +1,8 @@
 use Rattle.std.proofs.Common.{◌≡◌, List, length}
 use Rattle.std.specs.Prelude.{All}
-use Rattle.manager_rules.specs.event_log.declared.event.Event.{Event}
-use Rattle.manager_rules.specs.event_log.Events.{IsEvent}
-use Rattle.manager_rules.specs.event_log.Logs.{log_text}
+use Rattle.event_log.specs.declared.event.Event.{Event}
+use Rattle.event_log.specs.Events.{IsEvent}
+use Rattle.event_log.specs.Logs.{log_text}
 use Rattle.job_tests.proofs.watches.watched.Given as goal
 
 abbrev pub invariant-loop-name : goal.invariant-loop-name

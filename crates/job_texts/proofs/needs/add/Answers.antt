@@ -1,5 +1,5 @@
 use Rattle.std.proofs.Common.{arith}
-use Rattle.manager_rules.specs.job_spec.declared.spec.Scheme.TheVariants.{After}
+use Rattle.job_spec.specs.declared.spec.Scheme.TheVariants.{After}
 use Rattle.job_texts.proofs.Listing.{add_next}
 use Rattle.job_texts.proofs.needs.add.Goals as goal
 

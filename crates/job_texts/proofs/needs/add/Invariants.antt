@@ -1,5 +1,5 @@
 use Rattle.std.proofs.Common.{◌≡◌, List, ◌++◌, take}
-use Rattle.manager_rules.specs.job_spec.declared.spec.Depend.{Depend}
+use Rattle.job_spec.specs.declared.spec.Depend.{Depend}
 use Rattle.manager_rules.specs.Jobs.{distinct}
 use Rattle.job_texts.proofs.needs.add.Given as goal
 

@@ -1,6 +1,6 @@
 use Rattle.std.proofs.Common.{◌≡◌, List, map, take, Some}
 use Rattle.serde_json.specs.View.{items_view}
-use Rattle.manager_rules.specs.job_spec.declared.spec.Depend.{Depend}
+use Rattle.job_spec.specs.declared.spec.Depend.{Depend}
 use Rattle.manager_rules.specs.Jobs.{description_of, texts_of}
 use Rattle.job_texts.specs.Listed.{AreSmall}
 use Rattle.job_texts.proofs.needs.described.Given as goal

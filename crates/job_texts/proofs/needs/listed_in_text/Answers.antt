@@ -2,7 +2,7 @@ use Rattle.std.proofs.Common.{◌≡◌, None, ap, sym, ◌∙◌, codes, rules}
 use Rattle.std.specs.Prelude.{option_and_then}
 use Rattle.std.specs.Result.{result_ok}
 use Rattle.serde_json.specs.Find.{get}
-use Rattle.manager_rules.specs.fl_json.Reading.{reading}
+use Rattle.fl_json.specs.Reading.{reading}
 use Rattle.manager_rules.specs.Jobs.{texts_in}
 use Rattle.job_texts.proofs.Listing.{none_listed}
 use Rattle.job_texts.proofs.needs.listed_in_text.Goals as goal

@@ -1,7 +1,7 @@
 use Rattle.std.proofs.Common.{◌≡◌, ap, ap₂, ◌∙◌, sym, Some, Ok}
-use Rattle.manager_rules.specs.fluid_ids.Texts.{meaning, printed}
-use Rattle.manager_rules.specs.fluid_ids.declared.forms.Form.TheVariants.{F58}
-use Rattle.manager_rules.proofs.fluid_ids_proofs.Rereads.{printed_again}
+use Rattle.fluid_ids.specs.Texts.{meaning, printed}
+use Rattle.fluid_ids.specs.declared.forms.Form.TheVariants.{F58}
+use Rattle.fluid_ids.proofs.Rereads.{printed_again}
 use Rattle.job_texts.proofs.Descriptions.{described}
 use Rattle.job_texts.proofs.Listing.{tells}
 use Rattle.job_texts.proofs.needs.need_in.Goals as goal

@@ -1,9 +1,9 @@
 use Rattle.std.proofs.Common.{◌≡◌, ◌<◌, map, sym, ap, ◌∙◌, subst, arith}
 use Rattle.std.specs.Prelude.{All}
 use Rattle.std.proofs.lemmas.List.{take_all}
-use Rattle.manager_rules.specs.idset.Ids.{list_of}
-use Rattle.manager_rules.specs.idset.Runs.{printed}
-use Rattle.manager_rules.proofs.resource_set_proofs.Rising.{list_of_rising}
+use Rattle.idset.specs.Ids.{list_of}
+use Rattle.idset.specs.Runs.{printed}
+use Rattle.resource_set.proofs.Rising.{list_of_rising}
 use Rattle.job_texts.proofs.Small.{ranks_small}
 use Rattle.job_texts.proofs.texts.ranks.Goals.{After-deref}
 use Rattle.job_texts.proofs.texts.ranks.Goals as goal

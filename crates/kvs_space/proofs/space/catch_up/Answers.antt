@@ -1,6 +1,6 @@
 use Rattle.std.proofs.Common.{◌≡◌, ◌∙◌, [], ap, sym, arith, Some}
 use Rattle.std.proofs.lemmas.List.{get_or_default, get_or-set_same}
-use Rattle.kvs_rules.specs.kvs_model.History.{after}
+use Rattle.kvs_model.specs.History.{after}
 use Rattle.kvs_space.proofs.Replaying.{catch-step, catch-some}
 use Rattle.kvs_space.proofs.space.catch_up.Goals as goal
 

@@ -1,6 +1,6 @@
 use Rattle.std.proofs.Common.{◌≡◌, Some}
-use Rattle.kvs_rules.specs.kvs_model.Store.{Store as Contents}
-use Rattle.kvs_rules.specs.kvs_model.History.{after}
+use Rattle.kvs_model.specs.Store.{Store as Contents}
+use Rattle.kvs_model.specs.History.{after}
 use Rattle.kvs_space.proofs.space.catch_up.Given as goal
 
 abbrev pub invariant-loop-number : goal.invariant-loop-number

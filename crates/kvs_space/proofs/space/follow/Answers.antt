@@ -1,6 +1,6 @@
 use Rattle.std.proofs.Common.{◌≡◌, ◌∙◌, Err, ap, sym, subst, refl, arith, length, ◌≤◌}
-use Rattle.kvs_rules.specs.kvs_model.History.{after_groups}
-use Rattle.kvs_rules.specs.kvs_model.Operation.{effect}
+use Rattle.kvs_model.specs.History.{after_groups}
+use Rattle.kvs_model.specs.Operation.{effect}
 use Rattle.plain_store.specs.Effects.{IsRefusalOf}
 use Rattle.kvs_space.proofs.Replaying.{follow-step, follow-unrefused, dropped-all}
 use Rattle.kvs_space.proofs.space.follow.Goals as goal

@@ -1,5 +1,5 @@
 use Rattle.std.proofs.Common.{◌≡◌, drop}
-use Rattle.kvs_rules.specs.kvs_model.History.{after_groups}
+use Rattle.kvs_model.specs.History.{after_groups}
 use Rattle.kvs_space.proofs.space.follow.Given as goal
 
 abbrev pub invariant-loop-group : goal.invariant-loop-group

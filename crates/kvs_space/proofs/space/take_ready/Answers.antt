@@ -1,5 +1,5 @@
 use Rattle.std.proofs.Common.{◌∙◌, ◌++◌, ◌∷◌, [], ap, sym, subst, arith, length, length-append}
-use Rattle.kvs_rules.specs.kvs_model.History.{after_groups}
+use Rattle.kvs_model.specs.History.{after_groups}
 use Rattle.kvs_space.specs.Rulings.{IsOfFirst}
 use Rattle.kvs_space.proofs.Rulings.{groups-push, first-made, one-taken}
 use Rattle.kvs_space.proofs.space.take_ready.Goals as goal

@@ -1,13 +1,13 @@
 use Rattle.std.proofs.Common.{◌≡◌, ◌∙◌, ℕ, List, [], ◌∷◌, ◌++◌, None, refl, sym, ap, subst, codes}
 use Rattle.std.specs.Prelude.{IsSome}
-use Rattle.kvs_core.specs.kvs_txn.declared.txn.Author.TheVariants as author
-use Rattle.kvs_core.specs.kvs_txn.declared.txn.Op.{Op}
-use Rattle.kvs_core.specs.kvs_txn.declared.txn.Op.TheVariants as op
-use Rattle.kvs_core.specs.kvs_txn.declared.txn.Scope.TheVariants as scope
-use Rattle.kvs_core.specs.kvs_model.History.{after_groups, first_store}
-use Rattle.kvs_core.specs.kvs_model.Operation.{op_effect}
-use Rattle.kvs_core.specs.kvs_model.Store.{Path}
-use Rattle.kvs_core.specs.kvs_model.Walk.{resolved}
+use Rattle.kvs_txn.specs.declared.txn.Author.TheVariants as author
+use Rattle.kvs_txn.specs.declared.txn.Op.{Op}
+use Rattle.kvs_txn.specs.declared.txn.Op.TheVariants as op
+use Rattle.kvs_txn.specs.declared.txn.Scope.TheVariants as scope
+use Rattle.kvs_model.specs.History.{after_groups, first_store}
+use Rattle.kvs_model.specs.Operation.{op_effect}
+use Rattle.kvs_model.specs.Store.{Path}
+use Rattle.kvs_model.specs.Walk.{resolved}
 use Rattle.kvs_core.specs.Posted.{CanPost, newest_of, post_of, posted}
 use Rattle.kvs_core.specs.Value.{CoreValue}
 use Rattle.service_tests.proofs.brokers.post.Goals as goal

@@ -2,8 +2,8 @@ use Rattle.std.proofs.Common.{rules, ◌≡◌, ◌<◌, ◌^◌, ℕ, Bool, tru
 use Rattle.std.specs.Prelude.{All, IfSome, MatchBool}
 use Rattle.std.specs.List.{AllWithin, HoldsAt}
 use Rattle.std.proofs.lemmas.Iterator.{YieldsList-from_slice, cases_from_all}
-use Rattle.job_service.specs.job_clock.Targets.{target_in}
-use Rattle.job_service.proofs.job_clock_proofs.Least.{bounded_from}
+use Rattle.job_clock.specs.Targets.{target_in}
+use Rattle.job_clock.proofs.Least.{bounded_from}
 use Rattle.service_tests.proofs.clocks.all_fit.Goals as goal
 
 all_of : {A : Type 0} (P Q : A → Type 0) (b : Bool) (xs : List A) → b ≡ true → MatchBool b (AllWithin P xs 0 (length xs)) ((k : ℕ) × (k < length xs) × HoldsAt Q xs k) → All P xs

@@ -1,6 +1,6 @@
 use Rattle.std.proofs.Common.{◌≡◌}
-use Rattle.services.specs.kvs_content.Sound.{IsSoundContent}
-use Rattle.services.specs.kvs_content.Value.{size_of}
+use Rattle.kvs_content.specs.Sound.{IsSoundContent}
+use Rattle.kvs_content.specs.Value.{size_of}
 use Rattle.service_tests.proofs.contents.walk.Given as goal
 
 abbrev pub invariant-loop-act : goal.invariant-loop-act

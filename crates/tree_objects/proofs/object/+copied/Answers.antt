@@ -1,6 +1,6 @@
 use Rattle.std.proofs.Common.{◌≡◌, ◌<◌, List, length, get_or, sym, ap, ◌∙◌, subst, arith}
 use Rattle.std.proofs.lemmas.List.{take_all}
-use Rattle.tree_rules.specs.kvs_model.Store.{Name}
+use Rattle.kvs_model.specs.Store.{Name}
 use Rattle.tree_objects.specs.Directories.{tree_size, entries_size, IsDirectory}
 use Rattle.tree_objects.specs.Level.{tree_of, paired}
 use Rattle.tree_objects.specs.declared.object.Object.{Object}

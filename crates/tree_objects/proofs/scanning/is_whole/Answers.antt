@@ -1,5 +1,5 @@
 use Rattle.std.proofs.Common.{sym, ◌∙◌, subst}
-use Rattle.tree_rules.specs.fl_digest.Reference.{IsReferenceText}
+use Rattle.fl_digest.specs.Reference.{IsReferenceText}
 use Rattle.tree_objects.proofs.Flat.{whole_reference}
 use Rattle.tree_objects.proofs.scanning.is_whole.Goals as goal
 

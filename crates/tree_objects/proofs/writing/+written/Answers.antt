@@ -6,7 +6,7 @@ use Rattle.json.specs.Token.{begin_object, end_object, key, string}
 use Rattle.serde_json.specs.Data as value
 use Rattle.json.specs.Tree.{members_tokens}
 use Rattle.serde_json.specs.Written.{members_outline}
-use Rattle.tree_rules.specs.kvs_model.Store.{Name}
+use Rattle.kvs_model.specs.Store.{Name}
 use Rattle.tree_rules.specs.Objects.{tree_data, target_data, entries_data, listed}
 use Rattle.tree_objects.specs.Directories.{names_of, tree_size, entries_size}
 use Rattle.tree_objects.specs.Level.{tree_of, paired}

@@ -1,17 +1,17 @@
 use Rattle.std.proofs.Common.{◌≡◌, ◌<◌, ◌++◌, [], ℕ, List, OnOk, true, false, sym, ap, ap₂, ◌∙◌, subst, cond}
 use Rattle.std.specs.List.{All}
-use Rattle.tree_rules.specs.kvs_model.Operation.{placed, appended, changed, is_directory}
-use Rattle.tree_rules.specs.kvs_model.Store.{Store, Directory, node_at, Value, Link}
+use Rattle.kvs_model.specs.Operation.{placed, appended, changed, is_directory}
+use Rattle.kvs_model.specs.Store.{Store, Directory, node_at, Value, Link}
 use Rattle.tree_store.specs.Landing.{table}
 use Rattle.tree_store.specs.Shown.{Directories, Stands, Shows}
 use Rattle.std.proofs.lemmas.Result.{on_ok_weaker}
 use Rattle.std.proofs.lemmas.List.Elements.{All-same}
-use Rattle.tree_rules.specs.kvs_txn.declared.txn.Op.{Op}
+use Rattle.kvs_txn.specs.declared.txn.Op.{Op}
 use Rattle.tree_store.proofs.Entered.{text_above}
 use Rattle.tree_store.proofs.Found.{stands_at}
 use Rattle.tree_store.proofs.Placed.{directory_placed, cut_shows}
 use Rattle.tree_store.proofs.Operated.{appended_more}
-use Rattle.tree_rules.specs.kvs_txn.declared.txn.Op.TheVariants as op
+use Rattle.kvs_txn.specs.declared.txn.Op.TheVariants as op
 use Rattle.tree_store.proofs.operations.change.Goals as goal
 
 pub returns-then-is_directory : goal.returns-then-is_directory

@@ -1,6 +1,6 @@
 use Rattle.std.proofs.Common.{◌≡◌, length, ◌+◌, Bool, true, false, refl, sym, ap, ap₂, ◌∙◌, arith, take, drop}
-use Rattle.tree_rules.specs.kvs_model.Operation.{enters_full_from, most_names}
-use Rattle.tree_rules.specs.kvs_model.Store.{node_at, names_in}
+use Rattle.kvs_model.specs.Operation.{enters_full_from, most_names}
+use Rattle.kvs_model.specs.Store.{node_at, names_in}
 use Rattle.std.specs.Prelude.{nat_le, is_none, ◌&&◌}
 use Rattle.plain_store.proofs.Working.{enters_more, enters_end, or_true, or_false}
 use Rattle.tree_store.proofs.Placed.{opens_within}

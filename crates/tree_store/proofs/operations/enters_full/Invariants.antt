@@ -1,7 +1,7 @@
 use Rattle.std.proofs.Common.{◌≡◌, ◌≤◌, ◌-◌, [], length, take, drop}
-use Rattle.tree_rules.specs.fl_digest.declared.Hash.{Hash}
-use Rattle.tree_rules.specs.kvs_model.Operation.{enters_full_from}
-use Rattle.tree_rules.specs.kvs_model.Store.{Store}
+use Rattle.fl_digest.specs.declared.Hash.{Hash}
+use Rattle.kvs_model.specs.Operation.{enters_full_from}
+use Rattle.kvs_model.specs.Store.{Store}
 use Rattle.tree_rules.specs.Held.{Table}
 use Rattle.tree_store.specs.Shown.{Shows, OpensAbove}
 use Rattle.tree_store.proofs.operations.enters_full.Given as goal

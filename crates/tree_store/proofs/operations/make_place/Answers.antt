@@ -1,5 +1,5 @@
 use Rattle.std.proofs.Common.{sym, ◌∙◌, subst}
-use Rattle.tree_rules.specs.kvs_model.Store.{Store, Directory, with_node}
+use Rattle.kvs_model.specs.Store.{Store, Directory, with_node}
 use Rattle.tree_store.specs.Shown.{Directories, Shows, OpensAbove}
 use Rattle.std.proofs.lemmas.Result.{on_ok_weaker}
 use Rattle.plain_store.proofs.Placing.{same_directory}

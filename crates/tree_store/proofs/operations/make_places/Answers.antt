@@ -1,5 +1,5 @@
 use Rattle.std.proofs.Common.{sym, subst, arith, length-take}
-use Rattle.tree_rules.specs.kvs_model.Store.{Store}
+use Rattle.kvs_model.specs.Store.{Store}
 use Rattle.tree_store.specs.Shown.{Shows, OpensAbove}
 use Rattle.plain_store.proofs.Placing.{upto, upto_more, upto_all}
 use Rattle.tree_store.proofs.Placed.{upto_one, in_upto, take_named, opens_within}

@@ -1,6 +1,6 @@
 use Rattle.std.proofs.Common.{length, ◌-◌, ◌≤◌}
-use Rattle.tree_rules.specs.fl_digest.declared.Hash.{Hash}
-use Rattle.tree_rules.specs.kvs_model.Store.{Store}
+use Rattle.fl_digest.specs.declared.Hash.{Hash}
+use Rattle.kvs_model.specs.Store.{Store}
 use Rattle.tree_rules.specs.Held.{Table}
 use Rattle.tree_store.specs.Shown.{Shows, OpensAbove}
 use Rattle.plain_store.proofs.Placing.{upto}

@@ -1,6 +1,6 @@
 use Rattle.std.proofs.Common.{Some, None, sym, ap, ◌∙◌, cond}
 use Rattle.tree_store.proofs.operations.name_refusal.Goals as goal
-use Rattle.tree_rules.specs.kvs_txn.declared.answers.Cause.TheVariants as cause
+use Rattle.kvs_txn.specs.declared.answers.Cause.TheVariants as cause
 
 pub returns-then-enters_full : goal.returns-then-enters_full
 returns-then-enters_full c = λ h held st shows opens.

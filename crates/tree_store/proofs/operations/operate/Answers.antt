@@ -1,7 +1,7 @@
 use Rattle.std.proofs.Common.{◌≡◌, option_map, Some, sym, ap, ◌∙◌, subst}
 use Rattle.std.specs.List.{AllByRecursion}
-use Rattle.tree_rules.specs.kvs_model.Operation.{changed}
-use Rattle.tree_rules.specs.kvs_txn.Keys.{IsComponent}
+use Rattle.kvs_model.specs.Operation.{changed}
+use Rattle.kvs_txn.specs.Keys.{IsComponent}
 use Rattle.tree_store.specs.Shown.{OpensAbove, followed}
 use Rattle.std.specs.Prelude.{IfSome}
 use Rattle.tree_store.proofs.Found.{zero_of, more_of}

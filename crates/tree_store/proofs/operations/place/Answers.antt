@@ -1,5 +1,5 @@
 use Rattle.std.proofs.Common.{sym, ap, ◌∙◌, subst}
-use Rattle.tree_rules.specs.kvs_model.Operation.{placed}
+use Rattle.kvs_model.specs.Operation.{placed}
 use Rattle.tree_objects.specs.Level.{tree_of}
 use Rattle.tree_store.specs.Shown.{Directories, Shows, with_object}
 use Rattle.std.proofs.lemmas.Result.{on_ok_weaker}

@@ -1,10 +1,10 @@
 use Rattle.std.proofs.Common.{sym, ap, ◌∙◌, subst}
-use Rattle.tree_rules.specs.kvs_model.Operation.{first_cause, refusals}
+use Rattle.kvs_model.specs.Operation.{first_cause, refusals}
 use Rattle.tree_store.specs.Landing.{table}
 use Rattle.tree_store.specs.Shown.{Stands}
 use Rattle.std.specs.Prelude.{Option}
-use Rattle.tree_rules.specs.kvs_txn.declared.answers.Cause.{Cause}
-use Rattle.tree_rules.specs.kvs_txn.declared.txn.Op.{Op}
+use Rattle.kvs_txn.specs.declared.answers.Cause.{Cause}
+use Rattle.kvs_txn.specs.declared.txn.Op.{Op}
 use Rattle.tree_store.proofs.Found.{stands_at}
 use Rattle.tree_store.proofs.Refusing.{first_of, full, of_append, of_put, of_mkdir, of_link}
 use Rattle.tree_store.proofs.operations.refusal.Goals as goal

@@ -1,7 +1,7 @@
 use Rattle.std.proofs.Common.{◌≡◌, take, IsSome, true, false, sym, ◌∙◌, arith}
-use Rattle.tree_rules.specs.kvs_model.Store.{node_at}
+use Rattle.kvs_model.specs.Store.{node_at}
 use Rattle.tree_store.specs.Shown.{opened_at}
-use Rattle.tree_rules.specs.kvs_model.Operation.{is_directory}
+use Rattle.kvs_model.specs.Operation.{is_directory}
 use Rattle.plain_store.proofs.Walking.{stop_more, stop_here, stop_end}
 use Rattle.tree_store.proofs.Walked.{opens_upto}
 use borrow.Author.Count.{below_more}

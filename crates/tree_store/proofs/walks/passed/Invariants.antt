@@ -1,8 +1,8 @@
 use Rattle.std.proofs.Common.{◌≡◌, ◌≤◌, ◌<◌, ◌-◌, ℕ, length, take, drop}
 use Rattle.std.specs.Prelude.{IsSome}
-use Rattle.tree_rules.specs.fl_digest.declared.Hash.{Hash}
-use Rattle.tree_rules.specs.kvs_model.Store.{Store}
-use Rattle.tree_rules.specs.kvs_model.Walk.{stop, stop_from}
+use Rattle.fl_digest.specs.declared.Hash.{Hash}
+use Rattle.kvs_model.specs.Store.{Store}
+use Rattle.kvs_model.specs.Walk.{stop, stop_from}
 use Rattle.tree_store.specs.Landing.{table}
 use Rattle.tree_store.specs.Shown.{opened_at, Shows}
 use Rattle.tree_store.proofs.walks.passed.Given as goal

@@ -1,5 +1,5 @@
 use Rattle.std.proofs.Common.{Some, ◌≡◌, ◌<◌, ◌++◌, ℕ, length, take, drop, None, option_map, ◌-◌, List, sym, ap, ap₂, ◌∙◌, arith, length-drop}
-use Rattle.tree_rules.specs.kvs_model.Store.{node_at}
+use Rattle.kvs_model.specs.Store.{node_at}
 use Rattle.tree_store.specs.Landing.{table}
 use Rattle.tree_store.specs.Shown.{link_target}
 use Rattle.tree_store.proofs.Walked.{opens_upto, opens_path, next_at, next_none}

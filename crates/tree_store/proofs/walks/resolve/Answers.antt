@@ -1,5 +1,5 @@
 use Rattle.std.proofs.Common.{◌≡◌, None, option_map, ◌-◌, sym, ap, ◌∙◌, subst, arith, Some}
-use Rattle.tree_rules.specs.kvs_model.Walk.{past_inner_link}
+use Rattle.kvs_model.specs.Walk.{past_inner_link}
 use Rattle.tree_store.specs.Shown.{OpensAbove}
 use Rattle.tree_store.proofs.Following.{follow_more, follow_done, follow_out}
 use Rattle.tree_store.proofs.walks.resolve.Goals as goal

@@ -1,6 +1,6 @@
 use Rattle.std.proofs.Common.{◌≡◌, ◌≤◌, ◌-◌}
-use Rattle.tree_rules.specs.fl_digest.declared.Hash.{Hash}
-use Rattle.tree_rules.specs.kvs_model.Store.{Store}
+use Rattle.fl_digest.specs.declared.Hash.{Hash}
+use Rattle.kvs_model.specs.Store.{Store}
 use Rattle.tree_store.specs.Landing.{table}
 use Rattle.tree_store.specs.Shown.{followed, Shows}
 use Rattle.tree_store.proofs.walks.resolve.Given as goal

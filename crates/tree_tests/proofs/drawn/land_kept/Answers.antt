@@ -1,4 +1,4 @@
-use Rattle.tree_rules.specs.kvs_model.Operation.{effect}
+use Rattle.kvs_model.specs.Operation.{effect}
 use Rattle.tree_tests.proofs.Roots.{old_root, new_root}
 use Rattle.tree_tests.proofs.drawn.land_kept.Goals as goal
 

@@ -1,5 +1,5 @@
 use Rattle.std.proofs.Common.{◌++◌, List, ap, ◌∙◌, subst}
-use Rattle.tree_rules.specs.fl_digest.declared.BlobRef.{BlobRef}
+use Rattle.fl_digest.specs.declared.BlobRef.{BlobRef}
 use Rattle.tree_walk.specs.Pins.{AreFresh}
 use Rattle.tree_walk.specs.Walks.{with_pins}
 use Rattle.tree_walk.proofs.Pinning.{goes_on, advance_tells}

@@ -3,7 +3,7 @@ use Rattle.std.specs.Prelude.{IfOk}
 use Rattle.tree_walk.specs.declared.Advance.TheVariants as advance
 use Rattle.tree_walk.proofs.Ending.{LastTells, link_last}
 use Rattle.tree_walk.proofs.ends.last.Goals as goal
-use Rattle.tree_rules.specs.kvs_txn.declared.answers.Query.{Query}
+use Rattle.kvs_txn.specs.declared.answers.Query.{Query}
 
 pub returns-in-Get : goal.returns-in-Get
 returns-in-Get c = λ h st top p node reads there stored.

@@ -1,7 +1,7 @@
 use Rattle.std.proofs.Common.{sym, ap, ◌∙◌}
-use Rattle.tree_rules.specs.kvs_txn.declared.answers.Found.TheVariants as found
+use Rattle.kvs_txn.specs.declared.answers.Found.TheVariants as found
 use Rattle.cache_node.specs.Cache.{clean_at}
-use Rattle.tree_rules.specs.fl_digest.Reference.{reference_of}
+use Rattle.fl_digest.specs.Reference.{reference_of}
 use Rattle.tree_walk.proofs.Ending.{no_first, first_is, value_misses, value_needs, found_some}
 use Rattle.tree_walk.proofs.Stored.{clean_value}
 use Rattle.tree_walk.proofs.ends.long_value.Goals as goal

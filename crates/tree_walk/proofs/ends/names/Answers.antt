@@ -1,7 +1,7 @@
 use Rattle.std.proofs.Common.{◌∷◌, [], Some, sym, ap, ◌∙◌}
-use Rattle.tree_rules.specs.kvs_txn.declared.answers.Query.TheVariants as query
-use Rattle.tree_rules.specs.kvs_txn.declared.answers.Found.TheVariants as found
-use Rattle.tree_rules.specs.kvs_model.Store.{names_in}
+use Rattle.kvs_txn.specs.declared.answers.Query.TheVariants as query
+use Rattle.kvs_txn.specs.declared.answers.Found.TheVariants as found
+use Rattle.kvs_model.specs.Store.{names_in}
 use Rattle.tree_rules.specs.Objects.{dirref}
 use Rattle.tree_objects.specs.Level.{tree_of}
 use Rattle.tree_objects.specs.declared.object.Object.{Object}

@@ -1,7 +1,7 @@
 use Rattle.std.proofs.Common.{◌≡◌, Option, sym, ap, ◌∙◌, subst}
 use Rattle.std.specs.Prelude.{is_some as is_there}
-use Rattle.tree_rules.specs.kvs_txn.declared.answers.Found.TheVariants as found
-use Rattle.tree_rules.specs.kvs_model.Store.{names_in}
+use Rattle.kvs_txn.specs.declared.answers.Found.TheVariants as found
+use Rattle.kvs_model.specs.Store.{names_in}
 use Rattle.cache_node.specs.Cache.{clean_at}
 use Rattle.std.specs.Prelude.{map, IfSome}
 use Rattle.tree_rules.specs.Objects.{Entries, listed}

@@ -1,7 +1,7 @@
 use Rattle.std.proofs.Common.{List, Some, sym, ap, ◌∙◌, subst}
-use Rattle.tree_rules.specs.fl_digest.declared.BlobRef.{BlobRef}
-use Rattle.tree_rules.specs.kvs_txn.declared.answers.Query.TheVariants as query
-use Rattle.tree_rules.specs.kvs_txn.declared.answers.Found.TheVariants as found
+use Rattle.fl_digest.specs.declared.BlobRef.{BlobRef}
+use Rattle.kvs_txn.specs.declared.answers.Query.TheVariants as query
+use Rattle.kvs_txn.specs.declared.answers.Found.TheVariants as found
 use Rattle.tree_rules.specs.Objects.{valref}
 use Rattle.tree_objects.specs.Level.{tree_of}
 use Rattle.tree_objects.specs.declared.object.Object.{Object}

@@ -1,6 +1,6 @@
 use Rattle.std.proofs.Common.{subst, arith}
-use Rattle.tree_rules.specs.kvs_model.Store.{Path}
-use Rattle.tree_rules.specs.kvs_model.Walk.{walk}
+use Rattle.kvs_model.specs.Store.{Path}
+use Rattle.kvs_model.specs.Walk.{walk}
 use Rattle.tree_rules.specs.Needs.{needs}
 use Rattle.tree_walk.specs.Legs.{TurnTells, EndTells}
 use Rattle.tree_walk.specs.declared.legs.Turn.{Turn}

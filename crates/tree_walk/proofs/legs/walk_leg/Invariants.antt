@@ -1,5 +1,5 @@
-use Rattle.tree_rules.specs.fl_digest.declared.Hash.{Hash}
-use Rattle.tree_rules.specs.kvs_model.Store.{Store}
+use Rattle.fl_digest.specs.declared.Hash.{Hash}
+use Rattle.kvs_model.specs.Store.{Store}
 use Rattle.tree_walk.specs.Walks.{Reads}
 use Rattle.tree_walk.proofs.Passing.{OnWay}
 use Rattle.tree_walk.proofs.legs.walk_leg.Given as goal

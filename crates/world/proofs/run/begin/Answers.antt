@@ -1,7 +1,7 @@
 use Rattle.std.proofs.Common.{◌∙◌, ap, sym}
 use Rattle.std.specs.Prelude.{unwrap_or}
 use Rattle.std.proofs.lemmas.Result.{IfOk-weaker}
-use Rattle.homes.specs.resource_set.Writing.{r_text}
+use Rattle.instance.specs.resource_set.Writing.{r_text}
 use Rattle.homes.specs.Grant.{grant_text, hosts_of_brokers}
 use Rattle.world.proofs.run.begin.Goals as goal
 

@@ -5,7 +5,7 @@ use Rattle.std.specs.List.{AllByRecursion as Each}
 use Rattle.std.proofs.lemmas.Bool.{true≢false, false_from_ne_true, lt-ltb, or_from, or_parts, or_right}
 use Rattle.std.proofs.lemmas.List.{map-append}
 use Rattle.std.proofs.lemmas.List.Concat.{flat_map-append}
-use Rattle.job_rules.specs.resource_set.declared.node.Node.{Node}
+use Rattle.resource_set.specs.declared.node.Node.{Node}
 use Rattle.job_rules.specs.Fits.{AllApart, AreApart, AreWithin, free_of, has_unit, nodes_of}
 use Rattle.graph_match.specs.Allotment.{Allotment}
 use Rattle.graph_match.specs.Answers.{AreFirstFit, Answers}

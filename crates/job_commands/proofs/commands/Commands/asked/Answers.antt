@@ -1,6 +1,6 @@
 use Rattle.std.proofs.Common.{◌≡◌, subst, sym, rules}
 use Rattle.std.specs.Prelude.{All, Contains}
-use Rattle.instance_rules.specs.manager_rules.Scene.{IsAsked}
+use Rattle.manager_rules.specs.Scene.{IsAsked}
 use Rattle.job_commands.specs.Desks.{asked_of}
 use Rattle.job_commands.proofs.Desks.{asked_range, asked_there, asked_true}
 use Rattle.job_commands.proofs.commands.Commands.asked.Goals as goal

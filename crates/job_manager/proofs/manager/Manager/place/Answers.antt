@@ -3,7 +3,7 @@ use Rattle.kvs_core.specs.Agrees.{Agrees}
 use Rattle.kvs_core.specs.Posted.{CanPost, IsNewPost}
 use Rattle.job_manager.specs.Managed.{WasDuePost}
 use Rattle.job_manager.specs.Posts.{command_of, post_of}
-use Rattle.instance_rules.specs.manager_rules.Posts.{txn_of}
+use Rattle.manager_rules.specs.Posts.{txn_of}
 use Rattle.job_manager.specs.View.{value_of}
 use Rattle.job_manager.proofs.Steps.{can-post}
 use Rattle.job_manager.proofs.manager.Manager.place.Goals as goal

@@ -1,6 +1,6 @@
 use Rattle.std.proofs.Common.{◌∙◌, ◌++◌, [], ◌∷◌, false, sym, ap, subst}
-use Rattle.answers.specs.kvs_rules.Log.{Asked}
-use Rattle.answers.specs.instance_rules.Log.{Served, service_of}
+use Rattle.kvs_rules.specs.Log.{Asked}
+use Rattle.instance_rules.specs.Log.{Served, service_of}
 use Rattle.job_service.specs.Agrees.{AgreesJobs, MayAsk}
 use Rattle.job_service.specs.View.{value_of}
 use Rattle.job_service.proofs.Calls.{asked_agrees}

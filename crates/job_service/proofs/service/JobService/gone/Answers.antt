@@ -1,13 +1,13 @@
 use Rattle.std.proofs.Common.{◌≡◌, ◌∙◌, ◌++◌, ◌∷◌, ◌<◌, ◌^◌, [], Some, false, true, length, map, sym, ap, subst}
 use Rattle.std.specs.List.{AllByRecursion as Each}
 use Rattle.std.specs.Prelude.{option_map}
-use Rattle.answers.specs.instance_rules.Log.{Gone, service_of}
+use Rattle.instance_rules.specs.Log.{Gone, service_of}
 use Rattle.job_commands.specs.Children.{ended}
 use Rattle.job_commands.specs.Rows.{AreMarkedBy}
 use Rattle.job_manager.specs.Posts.{post_of}
-use Rattle.job_manager.specs.kvs_core.Agrees.{Agrees}
-use Rattle.job_manager.specs.kvs_core.Posted.{newest_of}
-use Rattle.answers.specs.kvs_rules.Namespaces.{newest_store, primary}
+use Rattle.kvs_core.specs.Agrees.{Agrees}
+use Rattle.kvs_core.specs.Posted.{newest_of}
+use Rattle.kvs_rules.specs.Namespaces.{newest_store, primary}
 use Rattle.job_service.specs.Agrees.{AgreesJobs}
 use Rattle.job_service.specs.Children.{IsBearing, may_end}
 use Rattle.job_service.specs.View.{value_of}

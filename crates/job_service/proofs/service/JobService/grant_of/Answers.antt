@@ -1,11 +1,11 @@
 use Rattle.std.proofs.Common.{◌≡◌, ◌∙◌, Contains, Some, None, sym, ap, subst}
-use Rattle.answers.specs.instance_rules.Log.{service_of}
-use Rattle.job_manager.specs.kvs_core.Agrees.{Agrees}
-use Rattle.job_manager.specs.kvs_core.Posted.{newest_of}
-use Rattle.answers.specs.kvs_rules.Namespaces.{newest_store, primary}
+use Rattle.instance_rules.specs.Log.{service_of}
+use Rattle.kvs_core.specs.Agrees.{Agrees}
+use Rattle.kvs_core.specs.Posted.{newest_of}
+use Rattle.kvs_rules.specs.Namespaces.{newest_store, primary}
 use Rattle.job_service.specs.Agrees.{AgreesJobs}
 use Rattle.std.specs.Option.{option_copied}
-use Rattle.job_manager.specs.job_book.Contract.{IsKept, r_at}
+use Rattle.job_book.specs.Contract.{IsKept, r_at}
 use Rattle.job_service.specs.View.{value_of}
 use Rattle.job_service.proofs.Bearing.{bearing_holds, granted_of, none_held_by}
 use Rattle.job_service.specs.Children.{IsBearing}

@@ -1,13 +1,13 @@
 use Rattle.std.proofs.Common.{◌≡◌, ◌∙◌, ◌++◌, ◌<◌, ◌^◌, ◌+◌, ◌≤◌, [], ◌∷◌, Some, false, true, length, sym, ap, subst, arith}
 use Rattle.std.specs.List.{AllByRecursion as Each}
 use Rattle.std.specs.Prelude.{option_map}
-use Rattle.job_manager.specs.kvs_core.Agrees.{Agrees}
-use Rattle.job_manager.specs.kvs_core.Posted.{newest_of}
-use Rattle.answers.specs.kvs_rules.Namespaces.{newest_store, primary}
-use Rattle.answers.specs.instance_rules.Desks.{is_submission}
-use Rattle.answers.specs.instance_rules.Log.{Issued, service_of}
+use Rattle.kvs_core.specs.Agrees.{Agrees}
+use Rattle.kvs_core.specs.Posted.{newest_of}
+use Rattle.kvs_rules.specs.Namespaces.{newest_store, primary}
+use Rattle.instance_rules.specs.Desks.{is_submission}
+use Rattle.instance_rules.specs.Log.{Issued, service_of}
 use Rattle.job_clock.specs.Targets.{AreInTime}
-use Rattle.answers.specs.run_limits.Limits.{most_seconds}
+use Rattle.run_limits.specs.Limits.{most_seconds}
 use Rattle.job_service.specs.Times.{HasTime}
 use Rattle.job_commands.specs.Asks.{told}
 use Rattle.job_commands.specs.Rows.{issued_row}

@@ -1,5 +1,5 @@
 use Rattle.std.proofs.Common.{◌≡◌, ◌∙◌, [], false, None, ◌≤◌, refl, sym, subst, arith}
-use Rattle.answers.specs.job_rules.Fits.{IsGrant}
+use Rattle.job_deeds.specs.job_rules.Fits.{IsGrant}
 use Rattle.job_service.specs.Agrees.{AgreesJobs, IsAgreed}
 use Rattle.job_service.specs.Judged.{AreJudged}
 use Rattle.job_service.specs.Posted.{IsNamed, id_posted}

@@ -1,12 +1,12 @@
 use Rattle.std.proofs.Common.{◌≡◌, Some, sym, subst, Contains}
-use Rattle.answers.specs.instance_rules.Log.{service_of}
-use Rattle.job_manager.specs.kvs_core.Agrees.{Agrees}
-use Rattle.job_manager.specs.kvs_core.Posted.{newest_of}
-use Rattle.answers.specs.kvs_rules.Namespaces.{newest_store, primary}
+use Rattle.instance_rules.specs.Log.{service_of}
+use Rattle.kvs_core.specs.Agrees.{Agrees}
+use Rattle.kvs_core.specs.Posted.{newest_of}
+use Rattle.kvs_rules.specs.Namespaces.{newest_store, primary}
 use Rattle.job_service.specs.Agrees.{AgreesJobs}
-use Rattle.answers.specs.instance_rules.Family.{OfLiving}
-use Rattle.answers.specs.manager_rules.Times.{seconds_ahead}
-use Rattle.job_manager.specs.job_book.Contract.{seconds_left}
+use Rattle.instance_rules.specs.Family.{OfLiving}
+use Rattle.job_deeds.specs.manager_rules.Times.{seconds_ahead}
+use Rattle.job_book.specs.Contract.{seconds_left}
 use Rattle.job_service.specs.View.{value_of}
 use Rattle.job_service.proofs.Ticking.{ends_left}
 use Rattle.job_service.proofs.service.JobService.next_end.Goals as goal

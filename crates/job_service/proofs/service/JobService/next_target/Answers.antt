@@ -1,6 +1,6 @@
 use Rattle.std.proofs.Common.{◌∙◌, ◌<◌, ◌+◌, ◌^◌, arith, sym, ap, subst, Contains}
-use Rattle.answers.specs.instance_rules.Family.{HasTarget}
-use Rattle.answers.specs.run_limits.Limits.{most_seconds}
+use Rattle.instance_rules.specs.Family.{HasTarget}
+use Rattle.run_limits.specs.Limits.{most_seconds}
 use Rattle.job_service.specs.Agrees.{AgreesJobs}
 use Rattle.job_service.specs.Times.{targets_left}
 use Rattle.job_service.specs.View.{value_of}

@@ -1,12 +1,12 @@
 use Rattle.std.proofs.Common.{◌≡◌, ◌∙◌, ℕ, ◌+◌, ◌++◌, ◌<◌, ◌≤◌, ◌^◌, [], ◌∷◌, false, true, length, List, not, sym, ap, subst}
 use Rattle.std.specs.List.{AllByRecursion as Each}
 use Rattle.std.specs.Prelude.{option_map, slice_index}
-use Rattle.answers.specs.instance_rules.Log.{Replied}
+use Rattle.instance_rules.specs.Log.{Replied}
 use Rattle.job_clock.proofs.Times.{fewer_in_time}
 use Rattle.job_commands.specs.Rows.{is_of, mark_at}
 use Rattle.job_commands.specs.declared.tally.Mark.{Mark}
 use Rattle.job_manager.specs.Posts.{post_of}
-use Rattle.answers.specs.run_limits.Limits.{most_seconds}
+use Rattle.run_limits.specs.Limits.{most_seconds}
 use Rattle.job_service.specs.Agrees.{AgreesJobs, IsAgreed}
 use Rattle.job_service.specs.Children.{IsBearing}
 use Rattle.job_service.specs.Judged.{AreJudged}

@@ -1,12 +1,12 @@
 use Rattle.std.proofs.Common.{◌≡◌, ◌∙◌, ◌<◌, ◌⊎◌, ℕ, [], Some, IsSome, sym, ap, subst}
-use Rattle.answers.specs.instance_rules.Family.{IsLeftAdvance}
-use Rattle.answers.specs.instance_rules.Log.{service_of}
-use Rattle.job_manager.specs.kvs_core.Agrees.{Agrees}
-use Rattle.job_manager.specs.kvs_core.Posted.{newest_of, posted}
-use Rattle.job_manager.specs.kvs_core.Seen.{primary_heard}
-use Rattle.job_manager.specs.kvs_core.Steps.{IsStill as CoreIsStill}
-use Rattle.answers.specs.kvs_rules.Brokers.{heard}
-use Rattle.answers.specs.kvs_rules.Namespaces.{newest_store, primary}
+use Rattle.instance_rules.specs.Family.{IsLeftAdvance}
+use Rattle.instance_rules.specs.Log.{service_of}
+use Rattle.kvs_core.specs.Agrees.{Agrees}
+use Rattle.kvs_core.specs.Posted.{newest_of, posted}
+use Rattle.kvs_core.specs.Seen.{primary_heard}
+use Rattle.kvs_core.specs.Steps.{IsStill as CoreIsStill}
+use Rattle.kvs_rules.specs.Brokers.{heard}
+use Rattle.kvs_rules.specs.Namespaces.{newest_store, primary}
 use Rattle.job_service.specs.Agrees.{AgreesJobs}
 use Rattle.job_service.specs.Children.{is_due}
 use Rattle.job_service.specs.Still.{IsStill, awaited}

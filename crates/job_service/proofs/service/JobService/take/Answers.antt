@@ -1,7 +1,7 @@
 use Rattle.std.proofs.Common.{◌∙◌, ◌++◌, [], ◌∷◌, sym, ap, subst}
-use Rattle.answers.specs.kvs_rules.Log.{Happened}
-use Rattle.answers.specs.kvs_rules.declared.events.KvsEvent.TheVariants as event
-use Rattle.answers.specs.instance_rules.Log.{Served, service_of}
+use Rattle.kvs_rules.specs.Log.{Happened}
+use Rattle.kvs_rules.specs.declared.events.KvsEvent.TheVariants as event
+use Rattle.instance_rules.specs.Log.{Served, service_of}
 use Rattle.job_service.specs.Agrees.{AgreesJobs}
 use Rattle.job_service.specs.View.{value_of}
 use Rattle.job_service.proofs.Calls.{taken_agrees}

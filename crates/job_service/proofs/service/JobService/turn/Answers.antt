@@ -1,13 +1,13 @@
 use Rattle.std.proofs.Common.{◌≡◌, ◌∙◌, ◌+◌, ◌++◌, ◌<◌, ◌^◌, Some, false, length, map, sym, ap, subst, arith}
 use Rattle.std.specs.List.{AllByRecursion as Each}
 use Rattle.std.specs.Prelude.{option_map}
-use Rattle.answers.specs.instance_rules.Log.{service_of}
+use Rattle.instance_rules.specs.Log.{service_of}
 use Rattle.job_landings.specs.Landings.{happening}
 use Rattle.job_manager.specs.Posts.{post_of}
-use Rattle.job_manager.specs.kvs_core.Agrees.{Agrees}
-use Rattle.job_manager.specs.kvs_core.Posted.{newest_of}
-use Rattle.answers.specs.kvs_rules.Namespaces.{newest_store, primary}
-use Rattle.answers.specs.run_limits.Limits.{most_seconds}
+use Rattle.kvs_core.specs.Agrees.{Agrees}
+use Rattle.kvs_core.specs.Posted.{newest_of}
+use Rattle.kvs_rules.specs.Namespaces.{newest_store, primary}
+use Rattle.run_limits.specs.Limits.{most_seconds}
 use Rattle.job_service.specs.Agrees.{AgreesJobs}
 use Rattle.job_service.specs.Children.{IsBearing}
 use Rattle.job_service.specs.View.{IsHeld, value_of}

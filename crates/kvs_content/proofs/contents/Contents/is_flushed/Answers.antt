@@ -1,6 +1,6 @@
 use Rattle.std.proofs.Common.{◌≡◌, ◌∙◌, ◌<◌, List, [], ℕ, not, ap, subst, sym}
 use Rattle.std.specs.Prelude.{IsTrue, ◌↔◌}
-use Rattle.kvs_rules.specs.fl_digest.declared.BlobRef.{BlobRef}
+use Rattle.fl_digest.specs.declared.BlobRef.{BlobRef}
 use Rattle.kvs_content.specs.Node.{NodeValue}
 use Rattle.kvs_content.specs.Value.{ContentValue, node_at, size_of}
 use Rattle.kvs_content.proofs.Keeping.{node-read}

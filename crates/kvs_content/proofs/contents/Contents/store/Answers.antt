@@ -1,7 +1,7 @@
 use Rattle.std.proofs.Common.{◌∙◌, ◌<◌, inl, inr, ◌++◌, map, ap, refl, subst, sym}
 use Rattle.std.specs.Prelude.{IsTrue}
 use Rattle.std.specs.List.{AllByRecursion as Each}
-use Rattle.kvs_rules.specs.fl_digest.Reference.{reference_of}
+use Rattle.fl_digest.specs.Reference.{reference_of}
 use Rattle.kvs_rules.specs.Log.{Happened}
 use Rattle.kvs_rules.specs.Brokers.{has_got}
 use Rattle.kvs_content.specs.Node.{GetsOrDrops}

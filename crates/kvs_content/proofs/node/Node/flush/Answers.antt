@@ -1,5 +1,5 @@
 use Rattle.std.proofs.Common.{◌∙◌, List, ap, sym}
-use Rattle.kvs_rules.specs.fl_digest.declared.BlobRef.{BlobRef}
+use Rattle.fl_digest.specs.declared.BlobRef.{BlobRef}
 use Rattle.cache_node.specs.Cache.{Cache}
 use Rattle.kvs_content.specs.Node.{NodeValue}
 use Rattle.kvs_content.proofs.Lists.{none-of-length, none-of-test}

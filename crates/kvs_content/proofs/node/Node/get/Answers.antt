@@ -1,7 +1,7 @@
 use Rattle.std.proofs.Common.{◌≡◌, ◌∙◌, ◌++◌, not, ap, refl, sym, subst}
 use Rattle.std.specs.Prelude.{is_some}
 use Rattle.std.specs.Map.{lookup}
-use Rattle.kvs_rules.specs.fl_digest.Reference.{same_reference}
+use Rattle.fl_digest.specs.Reference.{same_reference}
 use Rattle.cache_node.specs.Cache.{clean_at}
 use Rattle.kvs_content.specs.Node.{IsGetting, dropping, getting}
 use Rattle.kvs_content.proofs.Lists.{flip, some-copied}

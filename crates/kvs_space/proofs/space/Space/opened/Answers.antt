@@ -1,7 +1,7 @@
 use Rattle.std.proofs.Common.{rules, ◌≡◌, [], ◌∷◌, ◌++◌, replicate, set, ap, ap₂, sym, subst, ◌∙◌}
 use Rattle.std.specs.Prelude.{slice_index}
 use Rattle.std.proofs.lemmas.List.{replicate-append-replicate}
-use Rattle.kvs_rules.specs.kvs_model.Store.{empty_store}
+use Rattle.kvs_model.specs.Store.{empty_store}
 use Rattle.kvs_space.specs.Links.{IsAnnouncedBut}
 use Rattle.kvs_space.proofs.Opening.{first-but, known-once, opened-space}
 use Rattle.kvs_space.proofs.space.Space.opened.Goals as goal

@@ -1,5 +1,5 @@
 use Rattle.std.proofs.Common.{◌≡◌, [], replicate}
-use Rattle.kvs_rules.specs.kvs_model.Store.{empty_store}
+use Rattle.kvs_model.specs.Store.{empty_store}
 use Rattle.kvs_space.proofs.space.Space.opened.Given as goal
 
 abbrev pub invariant-loop-broker : goal.invariant-loop-broker

@@ -1,6 +1,6 @@
 use Rattle.std.proofs.Common.{rules, ◌≡◌, [], ◌∷◌, ◌++◌, replicate, get_or, ap, ap₂, ◌∙◌}
 use Rattle.std.proofs.lemmas.List.{get_or-replicate, replicate-append-replicate}
-use Rattle.kvs_rules.specs.kvs_model.History.{first_store}
+use Rattle.kvs_model.specs.History.{first_store}
 use Rattle.kvs_space.proofs.Posting.{begun-as}
 use Rattle.kvs_space.proofs.space.Space.primary.Goals as goal
 

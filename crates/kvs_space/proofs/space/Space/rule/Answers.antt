@@ -1,6 +1,6 @@
 use Rattle.std.proofs.Common.{◌≡◌, ◌∙◌, ◌++◌, ◌∷◌, [], Some, true, refl, arith, ap, sym, subst, set, get_or}
 use Rattle.std.proofs.lemmas.List.{get_or_default}
-use Rattle.kvs_rules.specs.kvs_model.History.{after_groups}
+use Rattle.kvs_model.specs.History.{after_groups}
 use Rattle.kvs_rules.specs.Namespaces.{scope_of}
 use Rattle.kvs_space.specs.Space.{is_ready}
 use Rattle.kvs_space.specs.Sound.{ArePosted, IsSoundSpace}

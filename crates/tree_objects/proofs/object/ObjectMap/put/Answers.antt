@@ -2,7 +2,7 @@ use Rattle.std.proofs.Common.{◌≡◌, ◌≤◌, ℕ, List, length, cond, sym
 use Rattle.std.specs.FinMap.Entries as finite
 use Rattle.std.specs.List.{insert}
 use Rattle.std.proofs.Math.ListN.{set, length-set}
-use Rattle.tree_rules.specs.kvs_model.Store.{Name}
+use Rattle.kvs_model.specs.Store.{Name}
 use Rattle.tree_rules.specs.Objects.{Entries, listed}
 use Rattle.tree_rules.specs.Names.{name_cmp}
 use Rattle.tree_objects.specs.Level.{tree_of, paired}

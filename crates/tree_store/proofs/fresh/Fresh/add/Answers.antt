@@ -1,9 +1,9 @@
 use Rattle.std.proofs.Common.{◌≡◌, ◌++◌, ◌∷◌, [], None, sym, ap, ◌∙◌}
 use Rattle.blob_store.specs.Blobs.{blob_at}
-use Rattle.tree_rules.specs.fl_digest.Reference.{reference_of}
+use Rattle.fl_digest.specs.Reference.{reference_of}
 use Rattle.tree_store.specs.Fresh.{Blobs}
 use Rattle.std.proofs.lemmas.Result.{on_ok_weaker}
-use Rattle.tree_rules.specs.fl_digest.declared.BlobRef.{BlobRef}
+use Rattle.fl_digest.specs.declared.BlobRef.{BlobRef}
 use Rattle.tree_store.proofs.Adding.{found_behind}
 use Rattle.tree_store.proofs.fresh.Fresh.add.Goals as goal
 

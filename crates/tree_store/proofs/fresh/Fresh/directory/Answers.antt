@@ -1,6 +1,6 @@
 use Rattle.std.proofs.Common.{rules, ◌≡◌, ◌++◌, ◌∷◌, [], Some, ℕ, List, sym, ap, ◌∙◌, subst}
 use Rattle.blob_store.specs.Blobs.{blob_at}
-use Rattle.tree_rules.specs.fl_digest.Reference.{reference_of}
+use Rattle.fl_digest.specs.Reference.{reference_of}
 use Rattle.tree_rules.specs.Objects.{Entries, dir, tree_text}
 use Rattle.tree_store.specs.Fresh.{AddsSome, ClashesIn, IsClashOf, Blobs}
 use Rattle.tree_store.specs.Shown.{long_values, entries_text, strings_of}

@@ -1,6 +1,6 @@
 use Rattle.std.proofs.Common.{rules, ◌≡◌, ◌++◌, ◌∷◌, [], ℕ, List, sym, ap, ◌∙◌, subst, append_assoc, append-nil}
 use Rattle.tree_store.specs.Fresh.{AreNew, Blobs}
-use Rattle.tree_rules.specs.fl_digest.declared.BlobRef.{BlobRef}
+use Rattle.fl_digest.specs.declared.BlobRef.{BlobRef}
 use Rattle.tree_store.proofs.Adding.{stored_new}
 use Rattle.tree_store.proofs.fresh.Fresh.put_into.Goals as goal
 

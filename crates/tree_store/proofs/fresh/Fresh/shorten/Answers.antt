@@ -1,6 +1,6 @@
 use Rattle.std.proofs.Common.{rules, ◌≡◌, ◌<◌, ◌++◌, [], false, Some, length, ℕ, List, refl, sym, ap, ◌∙◌, subst, arith, add-one}
 use Rattle.blob_store.specs.Blobs.{blob_at}
-use Rattle.tree_rules.specs.fl_digest.Reference.{reference_of}
+use Rattle.fl_digest.specs.Reference.{reference_of}
 use Rattle.std.proofs.lemmas.Grind.{common_steps}
 use Rattle.tree_objects.specs.Directories.{names_of}
 use Rattle.tree_objects.specs.Level.{tree_of}

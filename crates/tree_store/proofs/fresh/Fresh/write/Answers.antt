@@ -1,6 +1,6 @@
 use Rattle.std.proofs.Common.{rules, ◌≡◌, ◌++◌, Some, sym, ap, ◌∙◌, subst}
-use Rattle.tree_rules.specs.fl_digest.Reference.{reference_of}
-use Rattle.tree_rules.specs.kvs_model.Store.{Path}
+use Rattle.fl_digest.specs.Reference.{reference_of}
+use Rattle.kvs_model.specs.Store.{Path}
 use Rattle.tree_rules.specs.Objects.{Entries, dirref}
 use Rattle.tree_rules.specs.Texts.{blobs}
 use Rattle.tree_store.specs.Fresh.{Blobs}
@@ -11,7 +11,7 @@ use Rattle.blob_store.specs.Blobs.{blob_at}
 use Rattle.tree_objects.specs.Reading.{Gives}
 use Rattle.tree_objects.specs.declared.object.Object.TheVariants.{Dir}
 use Rattle.std.specs.Str.{IsUtf8}
-use Rattle.tree_rules.specs.fl_digest.declared.BlobRef.{BlobRef}
+use Rattle.fl_digest.specs.declared.BlobRef.{BlobRef}
 use Rattle.tree_store.proofs.Entered.{text_above}
 use Rattle.tree_store.proofs.Opening.{some_same}
 use Rattle.tree_store.proofs.Turns.{AreLeft}

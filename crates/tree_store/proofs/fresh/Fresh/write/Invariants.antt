@@ -1,5 +1,5 @@
 use Rattle.std.proofs.Common.{◌++◌, [], length}
-use Rattle.tree_rules.specs.kvs_model.Store.{Store}
+use Rattle.kvs_model.specs.Store.{Store}
 use Rattle.tree_rules.specs.Texts.{blobs}
 use Rattle.tree_store.specs.Fresh.{AreNew, AddsSome}
 use Rattle.tree_store.specs.Landing.{table}

@@ -1,5 +1,5 @@
 use Rattle.std.proofs.Common.{rules, ◌≡◌, ap, ◌∙◌}
-use Rattle.tree_rules.specs.kvs_model.Store.{is_within}
+use Rattle.kvs_model.specs.Store.{is_within}
 use Rattle.tree_store.specs.Shown.{closed_within, Directories, keyed}
 use Rattle.std.specs.Prelude.{not, filter}
 use Rattle.std.proofs.lemmas.Map.Made.{filter_same_pairs}

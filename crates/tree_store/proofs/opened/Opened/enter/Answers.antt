@@ -1,6 +1,6 @@
 use Rattle.std.proofs.Common.{◌≡◌, IsSome, false, sym, ap, ◌∙◌}
-use Rattle.tree_rules.specs.kvs_model.Operation.{is_directory}
-use Rattle.tree_rules.specs.kvs_model.Store.{Directory}
+use Rattle.kvs_model.specs.Operation.{is_directory}
+use Rattle.kvs_model.specs.Store.{Directory}
 use Rattle.tree_store.specs.Landing.{table}
 use Rattle.tree_store.specs.Shown.{opened_at, entries_at, Directories}
 use Rattle.std.specs.Prelude.{is_some as is_there}

@@ -1,6 +1,6 @@
 use Rattle.std.proofs.Common.{◌≡◌, ◌<◌, [], ◌∷◌, ℕ, List, sym, ap, ap₂, ◌∙◌, subst, codes}
-use Rattle.tree_rules.specs.kvs_model.History.{first_store}
-use Rattle.tree_rules.specs.kvs_model.Store.{Path as Place}
+use Rattle.kvs_model.specs.History.{first_store}
+use Rattle.kvs_model.specs.Store.{Path as Place}
 use Rattle.tree_rules.specs.Objects.{no_entries, val}
 use Rattle.std.specs.List.{All}
 use Rattle.tree_store.specs.Shown.{Shows, with_object, with_open, Directories}

@@ -1,5 +1,5 @@
 use Rattle.std.proofs.Common.{◌≡◌, length, nat_le, Some, ℕ, List, sym, ap, ◌∙◌}
-use Rattle.tree_rules.specs.kvs_model.Operation.{most_names}
+use Rattle.kvs_model.specs.Operation.{most_names}
 use Rattle.tree_store.specs.Shown.{opened_at, Directories}
 use Rattle.std.specs.Prelude.{None}
 use Rattle.tree_store.proofs.Keyed.{find_keyed}

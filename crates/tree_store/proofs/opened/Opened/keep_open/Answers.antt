@@ -1,5 +1,5 @@
 use Rattle.std.proofs.Common.{ap, ◌∙◌}
-use Rattle.tree_rules.specs.kvs_model.Store.{Path as Place, path_cmp}
+use Rattle.kvs_model.specs.Store.{Path as Place, path_cmp}
 use Rattle.tree_rules.specs.Objects.{Entries, dir}
 use Rattle.tree_store.specs.Shown.{with_object, keyed}
 use Rattle.tree_store.proofs.Keyed.{put_keyed}

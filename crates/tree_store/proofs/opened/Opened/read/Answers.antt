@@ -1,5 +1,5 @@
 use Rattle.std.proofs.Common.{[], ◌∷◌, ap, ap₂, ◌∙◌}
-use Rattle.tree_rules.specs.kvs_model.Store.{Path as Place, root, path_cmp}
+use Rattle.kvs_model.specs.Store.{Path as Place, root, path_cmp}
 use Rattle.tree_rules.specs.Objects.{Entries}
 use Rattle.tree_store.specs.Landing.{table}
 use Rattle.tree_store.specs.Shown.{Directories, keyed}

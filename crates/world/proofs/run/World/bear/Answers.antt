@@ -2,12 +2,12 @@ use Rattle.std.proofs.Common.{◌≡◌, ◌∙◌, ◌<◌, ◌+◌, ◌-◌, �
 use Rattle.std.specs.Prelude.{slice_set}
 use Rattle.std.specs.Vec.{with_items}
 use Rattle.std.proofs.lemmas.List.{with_items_is}
-use Rattle.homes.specs.answers.Chronicle.{top}
-use Rattle.homes.specs.answers.declared.steps.Step.TheVariants as step
-use Rattle.homes.specs.hierarchy.Births.{Birth}
-use Rattle.homes.specs.hierarchy.Families.{second_in}
-use Rattle.homes.specs.hierarchy.Own.{own_of, setup_in}
-use Rattle.homes.specs.instance.Family.{bearing}
+use Rattle.instance.specs.answers.Chronicle.{top}
+use Rattle.instance.specs.answers.declared.steps.Step.TheVariants as step
+use Rattle.hierarchy.specs.Births.{Birth}
+use Rattle.hierarchy.specs.Families.{second_in}
+use Rattle.hierarchy.specs.Own.{own_of, setup_in}
+use Rattle.instance.specs.Family.{bearing}
 use Rattle.world.specs.Advances.{Advances}
 use Rattle.homes.specs.Inside.{AreSettled, IsChildHome}
 use Rattle.world.specs.Sound.{IsSound}

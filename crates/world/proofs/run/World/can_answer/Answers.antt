@@ -1,7 +1,7 @@
 use Rattle.std.proofs.Common.{◌≡◌, ◌∙◌, length, ap, sym, subst, arith}
 use Rattle.std.specs.Prelude.{if◌then◌else◌}
 use Rattle.std.specs.Vec.{vec_len}
-use Rattle.homes.specs.instance.Steps.{can_answer as instance_can_answer}
+use Rattle.instance.specs.Steps.{can_answer as instance_can_answer}
 use Rattle.world.specs.Steps.{can_answer}
 use Rattle.world.specs.View.{value_of}
 use Rattle.world.proofs.Housing.{home_read, home_within, read_there, runs_at}

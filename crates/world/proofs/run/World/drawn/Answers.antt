@@ -1,7 +1,7 @@
 use Rattle.std.proofs.Common.{◌≡◌, ◌∙◌, ◌%◌, ◌<◌, [], ap, sym, subst, arith, false, length, rules}
 use Rattle.std.specs.Prelude.{min}
 use Rattle.std.proofs.lemmas.List.{nil_from_length}
-use Rattle.homes.specs.answers.declared.steps.Step.TheVariants as step
+use Rattle.instance.specs.answers.declared.steps.Step.TheVariants as step
 use Rattle.homes.specs.Homes.{AreReady, ListTurns}
 use Rattle.world.specs.Order.{before_end}
 use Rattle.world.specs.Steps.{CanMake}

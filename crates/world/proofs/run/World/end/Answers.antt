@@ -1,9 +1,9 @@
 use Rattle.std.proofs.Common.{◌≡◌, ◌∙◌, ◌<◌, ◌^◌, ◌++◌, false, true, ap, arith, get_or, length, subst, sym}
 use Rattle.std.specs.Prelude.{filter_map, slice_set}
 use Rattle.std.proofs.lemmas.List.{with_items_is}
-use Rattle.homes.specs.answers.declared.steps.Step.TheVariants as step
-use Rattle.homes.specs.hierarchy.Inside.{marked_below}
-use Rattle.homes.specs.instance.Family.{may_end}
+use Rattle.instance.specs.answers.declared.steps.Step.TheVariants as step
+use Rattle.hierarchy.specs.Inside.{marked_below}
+use Rattle.instance.specs.Family.{may_end}
 use Rattle.world.specs.Advances.{Advances}
 use Rattle.homes.specs.Inside.{AreInside, AreRising, HaveGone, end_at}
 use Rattle.world.specs.Sound.{IsSound}

@@ -1,10 +1,10 @@
 use Rattle.std.proofs.Common.{◌≡◌, ◌∙◌, ◌+◌, ◌<◌, is_some, length, true, ap, arith, subst, sym}
 use Rattle.std.specs.Prelude.{option_and_then, slice_get, slice_index_or}
-use Rattle.homes.specs.workload.declared.work.Line.{Line}
-use Rattle.homes.specs.instance.Agrees.{AreLinesOf}
-use Rattle.homes.specs.answers.declared.steps.Step.TheVariants as step
-use Rattle.homes.specs.instance.Makes.{MakesOf}
-use Rattle.homes.specs.instance.Steps.{can_issue as instance_can_issue}
+use Rattle.instance.specs.workload.declared.work.Line.{Line}
+use Rattle.instance.specs.Agrees.{AreLinesOf}
+use Rattle.instance.specs.answers.declared.steps.Step.TheVariants as step
+use Rattle.instance.specs.Makes.{MakesOf}
+use Rattle.instance.specs.Steps.{can_issue as instance_can_issue}
 use Rattle.homes.specs.Homes.{IsNextLine, living_at}
 use Rattle.world.specs.Steps.{can_issue}
 use Rattle.world.specs.View.{value_of}

@@ -1,7 +1,7 @@
 use Rattle.std.proofs.Common.{◌≡◌, ◌∙◌, ◌++◌, false, ap, sym, subst}
 use Rattle.std.specs.Prelude.{IfSome}
 use Rattle.std.specs.List.{list_any}
-use Rattle.homes.specs.manager_rules.Times.{IsLeast}
+use Rattle.instance.specs.manager_rules.Times.{IsLeast}
 use Rattle.homes.specs.Homes.{AreReady}
 use Rattle.homes.specs.Times.{all_ends, all_targets, is_left}
 use Rattle.world.specs.Steps.{can_tick}

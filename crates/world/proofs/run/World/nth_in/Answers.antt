@@ -1,8 +1,8 @@
 use Rattle.std.proofs.Common.{◌∙◌, ap, sym}
-use Rattle.homes.specs.services.Order.{possible}
-use Rattle.homes.specs.kvs_core.Walk.{nth}
-use Rattle.homes.specs.answers.declared.steps.Step.TheVariants as step
-use Rattle.homes.specs.instance.Order.{answers}
+use Rattle.instance.specs.services.Order.{possible}
+use Rattle.instance.specs.kvs_core.Walk.{nth}
+use Rattle.instance.specs.answers.declared.steps.Step.TheVariants as step
+use Rattle.instance.specs.Order.{answers}
 use Rattle.world.specs.Order.{steps_in}
 use Rattle.world.proofs.Numbering.{mapped, unmapped}
 use Rattle.world.proofs.run.World.nth_in.Goals as goal

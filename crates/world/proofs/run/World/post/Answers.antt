@@ -1,5 +1,5 @@
 use Rattle.std.proofs.Common.{◌∙◌, ap}
-use Rattle.homes.specs.instance.Steps.{can_post}
+use Rattle.instance.specs.Steps.{can_post}
 use Rattle.world.specs.Steps.{of_home}
 use Rattle.world.specs.View.{value_of}
 use Rattle.homes.specs.declared.homes.Home.{Home}

@@ -1,5 +1,5 @@
 use Rattle.std.proofs.Common.{◌≡◌, ◌∙◌, ap, subst}
-use Rattle.homes.specs.answers.Whole.{has_ended}
+use Rattle.instance.specs.answers.Whole.{has_ended}
 use Rattle.world.specs.View.{value_of}
 use Rattle.world.proofs.Going.{ended_so}
 use Rattle.world.proofs.run.World.quiet.Goals as goal

@@ -1,6 +1,6 @@
 use Rattle.std.proofs.Common.{◌∙◌, ap, arith}
 use Rattle.std.specs.Prelude.{option_and_then, slice_get}
-use Rattle.homes.specs.instance.Steps.{can_answer}
+use Rattle.instance.specs.Steps.{can_answer}
 use Rattle.world.specs.Steps.{of_home}
 use Rattle.world.specs.View.{value_of}
 use Rattle.homes.specs.declared.homes.Home.{Home}

@@ -1,8 +1,8 @@
 use Rattle.std.proofs.Common.{◌∙◌, ◌-◌, ◌++◌, ◌∷◌, [], None, false, ap, arith}
 use Rattle.std.specs.Prelude.{option_and_then, slice_get}
 use Rattle.std.specs.Option.{option_map_or}
-use Rattle.homes.specs.answers.declared.chronicle.Entry.TheVariants as entry
-use Rattle.homes.specs.answers.declared.chronicle.Reply.TheVariants as reply
+use Rattle.instance.specs.answers.declared.chronicle.Entry.TheVariants as entry
+use Rattle.instance.specs.answers.declared.chronicle.Reply.TheVariants as reply
 use Rattle.world.specs.Steps.{can_answer}
 use Rattle.world.specs.View.{value_of}
 use Rattle.homes.specs.declared.homes.Place.{Place}

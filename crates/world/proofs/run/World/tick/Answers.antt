@@ -1,7 +1,7 @@
 use Rattle.std.proofs.Common.{◌≡◌, ◌∙◌, ◌++◌, true, false, ap, sym, subst}
 use Rattle.std.proofs.lemmas.List.{with_items_is}
-use Rattle.homes.specs.answers.declared.steps.Step.TheVariants as step
-use Rattle.homes.specs.manager_rules.Times.{IsLeast}
+use Rattle.instance.specs.answers.declared.steps.Step.TheVariants as step
+use Rattle.instance.specs.manager_rules.Times.{IsLeast}
 use Rattle.world.specs.Advances.{Advances}
 use Rattle.homes.specs.Homes.{AreReady}
 use Rattle.world.specs.Sound.{IsSound}
