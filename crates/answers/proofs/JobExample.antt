@@ -50,7 +50,7 @@ abbrev by_urgency : Weights
 by_urgency = record { urgency = 1; cores = 0 }
 
 abbrev setup : Setup
-setup = record { size = 1; fanout = 2; hash = hash.Sha1; grant = codes "grant"; resources = no_resources; weights = by_urgency; birth = 0; work = work }
+setup = record { settled = true; size = 1; fanout = 2; hash = hash.Sha1; grant = codes "grant"; resources = no_resources; weights = by_urgency; birth = 0; work = work }
 
 abbrev e1 : Entry
 e1 = entry.Issued 0 0

@@ -26,9 +26,15 @@ run_options (word ∷ words) = if bytes_eq word (codes "run") then options_of wo
 abbrev pub AreRunWords : List (List ℕ) → Type 0
 AreRunWords words = run_options words ≢ None
 
+-- a run makes every step that can be made before the next command is issued, unless its words ask
+-- for a drawn order
+abbrev pub is_settled : Options → Bool
+is_settled o = not (is_some o.shuffle)
+
 -- what a run of the workload is given: its options, its grant and the weights of its jobs' factors
 abbrev pub setup_of : Weights → Options → Workload → Setup
 setup_of weights o work = record {
+  settled = is_settled o;
   size = o.size;
   fanout = o.fanout;
   hash = o.hash;
@@ -38,11 +44,6 @@ setup_of weights o work = record {
   birth = 0;
   work = work;
 }
-
--- a run makes every step that can be made before the next command is issued, unless its words ask
--- for a drawn order
-abbrev pub is_settled : Options → Bool
-is_settled o = not (is_some o.shuffle)
 
 -- the order in which a run makes its steps
 abbrev pub schedule_of : Options → Schedule

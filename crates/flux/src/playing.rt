@@ -98,9 +98,7 @@ fn begun(
         fanout: options.fanout,
         hash: options.hash,
     };
-    let mut world = World::new(alloc, setting, weights, work)?;
-    world.schedule(schedule_of(options));
-    Ok(world)
+    World::new(alloc, setting, weights, work, schedule_of(options))
 }
 
 /// Makes the run of a workload.

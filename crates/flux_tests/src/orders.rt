@@ -23,7 +23,7 @@ const WORK: &str =
     "actor a 1\nactor b 3\na put k x\nb put l y\na commit\nb commit\na get k\nb get l\n";
 
 /// The world of a workload's text, before anything has happened.
-fn begin(alloc: Global, text: &str) -> Result<World, Fail>
+fn begin(alloc: Global, text: &str, how: Schedule) -> Result<World, Fail>
     ensures { IfOk result (λ world. (world.spent ≡ false) × (world.steps ≡ [])) }
 {
     let work = read(alloc, text.as_bytes(), SETTING.size)?;
@@ -31,7 +31,7 @@ fn begin(alloc: Global, text: &str) -> Result<World, Fail>
     spelled_commands_are_built();
     spelled_labels_are_their_own();
     spelled_tallies_are_kept();
-    Ok(World::new(alloc, SETTING, Weights::URGENCY, work)?)
+    Ok(World::new(alloc, SETTING, Weights::URGENCY, work, how)?)
 }
 
 /// Makes the next step for as long as there is one.
@@ -50,8 +50,7 @@ fn follow(world: &mut World) -> Result<(), Fail>
 
 /// The steps of a run in this order.
 fn steps_of(alloc: Global, how: Schedule) -> Result<Vec<Step>, Fail> {
-    let mut world = begin(alloc, WORK)?;
-    world.schedule(how);
+    let mut world = begin(alloc, WORK, how)?;
     match follow(&mut world) {
         Ok(()) => {
             let Ended { steps, .. } = world.finish();

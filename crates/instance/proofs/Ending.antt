@@ -15,7 +15,8 @@ use Rattle.services.specs.kvs_rules.Sequence.{EachAfter}
 use Rattle.services.specs.kvs_rules.Log.{Log, is_asked, is_landed, is_denied}
 use Rattle.services.specs.kvs_rules.Namespaces.{landed, is_live}
 use Rattle.services.specs.kvs_rules.Brokers.{heard}
-use Rattle.services.specs.kvs_rules.Quiet.{IsMember, IsQuiet}
+use Rattle.services.specs.kvs_rules.Landings.{IsMember}
+use Rattle.services.specs.kvs_rules.Quiet.{IsQuiet}
 use Rattle.services.proofs.kvs_rules_proofs.Sequences.{each_joined}
 use Rattle.services.specs.workload.declared.work.Command.{Command}
 use Rattle.services.specs.workload.declared.work.Command.TheVariants as command

@@ -32,6 +32,7 @@ use Rattle.services.specs.job_service.Value.{JobServiceValue}
 use Rattle.services.specs.Value.{ServicesValue}
 use Rattle.services.specs.Agrees.{AgreesServices}
 use Rattle.services.specs.Asks.{Keeps, MayAsk}
+use Rattle.services.specs.kvs_core.Requests.{AsksAtRest}
 use Rattle.services.specs.workload.declared.work.Command.{Command}
 use Rattle.services.specs.workload.declared.work.Command.TheVariants as command
 use Rattle.services.specs.workload.declared.work.Line.{Line}
@@ -534,10 +535,10 @@ module _ (v : Own) (h : DoesAgree v) (a : ℕ) (seat : Seat) (is : IsIssuing v a
             on ordered.Shutdown same kept = none_counted (subst CountsNone (sym (ap asked_in same)) (refl, refl)) kept
 
         pub issue_follows_so : (middle services : ServicesValue) → Keeps v.instance.services middle → CountsIn job middle services →
-            ((i : Instance) (l : InstanceLog) → AgreesServices v.instance.services i l → IsTheAsk i.service by begun_seat asked → is_asked by (service_of l) ≡ false → AgreesServices middle i (l ++ map Served (moment_asked by seen asked))) →
+            ((i : Instance) (l : InstanceLog) → AgreesServices v.instance.services i l → IsTheAsk i.service by begun_seat asked → is_asked by (service_of l) ≡ false → AsksAtRest i.service v.instance.services.jobs.manager.core → AgreesServices middle i (l ++ map Served (moment_asked by seen asked))) →
             ((i : Instance) (l : InstanceLog) → AgreesServices middle i l → IsNewOrder i l by seat.broker job → AgreesServices services i (l ++ orders_of by job)) →
-            Follows v.set v.chronicle (step.Issue a) (issued_instance services) (e ∷ [])
-        issue_follows_so middle services keeps counts asks orders = record {
+            AsksAtRest inst.service v.instance.services.jobs.manager.core → Follows v.set v.chronicle (step.Issue a) (issued_instance services) (e ∷ [])
+        issue_follows_so middle services keeps counts asks orders rested = record {
           made = record { command = seat.issued; behind = []; split = refl; others = tt };
           legal = (legal_issue, tt);
           settled = λ told. (told tt, tt);
@@ -550,7 +551,7 @@ module _ (v : Own) (h : DoesAgree v) (a : ℕ) (seat : Seat) (is : IsIssuing v a
             legal = each_push (IsLegalEntry v.set) v.chronicle e h.legal legal_issue;
             early = each_append IsEarlierEntry v.chronicle (e ∷ []) h.early (tt, tt);
             agrees = subst (AgreesServices services inst) (sym log_ordered)
-                (orders inst asked_now (asks inst now h.agrees (issue_asks asked eq).0 (issue_asks asked eq).1) new_command);
+                (orders inst asked_now (asks inst now h.agrees (issue_asks asked eq).0 (issue_asks asked eq).1 rested) new_command);
             actors = λ b. subst (λ l. ActorStands v.set l (v.chronicle ++ e ∷ []) b (slice_get (set v.instance.seats a issued_seat) b)) (sym log_issued) (actors_so b);
           };
         }
@@ -573,25 +574,25 @@ pub record IsIssued (v : Own) (a : ℕ) (seat begun : Seat) (d : Line) (asked : 
   pub keeps : Keeps v.instance.services middle
   pub counts : CountsIn job middle services
   pub asks : (i : Instance) (l : InstanceLog) → AgreesServices v.instance.services i l → IsTheAsk i.service (command_of a seat.issued) begun asked → is_asked (command_of a seat.issued) (service_of l) ≡ false
-      → AgreesServices middle i (l ++ map Served (moment_asked (command_of a seat.issued) (seat_floor begun) asked))
+      → AsksAtRest i.service v.instance.services.jobs.manager.core → AgreesServices middle i (l ++ map Served (moment_asked (command_of a seat.issued) (seat_floor begun) asked))
   pub orders : (i : Instance) (l : InstanceLog) → AgreesServices middle i l → IsNewOrder i l (command_of a seat.issued) begun.broker job → AgreesServices services i (l ++ orders_of (command_of a seat.issued) job)
 
 -- the same, with the seat as the code has it
 pub issue_follows : (v : Own) → DoesAgree v → (a : ℕ) (seat begun : Seat) (d : Line) (asked : Option KvsAsk) (job : Ordered) (next : ℕ) (middle services : ServicesValue) → IsIssued v a seat begun d asked job next middle services →
-    (es : List Entry) → es ≡ entry.Issued a seat.issued ∷ [] →
+    AsksAtRest (instance_of v.set).service v.instance.services.jobs.manager.core → (es : List Entry) → es ≡ entry.Issued a seat.issued ∷ [] →
     Follows v.set v.chronicle (step.Issue a) (record {
       spent = false;
       services = services;
       seats = set v.instance.seats a (record { broker = begun.broker; next = next; last = begun.next; issued = seat.issued + 1; waiting = begun.waiting; staged = begun.staged; space = begun.space; subject = begun.subject; floors = begun.floors });
     }) es
-issue_follows v h a seat begun d asked job next middle services s es same =
+issue_follows v h a seat begun d asked job next middle services s rested es same =
     let begun_next : begun.next ≡ seat.next = ap (λ x. x.next) s.began in
     let by = command_of a seat.issued in
-    let asks_so = subst (λ (b : Seat). (i : Instance) (l : InstanceLog) → AgreesServices v.instance.services i l → IsTheAsk i.service by b asked → is_asked by (service_of l) ≡ false → AgreesServices middle i (l ++ map Served (moment_asked by (seat_floor b) asked))) s.began s.asks in
+    let asks_so = subst (λ (b : Seat). (i : Instance) (l : InstanceLog) → AgreesServices v.instance.services i l → IsTheAsk i.service by b asked → is_asked by (service_of l) ≡ false → AsksAtRest i.service v.instance.services.jobs.manager.core → AgreesServices middle i (l ++ map Served (moment_asked by (seat_floor b) asked))) s.began s.asks in
     let orders_so = subst (λ (b : Seat). (i : Instance) (l : InstanceLog) → AgreesServices middle i l → IsNewOrder i l by b.broker job → AgreesServices services i (l ++ orders_of by job)) s.began s.orders in
     let after = subst (λ n. n + 1 ≤ next) begun_next s.after in
     let passed : (k : ℕ) (l : Line) → seat.next + 1 ≤ k → k < next → (get_or v.set.work.lines k l).actor ≢ a = λ k l low. s.passed k l (subst (λ n. n + 1 ≤ k) (sym begun_next) low) in
-    let so = issue_follows_so v h a seat s.is d asked s.eq job s.jeq next after s.within passed s.here middle services s.keeps s.counts asks_so orders_so in
+    let so = issue_follows_so v h a seat s.is d asked s.eq job s.jeq next after s.within passed s.here middle services s.keeps s.counts asks_so orders_so rested in
     subst (λ b. Follows v.set v.chronicle (step.Issue a) (record { spent = false; services = services; seats = set v.instance.seats a (record { broker = b.broker; next = next; last = b.next; issued = seat.issued + 1; waiting = b.waiting; staged = b.staged; space = b.space; subject = b.subject; floors = b.floors }) }) es) (sym s.began)
     (subst (Follows v.set v.chronicle (step.Issue a) (issued_instance v h a seat s.is d asked s.eq job s.jeq next after s.within passed s.here services)) (sym same) so)
 
@@ -603,9 +604,9 @@ issuing_at v lines a seat same can at =
 
 -- so the services may be asked
 pub may_ask : (services : ServicesValue) (i : Instance) (l : InstanceLog) → AgreesServices services i l → (b : By) (seat : Seat) (asked : Option KvsAsk) → IsTheAsk i.service b seat asked → is_asked b (service_of l) ≡ false →
-    IfSome asked (MayAsk services b seat.broker seat.subject)
-may_ask services i l agrees b seat None made fresh = tt
-may_ask services i l agrees b seat (Some x) made fresh = record { inst = i; log = l; agrees = agrees; new = record { asks = made; new = fresh } }
+    AsksAtRest i.service services.jobs.manager.core → IfSome asked (MayAsk services b seat.broker seat.subject)
+may_ask services i l agrees b seat None made fresh rested = tt
+may_ask services i l agrees b seat (Some x) made fresh rested = record { inst = i; log = l; agrees = agrees; new = record { asks = made; new = fresh; rested = rested } }
 
 -- and so the command may be issued, if it is one on jobs or on time
 pub may_issue : (services : ServicesValue) (i : Instance) (l : InstanceLog) → AgreesServices services i l → (b : By) (broker : ℕ) (job : Ordered) → IsNewOrder i l b broker job → IfAsked job (MayIssue services.jobs b broker)

@@ -12,7 +12,8 @@ use Rattle.services.specs.kvs_rules.declared.events.KvsAsk.{KvsAsk}
 use Rattle.services.specs.kvs_rules.declared.events.KvsAsk.TheVariants as ask
 use Rattle.services.specs.kvs_rules.Namespaces.{Request, Setting, is_live, landed}
 use Rattle.services.specs.kvs_rules.Log.{Log}
-use Rattle.services.specs.kvs_rules.Quiet.{IsLeft as IsLeftAsk, IsMember, IsShortFence}
+use Rattle.services.specs.kvs_rules.Landings.{IsMember}
+use Rattle.services.specs.kvs_rules.Quiet.{IsLeft as IsLeftAsk, IsShortFence}
 use Rattle.services.specs.workload.declared.work.Command.{Command}
 use Rattle.services.specs.workload.declared.work.Command.TheVariants as command
 use Rattle.services.specs.workload.declared.work.Line.{Line}

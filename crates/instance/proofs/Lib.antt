@@ -17,6 +17,7 @@ mod Bearing
 mod Commanding
 mod Replying
 mod Issuing
+mod Rested
 mod Starting
 mod Seating
 mod Ranges

@@ -11,6 +11,7 @@ use Rattle.services.specs.job_service.Agrees.{HasRoom, MayIssue}
 use Rattle.services.specs.job_service.Times.{HasTime}
 use Rattle.services.specs.Agrees.{AgreesServices}
 use Rattle.services.specs.Asks.{Keeps, MayAsk}
+use Rattle.services.specs.kvs_core.Requests.{AsksAtRest}
 use Rattle.services.specs.Value.{ServicesValue}
 use Rattle.services.specs.workload.declared.work.Command.{Command}
 use Rattle.services.specs.workload.declared.work.Line.{Line}
@@ -22,12 +23,14 @@ use Rattle.services.specs.answers.Jobs.{instance_of, job_ask_of, log_in}
 use Rattle.instance.specs.declared.seats.Seat.{Seat}
 use Rattle.instance.specs.declared.jobs.Ordered.{Ordered}
 use Rattle.instance.specs.Jobs.{IfAsked, asked_in}
-use Rattle.instance.specs.Agrees.{AgreesOwn, AreLinesOf, command_of}
+use Rattle.instance.specs.Agrees.{AgreesOwn, command_of}
+use Rattle.instance.specs.Makes.{IssuesAtRest, MayIssueOf}
 use Rattle.instance.specs.Seats.{IsTheAsk, moment_asked, ops_after, seat_floor, space_after, waiting_after}
 use Rattle.instance.specs.Steps.{can_issue}
 use Rattle.instance.specs.Value.{InstanceValue}
 use Rattle.instance.proofs.Issuing.{IsIssuing, asked_now, begun_seat, issue_asks, issued_small, issuer, issuer_broker, issuing_at, known_next, may_ask, may_issue, new_command, next_small, room_so, time_so}
 use Rattle.instance.proofs.Owning.{Own, DoesAgree, own_of}
+use Rattle.instance.proofs.Rested.{core_rests}
 
 -- the actor's command and its seat once that has begun
 abbrev pub command_in : List Line → Seat → Line → Command
@@ -48,14 +51,16 @@ pub record IsStarting (w : InstanceValue) (lines : List Line) (a : ℕ) (seat : 
   pub agrees : DoesAgree (own_of w set own)
   pub same : set.work.lines ≡ lines
   pub is : IsIssuing (own_of w set own) a seat
+  pub rested : AsksAtRest (instance_of set).service w.services.jobs.manager.core
 
-pub starting : (w self : InstanceValue) (lines : List Line) (a : ℕ) (seat : Seat) → w ≡ self → AreLinesOf self lines → can_issue lines self a ≡ true → seat ≡ get_or w.seats a seat → IsStarting w lines a seat
-starting w self lines a seat view (set, own, agrees, same) can at = record {
+pub starting : (w self : InstanceValue) (lines : List Line) (a : ℕ) (seat : Seat) → w ≡ self → MayIssueOf self lines → can_issue lines self a ≡ true → seat ≡ get_or w.seats a seat → IsStarting w lines a seat
+starting w self lines a seat view (set, own, agrees, same, rest) can at = record {
   set = set;
   own = own;
   agrees = subst (λ x. AgreesOwn x set own) (sym view) agrees;
   same = same;
   is = issuing_at (own_of w set own) lines a seat same (subst (λ x. can_issue lines x a ≡ true) (sym view) can) at;
+  rested = core_rests (own_of w set own) (subst (λ x. AgreesOwn x set own) (sym view) agrees) (subst (IssuesAtRest set) (sym view) rest);
 }
 
 module _ (w : InstanceValue) (lines : List Line) (a : ℕ) (seat : Seat) (s : IsStarting w lines a seat) where
@@ -95,18 +100,18 @@ module _ (w : InstanceValue) (lines : List Line) (a : ℕ) (seat : Seat) (s : Is
           (subst (λ b. IsTheAsk (instance_of s.set).service (command_of a seat.issued) b asked) (sym begun_so) asks.0, asks.1)
 
       pub start_asks : IfSome asked (MayAsk w.services (command_of a seat.issued) begun.broker begun.subject)
-      start_asks = may_ask w.services (instance_of s.set) (log_in s.set.work s.own) s.agrees.agrees (command_of a seat.issued) begun asked the_ask.0 the_ask.1
+      start_asks = may_ask w.services (instance_of s.set) (log_in s.set.work s.own) s.agrees.agrees (command_of a seat.issued) begun asked the_ask.0 the_ask.1 s.rested
 
       -- what is asked of the job manager and of time
       module _ (job : Ordered) (jeq : asked_in job ≡ job_ask_of (command_in lines seat d)) (middle : ServicesValue) (keeps : Keeps w.services middle)
           (asks : (i : Instance) (l : Log) → AgreesServices w.services i l → IsTheAsk i.service (command_of a seat.issued) begun asked → is_asked (command_of a seat.issued) (service_of l) ≡ false
-          → AgreesServices middle i (l ++ map Served (moment_asked (command_of a seat.issued) (seat_floor begun) asked))) where
+          → AsksAtRest i.service w.services.jobs.manager.core → AgreesServices middle i (l ++ map Served (moment_asked (command_of a seat.issued) (seat_floor begun) asked))) where
         job_so : asked_in job ≡ job_ask_of (command_in s.set.work.lines seat d)
         job_so = jeq ∙ ap (λ ls. job_ask_of (command_in ls seat d)) (sym s.same)
 
         agrees_then : AgreesServices middle (instance_of s.set) (asked_now v s.agrees a seat s.is d asked asked_so job job_so)
         agrees_then = subst (λ b. AgreesServices middle (instance_of s.set) (log_in s.set.work s.own ++ map Served (moment_asked (command_of a seat.issued) (seat_floor b) asked))) begun_so
-            (asks (instance_of s.set) (log_in s.set.work s.own) s.agrees.agrees the_ask.0 the_ask.1)
+            (asks (instance_of s.set) (log_in s.set.work s.own) s.agrees.agrees the_ask.0 the_ask.1 s.rested)
 
         pub start_orders : IfAsked job (MayIssue middle.jobs (command_of a seat.issued) begun.broker)
         start_orders = subst (λ b. IfAsked job (MayIssue middle.jobs (command_of a seat.issued) b)) (sym (ap (λ (x : Seat). x.broker) begun_so))

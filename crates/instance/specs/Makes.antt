@@ -1,5 +1,5 @@
 -- What a step of an instance makes.
-use Rattle.std.specs.Prelude.{◌≡◌, ℕ, Bool, List, [], ◌∷◌, ◌++◌}
+use Rattle.std.specs.Prelude.{◌≡◌, ℕ, Bool, IsTrue, List, [], ◌∷◌, ◌++◌}
 use Rattle.std.specs.List.{AllByRecursion as Each}
 use Rattle.services.specs.kvs_rules.Sequence.{EachAfter}
 use Rattle.services.specs.workload.declared.work.Line.{Line}
@@ -13,7 +13,7 @@ use Rattle.services.specs.answers.Legal.{HasSettled, IsLegalEntry, SettlesFirst}
 use Rattle.services.specs.answers.Stretches.{IsStretch}
 use Rattle.services.specs.answers.Whole.{IsClosingEntry, IsWhole}
 use Rattle.instance.specs.Agrees.{AgreesOwn}
-use Rattle.instance.specs.Steps.{IsStart}
+use Rattle.instance.specs.Steps.{IsAtRest, IsStart}
 use Rattle.instance.specs.Value.{InstanceValue}
 
 -- the entries are those that the step may make after the chronicle, each is legal, and the instance
@@ -31,10 +31,21 @@ abbrev pub Makes : InstanceValue → Step → InstanceValue → List Entry → T
 Makes old s new entries = (set : Setup) (own : List Entry)
     → AgreesOwn old set own → Follows set own s new entries
 
--- the entries follow every chronicle that agrees, where the workload has these lines
+-- the instance is at rest, if the run is settled
+abbrev pub IssuesAtRest : Setup → InstanceValue → Type 0
+IssuesAtRest set v = IsTrue set.settled → IsAtRest v
+
+-- the lines are those of a workload with which the instance stands, and a command may be issued
+abbrev pub MayIssueOf : InstanceValue → List Line → Type 0
+MayIssueOf v lines = (set : Setup) × (own : List Entry)
+    × AgreesOwn v set own × (set.work.lines ≡ lines) × IssuesAtRest set v
+
+-- the entries of an issue follow every chronicle that agrees, where the workload has these lines
+-- and a settled run has come to rest
 abbrev pub MakesOf : List Line → InstanceValue → Step → InstanceValue → List Entry → Type 0
 MakesOf lines old s new entries = (set : Setup) (own : List Entry)
-    → AgreesOwn old set own → set.work.lines ≡ lines → Follows set own s new entries
+    → AgreesOwn old set own → set.work.lines ≡ lines → IssuesAtRest set old
+    → Follows set own s new entries
 
 -- the birth of the child of a job follows every chronicle that agrees, with whatever the run tells
 -- of the child

@@ -19,7 +19,7 @@ ghost use Rattle.instance.specs.Closings.{closings, numbers_in};
 ghost use Rattle.instance.specs.Family.{bearing, is_due};
 ghost use Rattle.instance.specs.First.{AreFirstSeats};
 ghost use Rattle.instance.specs.Floors.{floor_in, risen_in};
-ghost use Rattle.instance.specs.Makes.{Ends, Makes, MakesOf};
+ghost use Rattle.instance.specs.Makes.{Ends, Makes, MakesOf, MayIssueOf};
 ghost use Rattle.instance.specs.Order.{answers, issues};
 ghost use Rattle.instance.specs.Replies.{IsGiven};
 ghost use Rattle.instance.specs.Seats.{has_come, is_telling};
@@ -313,10 +313,11 @@ impl Instance {
     }
 
     /// Issues the next command of an actor, of the workload with these lines, and gives what
-    /// happened. After an error the instance is spent.
+    /// happened; in a settled run the instance is at rest then. After an error the instance is
+    /// spent.
     pub fn issue(&mut self, lines: &[Line], actor: u32) -> Result<Chronicle, AllocError>
         requires ready { self.old.spent ≡ false }
-        requires lines { AreLinesOf self.old lines.now }
+        requires lines { MayIssueOf self.old lines.now }
         requires can { can_issue lines.now self.old actor ≡ true }
         ensures ready { OnOk result (self.new.spent ≡ false) }
         ensures makes { IfOk result (MakesOf lines.now self.old (Step.Issue actor) self.new) }

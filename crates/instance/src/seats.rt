@@ -6,6 +6,7 @@ ghost use Rattle.services.specs.kvs_rules.Log.{is_asked};
 ghost use Rattle.services.specs.instance_rules.Log.{Instance, Log, Served, service_of};
 ghost use Rattle.services.specs.Agrees.{AgreesServices};
 ghost use Rattle.services.specs.Asks.{IsServedAsk, Keeps, MayAsk};
+ghost use Rattle.services.specs.kvs_core.Requests.{AsksAtRest};
 ghost use Rattle.services.specs.workload.Laws.{IsBuilt};
 ghost use Rattle.services.specs.kvs_txn.Staged.{most_ops};
 ghost use Rattle.services.specs.answers.Commands.{ask_of, op_of, subject_of};
@@ -256,6 +257,7 @@ pub fn ask(
     ensures agrees { OnOk result ((inst : Instance) (log : Log)
         → AgreesServices services.old inst log
         → IsTheAsk inst.service by seat.now asked → is_asked by (service_of log) ≡ false
+        → AsksAtRest inst.service services.old.jobs.manager.core
         → AgreesServices services.new inst
         (log ++ map Served (moment_asked by (seat_floor seat.now) asked))) }
 {

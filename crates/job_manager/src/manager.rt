@@ -4,6 +4,7 @@ ghost use Rattle.std.specs.List.{list_any};
 ghost use Rattle.kvs_core.specs.Agrees.{Agrees};
 ghost use Rattle.kvs_core.specs.Makes.{Makes};
 ghost use Rattle.kvs_core.specs.Posted.{groups_in};
+ghost use Rattle.kvs_core.specs.Requests.{AsksAtRest};
 ghost use Rattle.kvs_core.specs.Steps.{can_step, can_take};
 ghost use Rattle.kvs_requests.specs.Rows.{IsKnownAsk};
 ghost use Rattle.kvs_rules.specs.Answers.{IsLegalAnswer};
@@ -149,7 +150,8 @@ impl Manager {
         ensures spent { OnErr result (self.new.spent ≡ true) }
         ensures agrees { OnOk result ((set : Service) (log : Log) → Agrees self.old.core set log
             → set.asks by ≡ Some (record { broker = broker; namespace = namespace; ask = ask })
-            → is_asked by log ≡ false → Agrees self.new.core set (log ++ AskedAt by floor ∷ [])) }
+            → is_asked by log ≡ false → AsksAtRest set self.old.core
+            → Agrees self.new.core set (log ++ AskedAt by floor ∷ [])) }
     {
         self.spent = true;
         // the core's newest store is the one that its log leaves

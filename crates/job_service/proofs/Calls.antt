@@ -158,7 +158,7 @@ module _ (v : JobServiceValue) (inst : Instance) (log : Log) (a : AgreesJobs v i
       (subst (IsLegalLog inst.service) (sym same) (legal_joined inst.service [] (service_of log) (m ∷ []) a.legal legal))
       f
 
-  pub asked_agrees : (spent : Bool) (manager : ManagerValue) (by : By) (broker floor : ℕ) (space : Name) (asked : KvsAsk) → Keeps v.manager manager → IsNewAsk inst log by broker space asked
+  pub asked_agrees : (spent : Bool) (manager : ManagerValue) (by : By) (broker floor : ℕ) (space : Name) (asked : KvsAsk) → Keeps v.manager manager → IsNewAsk v inst log by broker space asked
       → Agrees manager.core inst.service (service_of log ++ service.Asked by floor ∷ []) → AgreesJobs (with_parts v spent manager v.commands v.refused v.found v.submitted) inst (log ++ Served (service.Asked by floor) ∷ [])
   asked_agrees spent manager by broker floor space asked keeps new core =
       served spent manager (service.Asked by floor) keeps (((record { broker = broker; namespace = space; ask = asked }, new.asks), new.new), tt) core
@@ -230,7 +230,7 @@ module _ (spent : Bool) (weights : Weights) (birth size fanout : ℕ) (grant : R
   -- an instance without commands
   abbrev plain : Instance
   plain = record {
-    service = record { size = size; fanout = fanout; hash = Sha1; grant = r_text grant; asks = λ by. None };
+    service = record { settled = false; size = size; fanout = fanout; hash = Sha1; grant = r_text grant; asks = λ by. None };
     birth = birth;
     grant = grant;
     answer = priority_by weights;

@@ -1,6 +1,7 @@
 -- When a job service stands where the log of an instance leaves it.
 use Rattle.std.specs.Prelude.{◌≡◌, ℕ, ◌<◌, false, IsSome, Some, None, Contains}
 use Rattle.kvs_core.specs.Agrees.{Agrees}
+use Rattle.kvs_core.specs.Requests.{AsksAtRest}
 use Rattle.kvs_rules.specs.Answers.{IsLegalLog}
 use Rattle.kvs_rules.specs.Log.{is_asked}
 use Rattle.kvs_rules.specs.declared.events.KvsAsk.{KvsAsk}
@@ -89,7 +90,7 @@ pub record MayIssue (v : JobServiceValue) (by : By) (rank : ℕ) (asked : JobAsk
   pub new : IsNewCommand inst log by rank asked
 
 -- the command asks this of the service, and hasn't done so yet
-pub record IsNewAsk (inst : Instance) (log : Log) (by : By)
+pub record IsNewAsk (v : JobServiceValue) (inst : Instance) (log : Log) (by : By)
     (broker : ℕ) (space : Name) (asked : KvsAsk) : Type 0 where
   pub asks : inst.service.asks by ≡ Some (record {
     broker = broker;
@@ -97,6 +98,7 @@ pub record IsNewAsk (inst : Instance) (log : Log) (by : By)
     ask = asked;
   })
   pub new : is_asked by (service_of log) ≡ false
+  pub rested : AsksAtRest inst.service v.manager.core
 
 -- so in the log of some instance
 pub record MayAsk (v : JobServiceValue) (by : By) (broker : ℕ)
@@ -104,4 +106,4 @@ pub record MayAsk (v : JobServiceValue) (by : By) (broker : ℕ)
   pub inst : Instance
   pub log : Log
   pub agrees : AgreesJobs v inst log
-  pub new : IsNewAsk inst log by broker space asked
+  pub new : IsNewAsk v inst log by broker space asked

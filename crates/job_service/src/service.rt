@@ -168,7 +168,7 @@ impl JobService {
         ensures counts { OnOk result (KeepsCounts self.old self.new) }
         ensures spent { OnErr result (self.new.spent ≡ true) }
         ensures agrees { OnOk result ((inst : Instance) (log : Log) → AgreesJobs self.old inst log
-            → IsNewAsk inst log by broker namespace ask
+            → IsNewAsk self.old inst log by broker namespace ask
             → AgreesJobs self.new inst (log ++ Served (AskedAt by floor) ∷ [])) }
     {
         self.spent = true;

@@ -114,7 +114,7 @@ module _ {v : CoreValue} (s : IsSound v) {set₀ : Setting} {log : Log} (a : Agr
       (λ k d l. each-map (IsFreshCommand set₀ log) (λ b. IsAside b (Asked by floor)) (waiting (queued (get_or v.spaces k d).merger)) (a.spaces k d l).fresh.fresh
       (λ b p. aside-asked b by floor (λ e. true≢false (sym (p.asked (ap (λ x. is_some (set₀.asks x)) e ∙ some)) ∙ ap (λ x. is_asked x log) e ∙ fresh))))
 
-  asked-now : is_asked by (log ++ Asked by floor ∷ []) ≡ true
+  pub asked-now : is_asked by (log ++ Asked by floor ∷ []) ≡ true
   asked-now = any_push (asks_now by) log (Asked by floor) ∙ ap (λ x. is_asked by log || x) asks-itself ∙ or-true (is_asked by log)
     where
       or-true : (b : Bool) → (b || true) ≡ true

@@ -26,7 +26,8 @@ use Rattle.kvs_core.proofs.Carried.{waiting, each-join}
 use Rattle.kvs_core.proofs.Counting.{times, one_if, pushed-times}
 use Rattle.kvs_core.proofs.Moving.{found-there}
 use Rattle.kvs_core.proofs.Queueing.{waiting-posts}
-use Rattle.kvs_core.proofs.Taking.{joined-sound, joined-order, joined-fewer, joined-agrees, arrived-staged, asks-there, named-so, placed-ask}
+use Rattle.kvs_core.proofs.Taking.{joined-sound, joined-order, joined-fewer, joined-agrees, arrived-staged, asks-there, named-so, placed-ask, row-agrees}
+use Rattle.kvs_core.proofs.Turns.{asks-once, fence-not-commit, unrivalled-else}
 
 -- the group of a commit
 solo-txn : (txn : Txn) (by : By) → (group_of [] (record { actor = by.actor; command = by.command; txn = txn })).txn ≡ txn

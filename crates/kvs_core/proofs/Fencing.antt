@@ -1,5 +1,7 @@
 -- A member of a fence joins it in the namespace of its name.
-use Rattle.std.proofs.Common.{◌≡◌, ℕ, ◌<◌, ◌+◌, List, [], length, Bool, true, false, Some, None, option_map, sym, ap, subst, get_or, set}
+use Rattle.std.proofs.Common.{◌≡◌, ◌∙◌, ℕ, ◌<◌, ◌+◌, ◌==◌, inl, inr, List, [], length, Bool, true, false, if◌then◌else◌, Some, None, option_map, refl, sym, ap, subst, get_or, set}
+use Rattle.std.specs.Prelude.{IsTrue}
+use Rattle.std.proofs.lemmas.Bool.{cases_eq}
 use Rattle.std.specs.List.{position, AllByRecursion as Each}
 use Rattle.kvs_txn.specs.declared.txn.By.{By}
 use Rattle.kvs_txn.specs.declared.txn.Txn.{Txn}
@@ -9,7 +11,10 @@ use Rattle.fence_merge.specs.Merging.{joined}
 use Rattle.kvs_rules.specs.declared.events.KvsAsk.TheVariants as ask
 use Rattle.kvs_rules.specs.Log.{Log}
 use Rattle.kvs_rules.specs.Namespaces.{Setting}
-use Rattle.kvs_rules.specs.Landings.{IsUser}
+use Rattle.kvs_rules.specs.Landings.{IsUnrivalled, IsUser}
+use Rattle.kvs_model.specs.Store.{Name}
+use Rattle.kvs_requests.specs.Agreement.{RowAgrees}
+use Rattle.kvs_space.proofs.Finding.{eq-is}
 use Rattle.kvs_requests.specs.declared.rows.Row.{Row}
 use Rattle.kvs_requests.specs.declared.rows.Stage.TheVariants as stage
 use Rattle.kvs_requests.specs.declared.rows.Work.TheVariants as work
@@ -26,7 +31,10 @@ use Rattle.kvs_core.proofs.Counting.{times, one_if, joined-times}
 use Rattle.kvs_core.proofs.Moving.{found-there}
 use Rattle.kvs_core.proofs.Queueing.{waiting-posts}
 use Rattle.kvs_core.proofs.Joining.{joined-users, joined-posts, joined-taken, joined-joining, joined-kinds, whole-user}
-use Rattle.kvs_core.proofs.Taking.{joined-sound, joined-order, joined-fewer, joined-agrees, arrived-staged, asks-there, named-so, placed-ask}
+use Rattle.kvs_core.proofs.Taking.{joined-sound, joined-order, joined-fewer, joined-agrees, arrived-staged, asks-there, named-so, placed-ask, row-agrees}
+use Rattle.kvs_core.specs.Turns.{HasFence, is_coming_stage}
+use Rattle.kvs_core.proofs.Delivering.{other-names}
+use Rattle.kvs_core.proofs.Turns.{asks-once, comes-last, some-same, waited-other}
 
 module _ {v : CoreValue} (s : IsSound v) (i : ℕ) (within : i < length v.rows) (row : Row) (read : row ≡ get_or v.rows i row) (k : ℕ) (found : Some k ≡ position (is_named row.namespace) v.spaces) (name : List ℕ) (count : ℕ) (txn : Txn)
     (is : row.stage ≡ stage.Arrived (ask.Fence name count txn)) (old new : SpaceValue) (read-space : old ≡ get_or v.spaces k old)

@@ -422,7 +422,7 @@ module _ {v : CoreValue} (s : IsSound v) (i : ℕ) (within : i < length v.rows) 
         (agrees-of {v = record { spent = false; size = v.size; fanout = v.fanout; grant = v.grant; spaces = set (set v.spaces k between) k new; rows = set items i new-row }} head there
         (λ settled. turns-quiet (turns-happened (turns-happened (a.turns settled) (event.Landed old.name (suc (landed log old.name)) (Some row.by ∷ []) [])) (event.Heard 0 old.name (suc (landed log old.name)))) (set (set v.spaces k between) k new) (set items i new-row)
         (nobody-comes (a.turns settled) a.apart i within row read (ap is_coming_stage is) (set items i new-row)
-        (from-from (set-from items i here new-row (λ e. by-there s i within row read e ∙ sym (dismissed-by v.fanout k (get_or v.rows i e) (get_or items i e) (all.each i e within))) (λ c. absurd (true≢false (sym c)))) (dismissed-from v.fanout k v.rows items all))
+        (from-from (set items i new-row) items v.rows (set-from items i here new-row (λ e. by-there s i within row read e ∙ sym (dismissed-by v.fanout k (get_or v.rows i e) (get_or items i e) (all.each i e within))) (λ c. absurd (true≢false (sym c)))) (dismissed-from v.fanout k v.rows items all))
         (λ l c. true≢false (sym (c row) ∙ ap (λ x. is_coming_stage x.stage) (get_or-set_same items i new-row row here)))))))))
       where
         here : i < length items

@@ -163,14 +163,14 @@ coming-from per by c =
     let q = per c.place c.within c.comes in
     record { place = c.place; within = q.0; is = λ d. sym (q.1 d).0 ∙ c.is d; comes = λ d. (q.1 d).1 }
 
-pub from-from : {rows₂ rows₁ rows : List Row} → ((j : ℕ) → ComesFrom rows₂ rows₁ j) → ((j : ℕ) → ComesFrom rows₁ rows j) → (j : ℕ) → ComesFrom rows₂ rows j
-from-from later earlier j l c =
+pub from-from : (rows₂ rows₁ rows : List Row) → ((j : ℕ) → ComesFrom rows₂ rows₁ j) → ((j : ℕ) → ComesFrom rows₁ rows j) → (j : ℕ) → ComesFrom rows₂ rows j
+from-from rows₂ rows₁ rows later earlier j l c =
     let q = later j l c in
     let p = earlier j q.0 (λ d. (q.1 d).1) in
     (p.0, λ d. ((q.1 d).0 ∙ (p.1 d).0, (p.1 d).1))
 
-pub each-from : {rows₁ rows : List Row} → length rows₁ ≡ length rows → ((j : ℕ) (d : Row) → j < length rows → ((get_or rows₁ j d).by ≡ (get_or rows j d).by) × (is_coming_stage (get_or rows₁ j d).stage ≡ true → is_coming_stage (get_or rows j d).stage ≡ true)) → (j : ℕ) → ComesFrom rows₁ rows j
-each-from long h j l c =
+pub each-from : (rows₁ rows : List Row) → length rows₁ ≡ length rows → ((j : ℕ) (d : Row) → j < length rows → ((get_or rows₁ j d).by ≡ (get_or rows j d).by) × (is_coming_stage (get_or rows₁ j d).stage ≡ true → is_coming_stage (get_or rows j d).stage ≡ true)) → (j : ℕ) → ComesFrom rows₁ rows j
+each-from rows₁ rows long h j l c =
     let lj = subst (λ n. j < n) long l in
     (lj, λ d. ((h j d lj).0, (h j d lj).1 (c d)))
 
@@ -211,10 +211,10 @@ module _ {entered : Entrants} {set₀ : Setting} {log : Log} {spaces : List Spac
   nobody-comes rows₁ per off by c = elim (cases_eq c.place i) [
     | inl e ↦ off (subst (λ n. n < length rows₁) e c.within) (λ d. ap (λ n. is_coming_stage (get_or rows₁ n d).stage) (sym e) ∙ c.comes d)
     | inr ne ↦
-        let was = coming-from per by c in
-        let one : (get_or rows c.place row).by ≡ row.by = was.is row ∙ comes-last.alone by was in
+        let was = per c.place c.within c.comes in
+        let one : (get_or rows c.place row).by ≡ row.by = sym (was.1 row).0 ∙ c.is row ∙ comes-last.alone by (coming-from per by c) in
         let same : (get_or rows c.place row).by ≡ (get_or rows i row).by = one ∙ ap (λ r. r.by) (there row) in
-        let lj = was.within in
+        let lj = was.0 in
         elim (cases_lt c.place i) [
           | inl lt ↦ apart c.place i row lt within same
           | inr ge ↦ apart i c.place row (omega arith) lj (sym same)
@@ -405,7 +405,7 @@ joined-entered {entered} {set₀} {log} {spaces} {rows} all k by h = ap entered 
 
 -- the refused come no more
 pub refused-from : (fanout : ℕ) (authors : List By) (refusal : Refusal) (old new : List Row) → AreRefused fanout authors refusal old new → (by : By) → IsComing new by → IsComing old by
-refused-from fanout authors refusal old new all = coming-from (each-from all.same_len (λ j d l. one (get_or old j d) (get_or new j d) (all.each j d l)))
+refused-from fanout authors refusal old new all = coming-from (each-from new old all.same_len (λ j d l. one (get_or old j d) (get_or new j d) (all.each j d l)))
   where
     one : (row now : Row) → IsRefusedRow fanout authors refusal row now → (now.by ≡ row.by) × (is_coming_stage now.stage ≡ true → is_coming_stage row.stage ≡ true)
     one row now f = at (list_any (same_command row.by) authors) refl
@@ -418,7 +418,7 @@ refused-from fanout authors refusal old new all = coming-from (each-from all.sam
 
 -- nor do those that a removal dismisses
 pub dismissed-from : (fanout k : ℕ) (old new : List Row) → AreDismissed fanout k old new → (j : ℕ) → ComesFrom new old j
-dismissed-from fanout k old new all = each-from all.same_len (λ j d l. one (get_or old j d) (get_or new j d) (all.each j d l))
+dismissed-from fanout k old new all = each-from new old all.same_len (λ j d l. one (get_or old j d) (get_or new j d) (all.each j d l))
   where
     one : (row now : Row) → IsDismissedRow fanout k row now → (now.by ≡ row.by) × (is_coming_stage now.stage ≡ true → is_coming_stage row.stage ≡ true)
     one row now f = at (joined_in k row.stage) refl

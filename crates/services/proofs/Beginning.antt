@@ -12,7 +12,7 @@ use Rattle.job_service.specs.tap.declared.weights.Weights.{Weights}
 module _ (size fanout : ℕ) (hash : Hash) (grant : Resources) (birth : ℕ) (weights : Weights) where
   abbrev pub plain : Instance
   plain = record {
-    service = record { size = size; fanout = fanout; hash = hash; grant = r_text grant; asks = λ by. None };
+    service = record { settled = false; size = size; fanout = fanout; hash = hash; grant = r_text grant; asks = λ by. None };
     birth = birth;
     grant = grant;
     answer = priority_by weights;

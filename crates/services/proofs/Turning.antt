@@ -96,7 +96,7 @@ module _ (v : ServicesValue) where
 
   -- a command asks the core
   pub core-asked : ContentsStay → (new : JobServiceValue) (by : By) (broker : ℕ) (space : Name) (floor : ℕ) (asked : KvsAsk) → is_content asked ≡ false
-      → ((inst : Instance) (log : Log) → AgreesJobs v.jobs inst log → IsNewAsk inst log by broker space asked → AgreesJobs new inst (log ++ Served (Asked by floor) ∷ []))
+      → ((inst : Instance) (log : Log) → AgreesJobs v.jobs inst log → IsNewAsk v.jobs inst log by broker space asked → AgreesJobs new inst (log ++ Served (Asked by floor) ∷ []))
       → AgreesOnce v (with_jobs v new) by floor broker space asked
   core-asked stay new by broker space floor asked plain agrees inst log a fresh =
       joined new v.contents inst log (log ++ Served (Asked by floor) ∷ []) (service_of log ++ Asked by floor ∷ []) (served_is log (Asked by floor)) a (agrees inst log a.jobs fresh)

@@ -37,14 +37,14 @@ pub record MayAsk (v : ServicesValue) (by : By) (broker : ℕ)
   pub inst : Instance
   pub log : Log
   pub agrees : AgreesServices v inst log
-  pub new : IsNewAsk inst log by broker space asked
+  pub new : IsNewAsk v.jobs inst log by broker space asked
 
 -- after whatever log agrees the services agree with what the command asks there, which has asked
 -- nothing before
 abbrev pub AgreesOnce : ServicesValue → ServicesValue → By → ℕ → ℕ → Name → KvsAsk → Type 0
 AgreesOnce old new by floor broker space asked = (inst : Instance) (log : Log)
     → AgreesServices old inst log
-    → IsNewAsk inst log by broker space asked
+    → IsNewAsk old.jobs inst log by broker space asked
     → AgreesServices new inst (log ++ Served (Asked by floor) ∷ [])
 
 -- after whatever log agrees the command may be told so, and the services agree with that

@@ -20,7 +20,7 @@ use Rattle.hierarchy.proofs.Resting.{all_rest}
 use Rattle.instance.specs.Family.{OfOwn, bearing, is_due, is_end_due, may_end}
 use Rattle.instance.specs.Order.{answers}
 use Rattle.instance.specs.Seats.{has_come, last_command}
-use Rattle.instance.specs.Steps.{IsStart, can_answer, can_post}
+use Rattle.instance.specs.Steps.{IsAtRest, IsStart, can_answer, can_post}
 use Rattle.instance.specs.Value.{InstanceValue}
 use Rattle.instance.specs.declared.seats.Seat.{Seat}
 use Rattle.instance.specs.instance_rules.Family.{IsEndOf, Living, OfLiving}
@@ -239,14 +239,19 @@ module _ (v : WorldValue) (sound : IsSound v) (runs : v.closed ≡ false) where
       ∙ may in
       true≢false (sym may_now ∙ stays k x.0 x.1 x.2)
 
+  -- where no instance can make a step, each that lives is at rest
+  pub each_rests : ListTurns v.homes → EachLiving TellsRest v.homes → by_instances v ≡ [] → EachLiving (λ h. IsAtRest h.instance) v.homes
+  each_rests listed rest none i h e living = record {
+    steps = listed i h e (no_turn v none i h e living);
+    answers = no_answer v none i h e living;
+    due = (rest i h e living).free (setup_in v.set v.chronicle i) (own_of v.set v.chronicle i) (home_agrees v sound runs i h e living)
+        (listed i h e (no_turn v none i h e living)) (no_answer v none i h e living) (no_post v none i h e living) (no_birth v none i h e living);
+  }
+
   -- the run has come to rest where no instance can make a step
   pub rested : ListTurns v.homes → EachLiving TellsRest v.homes → EachLiving (TellsEndIn v.homes) v.homes → by_instances v ≡ [] → HasRunRest v.set v.chronicle
   rested listed rest goes none = all_rest v.set v.chronicle (sound.runs runs).on
-      (λ i alive. let h = living_home i alive in (rest i h.0 h.1 h.2).rests (setup_in v.set v.chronicle i) (own_of v.set v.chronicle i) (home_agrees v sound runs i h.0 h.1 h.2) (record {
-        steps = listed i h.0 h.1 (no_turn v none i h.0 h.1 h.2);
-        answers = no_answer v none i h.0 h.1 h.2;
-        due = free i h.0 h.1 h.2;
-      }))
+      (λ i alive. let h = living_home i alive in (rest i h.0 h.1 h.2).rests (setup_in v.set v.chronicle i) (own_of v.set v.chronicle i) (home_agrees v sound runs i h.0 h.1 h.2) (each_rests listed rest none i h.0 h.1 h.2))
       answered
       (no_end free (no_going v none) goes)
     where

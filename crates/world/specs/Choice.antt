@@ -1,5 +1,5 @@
 -- Which of the steps that can be made comes next.
-use Rattle.std.specs.Prelude.{◌%◌, List, length, Option, slice_get}
+use Rattle.std.specs.Prelude.{◌%◌, Bool, true, false, List, length, Option, slice_get}
 use Rattle.rand_pcg.specs.Pcg.{pcg32}
 use Rattle.instance.specs.workload.Draws.{seeded}
 use Rattle.instance.specs.answers.declared.steps.Step.{Step}
@@ -13,6 +13,11 @@ use Rattle.world.specs.declared.order.Schedule.TheVariants as schedule
 abbrev pub chosen : Order → List Step → Option Step
 chosen order.Settled steps = slice_get steps 0
 chosen (order.Shuffled draws word) steps = slice_get steps (word % length steps)
+
+-- whether nothing is drawn, so that a command is issued once nothing else can be done
+abbrev pub is_settled : Order → Bool
+is_settled order.Settled = true
+is_settled (order.Shuffled draws word) = false
 
 -- the order behind a step: a shuffled run draws its next word
 abbrev pub behind : Order → Order

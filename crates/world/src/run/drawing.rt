@@ -7,7 +7,7 @@ ghost use Rattle.instance.specs.Steps.{IsStart};
 ghost use Rattle.instance.specs.kvs_core.Walk.{nth};
 ghost use Rattle.homes.specs.Homes.{living_at};
 ghost use Rattle.world.specs.Order.{before_end, issues, left_in, possible_steps, steps_at, steps_in, steps_of};
-ghost use Rattle.world.specs.Steps.{CanMake, can_issue};
+ghost use Rattle.world.specs.Steps.{CanMake, MayStart, can_issue};
 ghost use Rattle.world.specs.Walks.{by_instances, by_the_run, next_at};
 ghost use Rattle.homes.specs.declared.homes.Home.{Home as HomeValue};
 
@@ -227,6 +227,7 @@ impl World {
         ensures first { result ≡ slice_get (possible_steps self.now) 0 }
         ensures some { IfSome result (λ step. CanMake self.now step) }
         ensures none { (result ≡ None) ↔ (self.now.closed ≡ true) }
+        ensures rests { IfSome result (λ step. MayStart self.now step) }
         ensures told { IfSome result (λ step. IsStart step
             → HasRunRest self.now.set self.now.chronicle) }
     {

@@ -5,7 +5,7 @@ ghost use Rattle.instance.specs.Steps.{can_answer as instance_can_answer};
 ghost use Rattle.world.specs.Acting.{IsGoneAt, IsPlacedIn};
 ghost use Rattle.world.specs.Advances.{Advances};
 ghost use Rattle.homes.specs.Homes.{IsNextLine, living_at};
-ghost use Rattle.world.specs.Steps.{CanMake, can_answer, can_issue, of_home};
+ghost use Rattle.world.specs.Steps.{CanMake, MayStart, can_answer, can_issue, of_home};
 
 use super::{World, keep};
 use homes::{Place, enter, next_line};
@@ -200,6 +200,7 @@ impl World {
     pub(super) fn issue(&mut self, actor: u32) -> Result<(), AllocError>
         requires ready { self.old.spent ≡ false }
         requires can { CanMake self.old (Step.Issue actor) }
+        requires rests { MayStart self.old (Step.Issue actor) }
         ensures advances { OnOk result (Advances self.old (Step.Issue actor) self.new) }
         ensures order { OnOk result (self.new.order ≡ self.old.order) }
         ensures spent { OnErr result (self.new.spent ≡ true) }
@@ -221,6 +222,7 @@ impl World {
         requires home { IsPlacedIn self.old.places actor number }
         requires lives { is_some (living_at self.old.homes number) ≡ true }
         requires can { can_issue self.old actor ≡ true }
+        requires rests { MayStart self.old (Step.Issue actor) }
         ensures advances { OnOk result (Advances self.old (Step.Issue actor) self.new) }
         ensures order { OnOk result (self.new.order ≡ self.old.order) }
         ensures spent { OnErr result (self.new.spent ≡ true) }

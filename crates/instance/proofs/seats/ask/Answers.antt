@@ -14,13 +14,14 @@ returns-clause-agrees c =
     let seat = c.args.seat.now in
     let by = c.args.by in
     on_ok_weaker c.ask.result
-    (λ agrees inst log before made unasked.
+    (λ agrees inst log before made unasked rested.
     subst (λ asked. AgreesServices c.ask.new.self inst (log ++ map Served (moment_asked by (seat_floor seat) asked))) (sym c.in-Some.is)
     (subst (λ (n : ℕ). AgreesServices c.ask.new.self inst (log ++ Served (Asked by n) ∷ [])) c.of-floor.ensures
     (agrees inst log before (record {
       asks = subst (λ (space : Name). inst.service.asks by ≡ Some (record { broker = seat.broker; namespace = space; ask = c.in-Some.ask })) (sym c.in_ok-namespace.ensures)
           (subst (IsTheAsk inst.service by seat) c.in-Some.is made);
       new = unasked;
+      rested = rested;
     }))))
     c.ask.ensures.agrees
 

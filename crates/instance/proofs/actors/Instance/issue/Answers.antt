@@ -5,10 +5,12 @@ use Rattle.services.specs.answers.Commands.{ask_of}
 use Rattle.services.specs.answers.Jobs.{job_ask_of}
 use Rattle.instance.specs.declared.seats.Seat.{Seat}
 use Rattle.instance.specs.Agrees.{AgreesOwn}
+use Rattle.instance.specs.Makes.{IssuesAtRest}
 use Rattle.instance.specs.Steps.{can_issue}
 use Rattle.instance.specs.View.{value_of}
 use Rattle.instance.proofs.Issuing.{issue_follows, issuing_at}
 use Rattle.instance.proofs.Owning.{own_of}
+use Rattle.instance.proofs.Rested.{core_rests}
 use Rattle.instance.proofs.Starting.{begun_in, command_in, start_asks, start_author, start_below, start_broker, start_known, start_next, start_orders, start_room, start_small, start_time, starting}
 use Rattle.instance.proofs.actors.Instance.issue.Goals as goal
 
@@ -96,7 +98,7 @@ order-requires-clause-time c =
     c.in_ok-order_of.field-0 c.in_ok-order_of.ensures c.ask.new.services c.in_ok-ask.ensures.keeps c.in_ok-ask.ensures.agrees
 
 pub returns-clause-makes : goal.returns-clause-makes
-returns-clause-makes c = λ set own agrees same.
+returns-clause-makes c = λ set own agrees same rest.
     let w = value_of c.self.inside in
     let v = own_of w set own in
     let h = subst (λ x. AgreesOwn x set own) (sym c.self.view_is) agrees in
@@ -121,6 +123,7 @@ returns-clause-makes c = λ set own agrees same.
       asks = c.in_ok-ask.ensures.agrees;
       orders = c.in_ok-order.ensures.agrees;
     })
+    (core_rests v h (subst (IssuesAtRest set) (sym c.self.view_is) rest))
     c.in_ok-made.made c.in_ok-made.ensures
 
 pub order_of-requires : goal.order_of-requires

@@ -1,12 +1,11 @@
 use Rattle.std.proofs.Common.{◌≡◌, ◌∙◌, ◌+◌, ◌<◌, is_some, length, true, ap, arith, subst, sym}
 use Rattle.std.specs.Prelude.{option_and_then, slice_get, slice_index_or}
 use Rattle.instance.specs.workload.declared.work.Line.{Line}
-use Rattle.instance.specs.Agrees.{AreLinesOf}
 use Rattle.instance.specs.answers.declared.steps.Step.TheVariants as step
-use Rattle.instance.specs.Makes.{MakesOf}
+use Rattle.instance.specs.Makes.{MakesOf, MayIssueOf}
 use Rattle.instance.specs.Steps.{can_issue as instance_can_issue}
 use Rattle.homes.specs.Homes.{IsNextLine, living_at}
-use Rattle.world.specs.Steps.{can_issue}
+use Rattle.world.specs.Steps.{MayStart, can_issue}
 use Rattle.world.specs.View.{value_of}
 use Rattle.homes.specs.declared.homes.Home.{Home}
 use Rattle.world.proofs.Advancing.{advances_at}
@@ -40,7 +39,8 @@ issue-requires-clause-lines c =
     let can = ap (λ w. can_issue w c.args.actor) c.self.view_is ∙ c.requires.can in
     let more = more_there v c.args.actor c.args.number p h at.here at.home there.here can in
     let free = free_there v c.args.actor c.args.number p h at.here at.home there.here can in
-    subst (AreLinesOf h.instance) (sym c.as_slice.ensures) (lines_of_it v sound runs c.args.actor c.args.number p h at.here at.home there.here there.living free more)
+    let rest = λ settled. subst (λ w. MayStart w (step.Issue c.args.actor)) (sym c.self.view_is) c.requires.rests settled tt c.args.number h there.here there.living in
+    subst (MayIssueOf h.instance) (sym c.as_slice.ensures) (lines_of_it v sound runs c.args.actor c.args.number p h at.here at.home there.here there.living free more rest)
 
 pub issue-requires-clause-can : goal.issue-requires-clause-can
 issue-requires-clause-can c =
@@ -54,7 +54,8 @@ issue-requires-clause-can c =
     let can = ap (λ w. can_issue w c.args.actor) c.self.view_is ∙ c.requires.can in
     let more = more_there v c.args.actor c.args.number p h at.here at.home there.here can in
     let free = free_there v c.args.actor c.args.number p h at.here at.home there.here can in
-    subst (λ ls. instance_can_issue ls h.instance c.args.actor ≡ true) (sym c.as_slice.ensures) (can_issue_it v sound runs c.args.actor c.args.number p h at.here at.home there.here there.living free more)
+    let rest = λ settled. subst (λ w. MayStart w (step.Issue c.args.actor)) (sym c.self.view_is) c.requires.rests settled tt c.args.number h there.here there.living in
+    subst (λ ls. instance_can_issue ls h.instance c.args.actor ≡ true) (sym c.as_slice.ensures) (can_issue_it v sound runs c.args.actor c.args.number p h at.here at.home there.here there.living free more rest)
 
 pub offset_bounds-lines-place : goal.offset_bounds-lines-place
 offset_bounds-lines-place c =
@@ -127,11 +128,12 @@ invariant_of-self-2 c = λ _.
     let can = ap (λ w. can_issue w c.args.actor) c.self.view_is ∙ c.requires.can in
     let more = more_there v c.args.actor c.args.number p h at.here at.home there.here can in
     let free = free_there v c.args.actor c.args.number p h at.here at.home there.here can in
+    let rest = λ settled. subst (λ w. MayStart w (step.Issue c.args.actor)) (sym c.self.view_is) c.requires.rests settled tt c.args.number h there.here there.living in
     let line = subst (λ ls. IsNextLine ls c.args.actor (p.issued + 1) c.issued_from.result.next) c.as_slice-lines.ensures c.issued_from.ensures.next in
     let makes = subst (λ ls. MakesOf ls h.instance (step.Issue c.args.actor) c.issue.new.self c.in_ok-made.made) c.as_slice.ensures c.in_ok-made.ensures.makes in
     let x = c.index-lines-place.result in
     let command = ap (λ ls. (slice_index_or ls p.next x).command) c.as_slice-lines.ensures in
-    issue_sound v sound runs c.args.actor c.args.number p h at.here at.home there.here there.living free more c.issue.new.self c.in_ok-made.made c.in_ok-made.ensures.ready makes
+    issue_sound v sound runs c.args.actor c.args.number p h at.here at.home there.here there.living free more rest c.issue.new.self c.in_ok-made.made c.in_ok-made.ensures.ready makes
     c.shuts_behind-home.result (slice_index_or c.as_slice-lines.result.now p.next x).command (λ d. command ∙ ap (λ (l : Line). l.command) (same_at v.set.work.lines p.next x d more)) c.shuts_behind-home.ensures
     c.issued_from.result c.issued_from.ensures.waits line
     c.enter.new.chronicle c.keep.new.steps.items c.keep.new.ends.items c.in_ok-enter.ensures c.in_ok-keep.ensures.steps c.in_ok-keep.ensures.ends
@@ -148,11 +150,12 @@ returns-clause-advances c =
     let can = ap (λ w. can_issue w c.args.actor) c.self.view_is ∙ c.requires.can in
     let more = more_there v c.args.actor c.args.number p h at.here at.home there.here can in
     let free = free_there v c.args.actor c.args.number p h at.here at.home there.here can in
+    let rest = λ settled. subst (λ w. MayStart w (step.Issue c.args.actor)) (sym c.self.view_is) c.requires.rests settled tt c.args.number h there.here there.living in
     let line = subst (λ ls. IsNextLine ls c.args.actor (p.issued + 1) c.issued_from.result.next) c.as_slice-lines.ensures c.issued_from.ensures.next in
     let makes = subst (λ ls. MakesOf ls h.instance (step.Issue c.args.actor) c.issue.new.self c.in_ok-made.made) c.as_slice.ensures c.in_ok-made.ensures.makes in
     let x = c.index-lines-place.result in
     let command = ap (λ ls. (slice_index_or ls p.next x).command) c.as_slice-lines.ensures in
-    advances_at c.self.view_is (issue_advances v sound runs c.args.actor c.args.number p h at.here at.home there.here there.living free more c.issue.new.self c.in_ok-made.made c.in_ok-made.ensures.ready makes
+    advances_at c.self.view_is (issue_advances v sound runs c.args.actor c.args.number p h at.here at.home there.here there.living free more rest c.issue.new.self c.in_ok-made.made c.in_ok-made.ensures.ready makes
     c.shuts_behind-home.result (slice_index_or c.as_slice-lines.result.now p.next x).command (λ d. command ∙ ap (λ (l : Line). l.command) (same_at v.set.work.lines p.next x d more)) c.shuts_behind-home.ensures
     c.issued_from.result c.issued_from.ensures.waits line
     c.enter.new.chronicle c.keep.new.steps.items c.keep.new.ends.items c.in_ok-enter.ensures c.in_ok-keep.ensures.steps c.in_ok-keep.ensures.ends)
