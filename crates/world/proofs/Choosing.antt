@@ -1,5 +1,5 @@
 -- The step of a number can be made.
-use Rattle.std.proofs.Common.{◌≡◌, ◌∙◌, ℕ, List, [], ◌++◌, false, true, get_or, sym, ap, append_assoc, arith}
+use Rattle.std.proofs.Common.{◌≡◌, ◌∙◌, ℕ, List, [], ◌++◌, false, true, get_or, refl, sym, ap, append_assoc, arith}
 use Rattle.std.specs.Prelude.{Contains, IfOk, Result, Ok, Err}
 use Rattle.std.proofs.lemmas.List.{nil_from_length}
 use Rattle.std.proofs.lemmas.Option.{slice_get-get_or}
@@ -7,11 +7,14 @@ use Rattle.instance.specs.kvs_core.Walk.{nth}
 use Rattle.instance.specs.answers.declared.steps.Step.{Step}
 use Rattle.instance.specs.answers.declared.steps.Step.TheVariants as step
 use Rattle.homes.specs.Homes.{ListTurns}
+use Rattle.world.specs.Choice.{behind, is_settled}
 use Rattle.world.specs.Order.{before_end, steps_of}
 use Rattle.world.specs.Sound.{IsRunning}
 use Rattle.world.specs.Steps.{CanMake, can_make}
 use Rattle.world.specs.Value.{WorldValue}
 use Rattle.world.specs.Walks.{by_instances, by_the_run}
+use Rattle.world.specs.declared.order.Order.{Order}
+use Rattle.world.specs.declared.order.Order.TheVariants as order
 use Rattle.world.specs.declared.run.drawing.Kind.TheVariants as kind
 use Rattle.world.proofs.Housing.{own_lines, seated}
 use Rattle.world.proofs.Numbering.{below, got, lengthy}
@@ -57,3 +60,8 @@ module _ (v : WorldValue) (runs : v.closed ≡ false) (running : IsRunning v) wh
 
 pub none_listed : (v : WorldValue) (left : ℕ) → nth (before_end v) 0 ≡ Err left → before_end v ≡ []
 none_listed v left e = nil_from_length (before_end v) (let all = lengthy (before_end v) 0 left e in omega (arith, all))
+
+-- a step leaves a run as settled as it was
+pub behind_settled : (o : Order) → is_settled (behind o) ≡ is_settled o
+behind_settled order.Settled = refl
+behind_settled (order.Shuffled draws word) = refl
