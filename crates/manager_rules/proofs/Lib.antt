@@ -16,3 +16,4 @@ pub mod Rows
 pub mod Below
 pub mod Taking
 pub mod Rules
+pub mod Reserving

@@ -5,6 +5,8 @@
 pub mod asked;
 pub mod due;
 pub mod laws;
+pub mod policy;
+pub mod terms;
 pub mod why;
 
 pub use asked::{Asked, OpenList};
@@ -15,7 +17,10 @@ pub use laws::{
     due_posts_keep_stores_sound, due_posts_take_effect, due_submissions_add_a_job,
     due_submissions_tell_themselves, first_stores_have_no_jobs, jobs_end_at_their_seconds,
     jobs_of_living_children_keep_their_units, logs_only_grow, one_job_at_a_time_takes,
-    only_jobs_stand_below_job, submissions_keep_jobs_sound, users_keep_stores_sound,
-    users_leave_jobs, what_is_due_is_allowed, what_is_due_stays_due,
+    only_jobs_stand_below_job, reserved_seconds_never_rise, submissions_keep_jobs_sound,
+    users_keep_stores_sound, users_leave_jobs, what_is_due_is_allowed, what_is_due_stays_due,
+    who_passes_leaves_the_reserved_second,
 };
+pub use policy::Policy;
+pub use terms::{Limit, Limits, Shown, Terms};
 pub use why::{JobList, Why};
