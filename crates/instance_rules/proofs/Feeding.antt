@@ -1,6 +1,6 @@
 -- Watches are fed all that is new, and what is not asked for does not happen.
-use Rattle.std.proofs.Common.{◌≡◌, ℕ, ◌+◌, List, [], ◌∷◌, ◌++◌, Bool, ◌&&◌, Option, Some, None, refl, sym, ap, ap₂, ◌∙◌, inl, inr}
-use Rattle.std.specs.Prelude.{◌≢◌, ◌↔◌, filter_map, sum, if◌then◌else◌, false, true}
+use Rattle.std.proofs.Common.{◌≡◌, ◌≤◌, ℕ, ◌+◌, append-nil, append_assoc, subst, arith, List, [], ◌∷◌, ◌++◌, Bool, ◌&&◌, Option, Some, None, refl, sym, ap, ap₂, ◌∙◌, inl, inr}
+use Rattle.std.specs.Prelude.{◌≢◌, ◌↔◌, filter_map, sum, unwrap_or, if◌then◌else◌, false, true}
 use Rattle.std.specs.List.{cons_option}
 use Rattle.std.proofs.lemmas.Bool.{eq-eqb}
 use Rattle.std.proofs.lemmas.List.Elements.{filter_map-append}
@@ -8,13 +8,15 @@ use Rattle.std.proofs.lemmas.List.Sums.{sum_by_push}
 use Rattle.kvs_model.specs.Store.{Store}
 use Rattle.kvs_rules.specs.Log.{same_command}
 use Rattle.kvs_rules.specs.Namespaces.{begun_at, primary}
-use Rattle.kvs_rules.specs.Sequence.{latest}
+use Rattle.kvs_rules.proofs.Sequences.{latest_push}
+use Rattle.kvs_rules.specs.Sequence.{EachAfter, latest}
 use Rattle.kvs_txn.specs.declared.txn.By.{By}
 use Rattle.manager_rules.specs.Keys.{job_path}
 use Rattle.manager_rules.specs.Limits.{verdict_of}
 use Rattle.instance_rules.specs.Desks.{is_old}
 use Rattle.instance_rules.specs.Family.{Living, WaitsForEnd}
-use Rattle.instance_rules.specs.Log.{Advance, Cancel, Checked, Fed, Info, Instance, IsBuilt, JobAsk, Jobs, Log, Raise, ResultOf, Shutdown, StateOf, Submit, Ticked, Urge, Watch, Watched, Why, now_of, ticked}
+use Rattle.instance_rules.specs.Legal.{IsLegalMoment}
+use Rattle.instance_rules.specs.Log.{Advance, Born, Cancel, Checked, Fed, Gone, Info, Instance, IsBuilt, Issued, JobAsk, Jobs, Log, Moment, Raise, Replied, ResultOf, Served, Shutdown, StateOf, Submit, Ticked, Urge, Watch, Watched, Why, now_of, ticked}
 use Rattle.instance_rules.specs.Replies.{IsLegalReply, IsTurnedAway}
 use Rattle.instance_rules.specs.Watches.{IsFedAll, IsLegalFeed, fed_in_all, fed_with, last_fed}
 
@@ -95,6 +97,27 @@ none_checked inst log by reason number built reply = none_away inst reply.ask re
 pub none_old : (inst : Instance) (st : Store) (id : ℕ) → is_old (begun_at inst.service primary) st id ≡ false
 unfolding job_path
 none_old inst st id = refl
+
+-- time goes on from the second at which the log begins
+goes_on : (inst : Instance) (log : Log) (m : Moment) → inst.start ≤ now_of inst log → IsLegalMoment inst log m → inst.start ≤ now_of inst (log ++ m ∷ [])
+goes_on inst log m since legal = subst (λ n. inst.start ≤ n) (sym (latest_push ticked inst.start log m)) (by m legal)
+  where
+    by : (m : Moment) → IsLegalMoment inst log m → inst.start ≤ unwrap_or (ticked m) (now_of inst log)
+    by (Ticked second) legal = let later = legal.0 in omega (arith, later, since)
+    by (Served m) legal = since
+    by (Issued other) legal = since
+    by (Replied other reply number) legal = since
+    by (Born job) legal = since
+    by (Gone job shut) legal = since
+    by (Fed other number first count) legal = since
+
+along : (inst : Instance) (before log : Log) → inst.start ≤ now_of inst before → EachAfter (IsLegalMoment inst) before log → inst.start ≤ now_of inst (before ++ log)
+along inst before [] since legal = subst (λ l. inst.start ≤ now_of inst l) (sym (append-nil before)) since
+along inst before (m ∷ log) since legal =
+    subst (λ l. inst.start ≤ now_of inst l) (append_assoc before (m ∷ []) log) (along inst (before ++ m ∷ []) log (goes_on inst before m since legal.0) legal.1)
+
+pub never_before : (inst : Instance) (log : Log) → EachAfter (IsLegalMoment inst) [] log → inst.start ≤ now_of inst log
+never_before inst log legal = along inst [] log (omega arith) legal
 
 pub time_begins : (inst : Instance) (log : Log) → IsBuilt inst → now_of inst log ≡ latest ticked inst.birth log
 time_begins inst log built = ap (λ second. latest ticked second log) built.start

@@ -22,7 +22,7 @@ use Rattle.job_deeds.specs.tap.declared.Ask.{Ask}
 use Rattle.job_deeds.specs.manager_rules.declared.asked.Asked.{Asked}
 use Rattle.job_deeds.specs.manager_rules.declared.due.Due.{Due}
 use Rattle.job_deeds.specs.manager_rules.Dependencies.{is_inactive, job_at}
-use Rattle.job_deeds.specs.manager_rules.Deeds.{Deed, Validates, Adds, Removes, Loses, Depends, Prioritizes, NeverFits, Takes, Starts, Finishes, Expires, Stops, Releases, Frees, Cleans, Carries, change_by, due_of, r_given}
+use Rattle.job_deeds.specs.manager_rules.Deeds.{Deed, Validates, Adds, Removes, Loses, Depends, Restarts, Prioritizes, NeverFits, Takes, Starts, Finishes, Expires, Stops, Releases, Frees, Cleans, Carries, change_by, due_of, r_given}
 use Rattle.job_deeds.specs.manager_rules.declared.terms.Limits.{Limits}
 use Rattle.job_deeds.specs.manager_rules.Due.{MayDo}
 use Rattle.job_deeds.specs.manager_rules.Jobs.{StoredJob, ids_of, is_live}
@@ -54,6 +54,7 @@ gives (Adds need) = inl refl
 gives (Removes need) = inl refl
 gives (Loses need) = inl refl
 gives Depends = inl refl
+gives Restarts = inl refl
 gives (Prioritizes priority) = inl refl
 gives NeverFits = inl refl
 gives Starts = inl refl

@@ -1,18 +1,19 @@
 -- What the rules say where nobody passes the first in the queue, nothing is limited, and no job is old.
-use Rattle.std.proofs.Common.{◌≡◌, ℕ, ◌<◌, ◌≤◌, ◌⊎◌, inl, inr, Bool, true, false, ◌&&◌, Option, Some, None, refl, sym, ap, ◌∙◌, true≢false, arith}
-use Rattle.std.specs.Prelude.{◌≢◌, ◌↔◌, ◌==◌, nat_le, if◌then◌else◌}
+use Rattle.std.proofs.Common.{◌≡◌, ℕ, ◌≤◌, inl, inr, Bool, true, false, ◌&&◌, Option, Some, None, refl, sym, ap, ◌∙◌, true≢false, arith}
+use Rattle.std.specs.Prelude.{◌≢◌, ◌↔◌, ◌==◌, ◌||◌, nat_le, nat_lt, if◌then◌else◌}
 use Rattle.std.proofs.lemmas.Bool.{eq-eqb, eqb-true, le-leb, leb-true}
 use Rattle.job_spec.specs.declared.spec.JobSpec.{JobSpec}
 use Rattle.job_states.specs.declared.job.State.TheVariants as state
 use Rattle.resource_set.specs.declared.node.Resources.{Resources}
 use Rattle.shells.specs.declared.ends.Ending.TheVariants as ending
 use Rattle.manager_rules.specs.declared.policy.Policy.TheVariants.{FirstFit, Easy}
+use Rattle.manager_rules.specs.declared.terms.Limit.{Limit}
 use Rattle.manager_rules.specs.declared.why.Why.TheVariants.{Behind, Ready}
 use Rattle.manager_rules.specs.Deeds.{Restarts}
 use Rattle.manager_rules.specs.Dependencies.{IsHead}
 use Rattle.manager_rules.specs.Due.{FindsNone, MayDo, MayTake, Passes, is_in_time, status_at}
 use Rattle.manager_rules.specs.Jobs.{StoredJob}
-use Rattle.manager_rules.specs.Limits.{no_limits, verdict_of}
+use Rattle.manager_rules.specs.Limits.{exceeds, no_limits, outlasts, verdict_of}
 use Rattle.manager_rules.specs.Scene.{Scene}
 use Rattle.manager_rules.specs.Whys.{IsFirst, IsSaidOf}
 
@@ -39,6 +40,12 @@ module _ (s : Scene) (j : StoredJob) (first : s.policy ≡ FirstFit) where
 
 pub none_away : (spec : JobSpec) → verdict_of no_limits spec ≡ 0
 none_away spec = refl
+
+pub none_exceeds : (limit : Limit) (n : ℕ) → limit.reason ≡ 0 → (exceeds limit n ≡ false) × (outlasts limit n ≡ false)
+none_exceeds limit n none = (
+  ap (λ reason. nat_lt 0 reason && nat_lt limit.most n) none,
+  ap (λ reason. nat_lt 0 reason && ((n == 0) || nat_lt limit.most n)) none,
+)
 
 pub none_restarts : (s : Scene) (j : StoredJob) → s.old j.id ≡ false → MayDo s j Restarts → ⊥
 none_restarts s j young m = true≢false (sym m.1 ∙ young)

@@ -1,10 +1,10 @@
 -- Who passes the first in the queue leaves its reserved second, and no due event lets it rise.
 use Rattle.std.proofs.Common.{◌≡◌, ◌≢◌, ℕ, suc, zero, ◌+◌, ◌<◌, ◌≤◌, ◌⊎◌, inl, inr, Bool, true, false, List, [], ◌∷◌, Option, Some, None, refl, sym, ap, ap₂, ◌∙◌, subst, arith}
-use Rattle.std.specs.Prelude.{◌==◌, Contains, IfSome, option_and_then, if◌then◌else◌}
+use Rattle.std.specs.Prelude.{◌==◌, Contains, option_and_then, if◌then◌else◌}
 use Rattle.std.specs.List.{cons_option, AllByRecursion as Each}
 use Rattle.std.proofs.lemmas.Bool.{cases_lt, eqb-true}
 use Rattle.job_rules.specs.declared.hold.Hold.{Hold}
-use Rattle.job_rules.specs.Fits.{AreWithin, CanFit, IsGrant, IsSpec, first_fit, free_of, nodes_of}
+use Rattle.job_rules.specs.Fits.{CanFit, IsGrant, IsSpec, first_fit, free_of, nodes_of}
 use Rattle.job_rules.proofs.Among.{Among, among_flat, among_flattened, among_from, distinct_rising, each_at, same_image}
 use Rattle.job_rules.proofs.Sets.{free_is, none_exactly, sound as fit_is_sound}
 use Rattle.job_rules.proofs.Unique.{more_free}
@@ -13,14 +13,14 @@ use Rattle.job_states.specs.Changes.{change_of}
 use Rattle.resource_set.specs.declared.node.Node.{Node}
 use Rattle.resource_set.specs.declared.node.Resources.{Resources}
 use Rattle.manager_rules.specs.declared.due.Due.{Due}
-use Rattle.manager_rules.specs.Deeds.{Deed, Validates, Adds, Removes, Loses, Depends, Restarts, Prioritizes, NeverFits, Takes, Starts, Finishes, Expires, Stops, Releases, Frees, Cleans, Carries, due_of, event_of, r_given}
+use Rattle.manager_rules.specs.Deeds.{Deed, Validates, Adds, Removes, Loses, Depends, Restarts, Prioritizes, NeverFits, Takes, Starts, Finishes, Expires, Stops, Releases, Frees, Cleans, Carries, due_of, r_given}
 use Rattle.manager_rules.specs.Dependencies.{IsHead}
 use Rattle.manager_rules.specs.Due.{MayDo, MayTake, with_r}
 use Rattle.manager_rules.specs.Jobs.{StoredJob, ids_of, is_live}
-use Rattle.manager_rules.specs.Posts.{event_done, held_after, job_after, r_after, with_event}
+use Rattle.manager_rules.specs.Posts.{event_done, job_after, r_after, with_event}
 use Rattle.manager_rules.specs.Reserved.{FitsAt, IsReserved, hold_at, held_by, holds_at}
 use Rattle.manager_rules.specs.Scene.{IsScene, Scene}
-use Rattle.manager_rules.specs.Sound.{AreInTime, HoldsInTime, IsSound}
+use Rattle.manager_rules.specs.Sound.{AreInTime, HoldsInTime}
 use Rattle.manager_rules.proofs.Rules.{first_is_one, same_job}
 use Rattle.manager_rules.proofs.Soundness.{given_r}
 

@@ -26,10 +26,11 @@ ghost use Rattle.manager_rules.specs.Deeds.{Deed, Depends, Expires, Finishes, Re
 ghost use Rattle.manager_rules.specs.Dependencies.{IsHead, is_added, is_met, is_removed};
 ghost use Rattle.manager_rules.specs.declared.due.Due.{Due};
 ghost use Rattle.manager_rules.specs.declared.policy.Policy.TheVariants.{FirstFit};
+ghost use Rattle.manager_rules.specs.declared.terms.Limit.{Limit};
 ghost use Rattle.manager_rules.specs.declared.why.Why.TheVariants.{Behind, Ready};
 ghost use Rattle.manager_rules.specs.Due.{FindsNone, IsDue, IsLike, MayDo, MayTake, StillWaits, is_in_time, status_at};
 ghost use Rattle.manager_rules.specs.Jobs.{AreJobsOf, AreNeeds, HasOnlyJobs, IsLogged, StoredJob, ids_of, is_live};
-ghost use Rattle.manager_rules.specs.Limits.{no_limits, verdict_of};
+ghost use Rattle.manager_rules.specs.Limits.{exceeds, no_limits, outlasts, verdict_of};
 ghost use Rattle.manager_rules.specs.Posts.{Desk, Does, IsDesk, IsDuePost, IsOpenSubmit, IsSubmission, Post, StillSubmits, Submission, Submit, Submits, group_of, job_of, jobs_after, txn_of, with_event, with_job};
 ghost use Rattle.manager_rules.specs.Reserved.{IsReserved};
 ghost use Rattle.manager_rules.specs.Scene.{IsScene, Scene, has_living_child, has_shut_child};
@@ -237,9 +238,11 @@ pub fn first_fit_serves_the_first_alone()
         × IsHead s.jobs head × (head ≢ j.id)) }
 {}
 
-/// Where a job may ask for anything, none is turned away.
+/// Where a job may ask for anything, none is turned away; nor is one for a limit without a reason.
 pub fn nobody_is_turned_away_without_limits()
-    ensures { (spec : JobSpec) → verdict_of no_limits spec ≡ 0 }
+    ensures all { (spec : JobSpec) → verdict_of no_limits spec ≡ 0 }
+    ensures each { (limit : Limit) (n : ℕ) → limit.reason ≡ 0
+        → (exceeds limit n ≡ false) × (outlasts limit n ≡ false) }
 {}
 
 /// A job with which the run didn't resume never begins anew, and a command whose second isn't
