@@ -3,7 +3,7 @@ use Rattle.std.specs.Prelude.{true}
 use Rattle.manager_rules.specs.declared.policy.Policy.TheVariants.{FirstFit}
 use Rattle.manager_rules.specs.declared.terms.Shown.{Shown}
 use Rattle.manager_rules.specs.declared.terms.Terms.{Terms}
-use Rattle.manager_rules.specs.Terms.{no_limits}
+use Rattle.manager_rules.specs.Limits.{no_limits}
 
 abbrev all_shown : Shown
 all_shown = record {

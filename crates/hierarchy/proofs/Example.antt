@@ -9,6 +9,7 @@ use Rattle.answers.specs.declared.chronicle.Entry.{Entry}
 use Rattle.answers.specs.declared.chronicle.Entry.TheVariants as entry
 use Rattle.answers.specs.declared.chronicle.Reply.TheVariants as reply
 use Rattle.answers.specs.declared.steps.Step.TheVariants as step
+use Rattle.answers.proofs.Plain.{plain_terms}
 use Rattle.hierarchy.specs.Births.{has_home, has_living_home, has_lost_home, lives, numbers}
 use Rattle.hierarchy.specs.Families.{left_in, living_in, second_in}
 use Rattle.hierarchy.specs.Legal.{HasHomeFor, HasRunGrounds}
