@@ -12,11 +12,12 @@ use Rattle.kvs_txn.specs.declared.txn.By.{By}
 use Rattle.kvs_txn.specs.declared.txn.Txn.{Txn}
 use Rattle.kvs_rules.specs.Log as service
 use Rattle.instance_rules.specs.Log as rules
-use Rattle.instance_rules.specs.Log.{IsInstance, JobReply, Moment, Log, Served, Issued, Replied, Born, Gone, issues_now, served, service_of}
+use Rattle.instance_rules.specs.Log.{IsBuilt, IsInstance, JobReply, Moment, Log, Served, Issued, Replied, Born, Gone, issues_now, served, service_of}
 use Rattle.answers.specs.declared.chronicle.Entry.{Entry}
 use Rattle.answers.specs.declared.chronicle.Entry.TheVariants as entry
 use Rattle.answers.specs.declared.chronicle.Reply.{Reply}
 use Rattle.answers.specs.declared.chronicle.Reply.TheVariants as reply
+use Rattle.manager_rules.specs.Terms.{AreBuilt}
 use Rattle.workload.specs.declared.work.Command.{Command}
 use Rattle.workload.specs.declared.work.Command.TheVariants as command
 use Rattle.workload.specs.declared.work.Line.{Line}
@@ -255,6 +256,15 @@ unwatched work by label = on (command_at work by)
     on (Some (command.Advance seconds)) e = cc
     on (Some command.Shutdown) e = cc
     on (Some c) e = cc
+
+-- on terms that are built, the top instance asks for nothing else
+pub built_instance : (set : Setup) → AreBuilt set.terms → IsBuilt (instance_of set)
+built_instance set h = record {
+  policy = h.policy;
+  limits = h.limits;
+  unwatched = λ by label asks. unwatched set.work by label asks;
+  start = refl;
+}
 
 -- the top instance keeps what an instance does
 pub is_instance : (set : Setup) → IsSetup set → IsInstance (instance_of set)
