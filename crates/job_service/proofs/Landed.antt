@@ -305,7 +305,7 @@ module _ (v : JobServiceValue) (inst : Instance) (log : Log) (a : AgreesJobs v i
     labelled_later = subst (λ b. AreLabelled commands.labels b.jobs) (sym l.book) after.labelled
 
     pub landed_agrees : (spent : Bool) (found : Option Post) → Each (λ j. j.id < 2 ^ 64) manager.book.jobs → 1000 * (v.second - v.birth) < 2 ^ 40 → length commands.issued ≤ 32 → MadeAreDue → UnmadeAreNot
-        → IsFoundBeside v.weights manager.posted commands manager.book v.second v.birth found → AgreesJobs (with_parts v spent manager commands refused found v.submitted) inst later
+        → IsFoundBeside v.terms manager.posted commands manager.book v.second v.birth found → AgreesJobs (with_parts v spent manager commands refused found v.submitted) inst later
     landed_agrees spent found smalls soon short made-due unmade-not h =
         let same = service_all events log in
         let grant : manager.book.grant ≡ v.manager.book.grant = ap (λ b. b.grant) l.book in
@@ -313,7 +313,7 @@ module _ (v : JobServiceValue) (inst : Instance) (log : Log) (a : AgreesJobs v i
         (subst (Agrees manager.core inst.service) (sym same) (makes.agrees inst.service (service_of log) a.core))
         (subst (IsLegalLog inst.service) (sym same) (legal_joined inst.service [] (service_of log) (map service.Happened events) a.legal (makes.legal inst.service (service_of log) a.core)))
         labelled_later
-        (beside-owes v.weights commands manager.book v.second v.birth inst later facts_later.commands a.kind.valid facts_later.second a.kind.answer a.kind.birth (grant ∙ a.kind.grant)
+        (beside-owes v.terms commands manager.book v.second v.birth inst later facts_later.commands a.kind.valid facts_later.second a.kind.terms a.kind.birth (grant ∙ a.kind.grant)
         labelled_later smalls soon short made-due unmade-not manager.posted found
         (λ post e. absurd (let wrong : None ≡ Some post = sym l.posted ∙ e in cc)) h)
         facts_later

@@ -117,7 +117,7 @@ module _ (v : JobServiceValue) (m : IsManaged v.manager) (l : Living) (by : By) 
       let named = job_named v.commands.labels v.manager.book.jobs r.label r.stands.j r.stands.there in
       record {
         label = r.label;
-        asks = ap l.inst.asks (sym same) ∙ agrees.asks ∙ ap (λ x. Some (told x)) r.is;
+        asks = inl (ap l.inst.asks (sym same) ∙ agrees.asks ∙ ap (λ x. Some (told x)) r.is);
         waits = subst (λ b. IsOpen b l.log) same agrees.waits;
         store = newest_of v.manager.core;
         standing = newest;

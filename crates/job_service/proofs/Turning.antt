@@ -110,5 +110,5 @@ module _ (v : JobServiceValue) (inst : Instance) (log : Log) (a : AgreesJobs v i
     turned_grant = ap (λ b. b.grant) numbered_lands.book
 
     pub turned_agrees : (spent : Bool) (found : Option Post) → Each (λ j. j.id < 2 ^ 64) manager.book.jobs → 1000 * (v.second - v.birth) < 2 ^ 40 → length commands.issued ≤ 32 → MadeAreDue → UnmadeAreNot
-        → IsFoundBeside v.weights manager.posted commands manager.book v.second v.birth found → AgreesJobs (with_parts v spent manager commands refused found v.submitted) inst (log ++ map happening events)
+        → IsFoundBeside v.terms manager.posted commands manager.book v.second v.birth found → AgreesJobs (with_parts v spent manager commands refused found v.submitted) inst (log ++ map happening events)
     turned_agrees = landed_agrees v inst log a manager step events makes numbered_lands post_lands commands refused id is_id named carried
