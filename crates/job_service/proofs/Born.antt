@@ -75,7 +75,7 @@ module _ (v : JobServiceValue) (inst : Instance) (log : Log) (a : AgreesJobs v i
     child_next later bearing h =
         let labelled = labelled_still v.commands commands inst log moment jobs a.commands f.commands a.labelled in
         respan (with_parts v spent v.manager commands v.refused later v.submitted) inst (log ++ moment ∷ []) v.span bearing
-        (joined v inst log a spent v.manager commands v.refused later v.submitted (log ++ moment ∷ []) refl
+        (joined v inst log a spent v.manager commands v.refused later v.submitted (log ++ moment ∷ []) a.kind.book
         (subst (Agrees v.manager.core inst.service) (sym same) a.core)
         (subst (IsLegalLog inst.service) (sym same) a.legal)
         labelled

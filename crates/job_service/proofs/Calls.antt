@@ -91,9 +91,13 @@ with_parts v spent manager commands refused found submitted = record {
 abbrev pub spanned : JobServiceValue → ℕ → Option ℕ → JobServiceValue
 spanned v span bearing = record v { span = span; bearing = bearing }
 
+-- a book with the same grant and policy is still the instance's
+pub same-book : (inst : Instance) (old new : BookValue) → new.grant ≡ old.grant → new.policy ≡ old.policy → IsBookOf inst old → IsBookOf inst new
+same-book inst old new grant policy of = record { grant = grant ∙ of.grant; policy = policy ∙ of.policy }
+
 pub respan : (v : JobServiceValue) (inst : Instance) (log : Log) (span : ℕ) (bearing : Option ℕ) → AgreesJobs v inst log → AgreesJobs (spanned v span bearing) inst log
 respan v inst log span bearing a = record {
-  kind = record { valid = a.kind.valid; unique = a.kind.unique; ranks = a.kind.ranks; terms = a.kind.terms; birth = a.kind.birth; grant = a.kind.grant };
+  kind = record { valid = a.kind.valid; unique = a.kind.unique; ranks = a.kind.ranks; terms = a.kind.terms; birth = a.kind.birth; book = a.kind.book };
   core = a.core;
   legal = a.legal;
   commands = a.commands;
@@ -109,17 +113,17 @@ module _ (v : JobServiceValue) (inst : Instance) (log : Log) (a : AgreesJobs v i
   pub facts : Facts v.commands v.refused v.second inst log
   facts = record { commands = a.commands; second = a.second; refused = a.refused; untold = a.untold; shutdowns = a.shutdowns }
 
-  pub joined : (spent : Bool) (manager : ManagerValue) (commands : CommandsValue) (refused : List Refused) (found : Option Post) (submitted : ℕ) (later : Log) → manager.book.grant ≡ v.manager.book.grant
+  pub joined : (spent : Bool) (manager : ManagerValue) (commands : CommandsValue) (refused : List Refused) (found : Option Post) (submitted : ℕ) (later : Log) → IsBookOf inst manager.book
       → Agrees manager.core inst.service (service_of later) → IsLegalLog inst.service (service_of later) → AreLabelled commands.labels manager.book.jobs → Owes manager.posted found (desk_of commands inst later manager.book.jobs) → Facts commands refused v.second inst later
       → AgreesJobs (with_parts v spent manager commands refused found submitted) inst later
-  joined spent manager commands refused found submitted later grant core legal labelled owes f = record {
+  joined spent manager commands refused found submitted later of core legal labelled owes f = record {
     kind = record {
       valid = a.kind.valid;
       unique = a.kind.unique;
       ranks = a.kind.ranks;
       terms = a.kind.terms;
       birth = a.kind.birth;
-      grant = grant ∙ a.kind.grant;
+      book = of;
     };
     core = core;
     legal = legal;
@@ -146,7 +150,7 @@ module _ (v : JobServiceValue) (inst : Instance) (log : Log) (a : AgreesJobs v i
       → Agrees manager.core inst.service (service_of later) → IsLegalLog inst.service (service_of later) → Facts v.commands v.refused v.second inst later
       → AgreesJobs (with_parts v spent manager v.commands v.refused v.found v.submitted) inst later
   stays spent manager later book posted same core legal f =
-      joined spent manager v.commands v.refused v.found v.submitted later (ap (λ b. b.grant) book) core legal
+      joined spent manager v.commands v.refused v.found v.submitted later (same-book inst v.manager.book manager.book (ap (λ b. b.grant) book) (ap (λ b. b.policy) book) a.kind.book) core legal
       (subst (λ b. AreLabelled v.commands.labels b.jobs) (sym book) a.labelled) (owed manager later book posted same) f
 
   served : (spent : Bool) (manager : ManagerValue) (m : service.Moment) → Keeps v.manager manager → IsLegalAfter inst.service (service_of log) (m ∷ []) → Agrees manager.core inst.service (service_of log ++ m ∷ [])
@@ -194,7 +198,7 @@ module _ (v : JobServiceValue) (inst : Instance) (log : Log) (a : AgreesJobs v i
   -- ---- what is told
 
   pub stands : Stands v.commands v.manager v.second inst log
-  stands = record { commands = a.commands; service = a.core; legal = a.legal; grant = a.kind.grant; second = a.second }
+  stands = record { commands = a.commands; service = a.core; legal = a.legal; grant = a.kind.book.grant; policy = a.kind.book.policy; second = a.second }
 
   pub rank_within : (row : Row) → Contains v.commands.rows row → row.rank < v.manager.core.size
   rank_within row c =
@@ -222,7 +226,7 @@ module _ (v : JobServiceValue) (inst : Instance) (log : Log) (a : AgreesJobs v i
 -- ---- the beginning
 
 module _ (spent : Bool) (terms : Terms) (birth size fanout : ℕ) (grant : Resources) (manager : ManagerValue) (commands : CommandsValue)
-    (book : manager.book ≡ record { grant = grant; jobs = [] }) (posted : manager.posted ≡ None) (set : (inst : Instance) → AgreesCommands commands inst [])
+    (book : manager.book ≡ record { grant = grant; policy = terms.policy; jobs = [] }) (posted : manager.posted ≡ None) (set : (inst : Instance) → AgreesCommands commands inst [])
     (core : (s : Rattle.kvs_rules.specs.Namespaces.Setting) → s.size ≡ size → s.fanout ≡ fanout → s.grant ≡ r_text grant → Agrees manager.core s []) where
   abbrev begun : JobServiceValue
   begun = record { spent = spent; terms = terms; birth = birth; second = birth; manager = manager; commands = commands; refused = []; found = None; bearing = None; submitted = 0; span = 0 }
@@ -296,12 +300,12 @@ module _ (spent : Bool) (terms : Terms) (birth size fanout : ℕ) (grant : Resou
       ranks = of.ranks;
       terms = of.served;
       birth = of.birth;
-      grant = ap (λ b. b.grant) book ∙ sym of.grant;
+      book = record { grant = ap (λ b. b.grant) book ∙ sym of.grant; policy = ap (λ b. b.policy) book ∙ sym of.served.policy };
     };
     core = core inst.service of.size of.fanout (of.valid.text ∙ ap r_text of.grant);
     legal = tt;
     commands = set inst;
-    second = of.served.start ∙ of.birth;
+    second = of.served.built.start ∙ of.birth;
     owes = begun_owes inst;
     labelled = λ id c. absurd (among_from [] id (subst (λ b. Contains (ids_of b.jobs) id) book c));
     refused = λ r c. absurd (among_from [] r c);
@@ -324,7 +328,13 @@ module _ (spent : Bool) (terms : Terms) (birth size fanout : ℕ) (grant : Resou
       };
       unique = λ a b label urgency other needs named text more ea eb. cc;
       ranks = λ by some. absurd (true≢false (sym some));
-      served = record { built = built; answer = refl; policy = refl; limits = refl; shown = refl; start = refl; unwatched = λ by label e. cc };
+      served = record {
+        built = record { policy = built.policy; limits = built.limits; start = refl; unwatched = λ by label e. cc };
+        answer = refl;
+        policy = refl;
+        limits = refl;
+        shown = refl;
+      };
       birth = refl;
       grant = refl;
       size = refl;
@@ -395,8 +405,8 @@ row_known v by result r e is = found by v.rows r.now (sym e ∙ ap option_copied
 -- ---- what is due
 
 pub of_finds : (terms : Terms) (v : CommandsValue) (book : BookValue) (now : ℕ) (list : List Asked) (says : Ask → ℕ → Type 0) → SaysAs says (priority_by terms.weights) → list ≡ asked_of v → (o : Option Due) → Finds book now list says o → IsEventDue terms v book now o
-of_finds terms v book now list says known is None h = λ due d. h (priority_by terms.weights) known due (subst (λ l. IsDue (scene_of book now l (priority_by terms.weights)) due) (sym is) d)
-of_finds terms v book now list says known is (Some due) h = subst (λ l. IsDue (scene_of book now l (priority_by terms.weights)) due) is (h (priority_by terms.weights) known)
+of_finds terms v book now list says known is None h = λ due d. h (priority_by terms.weights) terms.limits known due (subst (λ l. IsDue (scene_of book now l (priority_by terms.weights) terms.limits) due) (sym is) d)
+of_finds terms v book now list says known is (Some due) h = subst (λ l. IsDue (scene_of book now l (priority_by terms.weights) terms.limits) due) is (h (priority_by terms.weights) terms.limits known)
 
 -- a list of one that may be lacking
 pub at_some : {A : Type 0} (P : A → Type 0) (o : Option A) (x : A) → o ≡ Some x → IfSome o P → P x

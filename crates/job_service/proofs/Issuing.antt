@@ -74,7 +74,7 @@ module _ (v : JobServiceValue) (inst : Instance) (log : Log) (a : AgreesJobs v i
       (leaves : (post : Post) → v.manager.posted ≡ Some post → LeavesOpen m post) (children : (post : Post) → v.manager.posted ≡ Some post → LeavesChildOf (asked_of v.commands) v.manager.book.jobs m post) where
     pub owes_next : (later : Option Post) → IsFoundBeside v.terms v.manager.posted commands v.manager.book v.second v.birth later → Owes v.manager.posted later (desk_of commands inst (log ++ m ∷ []) v.manager.book.jobs)
     owes_next later h =
-        beside-owes v.terms commands v.manager.book v.second v.birth inst (log ++ m ∷ []) f.commands a.kind.valid f.second a.kind.terms a.kind.birth a.kind.grant labelled smalls soon short made-due unmade-not v.manager.posted later
+        beside-owes v.terms commands v.manager.book v.second v.birth inst (log ++ m ∷ []) f.commands a.kind.valid f.second a.kind.terms a.kind.birth a.kind.book labelled smalls soon short made-due unmade-not v.manager.posted later
         (λ post e. stays v.commands commands inst log m v.manager.book.jobs post a.commands f.commands (f.second ∙ sym a.second) (leaves post e) (children post e)
         (posted-due v.manager.posted v.found (desk_of v.commands inst log v.manager.book.jobs) a.owes post e))
         h
@@ -105,7 +105,7 @@ module _ (v : JobServiceValue) (inst : Instance) (log : Log) (a : AgreesJobs v i
     issue_all smalls soon short made-due unmade-not stays later submitted h span =
         let same = issued_service v.commands commands v.refused v.second inst log by (facts v inst log a) in
         respan (with_parts v spent v.manager commands (v.refused ++ refusals_of by fault) later submitted) inst (log ++ Issued by ∷ []) span v.bearing
-        (joined v inst log a spent v.manager commands (v.refused ++ refusals_of by fault) later submitted (log ++ Issued by ∷ []) refl
+        (joined v inst log a spent v.manager commands (v.refused ++ refusals_of by fault) later submitted (log ++ Issued by ∷ []) a.kind.book
         (subst (Agrees v.manager.core inst.service) (sym same) a.core)
         (subst (IsLegalLog inst.service) (sym same) a.legal)
         labelled_next
@@ -211,7 +211,7 @@ module _ (v : JobServiceValue) (inst : Instance) (log : Log) (a : AgreesJobs v i
           reply = t.reply;
           hands = t.hands;
           legal = t.legal;
-          agrees = joined v inst log a spent v.manager commands (filter (λ x. not (is_refusal_of by x)) v.refused) later v.submitted (log ++ Replied by t.reply number ∷ []) refl
+          agrees = joined v inst log a spent v.manager commands (filter (λ x. not (is_refusal_of by x)) v.refused) later v.submitted (log ++ Replied by t.reply number ∷ []) a.kind.book
               (subst (Agrees v.manager.core inst.service) (sym same) a.core)
               (subst (IsLegalLog inst.service) (sym same) a.legal)
               labelled_told

@@ -308,12 +308,12 @@ module _ (v : JobServiceValue) (inst : Instance) (log : Log) (a : AgreesJobs v i
         → IsFoundBeside v.terms manager.posted commands manager.book v.second v.birth found → AgreesJobs (with_parts v spent manager commands refused found v.submitted) inst later
     landed_agrees spent found smalls soon short made-due unmade-not h =
         let same = service_all events log in
-        let grant : manager.book.grant ≡ v.manager.book.grant = ap (λ b. b.grant) l.book in
-        joined v inst log a spent manager commands refused found v.submitted later grant
+        let of : IsBookOf inst manager.book = same-book inst v.manager.book manager.book (ap (λ b. b.grant) l.book) (ap (λ b. b.policy) l.book) a.kind.book in
+        joined v inst log a spent manager commands refused found v.submitted later of
         (subst (Agrees manager.core inst.service) (sym same) (makes.agrees inst.service (service_of log) a.core))
         (subst (IsLegalLog inst.service) (sym same) (legal_joined inst.service [] (service_of log) (map service.Happened events) a.legal (makes.legal inst.service (service_of log) a.core)))
         labelled_later
-        (beside-owes v.terms commands manager.book v.second v.birth inst later facts_later.commands a.kind.valid facts_later.second a.kind.terms a.kind.birth (grant ∙ a.kind.grant)
+        (beside-owes v.terms commands manager.book v.second v.birth inst later facts_later.commands a.kind.valid facts_later.second a.kind.terms a.kind.birth of
         labelled_later smalls soon short made-due unmade-not manager.posted found
         (λ post e. absurd (let wrong : None ≡ Some post = sym l.posted ∙ e in cc)) h)
         facts_later

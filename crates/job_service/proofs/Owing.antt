@@ -17,7 +17,7 @@ use Rattle.job_deeds.specs.manager_rules.Jobs.{StoredJob}
 use Rattle.job_deeds.specs.manager_rules.Posts.{Desk, Does, IsDuePost, IsSubmission, Post, Submission, Submits}
 use Rattle.job_deeds.specs.manager_rules.Scene.{Scene}
 use Rattle.job_deeds.specs.manager_rules.declared.due.Due.{Due}
-use Rattle.job_service.specs.Agrees.{IsOnTerms}
+use Rattle.job_service.specs.Agrees.{IsBookOf, IsOnTerms}
 use Rattle.job_service.specs.Due.{CanLook, IsFound, IsFoundBeside, Owes, scene_now}
 use Rattle.job_service.specs.Posted.{IsAlone, IsNamed}
 use Rattle.job_deeds.specs.tap.Factors.{priority_by}
@@ -33,10 +33,10 @@ UnmadeAreNot = (c : CommandsValue) (i : Instance) (l : Log) (jobs : List StoredJ
 
 -- nothing is turned away where nothing limits it
 pub passes-all : (inst : Instance) (terms : Terms) → IsOnTerms inst terms → (spec : JobSpec) → verdict_of inst.limits spec ≡ 0
-passes-all inst terms on spec = ap (λ limits. verdict_of limits spec) (on.limits ∙ on.built.limits)
+passes-all inst terms on spec = ap (λ limits. verdict_of limits spec) on.built.limits
 
 module _ (terms : Terms) (v : CommandsValue) (book : BookValue) (now birth : ℕ) (inst : Instance) (log : Log)
-    (a : AgreesCommands v inst log) (valid : IsInstance inst) (second : now_of inst log ≡ now) (on : IsOnTerms inst terms) (born : inst.birth ≡ birth) (grant : book.grant ≡ inst.grant) where
+    (a : AgreesCommands v inst log) (valid : IsInstance inst) (second : now_of inst log ≡ now) (on : IsOnTerms inst terms) (born : inst.birth ≡ birth) (of : IsBookOf inst book) where
   abbrev pub desk : Desk
   desk = desk_of v inst log book.jobs
 
@@ -44,9 +44,8 @@ module _ (terms : Terms) (v : CommandsValue) (book : BookValue) (now birth : ℕ
   scene-is =
       let now_is = sym second in
       let answer_is = sym on.answer in
-      let policy_is = sym (on.policy ∙ on.built.policy) in
-      let limits_is = sym (on.limits ∙ on.built.limits) in
-      λ i. (let s : Scene = record { now = now_is i; grant = grant i; jobs = book.jobs; asked = asked_of v; answer = answer_is i; policy = policy_is i; limits = limits_is i; old = λ id. false } in s)
+      let limits_is = sym on.limits in
+      λ i. (let s : Scene = record { now = now_is i; grant = of.grant i; jobs = book.jobs; asked = asked_of v; answer = answer_is i; policy = of.policy i; limits = limits_is i; old = λ id. false } in s)
 
   pub due-there : (due : Due) → IsDue (scene_now terms v book now) due → IsDuePost desk (Does due)
   due-there due h = subst (λ s. IsDue s due) scene-is h
@@ -65,7 +64,7 @@ module _ (terms : Terms) (v : CommandsValue) (book : BookValue) (now birth : ℕ
 
   module _ (labelled : AreLabelled v.labels book.jobs) (smalls : Each (λ j. j.id < 2 ^ 64) book.jobs) (soon : 1000 * (now - birth) < 2 ^ 40) (short : length v.issued ≤ 32) (made-due : MadeAreDue) (unmade-not : UnmadeAreNot) where
     found-owes : (found : Option Post) → IsFound terms v book now birth found → Owes None found desk
-    found-owes (Some (Submits x)) h = made-due v inst log book.jobs x a valid (on.limits ∙ on.built.limits) (omega (arith, short)) labelled smalls (soon-now soon) (made-now x h)
+    found-owes (Some (Submits x)) h = made-due v inst log book.jobs x a valid on.built.limits (omega (arith, short)) labelled smalls (soon-now soon) (made-now x h)
     found-owes (Some (Does due)) h = due-there due h
     found-owes None h = none
       where

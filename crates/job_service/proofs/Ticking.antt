@@ -185,12 +185,12 @@ module _ (v : JobServiceValue) (inst : Instance) (log : Log) (a : AgreesJobs v i
       let f = ticked_facts v.commands v.refused v.second second inst log (facts v inst log a) in
       let same = ticked_service log second in
       record {
-        kind = record { valid = a.kind.valid; unique = a.kind.unique; ranks = a.kind.ranks; terms = a.kind.terms; birth = a.kind.birth; grant = a.kind.grant };
+        kind = record { valid = a.kind.valid; unique = a.kind.unique; ranks = a.kind.ranks; terms = a.kind.terms; birth = a.kind.birth; book = a.kind.book };
         core = subst (Agrees v.manager.core inst.service) (sym same) a.core;
         legal = subst (IsLegalLog inst.service) (sym same) a.legal;
         commands = f.commands;
         second = f.second;
-        owes = beside-owes v.terms v.commands v.manager.book second v.birth inst (log ++ Ticked second ∷ []) f.commands a.kind.valid f.second a.kind.terms a.kind.birth a.kind.grant a.labelled smalls soon short made-due unmade-not v.manager.posted later
+        owes = beside-owes v.terms v.commands v.manager.book second v.birth inst (log ++ Ticked second ∷ []) f.commands a.kind.valid f.second a.kind.terms a.kind.birth a.kind.book a.labelled smalls soon short made-due unmade-not v.manager.posted later
             (λ post e. absurd (let wrong : None ≡ Some post = sym unposted ∙ e in cc)) h;
         labelled = a.labelled;
         refused = f.refused;

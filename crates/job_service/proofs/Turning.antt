@@ -106,8 +106,8 @@ module _ (v : JobServiceValue) (inst : Instance) (log : Log) (a : AgreesJobs v i
     pub turned_facts : Facts commands refused v.second inst (log ++ map happening events)
     turned_facts = facts_later v inst log a manager step events makes numbered_lands post_lands commands refused id is_id named carried
 
-    pub turned_grant : manager.book.grant ≡ v.manager.book.grant
-    turned_grant = ap (λ b. b.grant) numbered_lands.book
+    pub turned_book : IsBookOf inst manager.book
+    turned_book = same-book inst v.manager.book manager.book (ap (λ b. b.grant) numbered_lands.book) (ap (λ b. b.policy) numbered_lands.book) a.kind.book
 
     pub turned_agrees : (spent : Bool) (found : Option Post) → Each (λ j. j.id < 2 ^ 64) manager.book.jobs → 1000 * (v.second - v.birth) < 2 ^ 40 → length commands.issued ≤ 32 → MadeAreDue → UnmadeAreNot
         → IsFoundBeside v.terms manager.posted commands manager.book v.second v.birth found → AgreesJobs (with_parts v spent manager commands refused found v.submitted) inst (log ++ map happening events)

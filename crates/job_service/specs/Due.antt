@@ -21,7 +21,7 @@ use Rattle.job_deeds.specs.tap.Factors.{priority_by}
 
 -- what the manager looks at of the jobs, which are served on these terms
 abbrev pub scene_now : Terms → CommandsValue → BookValue → ℕ → Scene
-scene_now terms v book now = scene_of book now (asked_of v) (priority_by terms.weights)
+scene_now terms v book now = scene_of book now (asked_of v) (priority_by terms.weights) terms.limits
 
 -- an event that is due for a job, or nothing where none is
 abbrev pub IsEventDue : Terms → CommandsValue → BookValue → ℕ → Option Due → Type 0

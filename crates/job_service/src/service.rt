@@ -22,7 +22,7 @@ ghost use Rattle.job_book.specs.Seconds.{IsSoonest};
 ghost use Rattle.job_clock.specs.Standing.{IsLiving, IsTop};
 ghost use Rattle.job_deeds.specs.kvs_txn.declared.txn.By.{By as Command};
 ghost use Rattle.job_deeds.specs.manager_rules.Jobs.{StoredJob, is_live};
-ghost use Rattle.job_deeds.specs.manager_rules.Limits.{AreBuilt};
+ghost use Rattle.job_deeds.specs.manager_rules.Terms.{AreBuilt};
 ghost use Rattle.job_deeds.specs.manager_rules.Times.{IsEndDue, IsIdle, seconds_ahead};
 ghost use Rattle.job_service.specs.Still.{IsStill, awaited};
 ghost use Rattle.job_service.specs.Times.{Counts, HasTime, KeepsCounts, MayPassTo, targets_left};
@@ -111,7 +111,7 @@ impl JobService {
         requires fanout { (1 ≤ setting.fanout) × (setting.fanout ≤ 32) }
         requires grant { IsR grant.now }
         requires early { birth + 2000000000 < 2 ^ 64 }
-        requires built { AreBuilt terms }
+        requires served { AreBuilt terms }
         ensures ready { IfOk result (λ v. v.spent ≡ false) }
         ensures size { IfOk result (λ v. v.manager.core.size ≡ setting.size) }
         ensures start { IfOk result (λ v. (v.submitted ≡ 0) × (v.span ≡ 0)) }
@@ -120,7 +120,7 @@ impl JobService {
             → IsServedBy inst setting.size setting.fanout grant.now birth terms
             → AgreesJobs v inst []) }
     {
-        let manager = Manager::new(alloc, setting, grant)?;
+        let manager = Manager::new(alloc, setting, grant, terms.policy)?;
         let commands = Commands::new(alloc, setting.size)?;
         // ids rise, and live jobs hold units of the grant
         manager.book().keeps();
