@@ -19,7 +19,7 @@ use Rattle.services.specs.job_commands.Agrees.{HasUniqueLabels}
 use Rattle.services.specs.answers.Chronicle.{Setup}
 use Rattle.services.specs.answers.Commands.{broker_of, command_at}
 use Rattle.services.specs.answers.Jobs.{IsSetup, instance_of, job_ask_at, job_ask_of}
-use Rattle.services.proofs.answers_proofs.JobLogs.{is_instance}
+use Rattle.services.proofs.answers_proofs.JobLogs.{built_instance, is_instance}
 use Rattle.services.proofs.answers_proofs.Services.{eqb_is}
 use Rattle.services.specs.Agrees.{IsGiven}
 use Rattle.services.specs.workload.declared.work.Actor.{Actor}
@@ -215,13 +215,6 @@ unique_labels set own a b label urgency other needs named text more asks_a asks_
     one_line : {x y : Line} → ◌≡◌ {A = Option Line} (Some x) (Some y) → x ≡ y
     one_line e = cc
 
--- no command of a workload watches a job
-no_watch : (c : Command) (label : List ℕ) → job_ask_of c ≡ Some (rules.Watch label) → ⊥
-no_watch (command.Submit other urgency depends spec) label e = cc
-
-unwatched : (set : Setup) (by : By) (label : List ℕ) → job_ask_at set.work by ≡ Some (rules.Watch label) → ⊥
-unwatched set by label e = (let asked = asked_in set.work by _ e in no_watch asked.command label asked.asks)
-
 -- ---- the whole
 
 pub is_given : (set : Setup) (size fanout : ℕ) (hash : Hash) (grant : Resources) (birth : ℕ) (terms : Terms) → set.size ≡ size → set.fanout ≡ fanout → set.hash ≡ hash → set.grant ≡ r_text grant → set.resources ≡ grant → set.terms ≡ terms → set.birth ≡ birth
@@ -233,12 +226,7 @@ is_given set size fanout hash grant birth terms brokers children hashed text res
     unique = unique_labels set own;
     ranks = in_ranks set within built ranks;
     served = record {
-      built = record {
-        policy = ap (λ t. t.policy) same ∙ offered.policy;
-        limits = ap (λ t. t.limits) same ∙ offered.limits;
-        start = refl;
-        unwatched = unwatched set;
-      };
+      built = built_instance set (subst AreBuilt (sym same) offered);
       answer = ap (λ t. priority_by t.weights) same;
       policy = ap (λ t. t.policy) same;
       limits = ap (λ t. t.limits) same;

@@ -8,6 +8,7 @@ ghost use Rattle.services.specs.answers.Legal.{HasSettled};
 ghost use Rattle.services.specs.answers.Services.{log_of};
 ghost use Rattle.services.specs.job_service.Still.{awaited};
 ghost use Rattle.services.specs.kvs_model.Store.{Name};
+ghost use Rattle.services.specs.manager_rules.Terms.{AreBuilt};
 ghost use Rattle.services.specs.resource_set.Valid.{IsR};
 ghost use Rattle.services.specs.resource_set.Writing.{r_text};
 ghost use Rattle.services.specs.Asks.{Keeps};
@@ -212,7 +213,7 @@ impl Instance {
         requires labels { HasOwnLabels work.now.lines }
         requires few { KeepsTallies work.now.lines }
         requires early { birth + 2000000000 < 2 ^ 64 }
-        requires served { AreBuilt terms }
+        requires terms { AreBuilt terms }
         ensures ready { IfOk result (λ v. v.spent ≡ false) }
         ensures agrees { IfOk result (λ v. (set : Setup) → set.size ≡ setting.size
             → set.fanout ≡ setting.fanout → set.hash ≡ setting.hash → set.grant ≡ r_text grant.now

@@ -111,7 +111,7 @@ impl JobService {
         requires fanout { (1 ≤ setting.fanout) × (setting.fanout ≤ 32) }
         requires grant { IsR grant.now }
         requires early { birth + 2000000000 < 2 ^ 64 }
-        requires served { AreBuilt terms }
+        requires terms { AreBuilt terms }
         ensures ready { IfOk result (λ v. v.spent ≡ false) }
         ensures size { IfOk result (λ v. v.manager.core.size ≡ setting.size) }
         ensures start { IfOk result (λ v. (v.submitted ≡ 0) × (v.span ≡ 0)) }

@@ -19,6 +19,7 @@ ghost use Rattle.job_service.specs.Times.{Counts, HasTime, MayPassTo, targets_le
 ghost use Rattle.job_service.specs.job_rules.Fits.{IsGrant};
 ghost use Rattle.job_service.specs.job_states.declared.job.State.{State};
 ghost use Rattle.job_service.specs.kvs_txn.declared.txn.By.{By as Command};
+ghost use Rattle.job_service.specs.manager_rules.Terms.{AreBuilt};
 ghost use Rattle.job_service.specs.manager_rules.Times.{IsIdle};
 ghost use Rattle.job_service.specs.resource_set.Valid.{IsR};
 ghost use Rattle.services.specs.Agrees.{AgreesServices, IsGiven};
@@ -94,7 +95,7 @@ impl Services {
         requires fanout { (1 ≤ setting.fanout) × (setting.fanout ≤ 32) }
         requires grant { IsR grant.now }
         requires early { birth + 2000000000 < 2 ^ 64 }
-        requires served { AreBuilt terms }
+        requires terms { AreBuilt terms }
         ensures ready { IfOk result (λ v. v.spent ≡ false) }
         ensures size { IfOk result (λ v. v.size ≡ setting.size) }
         ensures start { IfOk result (λ v. (v.jobs.submitted ≡ 0) × (v.jobs.span ≡ 0)) }

@@ -30,7 +30,7 @@ invariant_of-result c = λ _.
         judged = subst (AreJudged c.in_ok-commands.commands c.in_ok-manager.manager.book.jobs) (sym c.new-3.ensures.items) (begun_judged false c.args.terms c.args.birth c.args.setting.size c.args.setting.fanout c.args.grant.now c.in_ok-manager.manager c.in_ok-commands.commands m.book m.posted c.in_ok-commands.ensures.agrees m.agrees);
         bearing = begun_bearing false c.args.terms c.args.birth c.args.setting.size c.args.setting.fanout c.args.grant.now c.in_ok-manager.manager c.in_ok-commands.commands m.book m.posted c.in_ok-commands.ensures.agrees m.agrees;
         agreed = subst (λ l. IsAgreed (let v : JobServiceValue = record { spent = false; terms = c.args.terms; birth = c.args.birth; second = c.args.birth; manager = c.in_ok-manager.manager; commands = c.in_ok-commands.commands; refused = l; found = None; bearing = None; submitted = 0; span = 0 } in v)) (sym c.new-3.ensures.items) (begun_agreed false c.args.terms c.args.birth c.args.setting.size c.args.setting.fanout c.args.grant.now c.in_ok-manager.manager c.in_ok-commands.commands m.book m.posted c.in_ok-commands.ensures.agrees m.agrees
-            c.requires.served (subst (λ b. IsGrant b.grant.nodes) (c.book.ensures ∙ m.book) c.keeps.ensures.sets));
+            c.requires.terms (subst (λ b. IsGrant b.grant.nodes) (c.book.ensures ∙ m.book) c.keeps.ensures.sets));
       };
       submits = subst (λ p. None ≡ id_posted p) (sym m.posted) refl;
     }
