@@ -56,7 +56,7 @@ use Rattle.job_deeds.specs.resource_set.Writing.{r_text}
 use Rattle.job_deeds.specs.resource_set.declared.node.Resources.{Resources}
 use Rattle.job_deeds.specs.tap.declared.Ask.{Ask}
 use Rattle.run_limits.specs.Limits.{most_seconds, most_submits}
-use Rattle.job_service.specs.Agrees.{AgreesJobs, IsAgreed, IsNewAsk, IsServedBy}
+use Rattle.job_service.specs.Agrees.{AgreesJobs, IsAgreed, IsNewAsk, IsServedBy, IsBookOf}
 use Rattle.job_service.specs.Children.{IsBearing}
 use Rattle.job_service.specs.Due.{IsEventDue, IsFoundBeside, Owes}
 use Rattle.job_service.specs.Judged.{AreJudged}
@@ -70,6 +70,7 @@ use Rattle.job_service.proofs.Judging.{judged_begun}
 use Rattle.job_service.proofs.Owing.{found-alone, found-named}
 use Rattle.job_deeds.specs.tap.Factors.{priority_by}
 use Rattle.job_deeds.specs.manager_rules.declared.terms.Terms.{Terms}
+use Rattle.job_deeds.specs.manager_rules.Terms.{AreBuilt}
 
 -- the service with other parts
 abbrev pub with_parts : JobServiceValue → Bool → ManagerValue → CommandsValue → List Refused → Option Post → ℕ → JobServiceValue

@@ -37,6 +37,8 @@ use Rattle.job_service.specs.declared.refusals.Refused.{Refused}
 use Rattle.job_service.specs.Agrees.{IsUntold}
 use Rattle.job_landings.specs.Landings.{happening}
 use Rattle.job_service.specs.Refusals.{IsFaultOf, is_refusal_of, refusals_of, reply_to}
+use Rattle.job_deeds.specs.manager_rules.Limits.{verdict_of}
+use Rattle.job_deeds.specs.job_spec.declared.spec.JobSpec.{JobSpec}
 
 -- what the log says of the commands, the refusals and the time
 pub record Facts (v : CommandsValue) (list : List Refused) (now : ℕ) (inst : Instance) (log : Log) : Type 0 where

@@ -55,7 +55,7 @@ use Rattle.job_service.specs.declared.refusals.Refused.{Refused}
 use Rattle.job_service.proofs.Calls.{facts, joined, labelled_still, respan, spanned, with_parts}
 use Rattle.job_service.proofs.Counting.{count_filter, count_more}
 use Rattle.job_service.proofs.Facts.{Facts, issue_facts, issued_service, replied_service, reply_facts}
-use Rattle.job_service.proofs.Owing.{MadeAreDue, UnmadeAreNot, beside-owes, posted-due}
+use Rattle.job_service.proofs.Owing.{MadeAreDue, UnmadeAreNot, beside-owes, posted-due, passes-all}
 
 -- what the law says of what waits
 abbrev pub StaysDue : Type 0

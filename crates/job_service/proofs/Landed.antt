@@ -40,14 +40,14 @@ use Rattle.job_deeds.specs.manager_rules.Jobs.{StoredJob}
 use Rattle.job_deeds.specs.manager_rules.Posts.{Desk, Does, IsDuePost, Post, Submits, group_of, jobs_after, txn_of}
 use Rattle.job_deeds.specs.manager_rules.declared.due.Due.{Due}
 use Rattle.job_deeds.specs.store_laws.Posts.{is_manager, posts_in}
-use Rattle.job_service.specs.Agrees.{AgreesJobs}
+use Rattle.job_service.specs.Agrees.{AgreesJobs, IsBookOf}
 use Rattle.job_service.specs.Due.{IsFoundBeside}
 use Rattle.job_service.specs.Judged.{AreJudged}
 use Rattle.job_service.specs.Landed.{IsLanded, LandsAs, LandsEvent, LandsSubmission, command_of_first}
 use Rattle.job_service.specs.Posted.{IsNamed, id_posted}
 use Rattle.job_service.specs.Value.{JobServiceValue}
 use Rattle.job_service.specs.declared.refusals.Refused.{Refused}
-use Rattle.job_service.proofs.Calls.{facts, joined, labelled_still, with_parts}
+use Rattle.job_service.proofs.Calls.{facts, joined, labelled_still, with_parts, same-book}
 use Rattle.job_service.proofs.Counting.{count_carried, count_submitted, ids_after, length_done, length_submitted}
 use Rattle.job_service.proofs.Facts.{Facts, besides_facts, landed_facts, pending_kept, served_facts}
 use Rattle.job_service.proofs.Judging.{KeepJobs, jobs_kept, judged_landed, labels_kept}

@@ -26,7 +26,7 @@ use Rattle.job_service.specs.Agrees.{AgreesJobs}
 use Rattle.job_service.specs.Due.{Owes}
 use Rattle.job_service.specs.Posted.{IsAlone}
 use Rattle.job_service.specs.Value.{JobServiceValue}
-use Rattle.job_service.proofs.Calls.{facts, joined, with_parts}
+use Rattle.job_service.proofs.Calls.{facts, joined, with_parts, same-book}
 use Rattle.job_service.proofs.Owing.{found-due}
 
 -- ---- a command that asks nothing of the service is never answered by it

@@ -20,8 +20,9 @@ use Rattle.job_deeds.specs.manager_rules.declared.due.Due.{Due}
 use Rattle.job_service.specs.Agrees.{IsBookOf, IsOnTerms}
 use Rattle.job_service.specs.Due.{CanLook, IsFound, IsFoundBeside, Owes, scene_now}
 use Rattle.job_service.specs.Posted.{IsAlone, IsNamed}
-use Rattle.job_deeds.specs.tap.Factors.{priority_by}
 use Rattle.job_deeds.specs.manager_rules.declared.terms.Terms.{Terms}
+use Rattle.job_deeds.specs.manager_rules.Limits.{no_limits, verdict_of}
+use Rattle.job_deeds.specs.job_spec.declared.spec.JobSpec.{JobSpec}
 
 -- what the law of submissions says of one that is made, and of those that aren't
 abbrev pub MadeAreDue : Type 0

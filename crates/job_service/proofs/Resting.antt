@@ -1,5 +1,5 @@
 -- A job service in which nothing can go on.
-use Rattle.std.proofs.Common.{◌≡◌, ℕ, ◌≤◌, List, [], ◌∷◌, Bool, true, false, ◌||◌, Option, Some, None, Contains, cond, refl, sym, ap, ◌∙◌, subst, true≢false}
+use Rattle.std.proofs.Common.{◌≡◌, ℕ, ◌≤◌, List, [], ◌∷◌, Bool, true, false, ◌||◌, Option, Some, None, Contains, cond, refl, sym, ap, ◌∙◌, subst, true≢false, inl}
 use Rattle.std.specs.Prelude.{All, is_some, nat_lt, option_and_then, option_map}
 use Rattle.std.proofs.lemmas.Bool.{false_from_ne_true, ltb-false}
 use Rattle.instance_rules.specs.Family.{IsLeftResult, Living}

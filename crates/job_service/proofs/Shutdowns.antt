@@ -10,7 +10,7 @@ use Rattle.kvs_rules.specs.Answers.{IsLegalLog}
 use Rattle.kvs_rules.specs.Log.{same_command}
 use Rattle.job_deeds.specs.kvs_txn.declared.txn.By.{By}
 use Rattle.instance_rules.specs.Log as rules
-use Rattle.instance_rules.specs.Log.{Instance, IsOpen, Log, Moment, Served, Issued, Replied, Ticked, Born, Gone, Shut, Shutdown, is_issued, issues_now, now_of, seconds_from, service_of, ticked}
+use Rattle.instance_rules.specs.Log.{Instance, IsOpen, Log, Moment, Served, Issued, Replied, Ticked, Born, Gone, Fed, Shut, Shutdown, is_issued, issues_now, now_of, seconds_from, service_of, ticked}
 use Rattle.instance_rules.specs.Replies.{HasGrounds, IsLegalReply}
 use Rattle.job_commands.proofs.Logs.{differs, undecided_kept}
 use Rattle.job_commands.proofs.Steps.{reply_agrees, shutdown_agrees}

@@ -11,7 +11,7 @@ use Rattle.kvs_rules.specs.Log.{same_command}
 use Rattle.job_deeds.specs.kvs_txn.declared.txn.By.{By}
 use Rattle.instance_rules.specs.Desks.{AreNamed, StandsAsked, StandsSubmitted, submits_at}
 use Rattle.instance_rules.specs.Log as rules
-use Rattle.instance_rules.specs.Log.{Instance, IsPending, Log, Moment, Served, Issued, Replied, Ticked, Born, Gone, child_of, child_told, is_decided, now_of, replies_now, seconds_from, seconds_open, ticked}
+use Rattle.instance_rules.specs.Log.{Instance, IsPending, Log, Moment, Served, Issued, Replied, Ticked, Born, Gone, Fed, child_of, child_told, is_decided, now_of, replies_now, seconds_from, seconds_open, ticked}
 use Rattle.job_commands.proofs.Children.{living_told, shut_told}
 use Rattle.job_commands.proofs.Desks.{asked_there, children_stand, asked_true, submits_there, submits_true}
 use Rattle.job_commands.proofs.Logs.{count_push, open_kept, undecided_kept}

@@ -27,14 +27,14 @@ use Rattle.kvs_rules.specs.declared.events.KvsStep.{KvsStep}
 use Rattle.job_deeds.specs.kvs_txn.declared.txn.By.{By}
 use Rattle.job_deeds.specs.manager_rules.Jobs.{AreJobsOf, StoredJob}
 use Rattle.job_deeds.specs.manager_rules.Posts.{IsDuePost, Post, group_of}
-use Rattle.job_service.specs.Agrees.{AgreesJobs}
+use Rattle.job_service.specs.Agrees.{AgreesJobs, IsBookOf}
 use Rattle.job_service.specs.Due.{IsFoundBeside}
 use Rattle.job_service.specs.Judged.{AreJudged}
 use Rattle.job_service.specs.Landed.{IsLanded, command_of_first}
 use Rattle.job_service.specs.Posted.{IsNamed, id_posted}
 use Rattle.job_service.specs.Value.{JobServiceValue}
 use Rattle.job_service.specs.declared.refusals.Refused.{Refused}
-use Rattle.job_service.proofs.Calls.{with_parts}
+use Rattle.job_service.proofs.Calls.{with_parts, same-book}
 use Rattle.job_service.proofs.Facts.{Facts}
 use Rattle.job_service.proofs.Landed.{command_first, facts_later, landed_agrees, landed_counted, landed_drawn, landed_marks, landed_size, landed_time, later_judged, none_numbered}
 use Rattle.job_service.proofs.Owing.{MadeAreDue, UnmadeAreNot, posted-due}
