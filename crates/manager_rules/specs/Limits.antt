@@ -19,6 +19,18 @@ cores_of spec = unwrap_or spec.nodes 1 * (spec.slots * spec.cores)
 abbrev pub gpus_of : JobSpec → ℕ
 gpus_of spec = unwrap_or spec.nodes 1 * (spec.slots * spec.gpus)
 
+-- no limit
+abbrev pub no_limit : Limit
+no_limit = record { most = 0; reason = 0 }
+
+abbrev pub no_limits : Limits
+no_limits = record {
+  duration = no_limit;
+  hosts = no_limit;
+  cores = no_limit;
+  gpus = no_limit;
+}
+
 -- whether so many are more than the limit allows
 abbrev pub exceeds : Limit → ℕ → Bool
 exceeds limit n = nat_lt 0 limit.reason && nat_lt limit.most n
