@@ -17,7 +17,8 @@ use Rattle.instance_rules.specs.Log.{Fed, Instance, IsOpen, Log, Moment, Watch, 
 
 -- the number of the landing at which a moment feeds the command
 abbrev pub fed_at : By → Moment → Option (Option ℕ)
-fed_at by (Fed other number first count) = if same_command by other then Some (Some number) else None
+fed_at by (Fed other number first count) =
+    if same_command by other then Some (Some number) else None
 fed_at by _ = None
 
 -- how many events it feeds it

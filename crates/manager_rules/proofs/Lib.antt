@@ -17,3 +17,4 @@ pub mod Below
 pub mod Taking
 pub mod Rules
 pub mod Reserving
+pub mod Plain
