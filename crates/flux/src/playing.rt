@@ -18,8 +18,8 @@ use std::alloc::{AllocError, Global};
 use world::answers::{Chronicle, print_answers, print_journal};
 use world::hierarchy::a_true_run_keeps_its_promises;
 use world::kvs_core::CoreFault;
-use world::run_laws::time_stays_within;
 use world::manager_rules::Terms;
+use world::run_laws::time_stays_within;
 use world::workload::Workload;
 use world::{Ended, Schedule, Setting, World};
 
@@ -78,12 +78,7 @@ fn output(
 }
 
 /// The world of a workload with its options, before anything has happened.
-fn begun(
-    alloc: Global,
-    terms: Terms,
-    options: Options,
-    work: Workload,
-) -> Result<World, CoreFault>
+fn begun(alloc: Global, terms: Terms, options: Options, work: Workload) -> Result<World, CoreFault>
     requires options { AreWithin options }
     requires within { IsWithin options.size work }
     requires built { All (λ line. IsBuilt line.command) work.lines }
@@ -106,12 +101,7 @@ fn begun(
 }
 
 /// Makes the run of a workload.
-fn run(
-    alloc: Global,
-    terms: Terms,
-    options: Options,
-    work: Workload,
-) -> Result<Played, CoreFault>
+fn run(alloc: Global, terms: Terms, options: Options, work: Workload) -> Result<Played, CoreFault>
     requires options { AreWithin options }
     requires within { IsWithin options.size work }
     requires built { All (λ line. IsBuilt line.command) work.lines }
