@@ -22,7 +22,8 @@ use Rattle.job_deeds.specs.tap.declared.Ask.{Ask}
 use Rattle.job_deeds.specs.manager_rules.declared.asked.Asked.{Asked}
 use Rattle.job_deeds.specs.manager_rules.declared.due.Due.{Due}
 use Rattle.job_deeds.specs.manager_rules.Dependencies.{is_inactive, job_at}
-use Rattle.job_deeds.specs.manager_rules.Deeds.{Deed, Validates, Adds, Removes, Loses, Depends, Prioritizes, NeverFits, Takes, Starts, Finishes, Expires, Stops, Releases, Frees, Cleans, Carries, change_by, due_of, r_given}
+use Rattle.job_deeds.specs.manager_rules.Deeds.{Deed, Validates, Adds, Removes, Loses, Depends, Restarts, Prioritizes, NeverFits, Takes, Starts, Finishes, Expires, Stops, Releases, Frees, Cleans, Carries, change_by, due_of, r_given}
+use Rattle.job_deeds.specs.manager_rules.declared.terms.Limits.{Limits}
 use Rattle.job_deeds.specs.manager_rules.Due.{MayDo}
 use Rattle.job_deeds.specs.manager_rules.Jobs.{StoredJob, ids_of, is_live}
 use Rattle.job_deeds.specs.manager_rules.Posts.{event_done, held_after, r_after, with_event}
@@ -53,6 +54,7 @@ gives (Adds need) = inl refl
 gives (Removes need) = inl refl
 gives (Loses need) = inl refl
 gives Depends = inl refl
+gives Restarts = inl refl
 gives (Prioritizes priority) = inl refl
 gives NeverFits = inl refl
 gives Starts = inl refl
@@ -64,7 +66,7 @@ gives Frees = inl refl
 gives Cleans = inl refl
 gives (Carries asked) = inl refl
 
-module _ (book : BookValue) (g : Allotment) (is : IsBook book g) (now : ℕ) (asked : List Asked) (answer : Ask → ℕ) (scene : IsScene (scene_of book now asked answer)) (j : StoredJob) (known : Contains book.jobs j) where
+module _ (book : BookValue) (g : Allotment) (is : IsBook book g) (now : ℕ) (asked : List Asked) (answer : Ask → ℕ) (limits : Limits) (scene : IsScene (scene_of book now asked answer limits)) (j : StoredJob) (known : Contains book.jobs j) where
   here : Among j book.jobs
   here = among_from book.jobs j known
 
@@ -82,24 +84,24 @@ module _ (book : BookValue) (g : Allotment) (is : IsBook book g) (now : ℕ) (as
   own = each_at HoldsInTime book.jobs j is.in_time.each here
 
   -- a job that takes units has none
-  unheld : (r : Resources) → MayDo (scene_of book now asked answer) j (Takes r) → j.r ≡ None
+  unheld : (r : Resources) → MayDo (scene_of book now asked answer limits) j (Takes r) → j.r ≡ None
   unheld r m = let u = own.early (rw m.0 refl) in own.none (rw u.allocated refl)
 
   -- units that are taken are valid resources
-  taken : (r : Resources) → MayDo (scene_of book now asked answer) j (Takes r) → IsR r
+  taken : (r : Resources) → MayDo (scene_of book now asked answer limits) j (Takes r) → IsR r
   taken r m = record { hosts = m.2.free.hosts; named = names_within book.grant.nodes (holds_of book.jobs) r.nodes is.kept.grant.named m.2.free.inside }
 
-  module _ (deed : Deed) (m : MayDo (scene_of book now asked answer) j deed) where
+  module _ (deed : Deed) (m : MayDo (scene_of book now asked answer limits) j deed) where
     text_told : IfSome (r_given deed) IsTold
     text_told = elim (gives deed) [
       | inl none ↦ subst (λ o. IfSome o IsTold) (sym none) tt
-      | inr hit ↦ subst (λ d. IfSome (r_given d) IsTold) (sym hit.1) (let may = subst (λ d. MayDo (scene_of book now asked answer) j d) hit.1 m in (hit.0, may.2.written))
+      | inr hit ↦ subst (λ d. IfSome (r_given d) IsTold) (sym hit.1) (let may = subst (λ d. MayDo (scene_of book now asked answer limits) j d) hit.1 m in (hit.0, may.2.written))
     ]
 
     lands : CanLand j (due_of now j deed)
     lands = record {
       next = made (change_by deed) j.job;
-      steps = due_is_allowed (scene_of book now asked answer) j deed 0 scene hosts m;
+      steps = due_is_allowed (scene_of book now asked answer limits) j deed 0 scene hosts m;
       told = text_told;
     }
 
@@ -109,14 +111,14 @@ module _ (book : BookValue) (g : Allotment) (is : IsBook book g) (now : ℕ) (as
     plain None e false = tt
     plain (Some text) e b = cc
 
-    given_held : (r : Resources) → MayDo (scene_of book now asked answer) j (Takes r) → (b : Bool) → CanHold (allotted book) j.id (if b then given_in (told (r_text r)) else Nothing)
+    given_held : (r : Resources) → MayDo (scene_of book now asked answer limits) j (Takes r) → (b : Bool) → CanHold (allotted book) j.id (if b then given_in (told (r_text r)) else Nothing)
     given_held r may false = tt
     given_held r may true = subst (λ x. CanHold (allotted book) j.id (given_in x)) (sym may.2.written) (may.2.free, not_held book.jobs j is.kept.rising here (unheld r may))
 
     holds : (job : Job) → CanHold (allotted book) j.id (held_by (due_of now j deed) job)
     holds job = elim (gives deed) [
       | inl none ↦ plain (r_given deed) none (is_live job)
-      | inr hit ↦ subst (λ d. CanHold (allotted book) j.id (held_by (due_of now j d) job)) (sym hit.1) (given_held hit.0 (subst (λ d. MayDo (scene_of book now asked answer) j d) hit.1 m) (is_live job))
+      | inr hit ↦ subst (λ d. CanHold (allotted book) j.id (held_by (due_of now j d) job)) (sym hit.1) (given_held hit.0 (subst (λ d. MayDo (scene_of book now asked answer limits) j d) hit.1 m) (is_live job))
     ]
 
     -- where resources are given, the job had none
@@ -128,14 +130,14 @@ module _ (book : BookValue) (g : Allotment) (is : IsBook book g) (now : ℕ) (as
     had_none : (job : Job) (r : Resources) → held_by (due_of now j deed) job ≡ Given r → j.r ≡ None
     had_none job r e = elim (gives deed) [
       | inl none ↦ absurd (none_given (r_given deed) none (is_live job) r e)
-      | inr hit ↦ unheld hit.0 (subst (λ d. MayDo (scene_of book now asked answer) j d) hit.1 m)
+      | inr hit ↦ unheld hit.0 (subst (λ d. MayDo (scene_of book now asked answer limits) j d) hit.1 m)
     ]
 
     -- its resources are valid
     valid_after : (job : Job) → IfSome (held_after (due_of now j deed) job j.r) IsR
     valid_after job = elim (gives deed) [
       | inl none ↦ kept (r_given deed) none (is_live job)
-      | inr hit ↦ subst (λ d. IfSome (held_after (due_of now j d) job j.r) IsR) (sym hit.1) (given hit.0 (subst (λ d. MayDo (scene_of book now asked answer) j d) hit.1 m) (is_live job))
+      | inr hit ↦ subst (λ d. IfSome (held_after (due_of now j d) job j.r) IsR) (sym hit.1) (given hit.0 (subst (λ d. MayDo (scene_of book now asked answer limits) j d) hit.1 m) (is_live job))
     ]
       where
         kept : (o : Option (List ℕ)) → o ≡ None → (b : Bool) → IfSome (if b then r_after o j.r else None) IsR
@@ -143,7 +145,7 @@ module _ (book : BookValue) (g : Allotment) (is : IsBook book g) (now : ℕ) (as
         kept None e false = tt
         kept (Some text) e b = cc
 
-        given : (r : Resources) → MayDo (scene_of book now asked answer) j (Takes r) → (b : Bool) → IfSome (if b then result_ok (told (r_text r)) else None) IsR
+        given : (r : Resources) → MayDo (scene_of book now asked answer limits) j (Takes r) → (b : Bool) → IfSome (if b then result_ok (told (r_text r)) else None) IsR
         given r may false = tt
         given r may true = subst (λ x. IfSome (result_ok x) IsR) (sym may.2.written) (taken r may)
 
@@ -166,6 +168,7 @@ module _ (book : BookValue) (g : Allotment) (is : IsBook book g) (now : ℕ) (as
         record {
           kept = record {
             grant = is.kept.grant;
+            policy = is.kept.policy;
             sets = is.kept.sets;
             rising = rising;
             small = each_after (λ k. k.id < 2 ^ 64) (due_of now j deed) book.jobs is.kept.small (λ k i e. each_at (λ k. k.id < 2 ^ 64) book.jobs k is.kept.small i);
@@ -173,9 +176,9 @@ module _ (book : BookValue) (g : Allotment) (is : IsBook book g) (now : ℕ) (as
             held = each_after (λ k. IfSome k.r IsR) (due_of now j deed) book.jobs is.kept.held (λ k i e.
                 let same : j ≡ k = same_image (λ x. x.id) book.jobs j k (distinct_rising (ids_of book.jobs) is.kept.rising) here i (sym e) in
                 subst (λ x. IfSome (event_done (due_of now j deed) x).r IsR) same (valid_after (event_done (due_of now j deed) j).job));
-            sound = stays_sound (scene_of book now asked answer) scene is.in_time is.kept.sound is.kept.sets j known deed m spec;
+            sound = stays_sound (scene_of book now asked answer limits) scene is.in_time is.kept.sound is.kept.sets j known deed m spec;
           };
-          in_time = stays_in_time (scene_of book now asked answer) scene is.in_time is.kept.sound is.kept.sets j known deed m spec;
+          in_time = stays_in_time (scene_of book now asked answer limits) scene is.in_time is.kept.sound is.kept.sets j known deed m spec;
           ranked = each_after IsRanked (due_of now j deed) book.jobs is.ranked (λ k i e. after_ranked (change_of (due_of now j deed).event) k.job (each_at IsRanked book.jobs k is.ranked i));
           graph = ap (λ a. holding_with a j.id next.held) is.graph ∙ graph_after next.held r (λ r e. had_none next.job r (sym n.held ∙ e));
         }
@@ -197,18 +200,18 @@ module _ (book : BookValue) (g : Allotment) (is : IsBook book g) (due : Due) (wa
   the_job k i e = same_image (λ x. x.id) book.jobs was.is.j k (distinct_rising (ids_of book.jobs) is.kept.rising) own_job i (named ∙ sym e)
 
   can_land : (k : StoredJob) → Among k book.jobs → k.id ≡ due.job → CanLand k due
-  can_land k i e = subst (λ x. CanLand x due) (the_job k i e) (subst (CanLand was.is.j) (sym was.is.is) (lands book g is was.now was.asked was.answer was.scene was.is.j was.is.known was.is.deed was.is.may))
+  can_land k i e = subst (λ x. CanLand x due) (the_job k i e) (subst (CanLand was.is.j) (sym was.is.is) (lands book g is was.now was.asked was.answer was.limits was.scene was.is.j was.is.known was.is.deed was.is.may))
 
   can_hold : (k : StoredJob) → Among k book.jobs → k.id ≡ due.job → (next : Next) → IsNext k due next → CanHold g due.job next.held
   can_hold k i e next n =
-      let all : CanHold (allotted book) was.is.j.id (held_by (due_of was.now was.is.j was.is.deed) next.job) = holds book g is was.now was.asked was.answer was.scene was.is.j was.is.known was.is.deed was.is.may next.job in
+      let all : CanHold (allotted book) was.is.j.id (held_by (due_of was.now was.is.j was.is.deed) next.job) = holds book g is was.now was.asked was.answer was.limits was.scene was.is.j was.is.known was.is.deed was.is.may next.job in
       let by_due : CanHold (allotted book) due.job (held_by due next.job) = subst (λ d. CanHold (allotted book) d.job (held_by d next.job)) (sym was.is.is) all in
       subst (λ a. CanHold a due.job next.held) (sym is.graph) (subst (CanHold (allotted book) due.job) (sym n.held) by_due)
 
   book_after : (k : StoredJob) → Among k book.jobs → k.id ≡ due.job → (next : Next) → IsNext k due next → IsBook (after_event due book) (holding_with g due.job next.held)
   book_after k i e next n =
       let own_next : IsNext was.is.j (due_of was.now was.is.j was.is.deed) next = subst (λ d. IsNext was.is.j d next) was.is.is (subst (λ x. IsNext x due next) (sym (the_job k i e)) n) in
-      subst (λ d. IsBook (after_event d book) (holding_with g d.job next.held)) (sym was.is.is) (after book g is was.now was.asked was.answer was.scene was.is.j was.is.known was.is.deed was.is.may next own_next)
+      subst (λ d. IsBook (after_event d book) (holding_with g d.job next.held)) (sym was.is.is) (after book g is was.now was.asked was.answer was.limits was.scene was.is.j was.is.known was.is.deed was.is.may next own_next)
 
   -- the job at its place
   at_place : (at : ℕ) (d : StoredJob) → at < length book.jobs → (get_or book.jobs at d).id ≡ due.job → Among (get_or book.jobs at d) book.jobs
@@ -256,7 +259,7 @@ module _ {book : BookValue} {g : Allotment} {due : Due} {at : ℕ} {j : StoredJo
     read_active old new entry are its follows =
         let mine = the_job book g r.is due r.was j there named_so in
         active_after due book.jobs old new entry j (its ∙ named_so) are (λ k i e. sym mine ∙ the_job book g r.is due r.was k i e)
-        (subst (λ k. is_active k ≡ true) mine (due_active (scene_of book r.was.now r.was.asked r.was.answer) r.was.is.j r.was.is.deed r.was.is.may))
+        (subst (λ k. is_active k ≡ true) mine (due_active (scene_of book r.was.now r.was.asked r.was.answer r.was.limits) r.was.is.j r.was.is.deed r.was.is.may))
         (follows ∙ ap (λ k. follow_with entry (is_inactive k.job) old) (done_is j due next n))
 
     pub read_entries : (old new : List Active) (entry : Active) → AreEntriesOf book.jobs old → entry.id ≡ j.id → IsEntryOf (job_with next j) entry → new ≡ follow_with entry (is_inactive next.job) old → AreEntriesOf (with_event due book.jobs) new

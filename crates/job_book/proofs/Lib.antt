@@ -6,3 +6,4 @@ pub mod Queues
 pub mod Submitted
 pub mod Trying
 pub mod Wakes
+pub mod Explained

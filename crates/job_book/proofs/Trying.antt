@@ -11,6 +11,7 @@ use Rattle.job_deeds.specs.tap.declared.Ask.{Ask}
 use Rattle.job_deeds.specs.manager_rules.declared.asked.Asked.{Asked}
 use Rattle.job_deeds.specs.manager_rules.declared.due.Due.{Due}
 use Rattle.job_deeds.specs.manager_rules.Dependencies.{job_at}
+use Rattle.job_deeds.specs.manager_rules.Limits.{no_limits}
 use Rattle.job_deeds.specs.manager_rules.Jobs.{StoredJob, distinct, ids_of, listed_in, same_need}
 use Rattle.job_deeds.specs.manager_rules.Scene.{IsAsked}
 use Rattle.job_book.specs.Contract.{IsDueIn, KnowsNeeds, WasDue}
@@ -60,6 +61,7 @@ was_due book now asked says due small are said is = record {
   now = now;
   asked = asked;
   answer = λ ask. min ask.urgency 100 + 4;
+  limits = no_limits;
   scene = record { now = small; asked = are; answers = λ ask. (omega arith, omega arith) };
-  is = is (λ ask. min ask.urgency 100 + 4) said;
+  is = is (λ ask. min ask.urgency 100 + 4) no_limits said;
 }

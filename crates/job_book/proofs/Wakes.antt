@@ -2,7 +2,7 @@
 use Rattle.std.proofs.Common.{◌≡◌, ◌≢◌, ℕ, ◌<◌, ◌≤◌, Bool, true, false, List, [], ◌∷◌, Option, Some, None, refl, sym, ap, ◌∙◌, inl, inr, arith}
 use Rattle.std.specs.Prelude.{◌&&◌, ◌||◌, Contains, IfSome, IsSomeAnd, if◌then◌else◌, option_and_then, option_map}
 use Rattle.std.specs.List.{list_any}
-use Rattle.std.proofs.lemmas.Bool.{eq-eqb, ne_eqb}
+use Rattle.std.proofs.lemmas.Bool.{eq-eqb, lt-leb}
 use Rattle.job_deeds.proofs.job_rules_proofs.Among.{Among, among_from}
 use Rattle.job_deeds.specs.job_states.declared.job.State.TheVariants as state
 use Rattle.job_deeds.specs.resource_set.declared.node.Resources.{Resources}
@@ -11,7 +11,7 @@ use Rattle.job_deeds.specs.shells.declared.ends.Ending.{Ending}
 use Rattle.job_deeds.specs.shells.declared.ends.Ending.TheVariants as ending
 use Rattle.job_deeds.specs.manager_rules.declared.asked.Asked.{Asked}
 use Rattle.job_deeds.specs.manager_rules.declared.asked.Asked.TheVariants.{Cancel, Raise, Urgency, Child}
-use Rattle.job_deeds.specs.manager_rules.Due.{IsOver, MayCarry, status_at, status_now}
+use Rattle.job_deeds.specs.manager_rules.Due.{IsOver, MayCarry, is_in_time, status_at, status_now}
 use Rattle.job_deeds.specs.manager_rules.Jobs.{StoredJob}
 use Rattle.job_deeds.specs.manager_rules.Scene.{Scene, has_shut_child, is_child_of, is_shut}
 use Rattle.job_book.specs.Waking.{Sleeps, is_about}
@@ -63,13 +63,12 @@ module _ (j : StoredJob) where
     goes_on : ((second status : ℕ) → option_map (ending_of j.spec) j.start ≡ Some (ending.At second status) → s.now < second) → status_now s j ≡ None
     goes_on later = by j.start later
       where
-        at : (e : Ending) → ((second status : ℕ) → e ≡ ending.At second status → s.now < second) → status_at s j.id e ≡ None
+        at : (e : Ending) → ((second status : ℕ) → e ≡ ending.At second status → s.now < second) → status_at s j.id j.r e ≡ None
         at (ending.At second status) f =
-            let other : second ≢ s.now = λ x. omega (arith, f second status refl, x) in
-            ap (λ b. if b then Some status else None) (ne_eqb second s.now other)
+            ap (λ b. if b && is_in_time j.r second then Some status else None) (lt-leb second s.now (f second status refl))
         at ending.Child f = ap (λ b. if b then Some 0 else None) (unshut s.asked quiet)
 
-        by : (o : Option ℕ) → ((second status : ℕ) → option_map (ending_of j.spec) o ≡ Some (ending.At second status) → s.now < second) → option_and_then (λ start. status_at s j.id (ending_of j.spec start)) o ≡ None
+        by : (o : Option ℕ) → ((second status : ℕ) → option_map (ending_of j.spec) o ≡ Some (ending.At second status) → s.now < second) → option_and_then (λ start. status_at s j.id j.r (ending_of j.spec start)) o ≡ None
         by None f = refl
         by (Some start) f = at (ending_of j.spec start) (λ second status e. f second status (ap Some e))
 

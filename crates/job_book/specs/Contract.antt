@@ -1,5 +1,5 @@
 -- What the calls of a book ask for and answer.
-use Rattle.std.specs.Prelude.{◌≡◌, ◌≤◌, ◌<◌, ◌^◌, ℕ, List, Option, Some, None, Contains, IfSome, filter, flat_map, nat_lt, option_and_then}
+use Rattle.std.specs.Prelude.{◌≡◌, ◌≤◌, ◌<◌, ◌^◌, ℕ, List, [], Option, Some, None, Contains, IfSome, filter, flat_map, nat_lt, option_and_then}
 use Rattle.std.specs.List.{AllByRecursion as Each}
 use Rattle.std.specs.List.Sorted.{IsStrictlyIncreasing}
 use Rattle.job_deeds.specs.event_log.declared.event.Event.{Event}
@@ -20,8 +20,13 @@ use Rattle.job_deeds.specs.manager_rules.Posts.{with_event, with_job}
 use Rattle.job_deeds.specs.manager_rules.Scene.{IsScene}
 use Rattle.job_deeds.specs.manager_rules.Sound.{IsSound}
 use Rattle.job_deeds.specs.manager_rules.Times.{IsBirthDue, seconds_of}
+use Rattle.job_deeds.specs.manager_rules.Limits.{no_limits}
+use Rattle.job_deeds.specs.manager_rules.Whys.{IsWhy}
 use Rattle.job_deeds.specs.manager_rules.declared.asked.Asked.{Asked}
 use Rattle.job_deeds.specs.manager_rules.declared.due.Due.{Due}
+use Rattle.job_deeds.specs.manager_rules.declared.policy.Policy.TheVariants.{FirstFit}
+use Rattle.job_deeds.specs.manager_rules.declared.terms.Limits.{Limits}
+use Rattle.job_deeds.specs.manager_rules.declared.why.Why.{Why}
 use Rattle.job_deeds.specs.Choices.{SaysAs}
 use Rattle.job_book.specs.Value.{BookValue, scene_of}
 
@@ -72,29 +77,31 @@ Gains old id spec event new =
 
 -- ---- due events
 
--- the event is due, whatever function the tap answers as
+-- the event is due, whatever function the tap answers as and however new jobs are limited
 abbrev pub IsDueIn : BookValue → ℕ → List Asked → (Ask → ℕ → Type 0) → Due → Type 0
 IsDueIn book now asked says due =
-    (answer : Ask → ℕ) → SaysAs says answer → IsDue (scene_of book now asked answer) due
+    (answer : Ask → ℕ) (limits : Limits) → SaysAs says answer
+    → IsDue (scene_of book now asked answer limits) due
 
 -- nothing is due
 abbrev pub NoneDueIn : BookValue → ℕ → List Asked → (Ask → ℕ → Type 0) → Type 0
 NoneDueIn book now asked says =
-    (answer : Ask → ℕ) → SaysAs says answer
-    → (due : Due) → IsDue (scene_of book now asked answer) due → ⊥
+    (answer : Ask → ℕ) (limits : Limits) → SaysAs says answer
+    → (due : Due) → IsDue (scene_of book now asked answer limits) due → ⊥
 
 -- what is found: an event that is due, or none where nothing is
 abbrev pub Finds : BookValue → ℕ → List Asked → (Ask → ℕ → Type 0) → Option Due → Type 0
 Finds book now asked says (Some due) = IsDueIn book now asked says due
 Finds book now asked says None = NoneDueIn book now asked says
 
--- the event is due at some second, with some commands and children and some answers
+-- the event is due at some second, with some commands and children, some answers and some limits
 pub record WasDue (book : BookValue) (due : Due) : Type 0 where
   pub now : ℕ
   pub asked : List Asked
   pub answer : Ask → ℕ
-  pub scene : IsScene (scene_of book now asked answer)
-  pub is : IsDue (scene_of book now asked answer) due
+  pub limits : Limits
+  pub scene : IsScene (scene_of book now asked answer limits)
+  pub is : IsDue (scene_of book now asked answer limits) due
 
 -- the book once it has landed
 abbrev pub after_event : Due → BookValue → BookValue
@@ -105,9 +112,14 @@ after_event due book = record book { jobs = with_event due book.jobs }
 abbrev pub r_at : List StoredJob → ℕ → Option Resources
 r_at jobs id = option_and_then (λ j. j.r) (job_at jobs id)
 
--- a birth reads no second and no answer
+-- why the job of an id doesn't run at this second, which no command, answer or limit decides
+abbrev pub Explains : BookValue → ℕ → ℕ → Why → Type 0
+Explains book now id why =
+    (answer : Ask → ℕ) (limits : Limits) → IsWhy (scene_of book now [] answer limits) id why
+
+-- a birth reads no second, no answer and no limit
 abbrev pub BirthIn : BookValue → List Asked → ℕ → Type 0
-BirthIn book asked id = IsBirthDue (scene_of book 0 asked (λ ask. 1)) id
+BirthIn book asked id = IsBirthDue (scene_of book 0 asked (λ ask. 1) no_limits) id
 
 abbrev pub IsFirstBirth : BookValue → List Asked → ℕ → Type 0
 IsFirstBirth book asked id =
@@ -120,9 +132,10 @@ NoBirth book asked = (id : ℕ) → BirthIn book asked id → ⊥
 abbrev pub seconds_left : ℕ → BookValue → List ℕ
 seconds_left now book = filter (λ second. nat_lt now second) (flat_map seconds_of book.jobs)
 
--- what every book keeps
+-- what every book keeps: nobody passes the first in the queue
 pub record IsKept (book : BookValue) : Type 0 where
   pub grant : IsR book.grant
+  pub policy : book.policy ≡ FirstFit
   pub sets : IsGrant book.grant.nodes
   pub rising : IsStrictlyIncreasing (ids_of book.jobs)
   pub small : Each (λ j. j.id < 2 ^ 64) book.jobs

@@ -9,8 +9,8 @@ ghost use Rattle.job_deeds.specs.manager_rules.Dependencies.{job_at};
 ghost use Rattle.job_deeds.specs.manager_rules.Jobs.{ids_of};
 ghost use Rattle.job_deeds.specs.manager_rules.Scene.{IsAsked};
 ghost use Rattle.job_deeds.specs.manager_rules.Times.{IsLeast};
-ghost use Rattle.job_deeds.specs.manager_rules.Whys.{IsWhy};
-ghost use Rattle.job_book.specs.Contract.{BeginsAsOne, Finds, Gains, IsFirstBirth, IsKept, IsNewJob, KnowsNeeds, NoBirth, WasDue, after_event, r_at, seconds_left};
+ghost use Rattle.job_deeds.specs.manager_rules.declared.policy.Policy.TheVariants.{FirstFit};
+ghost use Rattle.job_book.specs.Contract.{BeginsAsOne, Explains, Finds, Gains, IsFirstBirth, IsKept, IsNewJob, KnowsNeeds, NoBirth, WasDue, after_event, r_at, seconds_left};
 
 use crate::active::{Active, enter, entry_of, first_bearing, follow, place_of_active};
 use crate::seconds::next_of_rows;
@@ -22,7 +22,7 @@ use job_deeds::job_spec::JobSpec;
 use job_deeds::job_states::{Job, ReplayFault, begin};
 use job_deeds::job_texts::needs_of;
 use job_deeds::lists::Copied;
-use job_deeds::manager_rules::{Due, JobList, OpenList, Why};
+use job_deeds::manager_rules::{Due, JobList, OpenList, Policy, Why};
 use job_deeds::resource_set::Resources;
 use job_deeds::tap::{Ask, Tap};
 use job_deeds::{
@@ -36,6 +36,7 @@ use std::marker::Model;
 #[derive(Drop)]
 pub struct Book {
     grant: Resources,
+    policy: Policy,
     /// The grant's units, and what live jobs hold of them.
     graph: Graph,
     /// By rising ids.
@@ -55,24 +56,31 @@ impl Model for Book {
     ghost use Rattle.job_book.specs.Kept.{IsBook};
     ghost use Rattle.job_deeds.specs.Waiting.{IsQueueOf};
 
-    ghost view = { λ b. record { grant = b.grant; jobs = b.rows.items } };
+    ghost view = { λ b. record { grant = b.grant; policy = b.policy; jobs = b.rows.items } };
 
-    ghost invariant = { λ b. IsBook (record { grant = b.grant; jobs = b.rows.items }) b.graph
+    ghost invariant = { λ b.
+        IsBook (record { grant = b.grant; policy = b.policy; jobs = b.rows.items }) b.graph
         × IsQueueOf b.rows.items b.queue.0 × AreActive b.rows.items b.active.items
         × AreEntriesOf b.rows.items b.active.items };
 }
 
 impl Book {
-    /// A book of a grant, without jobs.
-    pub fn new(alloc: Global, grant: &Resources) -> Result<Book, AllocError>
-        requires { IsR grant.now }
-        ensures { IfOk result (λ b. b ≡ record { grant = grant.now; jobs = [] }) }
+    /// A book of a grant, without jobs, by this policy.
+    pub fn new(alloc: Global, grant: &Resources, policy: Policy) -> Result<Book, AllocError>
+        requires grant { IsR grant.now }
+        requires policy { policy ≡ FirstFit }
+        ensures { IfOk result (λ b. b ≡ record {
+          grant = grant.now;
+          policy = policy;
+          jobs = [];
+        }) }
     {
         let graph = Graph::new(alloc, grant)?;
         // live jobs hold units of the grant, no two of them one in common
         graph.keeps();
         Ok(Book {
             grant: grant.copy()?,
+            policy,
             graph,
             rows: Vec::new(alloc),
             queue: Queue::new(alloc),
@@ -120,6 +128,7 @@ impl Book {
         let desk = Desk {
             second: now,
             graph: &self.graph,
+            policy: self.policy,
             rows: &self.rows,
             head: self.queue.head(),
             asked: asked.as_slice(),
@@ -160,11 +169,12 @@ impl Book {
     /// Why a job doesn't run at this second: no such job, its state, that it is held, the job
     /// before it, or those whose resources are in its way.
     pub fn why(&self, job: u64, now: u64) -> Result<Why, AllocError>
-        ensures { IfOk result (IsWhy self.now.grant.nodes self.now.jobs job) }
+        ensures { IfOk result (Explains self.now now job) }
     {
         let desk = Desk {
             second: now,
             graph: &self.graph,
+            policy: self.policy,
             rows: &self.rows,
             head: self.queue.head(),
             asked: &[],

@@ -8,4 +8,4 @@ mod seconds;
 mod waking;
 
 pub use book::Book;
-pub use job_deeds::manager_rules::{Asked, Due, JobList, OpenList, Why};
+pub use job_deeds::manager_rules::{Asked, Due, JobList, OpenList, Policy, Why};

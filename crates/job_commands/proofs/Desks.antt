@@ -17,7 +17,8 @@ use Rattle.manager_rules.specs.Posts as posts
 use Rattle.manager_rules.specs.Scene.{IsAsked, has_child, has_living_child, is_child_of, is_living}
 use Rattle.instance_rules.specs.Desks.{AreNamed, IsDeskOf, StandsAsked, StandsSubmitted, is_submission, submits_at}
 use Rattle.instance_rules.specs.Log as rules
-use Rattle.instance_rules.specs.Log.{Instance, IsInstance, IsOpen, IsPending, JobAsk as Asks, Log, Served, Issued, Replied, Ticked, Born, Gone, Named as NamedJob, Submit, before_issue, child_of, is_decided, is_issued, now_of, seconds_from, seconds_open, ticked}
+use Rattle.instance_rules.proofs.Feeding.{none_old}
+use Rattle.instance_rules.specs.Log.{Instance, IsInstance, IsOpen, IsPending, JobAsk as Asks, Log, Served, Issued, Replied, Ticked, Born, Gone, Fed, Named as NamedJob, Submit, before_issue, child_of, is_decided, is_issued, now_of, seconds_from, seconds_open, ticked}
 use Rattle.job_commands.specs.Agrees.{AgreesCommands, RowAgrees, StageAgrees}
 use Rattle.job_commands.specs.Asks.{named_of, told}
 use Rattle.job_commands.specs.Children.{all_children, asked_child}
@@ -104,6 +105,7 @@ newest now (Issued other ∷ log) = newest now log
 newest now (Replied other reply number ∷ log) = newest now log
 newest now (Born job ∷ log) = newest now log
 newest now (Gone job shut ∷ log) = newest now log
+newest now (Fed other number first count ∷ log) = newest now log
 
 open_now : (by : By) (now : ℕ) (log : Log) → is_issued by log ≡ true → Among (latest ticked now log) (seconds_from by now log)
 open_now by now [] e = absurd (true≢false (sym e))
@@ -118,9 +120,10 @@ open_now by now (Served m ∷ log) e = open_now by now log e
 open_now by now (Replied other reply number ∷ log) e = open_now by now log e
 open_now by now (Born job ∷ log) e = open_now by now log e
 open_now by now (Gone job shut ∷ log) e = open_now by now log e
+open_now by now (Fed other number first count ∷ log) e = open_now by now log e
 
 pub opens_now : (inst : Instance) (log : Log) (by : By) → IsOpen by log → Contains (seconds_open inst log by) (now_of inst log)
-opens_now inst log by h = contains_from _ _ (open_now by inst.birth log h.issued)
+opens_now inst log by h = contains_from _ _ (open_now by inst.start log h.issued)
 
 -- the second before a command is issued
 open_at : (by : By) (now : ℕ) (log : Log) → is_issued by log ≡ true → Among (latest ticked now (before_issue by log)) (seconds_from by now log)
@@ -136,9 +139,10 @@ open_at by now (Served m ∷ log) e = open_at by now log e
 open_at by now (Replied other reply number ∷ log) e = open_at by now log e
 open_at by now (Born job ∷ log) e = open_at by now log e
 open_at by now (Gone job shut ∷ log) e = open_at by now log e
+open_at by now (Fed other number first count ∷ log) e = open_at by now log e
 
 pub opens_at_issue : (inst : Instance) (log : Log) (by : By) → IsOpen by log → Contains (seconds_open inst log by) (now_of inst (before_issue by log))
-opens_at_issue inst log by h = contains_from _ _ (open_at by inst.birth log h.issued)
+opens_at_issue inst log by h = contains_from _ _ (open_at by inst.start log h.issued)
 
 -- ---- events
 
@@ -358,6 +362,9 @@ module _ (v : CommandsValue) (inst : Instance) (log : Log) (h : AgreesCommands v
     now = refl;
     grant = refl;
     answer = refl;
+    policy = refl;
+    limits = refl;
+    old = λ id. sym (none_old inst st id);
     birth = refl;
     jobs = are;
     asked = λ a. (asked_true a, asked_there a);

@@ -18,7 +18,7 @@ use Rattle.kvs_rules.specs.declared.events.KvsEvent.TheVariants as event
 use Rattle.kvs_txn.specs.declared.txn.By.{By}
 use Rattle.kvs_txn.specs.declared.txn.Group.{Group}
 use Rattle.instance_rules.specs.Desks.{Begins, HasBegun, HasSubmitted, is_submission, submits_at}
-use Rattle.instance_rules.specs.Log.{Instance, IsOpen, JobAsk, Log, Moment, Served, Issued, Replied, Ticked, Born, Gone, is_decided, is_issued, is_replied, issues_now, replies_now, now_of, served, service_of}
+use Rattle.instance_rules.specs.Log.{Instance, IsOpen, JobAsk, Log, Moment, Served, Issued, Replied, Ticked, Born, Gone, Fed, is_decided, is_issued, is_replied, issues_now, replies_now, now_of, served, service_of}
 use Rattle.instance_rules.specs.Replies.{IsCarriedOut}
 use Rattle.job_commands.specs.Agrees.{HasLanded, RowAgrees, StageAgrees}
 use Rattle.job_commands.specs.Moments.{IsAside, decides_now, groups_of}
@@ -70,6 +70,7 @@ decided_push by log (Replied other reply number) = ap (either by) (service_push 
 decided_push by log (Ticked second) = ap (either by) (service_push log (Ticked second)) ∙ quiet by log
 decided_push by log (Born job) = ap (either by) (service_push log (Born job)) ∙ quiet by log
 decided_push by log (Gone job shut) = ap (either by) (service_push log (Gone job shut)) ∙ quiet by log
+decided_push by log (Fed other number first count) = ap (either by) (service_push log (Fed other number first count)) ∙ quiet by log
 
 pub decided_kept : (by : By) (log : Log) (m : Moment) → is_decided by log ≡ true → is_decided by (log ++ m ∷ []) ≡ true
 decided_kept by log m e = decided_push by log m ∙ or_left (is_decided by log) _ e
@@ -124,6 +125,7 @@ served_is (Replied other reply n) x i = absurd i
 served_is (Ticked second) x i = absurd i
 served_is (Born job) x i = absurd i
 served_is (Gone job shut) x i = absurd i
+served_is (Fed other number first count) x i = absurd i
 
 pub begun_before : (log : Log) (m : Moment) (by : By) (id number : ℕ) → HasBegun (log ++ m ∷ []) by id number → HasBegun log by id number ⊎ BeginsNow by id m
 begun_before log m by id number h =
@@ -195,3 +197,4 @@ submits_none inst rank (Replied by reply number) h = refl
 submits_none inst rank (Ticked second) h = refl
 submits_none inst rank (Born job) h = refl
 submits_none inst rank (Gone job shut) h = refl
+submits_none inst rank (Fed other number first count) h = refl

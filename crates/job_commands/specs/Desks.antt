@@ -1,5 +1,5 @@
 -- What the manager looks at, from the open commands and the labels.
-use Rattle.std.specs.Prelude.{List, [], ◌∷◌, ◌++◌, Option, Some, None, filter_map, option_map, option_and_then, slice_index}
+use Rattle.std.specs.Prelude.{false, List, [], ◌∷◌, ◌++◌, Option, Some, None, filter_map, option_map, option_and_then, slice_index}
 use Rattle.job_spec.specs.declared.spec.Depend.{Depend}
 use Rattle.manager_rules.specs.declared.asked.Asked.{Asked}
 use Rattle.manager_rules.specs.declared.asked.Asked.TheVariants as asked
@@ -71,6 +71,7 @@ submits_of v inst log = filter_map (λ row. submit_at v inst log row row.stage) 
 
 -- ---- the desk
 
+-- what the manager looks at: the run resumed with none of these jobs
 abbrev pub desk_of : CommandsValue → Instance → Log → List StoredJob → Desk
 desk_of v inst log jobs = record {
   scene = record {
@@ -79,6 +80,9 @@ desk_of v inst log jobs = record {
     jobs = jobs;
     asked = asked_of v;
     answer = inst.answer;
+    policy = inst.policy;
+    limits = inst.limits;
+    old = λ id. false;
   };
   birth = inst.birth;
   submits = submits_of v inst log;

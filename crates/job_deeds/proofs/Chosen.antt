@@ -4,7 +4,7 @@ use Rattle.std.specs.List.{AllByRecursion as Each}
 use Rattle.job_rules.proofs.Among.{among_from, each_at}
 use Rattle.std.specs.Prelude.{Contains}
 use Rattle.manager_rules.specs.declared.asked.Asked.{Asked}
-use Rattle.manager_rules.specs.Deeds.{Deed, Validates, Adds, Removes, Loses, Depends, Prioritizes, NeverFits, Takes, Starts, Finishes, Expires, Stops, Releases, Frees, Cleans, Carries}
+use Rattle.manager_rules.specs.Deeds.{Deed, Validates, Adds, Removes, Loses, Depends, Restarts, Prioritizes, NeverFits, Takes, Starts, Finishes, Expires, Stops, Releases, Frees, Cleans, Carries}
 use Rattle.manager_rules.specs.declared.due.Due.{Due}
 use Rattle.manager_rules.specs.Due.{IsDue, MayCarry, MayDo}
 use Rattle.manager_rules.specs.Jobs.{StoredJob}
@@ -23,6 +23,7 @@ chosen s j None finds none = at
     at (Removes need) m = finds (Removes need) tt m
     at (Loses need) m = finds (Loses need) tt m
     at Depends m = finds Depends tt m
+    at Restarts m = finds Restarts tt m
     at (Prioritizes priority) m = finds (Prioritizes priority) tt m
     at NeverFits m = finds NeverFits tt m
     at (Takes r) m = finds (Takes r) tt m

@@ -6,7 +6,9 @@ use Rattle.job_states.specs.Table.{is_state}
 use Rattle.job_states.specs.declared.job.State.{State}
 use Rattle.job_states.specs.declared.job.State.TheVariants as state
 use Rattle.job_spec.specs.declared.spec.Depend.{Depend}
-use Rattle.manager_rules.specs.Deeds.{Deed, Validates, Adds, Removes, Loses, Depends, Prioritizes, NeverFits, Takes, Starts, Finishes, Expires, Stops, Releases, Frees, Cleans, Carries}
+use Rattle.manager_rules.specs.Deeds.{Deed, Validates, Adds, Removes, Loses, Depends, Restarts, Prioritizes, NeverFits, Takes, Starts, Finishes, Expires, Stops, Releases, Frees, Cleans, Carries}
+use Rattle.manager_rules.proofs.Plain.{none_restarts, takes_first}
+use Rattle.manager_rules.specs.declared.policy.Policy.TheVariants.{FirstFit}
 use Rattle.manager_rules.specs.Dependencies.{IsHead, first_unadded, is_lost, is_met, open_needs}
 use Rattle.manager_rules.specs.Due.{IsFirstFit, IsOver, MayDo, status_now}
 use Rattle.manager_rules.specs.Jobs.{StoredJob}
@@ -45,6 +47,7 @@ none_inactive s j at (Removes need) own m = apart j.job.state state.Inactive sta
 none_inactive s j at (Loses need) own m = apart j.job.state state.Inactive state.Depend refl at m.0
 none_inactive s j at Depends own m = apart j.job.state state.Inactive state.Depend refl at m.0
 none_inactive s j at (Prioritizes priority) own m = ranks s j state.Inactive priority refl refl at m
+none_inactive s j at Restarts own m = apart j.job.state state.Inactive state.Sched refl at m.0
 none_inactive s j at NeverFits own m = apart j.job.state state.Inactive state.Sched refl at m.0
 none_inactive s j at (Takes r) own m = apart j.job.state state.Inactive state.Sched refl at m.0
 none_inactive s j at Starts own m = apart j.job.state state.Inactive state.Run refl at m.0
@@ -63,6 +66,7 @@ none_running s j at started none over (Removes need) own m = apart j.job.state s
 none_running s j at started none over (Loses need) own m = apart j.job.state state.Run state.Depend refl at m.0
 none_running s j at started none over Depends own m = apart j.job.state state.Run state.Depend refl at m.0
 none_running s j at started none over (Prioritizes priority) own m = ranks s j state.Run priority refl refl at m
+none_running s j at started none over Restarts own m = apart j.job.state state.Run state.Sched refl at m.0
 none_running s j at started none over NeverFits own m = apart j.job.state state.Run state.Sched refl at m.0
 none_running s j at started none over (Takes r) own m = apart j.job.state state.Run state.Sched refl at m.0
 none_running s j at started none over Starts own m = true≢false (sym started ∙ m.1)
@@ -81,6 +85,7 @@ none_ending s j at given freed released living (Removes need) own m = apart j.jo
 none_ending s j at given freed released living (Loses need) own m = apart j.job.state state.Cleanup state.Depend refl at m.0
 none_ending s j at given freed released living Depends own m = apart j.job.state state.Cleanup state.Depend refl at m.0
 none_ending s j at given freed released living (Prioritizes priority) own m = ranks s j state.Cleanup priority refl refl at m
+none_ending s j at given freed released living Restarts own m = apart j.job.state state.Cleanup state.Sched refl at m.0
 none_ending s j at given freed released living NeverFits own m = apart j.job.state state.Cleanup state.Sched refl at m.0
 none_ending s j at given freed released living (Takes r) own m = apart j.job.state state.Cleanup state.Sched refl at m.0
 none_ending s j at given freed released living Starts own m = apart j.job.state state.Cleanup state.Run refl at m.0
@@ -102,6 +107,7 @@ none_held_back s j at added met lost some (Removes need) own m = no_some (find (
 none_held_back s j at added met lost some (Loses need) own m = lost need m.2 m.3
 none_held_back s j at added met lost some Depends own m = some m.2
 none_held_back s j at added met lost some (Prioritizes priority) own m = ranks s j state.Depend priority refl refl at m
+none_held_back s j at added met lost some Restarts own m = apart j.job.state state.Depend state.Sched refl at m.0
 none_held_back s j at added met lost some NeverFits own m = apart j.job.state state.Depend state.Sched refl at m.0
 none_held_back s j at added met lost some (Takes r) own m = apart j.job.state state.Depend state.Sched refl at m.0
 none_held_back s j at added met lost some Starts own m = apart j.job.state state.Depend state.Run refl at m.0
@@ -113,23 +119,24 @@ none_held_back s j at added met lost some Frees own m = apart j.job.state state.
 none_held_back s j at added met lost some Cleans own m = apart j.job.state state.Depend state.Cleanup refl at m.0
 none_held_back s j at added met lost some (Carries asked) own m = own
 
-pub none_waiting : (s : Scene) (j : StoredJob) → j.job.state ≡ state.Sched → j.job.priority ≡ Some (priority_of s j) → (fits.NeverFits j.spec s.grant.nodes → ⊥) → ((r : Resources) → IsHead s.jobs j.id → IsFirstFit s j r → ⊥) → (deed : Deed) → IsOwn deed → MayDo s j deed → ⊥
-none_waiting s j at ranked fit free Validates own m = apart j.job.state state.Sched state.New refl at m
-none_waiting s j at ranked fit free (Adds need) own m = apart j.job.state state.Sched state.Depend refl at m.0
-none_waiting s j at ranked fit free (Removes need) own m = apart j.job.state state.Sched state.Depend refl at m.0
-none_waiting s j at ranked fit free (Loses need) own m = apart j.job.state state.Sched state.Depend refl at m.0
-none_waiting s j at ranked fit free Depends own m = apart j.job.state state.Sched state.Depend refl at m.0
-none_waiting s j at ranked fit free (Prioritizes priority) own m = elim m.1 [
+pub none_waiting : (s : Scene) (j : StoredJob) → j.job.state ≡ state.Sched → j.job.priority ≡ Some (priority_of s j) → (fits.NeverFits j.spec s.grant.nodes → ⊥) → ((r : Resources) → IsHead s.jobs j.id → IsFirstFit s j r → ⊥) → s.policy ≡ FirstFit → s.old j.id ≡ false → (deed : Deed) → IsOwn deed → MayDo s j deed → ⊥
+none_waiting s j at ranked fit free policy young Validates own m = apart j.job.state state.Sched state.New refl at m
+none_waiting s j at ranked fit free policy young (Adds need) own m = apart j.job.state state.Sched state.Depend refl at m.0
+none_waiting s j at ranked fit free policy young (Removes need) own m = apart j.job.state state.Sched state.Depend refl at m.0
+none_waiting s j at ranked fit free policy young (Loses need) own m = apart j.job.state state.Sched state.Depend refl at m.0
+none_waiting s j at ranked fit free policy young Depends own m = apart j.job.state state.Sched state.Depend refl at m.0
+none_waiting s j at ranked fit free policy young (Prioritizes priority) own m = elim m.1 [
   | inl e ↦ apart j.job.state state.Sched state.Priority refl at e
   | inr e ↦ e.1 (ranked ∙ ap Some (sym m.0))
 ]
-none_waiting s j at ranked fit free NeverFits own m = fit m.1
-none_waiting s j at ranked fit free (Takes r) own m = free r m.1 m.2
-none_waiting s j at ranked fit free Starts own m = apart j.job.state state.Sched state.Run refl at m.0
-none_waiting s j at ranked fit free (Finishes status) own m = apart j.job.state state.Sched state.Run refl at m.0
-none_waiting s j at ranked fit free Expires own m = apart j.job.state state.Sched state.Run refl at m.0
-none_waiting s j at ranked fit free Stops own m = apart j.job.state state.Sched state.Cleanup refl at m.0
-none_waiting s j at ranked fit free Releases own m = apart j.job.state state.Sched state.Cleanup refl at m.0
-none_waiting s j at ranked fit free Frees own m = apart j.job.state state.Sched state.Cleanup refl at m.0
-none_waiting s j at ranked fit free Cleans own m = apart j.job.state state.Sched state.Cleanup refl at m.0
-none_waiting s j at ranked fit free (Carries asked) own m = own
+none_waiting s j at ranked fit free policy young Restarts own m = none_restarts s j young m
+none_waiting s j at ranked fit free policy young NeverFits own m = fit m.1
+none_waiting s j at ranked fit free policy young (Takes r) own m = free r ((takes_first s j policy r).0 m.1) m.2
+none_waiting s j at ranked fit free policy young Starts own m = apart j.job.state state.Sched state.Run refl at m.0
+none_waiting s j at ranked fit free policy young (Finishes status) own m = apart j.job.state state.Sched state.Run refl at m.0
+none_waiting s j at ranked fit free policy young Expires own m = apart j.job.state state.Sched state.Run refl at m.0
+none_waiting s j at ranked fit free policy young Stops own m = apart j.job.state state.Sched state.Cleanup refl at m.0
+none_waiting s j at ranked fit free policy young Releases own m = apart j.job.state state.Sched state.Cleanup refl at m.0
+none_waiting s j at ranked fit free policy young Frees own m = apart j.job.state state.Sched state.Cleanup refl at m.0
+none_waiting s j at ranked fit free policy young Cleans own m = apart j.job.state state.Sched state.Cleanup refl at m.0
+none_waiting s j at ranked fit free policy young (Carries asked) own m = own

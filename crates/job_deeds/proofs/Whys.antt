@@ -1,17 +1,28 @@
 -- Why a job doesn't run.
 use Rattle.std.proofs.Common.{◌≡◌, ◌≢◌, ℕ, ◌==◌, Bool, true, false, cond, List, [], ◌∷◌, Option, Some, None, refl, sym, ap, ◌∙◌, subst, inl, inr}
-use Rattle.std.specs.Prelude.{Contains, IfOk, IsSome, Result, Ok, Err}
+use Rattle.std.specs.Prelude.{Contains, IsSome}
 use Rattle.std.proofs.lemmas.Bool.{eq-eqb, eqb-true}
 use Rattle.job_rules.proofs.Among.{Among, among_from, contains_from}
 use Rattle.job_states.specs.Table.{is_state}
 use Rattle.job_states.specs.declared.job.State.TheVariants as state
 use Rattle.resource_set.specs.declared.node.Node.{Node}
-use Rattle.manager_rules.specs.Dependencies.{job_at}
+use Rattle.resource_set.specs.declared.node.Resources.{Resources}
+use Rattle.graph_match.specs.Answers.{AreFirstFit, IsBlocked}
+use Rattle.job_rules.proofs.Lying.{never_first, read_is}
+use Rattle.job_rules.specs.Fits.{IsGrant, NeverFits}
+use Rattle.job_spec.specs.Sound.{IsSpec}
+use Rattle.manager_rules.proofs.Plain.{behind_first}
+use Rattle.manager_rules.specs.declared.policy.Policy.TheVariants.{FirstFit}
+use Rattle.manager_rules.specs.Dependencies.{IsHead, job_at}
+use Rattle.manager_rules.specs.Scene.{Scene}
+use Rattle.manager_rules.specs.Sound.{holds_of}
 use Rattle.manager_rules.specs.declared.why.Why.{Why}
 use Rattle.manager_rules.specs.declared.why.Why.TheVariants.{Busy, Behind, Held, Ready, NotWaiting, NoJob}
 use Rattle.manager_rules.specs.Jobs.{StoredJob, ids_of}
-use Rattle.manager_rules.specs.Whys.{IsSaidOf, IsWhy}
+use Rattle.manager_rules.specs.Whys.{IsFirst, IsSaidOf, IsWhy}
+use Rattle.job_deeds.specs.Choices.{IsSeen}
 use Rattle.job_deeds.specs.Waiting.{IsRanked, waits_with}
+use Rattle.job_deeds.specs.declared.decisions.Desk.{Desk}
 
 -- ---- the queue
 
@@ -52,14 +63,36 @@ no_job jobs id e c = no_job_among jobs id e (among_from (ids_of jobs) id c)
 
 -- ---- what is said of it
 
-said_is_why : (grant : List Node) (jobs : List StoredJob) (j : StoredJob) (id : ℕ) → Contains jobs j → j.id ≡ id → (why : Why) → IsSaidOf grant jobs j why → IsWhy grant jobs id why
-said_is_why grant jobs j id c e (Busy ids) said = (j, c, e, said)
-said_is_why grant jobs j id c e (Behind head) said = (j, c, e, said)
-said_is_why grant jobs j id c e Held said = (j, c, e, said)
-said_is_why grant jobs j id c e Ready said = (j, c, e, said)
-said_is_why grant jobs j id c e (NotWaiting where_) said = (j, c, e, said)
-said_is_why grant jobs j id c e NoJob said = absurd said
+said_is_why : (s : Scene) (j : StoredJob) (id : ℕ) → Contains s.jobs j → j.id ≡ id → (why : Why) → IsSaidOf s j why → IsWhy s id why
+said_is_why s j id c e (Busy ids) said = (j, c, e, said)
+said_is_why s j id c e (Behind head) said = (j, c, e, said)
+said_is_why s j id c e Held said = (j, c, e, said)
+said_is_why s j id c e Ready said = (j, c, e, said)
+said_is_why s j id c e (NotWaiting where_) said = (j, c, e, said)
+said_is_why s j id c e NoJob said = absurd said
 
-pub said_ok : {E : Type 0} (grant : List Node) (jobs : List StoredJob) (j : StoredJob) (id : ℕ) → job_at jobs id ≡ Some j → (r : Result Why E) → IfOk r (IsSaidOf grant jobs j) → IfOk r (IsWhy grant jobs id)
-said_ok grant jobs j id e (Ok why) said = let found = found_job jobs id j e in said_is_why grant jobs j id (contains_from jobs j found.0) found.1 why said
-said_ok grant jobs j id e (Err fault) said = tt
+pub said_why : (s : Scene) (j : StoredJob) (id : ℕ) → job_at s.jobs id ≡ Some j → (why : Why) → IsSaidOf s j why → IsWhy s id why
+said_why s j id e why said = let found = found_job s.jobs id j e in said_is_why s j id (contains_from s.jobs j found.0) found.1 why said
+
+-- ---- where nobody passes the first
+
+module _ (desk : Desk) (s : Scene) (seen : IsSeen desk s) (j : StoredJob) where
+  pub said_behind : desk.policy ≡ FirstFit → j.job.state ≡ state.Sched → j.job.priority ≢ Some 0 → (head : ℕ) → IsHead desk.rows.now head → head ≢ j.id → IsSaidOf s j (Behind head)
+  said_behind policy waits ranked head first other =
+      (behind_first s j (seen.policy ∙ policy) head).1 (waits, ranked, subst (λ js. IsHead js head) (sym seen.jobs) first, other)
+
+  pub said_ready : (r : Resources) → IsFirst s.jobs j → AreFirstFit desk.graph.now j.spec desk.second r → IsSaidOf s j Ready
+  said_ready r first fit = inl (first, λ none. no_some _ r.nodes none (subst (λ g. AreFirstFit g j.spec desk.second r) seen.graph fit).nodes)
+    where
+      no_some : (o : Option (List Node)) (x : List Node) → o ≡ None → o ≡ Some x → ⊥
+      no_some None x e f = cc
+      no_some (Some y) x e f = cc
+
+  pub said_busy : (ids : List ℕ) → IsFirst s.jobs j → IsBlocked desk.graph.now j.spec ids → IsSaidOf s j (Busy ids)
+  said_busy ids first blocked = let here = subst (λ g. IsBlocked g j.spec ids) seen.graph blocked in (first, here.none, inr (here.some, here.blockers))
+
+  pub said_never : IsSpec j.spec → IsGrant desk.graph.now.grant → IsFirst s.jobs j → NeverFits j.spec desk.graph.now.grant → IsSaidOf s j (Busy [])
+  said_never spec grant first never =
+      let here = subst (λ g. NeverFits j.spec g.grant) seen.graph never in
+      let sets = subst (λ g. IsGrant g.grant) seen.graph grant in
+      (first, never_first j.spec s.grant.nodes (holds_of s.jobs) (read_is j.spec spec) sets here, inl (here, refl))

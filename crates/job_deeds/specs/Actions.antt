@@ -56,6 +56,7 @@ IsOwn (deeds.Adds need) = Unit {0}
 IsOwn (deeds.Removes need) = Unit {0}
 IsOwn (deeds.Loses need) = Unit {0}
 IsOwn deeds.Depends = Unit {0}
+IsOwn deeds.Restarts = Unit {0}
 IsOwn (deeds.Prioritizes priority) = Unit {0}
 IsOwn deeds.NeverFits = Unit {0}
 IsOwn (deeds.Takes r) = Unit {0}

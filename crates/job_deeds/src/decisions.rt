@@ -19,7 +19,7 @@ use crate::states::{of_cleanup, of_run};
 use graph_match::{Fit, Graph};
 use job_states::State;
 use lists::Bytes;
-use manager_rules::Asked;
+use manager_rules::{Asked, Policy};
 use resource_set::Resources;
 use std::alloc::{AllocError, Global};
 use tap::{Ask, Tap};
@@ -29,6 +29,7 @@ use tap::{Ask, Tap};
 pub struct Desk<'a> {
     pub second: u64,
     pub graph: &'a Graph,
+    pub policy: Policy,
     /// By rising ids.
     pub rows: &'a [Row],
     pub head: Option<u64>,

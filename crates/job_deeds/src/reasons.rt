@@ -1,44 +1,44 @@
 //! Why a job doesn't run.
-ghost use Rattle.std.specs.Prelude.{◌≡◌, List, Contains, IfOk};
+ghost use Rattle.std.specs.Prelude.{◌≡◌, Contains, IfOk};
 ghost use Rattle.job_rules.specs.Fits.{IsGrant};
 ghost use Rattle.job_spec.specs.Sound.{IsSpec};
-ghost use Rattle.manager_rules.specs.Jobs.{StoredJob};
-ghost use Rattle.manager_rules.specs.Sound.{holds_of};
+ghost use Rattle.manager_rules.specs.declared.policy.Policy.TheVariants.{FirstFit};
+ghost use Rattle.manager_rules.specs.Scene.{Scene};
 ghost use Rattle.manager_rules.specs.Whys.{IsFirst, IsSaidOf};
+ghost use Rattle.job_deeds.specs.Choices.{IsSeen};
 ghost use Rattle.job_deeds.specs.Waiting.{IsFirstOf, IsRanked};
 
 use crate::decisions::Desk;
 use crate::row::Row;
-use graph_match::{Fit, Graph};
+use graph_match::Fit;
 use job_states::State;
 use manager_rules::{JobList, Why};
 use std::alloc::{AllocError, Global};
 
 /// Why the first job in the queue doesn't run: the jobs in its way, none where it never fits, or
 /// that its resources are due.
-fn of_first(alloc: Global, graph: &Graph, row: &Row, now: u64) -> Result<Why, AllocError>
+fn of_first(alloc: Global, desk: &Desk<'_>, row: &Row) -> Result<Why, AllocError>
     requires spec { IsSpec row.now.spec }
-    requires grant { IsGrant graph.now.grant }
-    ensures { IfOk result (λ why. (jobs : List StoredJob) → IsFirst jobs row.now
-        → graph.now.live ≡ holds_of jobs → IsSaidOf graph.now.grant jobs row.now why) }
+    requires grant { IsGrant desk.now.graph.now.grant }
+    ensures { IfOk result (λ why. (s : Scene) → IsSeen desk.now s → IsFirst s.jobs row.now
+        → IsSaidOf s row.now why) }
 {
-    match graph.fit(&row.spec, now)? {
+    match desk.graph.fit(&row.spec, desk.second)? {
         Fit::Units(_) => Ok(Why::Ready),
         Fit::Busy(ids) => Ok(Why::Busy(ids)),
         Fit::Never => Ok(Why::Busy(JobList::new(alloc))),
     }
 }
 
-/// Why a job of these doesn't run.
+/// Why a job of these doesn't run, where nobody passes the first.
 pub fn reason(alloc: Global, desk: &Desk<'_>, row: &Row) -> Result<Why, AllocError>
     requires first { IsFirstOf desk.now.rows.now desk.now.head }
+    requires policy { desk.now.policy ≡ FirstFit }
     requires known { Contains desk.now.rows.now row.now }
     requires ranked { IsRanked row.now }
     requires spec { IsSpec row.now.spec }
     requires grant { IsGrant desk.now.graph.now.grant }
-    requires live { desk.now.graph.now.live ≡ holds_of desk.now.rows.now }
-    ensures { IfOk result
-        (IsSaidOf desk.now.graph.now.grant desk.now.rows.now row.now) }
+    ensures { IfOk result (λ why. (s : Scene) → IsSeen desk.now s → IsSaidOf s row.now why) }
 {
     if row.job.state != State::Sched {
         return Ok(Why::NotWaiting(row.job.state));
@@ -52,5 +52,5 @@ pub fn reason(alloc: Global, desk: &Desk<'_>, row: &Row) -> Result<Why, AllocErr
     if first != row.id {
         return Ok(Why::Behind(first));
     }
-    of_first(alloc, desk.graph, row, desk.second)
+    of_first(alloc, desk, row)
 }

@@ -1,7 +1,7 @@
 //! What is due for a job that has resources, by its state (Flux RFC 21 and 27).
 ghost use Rattle.std.specs.Prelude.{◌≡◌, ◌&&◌, ◌↔◌, IsTrue, IsSomeAnd};
 ghost use Rattle.job_states.specs.declared.job.State.TheVariants as state;
-ghost use Rattle.manager_rules.specs.Due.{IsOver, status_now};
+ghost use Rattle.manager_rules.specs.Due.{IsOver, is_in_time as ends_within, status_now};
 ghost use Rattle.manager_rules.specs.Scene.{Scene, has_living_child, has_shut_child, is_child_of, is_living as is_living_child, is_shut as is_shut_child};
 ghost use Rattle.job_deeds.specs.Actions.{AreTold, Finds};
 
@@ -45,13 +45,25 @@ fn has_shut(asked: &[Asked], id: u64) -> bool
     asked.iter().any(|asked| is_shut(asked, id))
 }
 
+/// Whether a second is none after the end of what a job holds.
+fn is_in_time(r: &Option<Resources>, second: u64) -> bool
+    ensures { result ≡ ends_within r.now second }
+{
+    match r {
+        Some(r) => r.expiration == 0 || second <= r.expiration,
+        None => true,
+    }
+}
+
 /// The status with which a job's command ends at this second, if it does: by itself, or with its
 /// child.
 fn status_at(now: u64, asked: &[Asked], row: &Row) -> Option<u64>
     ensures { (s : Scene) → s.now ≡ now → s.asked ≡ asked.now → result ≡ status_now s row.now }
 {
     match shells::ending(&row.spec, row.start?) {
-        Ending::At { second, status } if second == now => Some(status),
+        Ending::At { second, status } if second <= now && is_in_time(&row.r, second) => {
+            Some(status)
+        }
         Ending::At { .. } => None,
         Ending::Child => {
             if has_shut(asked, row.id) {

@@ -1,8 +1,8 @@
 -- What happens in the service leaves the time and the open commands of the log, and so the desk.
-use Rattle.std.proofs.Common.{◌≡◌, ℕ, List, [], ◌∷◌, ◌++◌, map, cond, refl, sym, ap, ap₂, ◌∙◌, append_assoc, append-nil}
+use Rattle.std.proofs.Common.{false, ◌≡◌, ℕ, List, [], ◌∷◌, ◌++◌, map, cond, refl, sym, ap, ap₂, ◌∙◌, append_assoc, append-nil}
 use Rattle.std.specs.Prelude.{filter_map, option_map, slice_index}
 use Rattle.std.proofs.lemmas.List.Elements.{filter_map-append}
-use Rattle.instance_rules.specs.Log.{Instance, Log, Served, Issued, Replied, Ticked, Born, Gone, now_of, seconds_from, ticked}
+use Rattle.instance_rules.specs.Log.{Instance, Log, Served, Issued, Replied, Ticked, Born, Gone, Fed, now_of, seconds_from, ticked}
 use Rattle.job_commands.specs.Desks.{asked_of, desk_of, needs_of, submit_at, submit_by, submits_of}
 use Rattle.job_commands.specs.Rows.{CommandsValue}
 use Rattle.job_commands.specs.declared.ask.JobAsk.{JobAsk}
@@ -28,6 +28,7 @@ seconds_same by now (Served x ∷ log) m = seconds_same by now log m
 seconds_same by now (Replied other reply number ∷ log) m = seconds_same by now log m
 seconds_same by now (Born job ∷ log) m = seconds_same by now log m
 seconds_same by now (Gone job shut ∷ log) m = seconds_same by now log m
+seconds_same by now (Fed other number first count ∷ log) m = seconds_same by now log m
 
 module _ (v : CommandsValue) (inst : Instance) (log : Log) (m : service.Moment) where
   abbrev later : Log
@@ -36,7 +37,7 @@ module _ (v : CommandsValue) (inst : Instance) (log : Log) (m : service.Moment) 
   submit_same : (row : Row) (x : JobAsk) → submit_by v inst later row x ≡ submit_by v inst log row x
   submit_same row (ask.Submit label urgency named text) =
       ap (λ seconds. option_map (λ needs. (let x : Submit = record { by = row.by; rank = row.rank; urgency = urgency; needs = needs; text = text; seconds = seconds; issued = slice_index v.issued row.rank } in x)) (needs_of v.labels named))
-      (seconds_same row.by inst.birth log m)
+      (seconds_same row.by inst.start log m)
   submit_same row _ = refl
 
   stage_same : (row : Row) (s : Stage) → submit_at v inst later row s ≡ submit_at v inst log row s
@@ -48,9 +49,9 @@ module _ (v : CommandsValue) (inst : Instance) (log : Log) (m : service.Moment) 
 
   pub desk_same : (jobs : List StoredJob) → desk_of v inst later jobs ≡ desk_of v inst log jobs
   desk_same jobs =
-      let now : now_of inst later ≡ now_of inst log = latest_push ticked inst.birth log (Served m) in
+      let now : now_of inst later ≡ now_of inst log = latest_push ticked inst.start log (Served m) in
       λ i. (let d : Desk = record {
-        scene = record { now = now i; grant = inst.grant; jobs = jobs; asked = asked_of v; answer = inst.answer };
+        scene = record { now = now i; grant = inst.grant; jobs = jobs; asked = asked_of v; answer = inst.answer; policy = inst.policy; limits = inst.limits; old = λ id. false };
         birth = inst.birth;
         submits = submits_same i;
       } in d)

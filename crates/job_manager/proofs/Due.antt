@@ -3,6 +3,7 @@ use Rattle.std.proofs.Common.{◌≡◌, List, [], ◌∷◌, Bool, true, false,
 use Rattle.std.specs.Prelude.{IfSome}
 use Rattle.instance_rules.specs.Desks.{AreDueFrom, IsDeskOf, IsDueAt, IsDueFor}
 use Rattle.instance_rules.specs.Log.{Instance, Log}
+use Rattle.instance_rules.proofs.Feeding.{none_old}
 use Rattle.kvs_model.specs.History.{landed_on}
 use Rattle.kvs_model.specs.Operation.{effect}
 use Rattle.kvs_model.specs.Store.{Store}
@@ -47,6 +48,9 @@ module _ (inst : Instance) (log : Log) where
       now = is.now;
       grant = is.grant;
       answer = is.answer;
+      policy = is.policy;
+      limits = is.limits;
+      old = λ id. is.old id ∙ none_old inst st id ∙ sym (none_old inst mid id);
       birth = is.birth;
       jobs = users_leave_jobs st mid g.txn desk.scene.jobs (as-user g.txn.author m) e is.jobs;
       asked = is.asked;

@@ -20,7 +20,7 @@ from-open s birth submits x due all = each_at IsOpenSubmit submits due.from all 
 
 pub gained : (book new : BookValue) (x : Submission) (userid urgency : ℕ) → change_of x.event ≡ Some (change.Submit userid urgency) → AreNeeds x.spec x.event x.needs → Gains book x.id x.spec x.event new → new ≡ after_post (Submits x) book
 gained book new x userid urgency asks needs gains =
-    gains x.needs userid urgency needs asks ∙ sym (ap (λ o. let b : BookValue = record { grant = book.grant; jobs = begun_with o x book.jobs } in b) asks)
+    gains x.needs userid urgency needs asks ∙ sym (ap (λ o. let b : BookValue = record { grant = book.grant; policy = book.policy; jobs = begun_with o x book.jobs } in b) asks)
 
 pub on-ok : {E : Type 0} {P Q : Type 0} (r : Result (Unit {0}) E) → (P → Q) → OnOk r P → OnOk r Q
 on-ok (Ok u) f h = f h
@@ -30,13 +30,13 @@ on-ok (Err e) f h = tt
 pub was-due : (book : BookValue) (due : Due) → WasDuePost book (Does due) → WasDue book due
 was-due book due w =
     let s = w.desk.scene in
-    let same : s ≡ scene_of book s.now s.asked s.answer =
-    ap (λ g. let t : Scene = record { now = s.now; grant = g; jobs = s.jobs; asked = s.asked; answer = s.answer } in t) w.grant
-    ∙ ap (λ js. let t : Scene = record { now = s.now; grant = book.grant; jobs = js; asked = s.asked; answer = s.answer } in t) w.jobs in
+    let same : s ≡ scene_of book s.now s.asked s.answer s.limits =
+    λ i. let t : Scene = record { now = s.now; grant = w.grant i; jobs = w.jobs i; asked = s.asked; answer = s.answer; policy = w.policy i; limits = s.limits; old = λ id. w.old id i } in t in
     record {
       now = s.now;
       asked = s.asked;
       answer = s.answer;
+      limits = s.limits;
       scene = subst IsScene same w.valid.scene;
       is = subst (λ t. IsDue t due) same w.due;
     }

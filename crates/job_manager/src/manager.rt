@@ -15,6 +15,7 @@ ghost use Rattle.resource_set.specs.Valid.{IsR};
 ghost use Rattle.resource_set.specs.Writing.{r_text};
 ghost use Rattle.store_laws.specs.Posts.{is_manager};
 ghost use Rattle.manager_rules.specs.Posts.{Does, Submits};
+ghost use Rattle.manager_rules.specs.declared.policy.Policy.TheVariants.{FirstFit};
 ghost use Rattle.job_manager.specs.Follows.{Follows, Keeps, Places, after_post};
 ghost use Rattle.job_manager.specs.Managed.{IsManaged, WasDuePost};
 ghost use Rattle.job_manager.specs.Posts.{is_posted_for, post_of, told};
@@ -29,7 +30,7 @@ use kvs_rules::{KvsAsk, KvsEvent, KvsStep};
 use kvs_space::KvsEvents;
 use kvs_txn::{Author, By, Group};
 use lists::Bytes;
-use manager_rules::{Due, due_posts_take_effect, due_submissions_tell_themselves};
+use manager_rules::{Due, Policy, due_posts_take_effect, due_submissions_tell_themselves};
 use resource_set::Resources;
 use std::alloc::{AllocError, Global};
 use std::marker::Model;
@@ -105,22 +106,32 @@ fn follow(book: &mut Book, post: Post) -> Result<(), AllocError>
 }
 
 impl Manager {
-    /// A manager of a grant, before anything has happened. The first store has the grant's text.
-    pub fn new(alloc: Global, setting: Setting, grant: &Resources) -> Result<Manager, CoreFault>
+    /// A manager of a grant by this policy, before anything has happened. The first store has the grant's text.
+    pub fn new(
+        alloc: Global,
+        setting: Setting,
+        grant: &Resources,
+        policy: Policy,
+    ) -> Result<Manager, CoreFault>
         requires size { (1 ≤ setting.size) × (setting.size ≤ 32) }
         requires fanout { (1 ≤ setting.fanout) × (setting.fanout ≤ 32) }
         requires grant { IsR grant.now }
+        requires policy { policy ≡ FirstFit }
         ensures ready { IfOk result (λ v. v.spent ≡ false) }
         ensures size { IfOk result (λ v. v.core.size ≡ setting.size) }
         ensures posted { IfOk result (λ v. v.posted ≡ None) }
-        ensures book { IfOk result (λ v. v.book ≡ record { grant = grant.now; jobs = [] }) }
+        ensures book { IfOk result (λ v. v.book ≡ record {
+          grant = grant.now;
+          policy = policy;
+          jobs = [];
+        }) }
         ensures agrees { IfOk result (λ v. (set : Service) → set.size ≡ setting.size
             → set.fanout ≡ setting.fanout → set.grant ≡ r_text grant.now → Agrees v.core set []) }
     {
         stores_stay_stores();
         let text = Bytes::from_vec(resource_set::print(alloc, grant)?);
         let core = Core::new(alloc, setting, &text)?;
-        let book = Book::new(alloc, grant)?;
+        let book = Book::new(alloc, grant, policy)?;
         // ids rise, and live jobs hold units of the grant
         book.keeps();
         Ok(Manager {

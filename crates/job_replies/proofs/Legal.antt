@@ -10,7 +10,7 @@ use Rattle.answers.specs.declared.chronicle.Reply.TheVariants as reply
 use Rattle.instance_rules.specs.Desks.{HasBegun, Names}
 use Rattle.instance_rules.specs.Log as rules
 use Rattle.instance_rules.specs.Log.{Instance, Log, before_issue, is_decided, issues_now, now_of, served, service_of}
-use Rattle.instance_rules.specs.Replies.{AsksForEvent, AtLanding, ComesLate, DoesNotWait, HasGrounds, IsCarriedOut, NamesNone, OfJob, TellsEnd, key_path, state_of}
+use Rattle.instance_rules.specs.Replies.{AsksForEvent, AtLanding, ComesLate, DoesNotWait, HasGrounds, IsCarriedOut, NamesNone, OfJob, TellsEnd, key_path, scene_with, state_of}
 use Rattle.job_deeds.proofs.Whys.{found_job, no_job}
 use Rattle.job_commands.specs.Agrees.{HasLanded, RowAgrees, StageAgrees}
 use Rattle.job_commands.specs.Asks.{key_of, named_of, told}
@@ -20,6 +20,8 @@ use Rattle.job_commands.specs.declared.ask.JobAsk.TheVariants as ask
 use Rattle.job_commands.specs.declared.row.Row.{Row}
 use Rattle.job_commands.specs.declared.row.Stage.{Stage}
 use Rattle.job_commands.specs.declared.row.Stage.TheVariants as stage
+use Rattle.job_book.specs.Contract.{Explains}
+use Rattle.job_book.specs.Value.{scene_of}
 use Rattle.job_manager.specs.Managed.{IsManaged}
 use Rattle.job_manager.specs.Value.{ManagerValue}
 use Rattle.job_deeds.proofs.job_rules_proofs.Among.{Among, among_from, contains_from}
@@ -37,10 +39,10 @@ use Rattle.kvs_rules.specs.Sequence.{until}
 use Rattle.job_deeds.specs.manager_rules.Dependencies.{job_at as stored_at}
 use Rattle.job_deeds.specs.manager_rules.Jobs.{StoredJob, ids_of}
 use Rattle.job_deeds.specs.manager_rules.Keys.{value_at}
+use Rattle.job_deeds.specs.manager_rules.Scene.{Scene}
 use Rattle.job_deeds.specs.manager_rules.Whys.{IsSaidOf, IsWhy}
 use Rattle.job_deeds.specs.manager_rules.declared.why.Why.{Why}
 use Rattle.job_deeds.specs.manager_rules.declared.why.Why.TheVariants as why
-use Rattle.job_deeds.specs.resource_set.declared.node.Resources.{Resources}
 use Rattle.job_replies.specs.Jobs.{IsSaidIf, IsSaidOf as IsSaidOfLabel, IsSaidOfJob, IsTold, IsToldAt, IsToldLanded, IsToldOpen, KnowsNewest, late_urge, reply_of_why, states_of}
 use Rattle.job_replies.specs.Ready.{fits, has_run, is_carried_out, is_ending, is_inactive, is_late_raise, is_open_ready, is_ready, is_ready_at, job_in, label_of, state_in}
 use Rattle.job_replies.specs.Told.{MayTell, Stands}
@@ -184,6 +186,7 @@ module _ (v : CommandsValue) (manager : ManagerValue) (now : ℕ) (inst : Instan
       tells_any (rules.Submitted id) = tt
       tells_any rules.Raised = tt
       tells_any (rules.BadSpec n) = undecided
+      tells_any (rules.Checked reason) = undecided
       tells_any rules.NoJob = undecided
       tells_any rules.Ended = undecided
       tells_any (rules.NotWaiting where_) = undecided
@@ -195,6 +198,7 @@ module _ (v : CommandsValue) (manager : ManagerValue) (now : ℕ) (inst : Instan
       tells_any rules.Held = undecided
       tells_any rules.Ready = undecided
       tells_any (rules.EndedWith status) = undecided
+      tells_any (rules.Watched shown) = undecided
       tells_any (rules.Advanced second) = undecided
       tells_any rules.Shut = undecided
 
@@ -211,21 +215,25 @@ module _ (v : CommandsValue) (manager : ManagerValue) (now : ℕ) (inst : Instan
       (given : Reply) (number : Option ℕ) → job_reply_of given ≡ Some r → number ≡ Some last → MayTell inst log row.by given number
   job-told asks made undecided r grounds given number hands at = open-told asks made undecided given number r hands (subst (HasGrounds inst log row.by asks r) (sym at) grounds)
 
+  -- what decides why a job waits, as the book has it and as the rules do
+  same-scene : scene_of manager.book now [] inst.answer inst.limits ≡ scene_with inst log jobs
+  same-scene = λ i. let scene : Scene = record { now = sym s.second i; grant = s.grant i; jobs = jobs; asked = []; answer = inst.answer; policy = s.policy i; limits = inst.limits; old = λ id. false } in scene
+
   -- why a job waits
-  why-told : (label : List ℕ) → inst.asks row.by ≡ Some (rules.Why label) → is_decided row.by log ≡ false → (j : StoredJob) → IsJobOf label j → (said : Why) → IsWhy manager.book.grant.nodes jobs j.id said →
+  why-told : (label : List ℕ) → inst.asks row.by ≡ Some (rules.Why label) → is_decided row.by log ≡ false → (j : StoredJob) → IsJobOf label j → (said : Why) → Explains manager.book now j.id said →
       (given : Reply) (number : Option ℕ) → given ≡ reply_of_why said → number ≡ Some last → MayTell inst log row.by given number
-  why-told label made undecided j is said holds given number e at = by said holds e
+  why-told label made undecided j is said holds given number e at = by said (subst (λ scene. IsWhy scene j.id said) same-scene (holds inst.answer inst.limits)) e
     where
       -- P of the job of which it is said
-      says : (said : Why) (other : StoredJob) → Contains jobs other → other.id ≡ j.id → IsSaidOf manager.book.grant.nodes jobs other said → AtLanding inst log row.by (λ st jobs. OfJob inst log label (λ j. IsSaidOf inst.grant.nodes jobs j said) jobs) last
-      says said other stands same held = at-last (λ st jobs. OfJob inst log label (λ j. IsSaidOf inst.grant.nodes jobs j said) jobs) (record {
+      says : (said : Why) (other : StoredJob) → Contains jobs other → other.id ≡ j.id → IsSaidOf (scene_with inst log jobs) other said → AtLanding inst log row.by (λ st jobs. OfJob inst log label (λ j. IsSaidOf (scene_with inst log jobs) j said) jobs) last
+      says said other stands same held = at-last (λ st jobs. OfJob inst log label (λ j. IsSaidOf (scene_with inst log jobs) j said) jobs) (record {
         j = other;
         known = stands;
         names = subst (Names inst log label) (sym same) is.names;
-        held = subst (λ (grant : Resources). IsSaidOf grant.nodes jobs other said) s.grant held;
+        held = held;
       })
 
-      by : (said : Why) → IsWhy manager.book.grant.nodes jobs j.id said → given ≡ reply_of_why said → MayTell inst log row.by given number
+      by : (said : Why) → IsWhy (scene_with inst log jobs) j.id said → given ≡ reply_of_why said → MayTell inst log row.by given number
       by (why.Busy ids) (other, stands, same, held) e = job-told (rules.Why label) made undecided (rules.Busy ids) (says (why.Busy ids) other stands same held) given number (ap job_reply_of e) at
       by (why.Behind head) (other, stands, same, held) e = job-told (rules.Why label) made undecided (rules.Behind head) (says (why.Behind head) other stands same held) given number (ap job_reply_of e) at
       by why.Held (other, stands, same, held) e = job-told (rules.Why label) made undecided rules.Held (says why.Held other stands same held) given number (ap job_reply_of e) at
@@ -259,7 +267,7 @@ module _ (v : CommandsValue) (manager : ManagerValue) (now : ℕ) (inst : Instan
 
   -- what is told of the job of a label, whose state answers the command
   of-job : (asks : JobAsk) (label : List ℕ) → inst.asks row.by ≡ Some (told asks) → is_decided row.by log ≡ false → label_of asks ≡ Some label → (j : StoredJob) → IsJobOf label j → fits asks j.job.state ≡ true →
-      (given : Reply) (number : Option ℕ) → IsSaidOfJob manager asks j.id j.job given → number ≡ Some last → MayTell inst log row.by given number
+      (given : Reply) (number : Option ℕ) → IsSaidOfJob manager now asks j.id j.job given → number ≡ Some last → MayTell inst log row.by given number
   of-job (ask.Submit l urgency needs text) label made undecided named j is fit given number said at = cc
   of-job (ask.Cancel l) label made undecided named j is fit given number said at =
       let there = subst (λ x. IsJobOf x j) (some_same (sym named)) is in
@@ -303,14 +311,14 @@ module _ (v : CommandsValue) (manager : ManagerValue) (now : ℕ) (inst : Instan
   of-label : (asks : JobAsk) (label : List ℕ) → inst.asks row.by ≡ Some (told asks) → is_decided row.by log ≡ false → label_of asks ≡ Some label →
       (AtLanding inst log row.by (λ st jobs. NamesNone inst log label jobs) last → HasGrounds inst log row.by (told asks) rules.NoJob (Some last)) →
       option_map_or (fits asks) (state_in v.labels jobs label) true ≡ true →
-      (given : Reply) (number : Option ℕ) → IsSaidOfLabel v.labels manager asks label given → number ≡ Some last → MayTell inst log row.by given number
+      (given : Reply) (number : Option ℕ) → IsSaidOfLabel v.labels manager now asks label given → number ≡ Some last → MayTell inst log row.by given number
   of-label asks label made undecided named grounds fit given number said at = by (job_in v.labels jobs label) refl fit said
     where
-      by : (o : Option StoredJob) → job_in v.labels jobs label ≡ o → option_map_or (fits asks) (option_map (λ j. j.job.state) o) true ≡ true → IsSaidIf manager asks o given → MayTell inst log row.by given number
+      by : (o : Option StoredJob) → job_in v.labels jobs label ≡ o → option_map_or (fits asks) (option_map (λ j. j.job.state) o) true ≡ true → IsSaidIf manager now asks o given → MayTell inst log row.by given number
       by None e f g = none-told (told asks) label made undecided grounds e given number g at
       by (Some j) e f g = of-job asks label made undecided named j (job-of label j e) f given number g at
 
-  open-legal : (asks : JobAsk) → row.ask ≡ asks → is_decided row.by log ≡ false → is_open_ready v.labels jobs now row.issued asks ≡ true → (given : Reply) (number : Option ℕ) → IsToldOpen v.labels manager row.issued asks given number → MayTell inst log row.by given number
+  open-legal : (asks : JobAsk) → row.ask ≡ asks → is_decided row.by log ≡ false → is_open_ready v.labels jobs now row.issued asks ≡ true → (given : Reply) (number : Option ℕ) → IsToldOpen v.labels manager now row.issued asks given number → MayTell inst log row.by given number
   open-legal (ask.Submit l urgency needs text) e undecided ready given number said = absurd said
   open-legal (ask.Cancel l) e undecided ready given number (said, at) = of-label (ask.Cancel l) l (made e) undecided refl (λ h. (l, refl, h)) ready given number said at
   open-legal (ask.Raise l kind severity note) e undecided ready given number (said, at) = of-label (ask.Raise l kind severity note) l (made e) undecided refl (λ h. (l, refl, h)) ready given number said at
@@ -370,9 +378,9 @@ module _ (v : CommandsValue) (manager : ManagerValue) (now : ℕ) (inst : Instan
   landed-legal (ask.ResultOf l) landing e carried ready given number said = cc
   landed-legal (ask.Advance seconds) landing e carried ready given number said = cc
 
-  pub told-legal : is_ready v.labels manager now row ≡ true → (given : Reply) (number : Option ℕ) → IsTold v.labels manager row given number → MayTell inst log row.by given number
+  pub told-legal : is_ready v.labels manager now row ≡ true → (given : Reply) (number : Option ℕ) → IsTold v.labels manager now row given number → MayTell inst log row.by given number
   told-legal ready given number said = by row.stage refl row-agrees.staged ready said
     where
-      by : (st : Stage) → row.stage ≡ st → StageAgrees log row.by row.ask st → is_ready_at v.labels manager now row st ≡ true → IsToldAt v.labels manager row st given number → MayTell inst log row.by given number
+      by : (st : Stage) → row.stage ≡ st → StageAgrees log row.by row.ask st → is_ready_at v.labels manager now row st ≡ true → IsToldAt v.labels manager now row st given number → MayTell inst log row.by given number
       by stage.Waits e undecided ready said = open-legal row.ask refl undecided ready given number said
       by (stage.Landed landing) e (decided, carried) ready said = landed-legal row.ask landing refl carried ready given number said

@@ -13,6 +13,7 @@ use Rattle.job_commands.specs.declared.ask.Key.{Key}
 use Rattle.job_commands.specs.declared.row.Row.{Row}
 use Rattle.job_commands.specs.declared.row.Stage.{Stage}
 use Rattle.job_commands.specs.declared.row.Stage.TheVariants as stage
+use Rattle.job_book.specs.Contract.{Explains}
 use Rattle.job_manager.specs.Value.{ManagerValue}
 use Rattle.job_deeds.specs.job_states.declared.job.Job.{Job}
 use Rattle.job_deeds.specs.job_states.declared.job.State.{State}
@@ -27,7 +28,6 @@ use Rattle.kvs_rules.specs.Log.{Log as Service}
 use Rattle.kvs_rules.specs.Namespaces.{Setting, landed, newest_store, primary}
 use Rattle.job_deeds.specs.manager_rules.Jobs.{StoredJob}
 use Rattle.job_deeds.specs.manager_rules.Keys.{value_at}
-use Rattle.job_deeds.specs.manager_rules.Whys.{IsWhy}
 use Rattle.job_deeds.specs.manager_rules.declared.why.Why.{Why}
 use Rattle.job_deeds.specs.manager_rules.declared.why.Why.TheVariants as why
 use Rattle.job_replies.specs.Ready.{job_in}
@@ -64,52 +64,52 @@ abbrev pub too_late : JobAsk → State → Reply
 too_late (ask.Urge label urgency) where_ = late_urge where_
 too_late _ where_ = reply.Ended
 
--- what a command is told of the job of an id
-abbrev pub IsSaidOfJob : ManagerValue → JobAsk → ℕ → Job → Reply → Type 0
-IsSaidOfJob manager (ask.StateOf label) id job given = given ≡ reply.StateIs job.state
-IsSaidOfJob manager (ask.Info label key) id job given =
+-- what a command is told of the job of an id at this second
+abbrev pub IsSaidOfJob : ManagerValue → ℕ → JobAsk → ℕ → Job → Reply → Type 0
+IsSaidOfJob manager now (ask.StateOf label) id job given = given ≡ reply.StateIs job.state
+IsSaidOfJob manager now (ask.Info label key) id job given =
     (text : Option (List ℕ)) × (given ≡ reply.Info text) × IsTextAt manager key id text
-IsSaidOfJob manager (ask.Why label) id job given =
-    (said : Why) × (given ≡ reply_of_why said)
-    × IsWhy manager.book.grant.nodes manager.book.jobs id said
-IsSaidOfJob manager (ask.ResultOf label) id job given = given ≡ reply.EndedWith job.status
-IsSaidOfJob manager asks id job given = given ≡ too_late asks job.state
+IsSaidOfJob manager now (ask.Why label) id job given =
+    (said : Why) × (given ≡ reply_of_why said) × Explains manager.book now id said
+IsSaidOfJob manager now (ask.ResultOf label) id job given = given ≡ reply.EndedWith job.status
+IsSaidOfJob manager now asks id job given = given ≡ too_late asks job.state
 
 -- what a command about a label is told of the job that it names, if it names one
-abbrev pub IsSaidIf : ManagerValue → JobAsk → Option StoredJob → Reply → Type 0
-IsSaidIf manager asks None given = given ≡ reply.NoJob
-IsSaidIf manager asks (Some j) given = IsSaidOfJob manager asks j.id j.job given
+abbrev pub IsSaidIf : ManagerValue → ℕ → JobAsk → Option StoredJob → Reply → Type 0
+IsSaidIf manager now asks None given = given ≡ reply.NoJob
+IsSaidIf manager now asks (Some j) given = IsSaidOfJob manager now asks j.id j.job given
 
-abbrev pub IsSaidOf : Labels → ManagerValue → JobAsk → List ℕ → Reply → Type 0
-IsSaidOf labels manager asks label given =
-    IsSaidIf manager asks (job_in labels manager.book.jobs label) given
+abbrev pub IsSaidOf : Labels → ManagerValue → ℕ → JobAsk → List ℕ → Reply → Type 0
+IsSaidOf labels manager now asks label given =
+    IsSaidIf manager now asks (job_in labels manager.book.jobs label) given
 
 -- so it is, with the number of the last landing
-abbrev pub IsSaidNow : Labels → ManagerValue → JobAsk → List ℕ → Reply → Option ℕ → Type 0
-IsSaidNow labels manager asks label given number =
-    IsSaidOf labels manager asks label given × (number ≡ Some (primary_heard manager.core 0))
+abbrev pub IsSaidNow : Labels → ManagerValue → ℕ → JobAsk → List ℕ → Reply → Option ℕ → Type 0
+IsSaidNow labels manager now asks label given number =
+    IsSaidOf labels manager now asks label given × (number ≡ Some (primary_heard manager.core 0))
 
--- what a command is told that no landing has carried out, and that was issued at this second
-abbrev pub IsToldOpen : Labels → ManagerValue → ℕ → JobAsk → Reply → Option ℕ → Type 0
-IsToldOpen labels manager issued (ask.Submit label urgency needs text) given number = ⊥
-IsToldOpen labels manager issued (ask.Cancel label) given number =
-    IsSaidNow labels manager (ask.Cancel label) label given number
-IsToldOpen labels manager issued (ask.Raise label kind severity note) given number =
-    IsSaidNow labels manager (ask.Raise label kind severity note) label given number
-IsToldOpen labels manager issued (ask.Urge label urgency) given number =
-    IsSaidNow labels manager (ask.Urge label urgency) label given number
-IsToldOpen labels manager issued (ask.StateOf label) given number =
-    IsSaidNow labels manager (ask.StateOf label) label given number
-IsToldOpen labels manager issued (ask.Info label key) given number =
-    IsSaidNow labels manager (ask.Info label key) label given number
-IsToldOpen labels manager issued ask.Jobs given number =
+-- what a command is told at one second that no landing has carried out, and that was issued at
+-- another
+abbrev pub IsToldOpen : Labels → ManagerValue → ℕ → ℕ → JobAsk → Reply → Option ℕ → Type 0
+IsToldOpen labels manager now issued (ask.Submit label urgency needs text) given number = ⊥
+IsToldOpen labels manager now issued (ask.Cancel label) given number =
+    IsSaidNow labels manager now (ask.Cancel label) label given number
+IsToldOpen labels manager now issued (ask.Raise label kind severity note) given number =
+    IsSaidNow labels manager now (ask.Raise label kind severity note) label given number
+IsToldOpen labels manager now issued (ask.Urge label urgency) given number =
+    IsSaidNow labels manager now (ask.Urge label urgency) label given number
+IsToldOpen labels manager now issued (ask.StateOf label) given number =
+    IsSaidNow labels manager now (ask.StateOf label) label given number
+IsToldOpen labels manager now issued (ask.Info label key) given number =
+    IsSaidNow labels manager now (ask.Info label key) label given number
+IsToldOpen labels manager now issued ask.Jobs given number =
     (given ≡ reply.Jobs (states_of manager.book.jobs))
     × (number ≡ Some (primary_heard manager.core 0))
-IsToldOpen labels manager issued (ask.Why label) given number =
-    IsSaidNow labels manager (ask.Why label) label given number
-IsToldOpen labels manager issued (ask.ResultOf label) given number =
-    IsSaidNow labels manager (ask.ResultOf label) label given number
-IsToldOpen labels manager issued (ask.Advance seconds) given number =
+IsToldOpen labels manager now issued (ask.Why label) given number =
+    IsSaidNow labels manager now (ask.Why label) label given number
+IsToldOpen labels manager now issued (ask.ResultOf label) given number =
+    IsSaidNow labels manager now (ask.ResultOf label) label given number
+IsToldOpen labels manager now issued (ask.Advance seconds) given number =
     (given ≡ reply.Advanced (issued + seconds)) × (number ≡ None)
 
 -- what a command is told that the landing of this number carried out
@@ -119,14 +119,14 @@ IsToldLanded labels (ask.Submit label urgency needs text) landed given number =
     × (number ≡ Some landed)
 IsToldLanded labels _ landed given number = (given ≡ reply.Raised) × (number ≡ Some landed)
 
-abbrev pub IsToldAt : Labels → ManagerValue → Row → Stage → Reply → Option ℕ → Type 0
-IsToldAt labels manager row stage.Waits given number =
-    IsToldOpen labels manager row.issued row.ask given number
-IsToldAt labels manager row (stage.Landed landing) given number =
+abbrev pub IsToldAt : Labels → ManagerValue → ℕ → Row → Stage → Reply → Option ℕ → Type 0
+IsToldAt labels manager now row stage.Waits given number =
+    IsToldOpen labels manager now row.issued row.ask given number
+IsToldAt labels manager now row (stage.Landed landing) given number =
     IsToldLanded labels row.ask landing given number
 
-abbrev pub IsTold : Labels → ManagerValue → Row → Reply → Option ℕ → Type 0
-IsTold labels manager row given number = IsToldAt labels manager row row.stage given number
+abbrev pub IsTold : Labels → ManagerValue → ℕ → Row → Reply → Option ℕ → Type 0
+IsTold labels manager now row given number = IsToldAt labels manager now row row.stage given number
 
 -- what a core says of its newest store, and of what rank 0 and a broker have heard of `primary`
 pub record KnowsNewest (core : CoreValue) (rank : ℕ) (inst : Instance) (log : Log) : Type 0 where

@@ -18,6 +18,7 @@ pub record Stands (v : CommandsValue) (manager : ManagerValue)
   pub service : Agrees manager.core inst.service (service_of log)
   pub legal : service_rules.IsLegalLog inst.service (service_of log)
   pub grant : manager.book.grant ≡ inst.grant
+  pub policy : manager.book.policy ≡ inst.policy
   pub second : now_of inst log ≡ now
 
 -- the command may be told so

@@ -16,6 +16,6 @@ pub fn what_is_told_is_legal()
         (row : Row) (given : Reply) (number : Option ℕ) → IsManaged manager
         → KnowsNewest manager.core row.rank inst log
         → Stands v manager now inst log → Contains v.rows row
-        → is_ready v.labels manager now row ≡ true → IsTold v.labels manager row given number
+        → is_ready v.labels manager now row ≡ true → IsTold v.labels manager now row given number
         → MayTell inst log row.by given number }
 {}

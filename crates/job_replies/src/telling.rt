@@ -45,7 +45,7 @@ fn of_job(
     job: &Job,
 ) -> Result<Reply, AllocError>
     requires ready { manager.now.spent ≡ false }
-    ensures { IfOk result (λ reply. IsSaidOfJob manager.now ask.now id job.now reply) }
+    ensures { IfOk result (λ reply. IsSaidOfJob manager.now now ask.now id job.now reply) }
 {
     match ask {
         JobAsk::StateOf { .. } => Ok(Reply::StateIs(job.state)),
@@ -66,7 +66,7 @@ fn of_label(
     label: &Bytes,
 ) -> Result<Reply, AllocError>
     requires ready { manager.now.spent ≡ false }
-    ensures { IfOk result (IsSaidOf commands.now.labels manager.now ask.now label.now) }
+    ensures { IfOk result (IsSaidOf commands.now.labels manager.now now ask.now label.now) }
 {
     let Some(id) = commands.job_of(label.as_slice()) else {
         return Ok(Reply::NoJob);
@@ -89,7 +89,7 @@ fn tell_open(
     requires can { is_open_ready commands.now.labels
         manager.now.book.jobs now row.now.issued row.now.ask
         ≡ true }
-    ensures { IfOk result (λ told. IsToldOpen commands.now.labels manager.now row.now.issued
+    ensures { IfOk result (λ told. IsToldOpen commands.now.labels manager.now now row.now.issued
         row.now.ask told.reply told.number) }
 {
     // the book tells the jobs of the newest store

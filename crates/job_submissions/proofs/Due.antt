@@ -20,6 +20,7 @@ use Rattle.job_spec.specs.declared.spec.Depend.{Depend}
 use Rattle.job_spec.specs.declared.spec.JobSpec.{JobSpec}
 use Rattle.manager_rules.proofs.Submitting.{submit_lists}
 use Rattle.manager_rules.specs.Jobs.{AreNeeds, StoredJob, distinct, ids_of, listed_in}
+use Rattle.manager_rules.specs.Limits.{no_limits, verdict_of}
 use Rattle.manager_rules.specs.Posts as posts
 use Rattle.manager_rules.specs.Posts.{IsNewId, IsOpenSubmit, IsSubmission, Submission, submit_event}
 use Rattle.job_submissions.specs.Faults.{AreKnown}
@@ -99,7 +100,7 @@ submit-is inst log v row urgency named text needs s names =
 -- ---- what is made is due
 
 module _ (v : CommandsValue) (inst : Instance) (log : Log) (jobs : List StoredJob) (x : Submission)
-    (h : AgreesCommands v inst log) (kind : IsInstance inst) (short : length v.issued ≤ 2 ^ 14) (labelled : AreLabelled v.labels jobs)
+    (h : AgreesCommands v inst log) (kind : IsInstance inst) (unlimited : inst.limits ≡ no_limits) (short : length v.issued ≤ 2 ^ 14) (labelled : AreLabelled v.labels jobs)
     (smalls : Each (λ j. j.id < 2 ^ 64) jobs) (soon : 1000 * (now_of inst log - inst.birth) < 2 ^ 40) (made : IsMade v jobs (now_of inst log) inst.birth x)
     (open-then : (by : By) → IsOpen by log → Contains (seconds_open inst log by) (now_of inst (before_issue by log)))
     (new-id : (by : By) (id : ℕ) → IsIdOf v inst.birth by id → (label : List ℕ) → job_at label v.labels ≢ Some id) where
@@ -153,6 +154,7 @@ module _ (v : CommandsValue) (inst : Instance) (log : Log) (jobs : List StoredJo
         (submit-is inst log v row m.urgency m.named m.text m.needs m.submits m.accepted.names));
     text = m.built.told;
     accepted = m.accepted.reads ∙ ap Ok (sym m.built.read);
+    passed = ap (λ limits. verdict_of limits x.spec) unlimited;
     known = known-all;
     id = record {
       second = row.issued;

@@ -16,3 +16,5 @@ pub mod Rows
 pub mod Below
 pub mod Taking
 pub mod Rules
+pub mod Reserving
+pub mod Plain

@@ -23,7 +23,7 @@ use Rattle.kvs_model.specs.Store.{Store}
 use Rattle.manager_rules.specs.Jobs.{AreJobsOf, IsStored, StoredJob, ids_of, is_live}
 use Rattle.manager_rules.specs.Scene.{Scene, IsScene}
 use Rattle.manager_rules.specs.Sound.{IsServed, IsSound, holds_of, AreInTime, HoldsInTime, IsUnserved, is_early}
-use Rattle.manager_rules.specs.Deeds.{Deed, Validates, Adds, Removes, Loses, Depends, Prioritizes, NeverFits, Takes, Starts, Finishes, Expires, Stops, Releases, Frees, Cleans, Carries, change_by, due_of, event_of, r_given}
+use Rattle.manager_rules.specs.Deeds.{Deed, Validates, Adds, Removes, Loses, Depends, Restarts, Prioritizes, NeverFits, Takes, Starts, Finishes, Expires, Stops, Releases, Frees, Cleans, Carries, change_by, due_of, event_of, r_given}
 use Rattle.manager_rules.specs.Due.{IsFirstFit, MayDo}
 use Rattle.manager_rules.specs.Posts.{event_done, job_after, r_after, with_event}
 use Rattle.manager_rules.proofs.Allowed.{writes, stands}
@@ -115,17 +115,24 @@ holds_none j h u = h.none (rw u.allocated refl)
 takes_live : (job : Job) → IsUnserved job → is_live (made (change_by (Takes (record { nodes = []; starttime = 0; expiration = 0 }))) job) ≡ true
 takes_live job u = rw u.freed refl
 
-holding : (s : Scene) → IsScene s → (j : StoredJob) → HoldsInTime j → (deed : Deed) → MayDo s j deed → IfSome j.r (λ r. AreHosts r.nodes) → Holding s j deed (event_done (due_of s.now j deed) j)
-holding s scene j h (Takes r) m sound =
+-- the job that takes resources holds them, and held none
+pub given_r : (s : Scene) → IsScene s → (j : StoredJob) → HoldsInTime j → (r : Resources) → MayDo s j (Takes r) → ((event_done (due_of s.now j (Takes r)) j).r ≡ Some r) × (j.r ≡ None)
+given_r s scene j h r m =
     let u = unserved j h m.0 in
+    let none = holds_none j h u in
+    let sound : IfSome j.r (λ r. AreHosts r.nodes) = subst (λ o. IfSome o (λ r. AreHosts r.nodes)) (sym none) tt in
     let live : is_live (job_after (change_of (event_of s.now j (Takes r))) j.job) ≡ true = ap is_live (job_is s scene j h (Takes r) m sound) ∙ takes_live j.job u in
-    takes r m.2 (ap (λ b. if b then result_ok (told (r_text r)) else None) live ∙ ap result_ok m.2.written) (holds_none j h u)
+    (ap (λ b. if b then result_ok (told (r_text r)) else None) live ∙ ap result_ok m.2.written, none)
+
+holding : (s : Scene) → IsScene s → (j : StoredJob) → HoldsInTime j → (deed : Deed) → MayDo s j deed → IfSome j.r (λ r. AreHosts r.nodes) → Holding s j deed (event_done (due_of s.now j deed) j)
+holding s scene j h (Takes r) m sound = let given = given_r s scene j h r m in takes r m.2 given.0 given.1
 holding s scene j h Validates m sound = plain_holding s scene j h Validates m sound refl
 holding s scene j h (Adds need) m sound = plain_holding s scene j h (Adds need) m sound refl
 holding s scene j h (Removes need) m sound = plain_holding s scene j h (Removes need) m sound refl
 holding s scene j h (Loses need) m sound = plain_holding s scene j h (Loses need) m sound refl
 holding s scene j h Depends m sound = plain_holding s scene j h Depends m sound refl
 holding s scene j h (Prioritizes priority) m sound = plain_holding s scene j h (Prioritizes priority) m sound refl
+holding s scene j h Restarts m sound = plain_holding s scene j h Restarts m sound refl
 holding s scene j h NeverFits m sound = plain_holding s scene j h NeverFits m sound refl
 holding s scene j h Starts m sound = plain_holding s scene j h Starts m sound refl
 holding s scene j h (Finishes status) m sound = plain_holding s scene j h (Finishes status) m sound refl

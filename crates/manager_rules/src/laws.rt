@@ -1,6 +1,9 @@
 //! The laws of what is due, each the contract of a function.
-ghost use Rattle.std.specs.Prelude.{◌≡◌, ◌++◌, ◌<◌, ◌≤◌, ◌^◌, ◌⊎◌, ℕ, List, [], ◌∷◌, length, true, false, Some, Contains, IfSome, Ok};
+ghost use Rattle.std.specs.Prelude.{◌≡◌, ◌≢◌, ◌↔◌, ◌++◌, ◌<◌, ◌≤◌, ◌==◌, ◌^◌, ◌⊎◌, ℕ, List, [], ◌∷◌, length, true, false, Option, Some, None, Contains, IfSome, Ok, if◌then◌else◌};
 ghost use Rattle.std.specs.List.{AllByRecursion as Each};
+ghost use Rattle.std.specs.List.Sorted.{IsStrictlyIncreasing};
+ghost use Rattle.job_spec.specs.declared.spec.JobSpec.{JobSpec};
+ghost use Rattle.job_states.specs.declared.job.State.TheVariants as state;
 ghost use Rattle.job_states.specs.Changes.{change_of};
 ghost use Rattle.job_states.specs.declared.job.Change.TheVariants.{Submit as Begun};
 ghost use Rattle.event_log.specs.declared.event.Event.{Event};
@@ -14,19 +17,26 @@ ghost use Rattle.kvs_model.specs.Store.{IsStore, Store};
 ghost use Rattle.kvs_txn.specs.declared.txn.Scope.TheVariants.{Primary};
 ghost use Rattle.kvs_txn.specs.declared.txn.Txn.{Txn};
 ghost use Rattle.resource_set.specs.Units.{AreHosts};
+ghost use Rattle.shells.specs.declared.ends.Ending.TheVariants.{At};
 ghost use Rattle.resource_set.specs.declared.node.Node.{Node};
 ghost use Rattle.resource_set.specs.declared.node.Resources.{Resources};
 ghost use Rattle.store_laws.specs.Posts.{AreTaken};
 ghost use Rattle.store_laws.specs.Reserved.{IsUsers};
-ghost use Rattle.manager_rules.specs.Deeds.{Deed, Depends, Expires, Finishes, Removes, Takes, change_by, due_of, event_of};
-ghost use Rattle.manager_rules.specs.Dependencies.{is_added, is_met, is_removed};
+ghost use Rattle.manager_rules.specs.Deeds.{Deed, Depends, Expires, Finishes, Removes, Restarts, Takes, change_by, due_of, event_of};
+ghost use Rattle.manager_rules.specs.Dependencies.{IsHead, is_added, is_met, is_removed};
 ghost use Rattle.manager_rules.specs.declared.due.Due.{Due};
-ghost use Rattle.manager_rules.specs.Due.{IsDue, IsLike, MayDo, StillWaits};
+ghost use Rattle.manager_rules.specs.declared.policy.Policy.TheVariants.{FirstFit};
+ghost use Rattle.manager_rules.specs.declared.terms.Limit.{Limit};
+ghost use Rattle.manager_rules.specs.declared.why.Why.TheVariants.{Behind, Ready};
+ghost use Rattle.manager_rules.specs.Due.{FindsNone, IsDue, IsLike, MayDo, MayTake, StillWaits, is_in_time, status_at};
 ghost use Rattle.manager_rules.specs.Jobs.{AreJobsOf, AreNeeds, HasOnlyJobs, IsLogged, StoredJob, ids_of, is_live};
+ghost use Rattle.manager_rules.specs.Limits.{exceeds, no_limits, outlasts, verdict_of};
 ghost use Rattle.manager_rules.specs.Posts.{Desk, Does, IsDesk, IsDuePost, IsOpenSubmit, IsSubmission, Post, StillSubmits, Submission, Submit, Submits, group_of, job_of, jobs_after, txn_of, with_event, with_job};
+ghost use Rattle.manager_rules.specs.Reserved.{IsReserved};
 ghost use Rattle.manager_rules.specs.Scene.{IsScene, Scene, has_living_child, has_shut_child};
 ghost use Rattle.manager_rules.specs.Sound.{AreInTime, IsSound, IsSoundStore};
 ghost use Rattle.manager_rules.specs.Times.{seconds_of};
+ghost use Rattle.manager_rules.specs.Whys.{IsFirst, IsSaidOf};
 
 /// The table of events and states allows what is due, and its event makes the change of its row.
 pub fn what_is_due_is_allowed()
@@ -188,10 +198,60 @@ pub fn due_posts_take_effect()
         → AreTaken (group_of post ∷ []) st }
 {}
 
-/// One job at a time takes resources: the head of the queue, which nobody passes.
+/// One job at a time takes resources: the first in the queue, or one that passes it.
 pub fn one_job_at_a_time_takes()
-    ensures { (s : Scene) (j k : StoredJob) (r q : Resources) → MayDo s j (Takes r)
-        → MayDo s k (Takes q) → j.id ≡ k.id }
+    ensures { (s : Scene) (j k : StoredJob) (r q : Resources)
+        → IsStrictlyIncreasing (ids_of s.jobs) → Contains s.jobs j → Contains s.jobs k
+        → MayDo s j (Takes r) → MayDo s k (Takes q) → j.id ≡ k.id }
+{}
+
+/// A job that passes the first in the queue leaves the second that is reserved for the first as it
+/// is, in the store in which its resources have landed too.
+pub fn who_passes_leaves_the_reserved_second()
+    ensures { (s : Scene) (j : StoredJob) (r : Resources) → IsScene s → AreInTime s.jobs
+        → Contains s.jobs j → MayDo s j (Takes r) → (head : StoredJob) → Contains s.jobs head
+        → IsHead s.jobs head.id → j.id ≢ head.id
+        → (second : ℕ) × IsReserved s.grant.nodes s.jobs head.spec s.now second
+        × IsReserved s.grant.nodes (with_event (due_of s.now j (Takes r)) s.jobs) head.spec s.now
+        second }
+{}
+
+/// While another job stays the first in the queue, no due event lets the second that is reserved
+/// for it rise.
+pub fn reserved_seconds_never_rise()
+    ensures { (s : Scene) (j : StoredJob) (deed : Deed) → IsScene s → AreInTime s.jobs
+        → IsGrant s.grant.nodes → Contains s.jobs j → MayDo s j deed → (head : StoredJob)
+        → Contains s.jobs head → IsHead s.jobs head.id → j.id ≢ head.id → IsSpec head.spec
+        → (second : ℕ) → IsReserved s.grant.nodes s.jobs head.spec s.now second
+        → (later : ℕ) × (later ≤ second)
+        × IsReserved s.grant.nodes (with_event (due_of s.now j deed) s.jobs) head.spec s.now later }
+{}
+
+/// Where nobody passes the first in the queue, it alone takes resources, and it alone is ready.
+pub fn first_fit_serves_the_first_alone()
+    ensures takes { (s : Scene) (j : StoredJob) (r : Resources) → s.policy ≡ FirstFit
+        → MayTake s j r ↔ IsHead s.jobs j.id }
+    ensures ready { (s : Scene) (j : StoredJob) → s.policy ≡ FirstFit
+        → IsSaidOf s j Ready ↔ (IsFirst s.jobs j × (FindsNone s j → ⊥)) }
+    ensures behind { (s : Scene) (j : StoredJob) (head : ℕ) → s.policy ≡ FirstFit
+        → IsSaidOf s j (Behind head) ↔ ((j.job.state ≡ state.Sched) × (j.job.priority ≢ Some 0)
+        × IsHead s.jobs head × (head ≢ j.id)) }
+{}
+
+/// Where a job may ask for anything, none is turned away; nor is one for a limit without a reason.
+pub fn nobody_is_turned_away_without_limits()
+    ensures all { (spec : JobSpec) → verdict_of no_limits spec ≡ 0 }
+    ensures each { (limit : Limit) (n : ℕ) → limit.reason ≡ 0
+        → (exceeds limit n ≡ false) × (outlasts limit n ≡ false) }
+{}
+
+/// A job with which the run didn't resume never begins anew, and a command whose second isn't
+/// passed ends at that second, unless its resources end before.
+pub fn jobs_of_the_run_end_when_they_said()
+    ensures begun { (s : Scene) (j : StoredJob) → s.old j.id ≡ false → MayDo s j Restarts → ⊥ }
+    ensures ends { (s : Scene) (id second status : ℕ) (r : Option Resources) → s.now ≤ second
+        → is_in_time r second ≡ true
+        → status_at s id r (At second status) ≡ (if second == s.now then Some status else None) }
 {}
 
 /// While its child lives, a job isn't released and keeps its units.
@@ -202,11 +262,12 @@ pub fn jobs_of_living_children_keep_their_units()
         × (is_live j.job ≡ true → is_live (made (change_by deed) j.job) ≡ true) }
 {}
 
-/// A command ends at a second that was ahead, or with its child; resources end at such a second or
-/// later.
+/// A command ends at a second that was ahead or, where the run resumed behind it, later, or with
+/// its child; resources end at such a second or later.
 pub fn jobs_end_at_their_seconds()
     ensures finish { (s : Scene) (j : StoredJob) (status : ℕ) → MayDo s j (Finishes status)
-        → (has_shut_child s.asked j.id ≡ true) ⊎ Contains (seconds_of j) s.now }
+        → (has_shut_child s.asked j.id ≡ true)
+        ⊎ ((second : ℕ) × Contains (seconds_of j) second × (second ≤ s.now)) }
     ensures timeout { (s : Scene) (j : StoredJob) → MayDo s j Expires
         → (second : ℕ) × Contains (seconds_of j) second × (second ≤ s.now) }
 {}

@@ -1,4 +1,4 @@
-use Rattle.std.proofs.Common.{◌≡◌, None, Ok, sym, subst}
+use Rattle.std.proofs.Common.{◌≡◌, None, Ok, inl, sym, subst}
 use Rattle.graph_match.specs.Answers.{Answers, AreFirstFit}
 use Rattle.job_rules.proofs.Lying.{read_is}
 use Rattle.job_rules.proofs.Sets.{free_is, none_exactly}
@@ -22,7 +22,7 @@ returns-clause-found c = λ s seen.
     let taking = c.in_ok-found-in-Units.ensures in
     let head = is_head desk.rows.now desk.head c.args.row.now.id c.requires.desk.head c.requires.first in
     subst (Finds s c.args.row.now) (sym taking.is)
-    (c.requires.waits, subst (λ js. IsHead js c.args.row.now.id) (sym seen.jobs) head, seen_fit desk s seen c.args.row.now c.in-Units.r here (subst (λ t. told t ≡ Ok c.in-Units.r) taking.canonical taking.again))
+    (c.requires.waits, inl (subst (λ js. IsHead js c.args.row.now.id) (sym seen.jobs) head), seen_fit desk s seen c.args.row.now c.in-Units.r here (subst (λ t. told t ≡ Ok c.in-Units.r) taking.canonical taking.again), seen.old c.args.row.now.id)
 
 pub unreachable-requires : goal.unreachable-requires
 unreachable-requires c =

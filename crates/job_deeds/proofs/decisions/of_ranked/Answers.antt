@@ -19,3 +19,4 @@ returns-then-not-goes_now-clause-found c = λ s seen ranked.
     let full = λ (e : desk.head ≡ Some j.id). (none_exactly j.spec graph.grant (free_of graph.grant graph.live) (read_is j.spec c.requires.spec) (free_is graph.grant (nodes_of graph.live) c.keeps.ensures.grant)).1 (λ can. true≢false (sym (c.goes_now.ensures.1 (e, can)) ∙ c.if-not-goes_now.true)) in
     none_waiting s j c.requires.waits ranked (seen_fits desk s seen j fits)
     (λ r head fit. other_head desk.rows.now desk.head j.id c.requires.desk.head (λ e. unseen_fit desk s seen j r (full e) fit) (subst (λ js. IsHead js j.id) seen.jobs head))
+    (seen.policy ∙ c.requires.desk.policy) (seen.old j.id)

@@ -34,7 +34,7 @@ returns-in-Waits c = record {
       (knows c.core.result.now row.rank (subst (λ (core : CoreValue). row.rank < core.size) (sym c.core.ensures) c.requires.within)
       c.standing.ensures.newest c.standing.ensures.heard c.standing.ensures.last inst log (subst (λ core. Agrees core inst.service (service_of log)) (sym c.core.ensures) s.service)) in
       c.what_is_told_is_legal.ensures c.args.commands.now manager c.args.now inst log row told.reply told.number c.keeps.ensures k s known c.requires.can
-      (subst (λ (at : Stage). IsToldAt c.args.commands.now.labels manager row at told.reply told.number) (sym c.in-Waits.is) said))
+      (subst (λ (at : Stage). IsToldAt c.args.commands.now.labels manager c.args.now row at told.reply told.number) (sym c.in-Waits.is) said))
       c.tell_open.ensures;
 }
 
@@ -48,5 +48,5 @@ returns-in-Landed c = record {
       (knows c.core.result.now row.rank (subst (λ (core : CoreValue). row.rank < core.size) (sym c.core.ensures) c.requires.within)
       c.standing.ensures.newest c.standing.ensures.heard c.standing.ensures.last inst log (subst (λ core. Agrees core inst.service (service_of log)) (sym c.core.ensures) s.service)) in
       c.what_is_told_is_legal.ensures c.args.commands.now manager c.args.now inst log row told.reply told.number c.keeps.ensures k s known c.requires.can
-      (subst (λ (at : Stage). IsToldAt c.args.commands.now.labels manager row at told.reply told.number) (sym c.in-Landed.is) c.tell_carried_out.ensures);
+      (subst (λ (at : Stage). IsToldAt c.args.commands.now.labels manager c.args.now row at told.reply told.number) (sym c.in-Landed.is) c.tell_carried_out.ensures);
 }

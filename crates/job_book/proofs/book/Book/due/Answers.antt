@@ -24,17 +24,20 @@ pub choice-requires-clause-desk : goal.choice-requires-clause-desk
 choice-requires-clause-desk g c = record {
   rising = subst (λ js. IsStrictlyIncreasing (ids_of js)) (sym c.deref.ensures.value) c.self.invariant.0.kept.rising;
   head = subst (λ js. IsFirstOf js c.head.result) (sym c.deref.ensures.value) (first_of c.self.inside.rows.items c.self.inside.queue.0 c.self.invariant.0.kept.rising c.self.invariant.1 c.head.result c.head.ensures.first c.head.ensures.none);
+  policy = c.self.invariant.0.kept.policy;
   named = subst (λ a. AreHostNames (host_names a.grant)) (sym c.self.invariant.0.graph) c.self.invariant.0.kept.grant.named;
 }
 
 pub returns-in-Some : goal.returns-in-Some
-returns-in-Some g c = λ answer says.
-    let s = scene_of c.args.self.now c.args.now c.args.asked.now answer in
+returns-in-Some g c = λ answer limits says.
+    let s = scene_of c.args.self.now c.args.now c.args.asked.now answer limits in
     let jobs = c.deref.ensures.value ∙ ap (λ v. v.jobs) c.self.view_is in
     let chosen = c.in_ok-action.ensures.found s (record {
       second = refl;
       jobs = sym jobs;
       asked = sym c.as_slice.ensures;
+      policy = ap (λ v. v.policy) (sym c.self.view_is);
+      old = λ id. refl;
       graph = c.self.invariant.0.graph ∙ ap allotted c.self.view_is;
     }) says in
     record {
@@ -46,39 +49,41 @@ returns-in-Some g c = λ answer says.
     }
 
 pub loop-index-preserved : goal.loop-index-preserved
-loop-index-preserved g c = λ answer says.
-    let s = scene_of c.args.self.now c.args.now c.args.asked.now answer in
+loop-index-preserved g c = λ answer limits says.
+    let s = scene_of c.args.self.now c.args.now c.args.asked.now answer limits in
     let jobs = c.deref.ensures.value ∙ ap (λ v. v.jobs) c.self.view_is in
     let job = c.index-desk-at.result in
     let chosen = c.in_ok-action.ensures.found s (record {
       second = refl;
       jobs = sym jobs;
       asked = sym c.as_slice.ensures;
+      policy = ap (λ v. v.policy) (sym c.self.view_is);
+      old = λ id. refl;
       graph = c.self.invariant.0.graph ∙ ap allotted c.self.view_is;
     }) says in
     let within : c.loop-index.index < length c.self.inside.active.items = omega (arith, c.loop-index-test.true, c.len-index-end.ensures) in
     let short : c.loop-index.index < length (active_of c.args.self.now.jobs) = subst (λ n. c.loop-index.index < n) (active_length c.self.inside.rows.items c.self.inside.active.items c.self.invariant.2 ∙ ap (λ v. length (active_of v.jobs)) c.self.view_is) within in
-    each_next (λ j. (deed : Deed) → MayDo s j deed → ⊥) (active_of c.args.self.now.jobs) c.loop-index.index job (c.loop-index.invariant answer says) short
+    each_next (λ j. (deed : Deed) → MayDo s j deed → ⊥) (active_of c.args.self.now.jobs) c.loop-index.index job (c.loop-index.invariant answer limits says) short
     (c.index-desk-at.is ∙ c.place_of_active-at.ensures.job job ∙ ap (λ js. get_or (active_of js) c.loop-index.index job) jobs)
     (subst (Chooses s job) c.in_default.is (subst (λ j. Chooses s j c.in_ok-action.field-0) (sym c.index-desk-at.is) chosen))
 
 pub returns : goal.returns
-returns g c = λ answer says due is.
-    let s = scene_of c.args.self.now c.args.now c.args.asked.now answer in
+returns g c = λ answer limits says due is.
+    let s = scene_of c.args.self.now c.args.now c.args.asked.now answer limits in
     let past : length c.self.inside.active.items ≤ c.loop-index.index = omega (arith, c.loop-index-test.false, c.len-index-end.ensures) in
     let all : length (active_of s.jobs) ≤ c.loop-index.index = subst (λ n. n ≤ c.loop-index.index) (active_length c.self.inside.rows.items c.self.inside.active.items c.self.invariant.2 ∙ ap (λ v. length (active_of v.jobs)) c.self.view_is) past in
-    none_active_due s (subst (Each (λ j. (deed : Deed) → MayDo s j deed → ⊥)) (take_all c.loop-index.index (active_of s.jobs) all) (c.loop-index.invariant answer says)) due is
+    none_active_due s (subst (Each (λ j. (deed : Deed) → MayDo s j deed → ⊥)) (take_all c.loop-index.index (active_of s.jobs) all) (c.loop-index.invariant answer limits says)) due is
 
 pub loop-index-preserved-then-sleeps : goal.loop-index-preserved-then-sleeps
-loop-index-preserved-then-sleeps g c = λ answer says.
-    let s = scene_of c.args.self.now c.args.now c.args.asked.now answer in
+loop-index-preserved-then-sleeps g c = λ answer limits says.
+    let s = scene_of c.args.self.now c.args.now c.args.asked.now answer limits in
     let rows = c.self.inside.rows.items in
     let list = c.self.inside.active.items in
     let at = c.loop-index.index in
     let entry = c.index.result.now in
     let within : at < length list = omega (arith, c.loop-index-test.true, c.len-index-end.ensures) in
     let short : at < length (active_of c.args.self.now.jobs) = subst (λ n. at < n) (active_length rows list c.self.invariant.2 ∙ ap (λ v. length (active_of v.jobs)) c.self.view_is) within in
-    each_past (λ j. (deed : Deed) → MayDo s j deed → ⊥) (active_of c.args.self.now.jobs) at (c.loop-index.invariant answer says) short
+    each_past (λ j. (deed : Deed) → MayDo s j deed → ⊥) (active_of c.args.self.now.jobs) at (c.loop-index.invariant answer limits says) short
     (λ d. subst (λ js. (deed : Deed) → MayDo s (get_or (active_of js) at d) deed → ⊥) (ap (λ v. v.jobs) c.self.view_is)
     (sleeps_at s rows list at entry d c.self.invariant.2 c.self.invariant.3 within c.index.ensures (c.if-sleeps.ensures.early refl)
     (subst (λ asked. list_any (is_about entry.id) asked ≡ false) c.as_slice.ensures (c.if-sleeps.ensures.quiet refl))))

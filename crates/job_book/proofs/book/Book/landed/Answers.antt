@@ -12,7 +12,7 @@ use Rattle.job_book.proofs.Queues.{queue_after}
 use Rattle.job_book.proofs.book.Book.landed.Goals.{After-index}
 use Rattle.job_book.proofs.book.Book.landed.Goals as goal
 
-read : (c : After-index) → IsRead (record { grant = c.self.inside.grant; jobs = c.self.inside.rows.items }) c.self.inside.graph c.args.due.now c.place_in-at.result c.index.result.now
+read : (c : After-index) → IsRead (record { grant = c.self.inside.grant; policy = c.self.inside.policy; jobs = c.self.inside.rows.items }) c.self.inside.graph c.args.due.now c.place_in-at.result c.index.result.now
 read c = record {
   is = c.self.invariant.0;
   was = subst (λ v. WasDue v c.args.due.now) (sym c.self.view_is) c.requires;
@@ -46,8 +46,8 @@ invariant_of-self-2 c =
     let its : entry.id ≡ c.index.result.now.id = c.entry_of-entry.ensures.named ∙ ap (λ k. k.id) after in
     let follows = c.follow.ensures ∙ ap (λ over. follow_with entry over c.self.inside.active.items) c.is_over-over.ensures in
     let changes = c.set_priority.ensures.changed (c.set_priority.ensures.found ∙ ap is_some there) in (
-      subst (λ js. IsBook (record { grant = c.self.inside.grant; jobs = js }) c.hold.new.graph) (sym jobs)
-          (subst (IsBook (after_event c.args.due.now (record { grant = c.self.inside.grant; jobs = rows }))) (sym c.in_ok-hold.ensures.held) (read_after r next c.in_ok-next.ensures)),
+      subst (λ js. IsBook (record { grant = c.self.inside.grant; policy = c.self.inside.policy; jobs = js }) c.hold.new.graph) (sym jobs)
+          (subst (IsBook (after_event c.args.due.now (record { grant = c.self.inside.grant; policy = c.self.inside.policy; jobs = rows }))) (sym c.in_ok-hold.ensures.held) (read_after r next c.in_ok-next.ensures)),
       subst (λ js. IsQueueOf js c.set_priority.new.self.0) (sym jobs)
           (queue_after c.args.due.now rows c.self.inside.queue.0 c.set_priority.new.self.0 c.index.result.now c.rank.result c.self.invariant.1 (read_job r) (read_rank r next c.in_ok-next.ensures ∙ sym c.rank.ensures) changes),
       subst (λ js. AreActive js c.follow.new.active.items) (sym jobs)
@@ -60,4 +60,4 @@ invariant_of-self-2 c =
 pub returns-clause-done : goal.returns-clause-done
 returns-clause-done c =
     let r = read (goal.at.returns-clause-done c).After-index in
-    ap (λ js. record { grant = c.self.inside.grant; jobs = js }) (c.change_at.ensures c.index.result.now ∙ read_jobs r c.in_ok-next.next c.in_ok-next.ensures) ∙ ap (after_event c.args.due.now) c.self.view_is
+    ap (λ js. record { grant = c.self.inside.grant; policy = c.self.inside.policy; jobs = js }) (c.change_at.ensures c.index.result.now ∙ read_jobs r c.in_ok-next.next c.in_ok-next.ensures) ∙ ap (after_event c.args.due.now) c.self.view_is

@@ -43,8 +43,8 @@ invariant_of-self-2 c =
     (subst (λ ks. Each (λ k. c.args.id ≤ k.id) (drop c.place_of-at.result ks)) c.deref.ensures.value c.place_of-at.ensures.after)
     none (made (goal.at.invariant_of-self-2 c).Else-is_err ∙ ap (λ k. take c.place_of-at.result rows ++ k ∷ drop c.place_of-at.result rows) row) in
     let its : c.args.id ≡ c.entry_of-entry.result.id = sym (c.entry_of-entry.ensures.named ∙ ap (λ k. k.id) row) in (
-      subst (λ js. IsBook (record { grant = c.self.inside.grant; jobs = js }) c.self.inside.graph) (sym are)
-          (book_with (record { grant = c.self.inside.grant; jobs = rows }) c.self.inside.graph c.self.invariant.0 c.args.id c.args.spec c.requires.known.0 c.requires.begins.0 c.requires.begins.1 c.args.event.now c.ranges.id.fits c.requires.spec none),
+      subst (λ js. IsBook (record { grant = c.self.inside.grant; policy = c.self.inside.policy; jobs = js }) c.self.inside.graph) (sym are)
+          (book_with (record { grant = c.self.inside.grant; policy = c.self.inside.policy; jobs = rows }) c.self.inside.graph c.self.invariant.0 c.args.id c.args.spec c.requires.known.0 c.requires.begins.0 c.requires.begins.1 c.args.event.now c.ranges.id.fits c.requires.spec none),
       subst (λ js. IsQueueOf js c.put.new.self.0) (sym are)
           (queue_with j rows c.self.inside.queue.0 c.put.new.self.0 c.self.invariant.1 (not_among c.args.id rows none) refl c.in_ok-put.ensures.added),
       subst (λ js. AreActive js c.enter.new.active.items) (sym are)
@@ -66,4 +66,4 @@ returns-clause-added c = λ needs userid urgency have begins.
     (subst (λ ks. Each (λ k. k.id < c.args.id) (take c.place_of-at.result ks)) c.deref.ensures.value c.place_of-at.ensures.before)
     (subst (λ ks. Each (λ k. c.args.id ≤ k.id) (drop c.place_of-at.result ks)) c.deref.ensures.value c.place_of-at.ensures.after)
     none (made (goal.at.returns-clause-added c).Else-is_err ∙ ap (λ k. take c.place_of-at.result rows ++ k ∷ drop c.place_of-at.result rows) row) in
-    ap (λ js. record { grant = c.self.inside.grant; jobs = js }) are ∙ ap (λ v. with_new v j) c.self.view_is
+    ap (λ js. record { grant = c.self.inside.grant; policy = c.self.inside.policy; jobs = js }) are ∙ ap (λ v. with_new v j) c.self.view_is

@@ -1,13 +1,14 @@
-use Rattle.std.proofs.Common.{◌≡◌, None, Some, sym, ap, ◌∙◌, subst}
-use Rattle.std.specs.Prelude.{Contains, IfOk, option_map}
+use Rattle.std.proofs.Common.{◌≡◌, None, Some, refl, sym, ap, ◌∙◌, subst}
+use Rattle.std.specs.Prelude.{Contains, option_map}
 use Rattle.job_deeds.proofs.job_rules_proofs.Among.{contains_from}
 use Rattle.job_deeds.specs.job_spec.Sound.{IsSpec}
 use Rattle.job_deeds.specs.manager_rules.Dependencies.{job_at}
-use Rattle.job_deeds.specs.manager_rules.Whys.{IsSaidOf, IsWhy}
+use Rattle.job_book.specs.Kept.{allotted}
 use Rattle.job_deeds.specs.Waiting.{IsFirstOf, IsRanked}
 use Rattle.job_book.proofs.Held.{each_found}
 use Rattle.job_book.proofs.Queues.{first_of}
-use Rattle.job_deeds.proofs.Whys.{found_job, no_job, said_ok}
+use Rattle.job_deeds.proofs.Whys.{found_job, no_job}
+use Rattle.job_book.proofs.Explained.{explained}
 use Rattle.job_book.proofs.book.Book.why.Goals.{In-Some}
 use Rattle.job_book.proofs.book.Book.why.Goals as goal
 
@@ -32,12 +33,17 @@ reason-requires-clause-spec c = each_found (λ j. IsSpec j.spec) c.self.inside.r
 
 pub returns-in-Some : goal.returns-in-Some
 returns-in-Some c =
-    let rows = c.self.inside.rows.items in
-    let grant = c.self.inside.grant.nodes in
-    let said : IfOk c.reason.result (IsSaidOf grant rows c.in-Some.row.now) = subst (λ a. IfOk c.reason.result (IsSaidOf a.grant rows c.in-Some.row.now)) c.self.invariant.0.graph (subst (λ js. IfOk c.reason.result (IsSaidOf c.self.inside.graph.grant js c.in-Some.row.now)) c.deref.ensures.value c.reason.ensures) in
-    subst (λ v. IfOk c.reason.result (IsWhy v.grant.nodes v.jobs c.args.job)) c.self.view_is (said_ok grant rows c.in-Some.row.now c.args.job (found (goal.at.returns-in-Some c).In-Some) c.reason.result said)
+    let mine = found (goal.at.returns-in-Some c).In-Some in
+    explained c.args.self.now c.args.now c.args.job c.in-Some.row.now (subst (λ v. job_at v.jobs c.args.job ≡ Some c.in-Some.row.now) c.self.view_is mine) (λ answer limits. record {
+      second = refl;
+      jobs = sym (c.deref.ensures.value ∙ ap (λ v. v.jobs) c.self.view_is);
+      asked = refl;
+      policy = ap (λ v. v.policy) (sym c.self.view_is);
+      old = λ id. refl;
+      graph = c.self.invariant.0.graph ∙ ap allotted c.self.view_is;
+    }) c.reason.result c.reason.ensures
 
 pub returns-in-None : goal.returns-in-None
 returns-in-None c =
     let none : job_at c.deref.result.now c.args.job ≡ None = sym c.find.ensures ∙ ap (option_map (λ row. row.now)) c.in-None.is in
-    no_job c.args.self.now.jobs c.args.job (subst (λ js. job_at js c.args.job ≡ None) (c.deref.ensures.value ∙ ap (λ v. v.jobs) c.self.view_is) none)
+    λ answer limits. no_job c.args.self.now.jobs c.args.job (subst (λ js. job_at js c.args.job ≡ None) (c.deref.ensures.value ∙ ap (λ v. v.jobs) c.self.view_is) none)
