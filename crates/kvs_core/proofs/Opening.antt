@@ -342,8 +342,8 @@ module _ {v : CoreValue} (s : IsSound v) (i : ℕ) (within : i < length v.rows) 
         (subst (Agrees (record { spent = false; size = v.size; fanout = v.fanout; grant = v.grant; spaces = v.spaces ++ new ∷ []; rows = set v.rows i new-row }) set₀) (append_assoc log (m ∷ []) (Happened (event.Heard 0 new.name 0) ∷ []))
         (subst (λ ss. Agrees (record { spent = false; size = v.size; fanout = v.fanout; grant = v.grant; spaces = ss; rows = set v.rows i new-row }) set₀ ((log ++ m ∷ []) ++ Happened (event.Heard 0 new.name 0) ∷ [])) (set-last v.spaces between new)
         (agrees-of {v = record { spent = false; size = v.size; fanout = v.fanout; grant = v.grant; spaces = set (v.spaces ++ between ∷ []) (length v.spaces) new; rows = set v.rows i new-row }} head there
-        (λ settled. turns-quiet (turns-happened (turns-happened (a.turns settled) (event.Landed row.namespace 0 (Some row.by ∷ []) [])) (event.Heard 0 new.name 0)) (set (v.spaces ++ between ∷ []) (length v.spaces) new) (set v.rows i new-row)
-        (nobody-set (a.turns settled) a.apart i within row read (arrived-comes row.stage arrived) new-row refl refl))))))
+        (λ settled. turns-quiet (turns-happened (turns-happened (a.turns settled) (event.Landed row.namespace 0 (Some row.by ∷ []) [])) (event.Heard 0 new.name 0)) (set (v.spaces ++ between ∷ []) (length v.spaces) new) (set v.rows i (with_stage (stage.Landed (length v.spaces) 0 work.Create) row))
+        (nobody-set (a.turns settled) a.apart i within row read (arrived-comes row.stage arrived) (with_stage (stage.Landed (length v.spaces) 0 work.Create) row) refl refl))))))
       where
         new-row : Row
         new-row = with_stage (stage.Landed (length v.spaces) 0 work.Create) row

@@ -1,9 +1,9 @@
 use Rattle.std.proofs.Common.{◌≡◌, ◌∙◌, ◌+◌, ◌<◌, is_some, length, true, ap, arith, subst, sym}
-use Rattle.std.specs.Prelude.{option_and_then, slice_get, slice_index_or}
+use Rattle.std.specs.Prelude.{IsTrue, option_and_then, slice_get, slice_index_or}
 use Rattle.instance.specs.workload.declared.work.Line.{Line}
 use Rattle.instance.specs.answers.declared.steps.Step.TheVariants as step
 use Rattle.instance.specs.Makes.{MakesOf, MayIssueOf}
-use Rattle.instance.specs.Steps.{can_issue as instance_can_issue}
+use Rattle.instance.specs.Steps.{IsAtRest, can_issue as instance_can_issue}
 use Rattle.homes.specs.Homes.{IsNextLine, living_at}
 use Rattle.world.specs.Steps.{MayStart, can_issue}
 use Rattle.world.specs.View.{value_of}
@@ -39,7 +39,7 @@ issue-requires-clause-lines c =
     let can = ap (λ w. can_issue w c.args.actor) c.self.view_is ∙ c.requires.can in
     let more = more_there v c.args.actor c.args.number p h at.here at.home there.here can in
     let free = free_there v c.args.actor c.args.number p h at.here at.home there.here can in
-    let rest = λ settled. subst (λ w. MayStart w (step.Issue c.args.actor)) (sym c.self.view_is) c.requires.rests settled tt c.args.number h there.here there.living in
+    let rest : IsTrue v.set.settled → IsAtRest h.instance = λ settled. subst (λ w. MayStart w (step.Issue c.args.actor)) (sym c.self.view_is) c.requires.rests settled tt c.args.number h there.here there.living in
     subst (MayIssueOf h.instance) (sym c.as_slice.ensures) (lines_of_it v sound runs c.args.actor c.args.number p h at.here at.home there.here there.living free more rest)
 
 pub issue-requires-clause-can : goal.issue-requires-clause-can
@@ -54,7 +54,7 @@ issue-requires-clause-can c =
     let can = ap (λ w. can_issue w c.args.actor) c.self.view_is ∙ c.requires.can in
     let more = more_there v c.args.actor c.args.number p h at.here at.home there.here can in
     let free = free_there v c.args.actor c.args.number p h at.here at.home there.here can in
-    let rest = λ settled. subst (λ w. MayStart w (step.Issue c.args.actor)) (sym c.self.view_is) c.requires.rests settled tt c.args.number h there.here there.living in
+    let rest : IsTrue v.set.settled → IsAtRest h.instance = λ settled. subst (λ w. MayStart w (step.Issue c.args.actor)) (sym c.self.view_is) c.requires.rests settled tt c.args.number h there.here there.living in
     subst (λ ls. instance_can_issue ls h.instance c.args.actor ≡ true) (sym c.as_slice.ensures) (can_issue_it v sound runs c.args.actor c.args.number p h at.here at.home there.here there.living free more rest)
 
 pub offset_bounds-lines-place : goal.offset_bounds-lines-place
@@ -128,7 +128,7 @@ invariant_of-self-2 c = λ _.
     let can = ap (λ w. can_issue w c.args.actor) c.self.view_is ∙ c.requires.can in
     let more = more_there v c.args.actor c.args.number p h at.here at.home there.here can in
     let free = free_there v c.args.actor c.args.number p h at.here at.home there.here can in
-    let rest = λ settled. subst (λ w. MayStart w (step.Issue c.args.actor)) (sym c.self.view_is) c.requires.rests settled tt c.args.number h there.here there.living in
+    let rest : IsTrue v.set.settled → IsAtRest h.instance = λ settled. subst (λ w. MayStart w (step.Issue c.args.actor)) (sym c.self.view_is) c.requires.rests settled tt c.args.number h there.here there.living in
     let line = subst (λ ls. IsNextLine ls c.args.actor (p.issued + 1) c.issued_from.result.next) c.as_slice-lines.ensures c.issued_from.ensures.next in
     let makes = subst (λ ls. MakesOf ls h.instance (step.Issue c.args.actor) c.issue.new.self c.in_ok-made.made) c.as_slice.ensures c.in_ok-made.ensures.makes in
     let x = c.index-lines-place.result in
@@ -150,7 +150,7 @@ returns-clause-advances c =
     let can = ap (λ w. can_issue w c.args.actor) c.self.view_is ∙ c.requires.can in
     let more = more_there v c.args.actor c.args.number p h at.here at.home there.here can in
     let free = free_there v c.args.actor c.args.number p h at.here at.home there.here can in
-    let rest = λ settled. subst (λ w. MayStart w (step.Issue c.args.actor)) (sym c.self.view_is) c.requires.rests settled tt c.args.number h there.here there.living in
+    let rest : IsTrue v.set.settled → IsAtRest h.instance = λ settled. subst (λ w. MayStart w (step.Issue c.args.actor)) (sym c.self.view_is) c.requires.rests settled tt c.args.number h there.here there.living in
     let line = subst (λ ls. IsNextLine ls c.args.actor (p.issued + 1) c.issued_from.result.next) c.as_slice-lines.ensures c.issued_from.ensures.next in
     let makes = subst (λ ls. MakesOf ls h.instance (step.Issue c.args.actor) c.issue.new.self c.in_ok-made.made) c.as_slice.ensures c.in_ok-made.ensures.makes in
     let x = c.index-lines-place.result in
