@@ -22,7 +22,7 @@ use Rattle.kvs_space.specs.Space.{SpaceValue, queued}
 use Rattle.kvs_core.specs.Agrees.{Agrees}
 use Rattle.kvs_core.specs.Contents.{IsOfContents}
 use Rattle.kvs_core.specs.Value.{CoreValue}
-use Rattle.kvs_core.proofs.Carried.{IsPlain, each-map, space-plain, waiting}
+use Rattle.kvs_core.proofs.Carried.{plain-asks, IsPlain, each-map, space-plain, waiting}
 use Rattle.kvs_rules.specs.declared.events.KvsAsk.TheVariants as ask
 use Rattle.kvs_core.proofs.Turns.{turns-later}
 use Rattle.kvs_core.proofs.Heads.{IsElsewhere, agrees-of, head-kept, head-of, rows-of}

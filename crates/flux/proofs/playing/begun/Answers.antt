@@ -1,0 +1,22 @@
+use Rattle.std.proofs.Common.{◌≡◌, ◌∙◌, ℕ, Bool, Option, Some, None, refl, ap}
+use Rattle.std.proofs.lemmas.Result.{IfOk-weaker}
+use Rattle.run_options.specs.declared.Options.{Options}
+use Rattle.world.specs.answers.Chronicle.{Setup}
+use Rattle.world.specs.fl_digest.declared.Hash.{Hash}
+use Rattle.world.specs.Choice.{is_settled as is_settled_order, order_of}
+use Rattle.flux.specs.Runs.{is_settled, schedule_of, setup_of}
+use Rattle.flux.proofs.playing.begun.Goals as goal
+
+-- the order is as settled as the options
+settled_so : (size fanout : ℕ) (hash : Hash) (shuffle : Option ℕ) (journal : Bool) →
+    let o : Options = record { size = size; fanout = fanout; hash = hash; shuffle = shuffle; journal = journal } in
+    is_settled_order (order_of (schedule_of o)) ≡ is_settled o
+settled_so size fanout hash None journal = refl
+settled_so size fanout hash (Some seed) journal = refl
+
+pub returns-clause-set : goal.returns-clause-set
+returns-clause-set c =
+    let o = c.args.options in
+    let given : Setup = setup_of c.args.terms o c.args.work in
+    IfOk-weaker c.new.result _ (λ world. world.set ≡ setup_of c.args.terms o c.args.work)
+    (λ world is. is ∙ ap (λ (b : Bool). (let s : Setup = record given { settled = b } in s)) (settled_so o.size o.fanout o.hash o.shuffle o.journal)) c.new.ensures.set
