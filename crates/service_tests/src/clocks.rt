@@ -2,7 +2,7 @@
 ghost use Rattle.std.specs.Prelude.{◌<◌, ◌^◌, All, IfSome, IsTrue, filter_map};
 ghost use Rattle.job_clock.specs.Targets.{target_in as target_of};
 
-use job_book::Book;
+use job_book::{Book, Policy};
 use job_clock::next_tick;
 use job_commands::{Commands, JobAsk, Row};
 use kvs_txn::By;
@@ -63,7 +63,7 @@ fn by(command: u32) -> By {
 /// A book of no jobs.
 fn book(alloc: Global) -> Result<Book, Fail> {
     let grant = resource_set::read(alloc, GRANT.as_bytes())?;
-    Ok(Book::new(alloc, &grant)?)
+    Ok(Book::new(alloc, &grant, Policy::FirstFit)?)
 }
 
 /// The next second of these commands.
