@@ -20,7 +20,6 @@ use Rattle.instance_rules.specs.Family.{HasTarget}
 use Rattle.instance_rules.specs.Legal.{IsLegalMoment}
 use Rattle.instance_rules.specs.Log as rules
 use Rattle.resource_set.specs.declared.node.Resources.{Resources}
-use Rattle.tap.specs.declared.weights.Weights.{Weights}
 use Rattle.workload.specs.declared.work.Command.TheVariants as command
 use Rattle.workload.specs.declared.work.Workload.{Workload}
 use Rattle.answers.specs.declared.chronicle.Entry.{Entry}
@@ -32,6 +31,7 @@ use Rattle.answers.specs.Legal.{IsLegalEntry}
 use Rattle.answers.specs.Runs.{ComesInTime}
 use Rattle.answers.proofs.JobLogs.{only}
 use Rattle.answers.proofs.Services.{or_cases}
+use Rattle.answers.proofs.Plain.{plain_terms}
 
 abbrev work : Workload
 work = record {
@@ -46,11 +46,8 @@ work = record {
 abbrev no_resources : Resources
 no_resources = record { nodes = []; starttime = 0; expiration = 0 }
 
-abbrev by_urgency : Weights
-by_urgency = record { urgency = 1; cores = 0 }
-
 abbrev setup : Setup
-setup = record { size = 1; fanout = 2; hash = hash.Sha1; grant = codes "grant"; resources = no_resources; weights = by_urgency; birth = 0; work = work }
+setup = record { size = 1; fanout = 2; hash = hash.Sha1; grant = codes "grant"; resources = no_resources; terms = plain_terms; birth = 0; work = work }
 
 abbrev e1 : Entry
 e1 = entry.Issued 0 0

@@ -12,11 +12,12 @@ use Rattle.kvs_txn.specs.declared.txn.By.{By}
 use Rattle.kvs_txn.specs.declared.txn.Txn.{Txn}
 use Rattle.kvs_rules.specs.Log as service
 use Rattle.instance_rules.specs.Log as rules
-use Rattle.instance_rules.specs.Log.{IsInstance, JobReply, Moment, Log, Served, Issued, Replied, Born, Gone, issues_now, served, service_of}
+use Rattle.instance_rules.specs.Log.{IsBuilt, IsInstance, JobReply, Moment, Log, Served, Issued, Replied, Born, Gone, issues_now, served, service_of}
 use Rattle.answers.specs.declared.chronicle.Entry.{Entry}
 use Rattle.answers.specs.declared.chronicle.Entry.TheVariants as entry
 use Rattle.answers.specs.declared.chronicle.Reply.{Reply}
 use Rattle.answers.specs.declared.chronicle.Reply.TheVariants as reply
+use Rattle.manager_rules.specs.Terms.{AreBuilt}
 use Rattle.workload.specs.declared.work.Command.{Command}
 use Rattle.workload.specs.declared.work.Command.TheVariants as command
 use Rattle.workload.specs.declared.work.Line.{Line}
@@ -237,10 +238,39 @@ asks_nothing work h by = nothing_asked by.actor by.command work.lines h
 pub no_advance : (set : Setup) → IsWithoutJobs set.work → (c : List Entry) → HasNoAdvance set c
 no_advance set h c target waits = let never : None ≡ Some (rules.Advance waits.seconds) = sym (asks_nothing set.work h waits.by) ∙ waits.asks in cc
 
+-- no command watches a job
+pub unwatched : (work : Workload) (by : By) (label : List ℕ) → job_ask_at work by ≡ Some (rules.Watch label) → ⊥
+unwatched work by label = on (command_at work by)
+  where
+    on : (o : Option Command) → option_and_then job_ask_of o ≡ Some (rules.Watch label) → ⊥
+    on None e = cc
+    on (Some (command.Submit given urgency depends spec)) e = cc
+    on (Some (command.Cancel given)) e = cc
+    on (Some (command.Raise given kind severity note)) e = cc
+    on (Some (command.Urgency given urgency)) e = cc
+    on (Some (command.StateOf given)) e = cc
+    on (Some (command.Info given shown)) e = cc
+    on (Some command.Jobs) e = cc
+    on (Some (command.Why given)) e = cc
+    on (Some (command.ResultOf given)) e = cc
+    on (Some (command.Advance seconds)) e = cc
+    on (Some command.Shutdown) e = cc
+    on (Some c) e = cc
+
+-- on terms that are built, the top instance asks for nothing else
+pub built_instance : (set : Setup) → AreBuilt set.terms → IsBuilt (instance_of set)
+built_instance set h = record {
+  policy = h.policy;
+  limits = h.limits;
+  unwatched = λ by label asks. unwatched set.work by label asks;
+  start = refl;
+}
+
 -- the top instance keeps what an instance does
 pub is_instance : (set : Setup) → IsSetup set → IsInstance (instance_of set)
 is_instance set h = record {
   answers = λ ask. (omega arith, omega arith);
+  since = omega arith;
   grant = h.grant;
   text = h.text;
   apart = λ by some. asks_no_service set.work by some;

@@ -12,7 +12,6 @@ use Rattle.kvs_txn.specs.declared.txn.Author.TheVariants as author
 use Rattle.kvs_txn.specs.declared.txn.By.{By}
 use Rattle.kvs_txn.specs.declared.txn.Txn.{Txn}
 use Rattle.resource_set.specs.declared.node.Resources.{Resources}
-use Rattle.tap.specs.declared.weights.Weights.{Weights}
 use Rattle.instance_rules.specs.Log as rules
 use Rattle.instance_rules.specs.Log.{JobAsk, service_of}
 use Rattle.workload.specs.declared.work.Command.TheVariants as command
@@ -23,6 +22,7 @@ use Rattle.answers.specs.Chronicle.{Setup}
 use Rattle.answers.specs.Jobs.{log_in}
 use Rattle.answers.specs.Legal.{HasSettled, IsSettled}
 use Rattle.answers.specs.Services.{setting_of}
+use Rattle.answers.proofs.Plain.{plain_terms}
 
 abbrev key : Path
 key = codes "k" ∷ []
@@ -30,11 +30,8 @@ key = codes "k" ∷ []
 abbrev no_resources : Resources
 no_resources = record { nodes = []; starttime = 0; expiration = 0 }
 
-abbrev by_urgency : Weights
-by_urgency = record { urgency = 1; cores = 0 }
-
 abbrev given : Workload → Setup
-given work = record { size = 1; fanout = 2; hash = hash.Sha1; grant = codes "grant"; resources = no_resources; weights = by_urgency; birth = 0; work = work }
+given work = record { size = 1; fanout = 2; hash = hash.Sha1; grant = codes "grant"; resources = no_resources; terms = plain_terms; birth = 0; work = work }
 
 abbrev first : By
 first = record { actor = 0; command = 0 }

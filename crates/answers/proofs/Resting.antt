@@ -31,7 +31,7 @@ use Rattle.manager_rules.specs.Times.{IsIdle}
 use Rattle.manager_rules.proofs.Others.{first_jobs}
 use Rattle.manager_rules.proofs.Stores.{users_leave_jobs}
 use Rattle.manager_rules.proofs.Unique.{jobs_are_one}
-use Rattle.instance_rules.specs.Desks.{AreDueFrom, IsDeskOf, IsDueFor, StandsAsked}
+use Rattle.instance_rules.specs.Desks.{AreDueFrom, IsDeskOf, IsDueFor, StandsAsked, is_old}
 use Rattle.instance_rules.specs.Family.{MayClose}
 use Rattle.instance_rules.specs.Legal.{IsDueEvent, IsLegalMoment, OfDesk}
 use Rattle.instance_rules.specs.Log.{JobAsk, JobReply, Log, Moment, Born, Gone, Issued, Replied, Served, child_of, child_told, now_of, service_of}
@@ -257,9 +257,18 @@ module _ (set : Setup) (without : IsWithoutJobs set.work) where
   -- ---- the end
 
   module _ (d : List Entry) (childless : (id : ℕ) → child_of (log_in set.work d) id ≡ None) where
-    abbrev desk_there : Desk
-    desk_there = record {
-      scene = record { now = now_of (instance_of set) (log_in set.work d); grant = set.resources; jobs = []; asked = []; answer = priority_by set.weights };
+    abbrev desk_there : Store → Desk
+    desk_there st = record {
+      scene = record {
+        now = now_of (instance_of set) (log_in set.work d);
+        grant = set.resources;
+        jobs = [];
+        asked = [];
+        answer = priority_by set.terms.weights;
+        policy = set.terms.policy;
+        limits = set.terms.limits;
+        old = is_old (first_store set.grant) st;
+      };
       birth = set.birth;
       submits = [];
     }
@@ -270,26 +279,29 @@ module _ (set : Setup) (without : IsWithoutJobs set.work) where
     none_stands (asked.Urgency by job urgency) h = none_asked by _ h.asks
     none_stands (asked.Child job living shut) h = let never : ◌≡◌ {A = Option (Bool × Bool)} None (Some (living, shut)) = sym (childless job) ∙ h in cc
 
-    desk_is : (st : Store) → AreJobsOf st [] → IsDeskOf (instance_of set) (log_in set.work d) st desk_there
+    desk_is : (st : Store) → AreJobsOf st [] → IsDeskOf (instance_of set) (log_in set.work d) st (desk_there st)
     desk_is st are = record {
       now = refl;
       grant = refl;
       answer = refl;
+      policy = refl;
+      limits = refl;
+      old = λ id. refl;
       birth = refl;
       jobs = are;
       asked = λ a. (λ i. none_in a i, λ s. absurd (none_stands a s));
       submits = λ x. (λ i. none_in x i, λ s. absurd (none_asked x.by _ s.asks));
     }
 
-    is_idle : IsIdle desk_there
-    is_idle = record { posts = λ post due. nothing post due; births = λ id due. none_in due.j due.known }
+    is_idle : (st : Store) → IsIdle (desk_there st)
+    is_idle st = record { posts = λ post due. nothing post due; births = λ id due. none_in due.j due.known }
       where
-        nothing : (post : Post) → IsDuePost desk_there post → ⊥
+        nothing : (post : Post) → IsDuePost (desk_there st) post → ⊥
         nothing (Submits x) due = none_in due.from due.waits
         nothing (Does x) due = none_in due.j due.known
 
     rests : HasNoJobs (log_of set.work top d) → OfDesk (instance_of set) (log_in set.work d) IsIdle
-    rests h = (h.store, ap (λ l. newest_store (setting_of set) l primary) (service_kept set.work d) ∙ h.stands, (desk_there, desk_is h.store h.are, is_idle))
+    rests h = (h.store, ap (λ l. newest_store (setting_of set) l primary) (service_kept set.work d) ∙ h.stands, (desk_there h.store, desk_is h.store h.are, is_idle h.store))
 
   -- nothing is due where the log is that of a legal chronicle
   pub idle_as : (d c : List Entry) → IsLegal set c → log_in set.work d ≡ log_in set.work c → OfDesk (instance_of set) (log_in set.work d) IsIdle

@@ -80,13 +80,17 @@ job_reply_of _ = None
 
 -- ---- the instance and its log
 
--- the instance that is given this: it gives its jobs their priorities by the run's weights
+-- the instance that is given this: it serves its jobs on the run's terms, from its birth on
 abbrev pub instance_of : Setup → Instance
 instance_of set = record {
   service = setting_of set;
   birth = set.birth;
+  start = set.birth;
   grant = set.resources;
-  answer = priority_by set.weights;
+  answer = priority_by set.terms.weights;
+  policy = set.terms.policy;
+  limits = set.terms.limits;
+  shown = set.terms.shown;
   asks = job_ask_at set.work;
   rank = λ by. broker_of set.work by.actor;
 }

@@ -7,7 +7,7 @@ use Rattle.flux.specs.declared.generating.Generation.{Generation}
 use Rattle.flux.specs.Generated.{AreDrawnWords, HasSummary, generation_of}
 use Rattle.flux.specs.Runs.{AreRunWords, HasRun, run_options}
 use Rattle.flux.specs.Sides.{Side}
-use Rattle.world.specs.tap.declared.weights.Weights.{Weights}
+use Rattle.world.specs.manager_rules.declared.terms.Terms.{Terms}
 
 -- the words of a command: of a run, of one whose workload is drawn, or of a tool
 abbrev pub AreWords : List (List ℕ) → Type 0
@@ -15,8 +15,8 @@ AreWords words = AreRunWords words ⊎ AreDrawnWords words ⊎ AreToolWords word
 
 -- what a command writes: a run what its options ask for of its one chronicle, one whose workload is
 -- drawn the summary of its run, a tool the text that it prints
-pub record IsOutput (weights : Weights)
+pub record IsOutput (terms : Terms)
     (words : List (List ℕ)) (input : Side) (run : Run) (text : List ℕ) : Type 0 where
-  pub answers : (o : Options) → run_options words ≡ Some o → HasRun weights o input run text
-  pub summary : (g : Generation) → generation_of words ≡ Some g → HasSummary weights g run text
+  pub answers : (o : Options) → run_options words ≡ Some o → HasRun terms o input run text
+  pub summary : (g : Generation) → generation_of words ≡ Some g → HasSummary terms g run text
   pub line : AreToolWords words → HasAnswer words input.before input.after (Ok text)

@@ -11,7 +11,7 @@ use Rattle.summaries.specs.Summary.{IsSummary}
 use Rattle.flux.specs.declared.call.Run.{Run}
 use Rattle.flux.specs.declared.generating.Generation.{Generation}
 use Rattle.flux.specs.Runs.{setup_of, IsRunOf, IsWorkOf}
-use Rattle.world.specs.tap.declared.weights.Weights.{Weights}
+use Rattle.world.specs.manager_rules.declared.terms.Terms.{Terms}
 
 -- what a seed and a count of 1 to 10,000 draw a workload from
 abbrev pub generation_from : List ℕ → List ℕ → Option Generation
@@ -47,10 +47,10 @@ IsDrawn g work = IsWorkOf generated_options.size (generated g.seed g.count) work
 
 -- this is a run of the workload that is drawn, as `run --size 7` makes it, and what was written is
 -- its summary in the place of its answers
-pub record HasSummary (weights : Weights) (g : Generation) (run : Run)
+pub record HasSummary (terms : Terms) (g : Generation) (run : Run)
     (text : List ℕ) : Type 0 where
   pub work : Workload
   pub drawn : IsDrawn g work
   pub answers : List ℕ
-  pub ran : IsRunOf weights generated_options work run answers
-  pub summary : IsSummary (setup_of weights generated_options work) run.chronicle text
+  pub ran : IsRunOf terms generated_options work run answers
+  pub summary : IsSummary (setup_of terms generated_options work) run.chronicle text

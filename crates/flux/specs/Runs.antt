@@ -15,7 +15,7 @@ use Rattle.world.specs.hierarchy.Stretches.{AreRunStretches}
 use Rattle.world.specs.homes.Grant.{first_resources, grant_text}
 use Rattle.flux.specs.declared.call.Run.{Run}
 use Rattle.flux.specs.Sides.{Side}
-use Rattle.world.specs.tap.declared.weights.Weights.{Weights}
+use Rattle.world.specs.manager_rules.declared.terms.Terms.{Terms}
 
 -- the options of a run of a workload, where the words ask for one
 abbrev pub run_options : List (List ℕ) → Option Options
@@ -26,15 +26,16 @@ run_options (word ∷ words) = if bytes_eq word (codes "run") then options_of wo
 abbrev pub AreRunWords : List (List ℕ) → Type 0
 AreRunWords words = run_options words ≢ None
 
--- what a run of the workload is given: its options, its grant and the weights of its jobs' factors
-abbrev pub setup_of : Weights → Options → Workload → Setup
-setup_of weights o work = record {
+-- what a run of the workload is given: its options, its grant and the terms on which its jobs are
+-- served
+abbrev pub setup_of : Terms → Options → Workload → Setup
+setup_of terms o work = record {
   size = o.size;
   fanout = o.fanout;
   hash = o.hash;
   grant = grant_text o.size work;
   resources = first_resources o.size work;
-  weights = weights;
+  terms = terms;
   birth = 0;
   work = work;
 }
@@ -66,17 +67,17 @@ pub record IsSpelled (size : ℕ) (input : Side) (work : Workload) : Type 0 wher
 
 -- the chronicle of the workload keeps what a run promises; it is legal and whole, settled where no
 -- drawn order is asked for, the text prints it, and the steps made tell the whole of it
-pub record IsRunOf (weights : Weights) (o : Options) (work : Workload)
+pub record IsRunOf (terms : Terms) (o : Options) (work : Workload)
     (run : Run) (text : List ℕ) : Type 0 where
-  pub promises : KeepsItsPromises (setup_of weights o work) run.chronicle
-  pub true_run : IsTrueRun (setup_of weights o work) (is_settled o) o.journal run.chronicle text
-  pub stretches : AreRunStretches (setup_of weights o work) run.steps.items run.ends.items
+  pub promises : KeepsItsPromises (setup_of terms o work) run.chronicle
+  pub true_run : IsTrueRun (setup_of terms o work) (is_settled o) o.journal run.chronicle text
+  pub stretches : AreRunStretches (setup_of terms o work) run.steps.items run.ends.items
       run.chronicle
 
 -- the source was read to its end, its text is a workload's, and this is a run of that workload,
 -- which the text prints
-pub record HasRun (weights : Weights) (o : Options) (input : Side)
+pub record HasRun (terms : Terms) (o : Options) (input : Side)
     (run : Run) (text : List ℕ) : Type 0 where
   pub work : Workload
   pub spelled_so : IsSpelled o.size input work
-  pub ran : IsRunOf weights o work run text
+  pub ran : IsRunOf terms o work run text

@@ -3,6 +3,7 @@ ghost use Rattle.std.specs.Prelude.{◌≡◌, ◌≢◌, ◌≤◌, ◌⊎◌, 
 ghost use Rattle.run_options.specs.Given.{AreWithin};
 ghost use Rattle.flux_tools.specs.Tools.{AreReaderWords, AreToolWords, HasAnswer};
 ghost use Rattle.world.specs.workload.Limits.{most_commands};
+ghost use Rattle.world.specs.manager_rules.Terms.{AreBuilt};
 ghost use Rattle.flux.specs.Sides.{side, FailsAt, IsWritten};
 ghost use Rattle.flux.specs.Runs.{AreRunWords, HasRun, run_options};
 ghost use Rattle.flux.specs.Generated.{AreDrawnWords, HasSummary};
@@ -19,7 +20,7 @@ use std::alloc::{AllocError, Global};
 use workload_reader::LineFault;
 use world::answers::{Chronicle, Step};
 use world::lists::ListOf;
-use world::tap::Weights;
+use world::manager_rules::Terms;
 
 /// Why a run wrote nothing or not all.
 #[derive(Drop)]
@@ -112,19 +113,20 @@ fn tell<K: Sink>(sink: &mut K, output: &[u8]) -> Fault
 /// Runs the workload that the source spells, and writes its answers.
 fn run_workload<S: Source, K: Sink>(
     alloc: Global,
-    weights: Weights,
+    terms: Terms,
     options: Options,
     source: &mut S,
     sink: &mut K,
 ) -> Run
-    requires { AreWithin options }
+    requires options { AreWithin options }
+    requires terms { AreBuilt terms }
     ensures status { result.status ≡ status_of result.fault }
     ensures known { result.status ≢ 2 }
     ensures done { result.status ≡ 0 → (text : List ℕ)
-        × HasRun weights options (side S.left S.faults source.old source.new) result text
+        × HasRun terms options (side S.left S.faults source.old source.new) result text
         × IsWritten (side K.held K.faults sink.old sink.new) text }
     ensures cut { result.status ≡ 5 → (text : List ℕ)
-        × HasRun weights options (side S.left S.faults source.old source.new) result text
+        × HasRun terms options (side S.left S.faults source.old source.new) result text
         × IsTaken (side K.held K.faults sink.old sink.new) text result.fault }
     ensures refused { result.status ≡ 1
         → HasReadCause options.size (side S.left S.faults source.old source.new) result.fault }
@@ -140,7 +142,7 @@ fn run_workload<S: Source, K: Sink>(
         Ok(work) => work,
         Err(fault) => return Run::without_steps(alloc, fault),
     };
-    let Ok(Played { text, ended }) = play(alloc, weights, options, work) else {
+    let Ok(Played { text, ended }) = play(alloc, terms, options, work) else {
         return Run::without_steps(alloc, Fault::Memory);
     };
     let fault = tell(sink, &text);
@@ -154,13 +156,14 @@ fn run_workload<S: Source, K: Sink>(
 }
 
 /// Runs the workload that is drawn, and writes the summary of its run.
-fn run_drawn<K: Sink>(alloc: Global, weights: Weights, generation: Generation, sink: &mut K) -> Run
-    requires { generation.count ≤ most_commands }
+fn run_drawn<K: Sink>(alloc: Global, terms: Terms, generation: Generation, sink: &mut K) -> Run
+    requires count { generation.count ≤ most_commands }
+    requires terms { AreBuilt terms }
     ensures status { result.status ≡ status_of result.fault }
     ensures unrefused { IsUnrefused result.status }
-    ensures done { result.status ≡ 0 → (text : List ℕ) × HasSummary weights generation result text
+    ensures done { result.status ≡ 0 → (text : List ℕ) × HasSummary terms generation result text
         × IsWritten (side K.held K.faults sink.old sink.new) text }
-    ensures cut { result.status ≡ 5 → (text : List ℕ) × HasSummary weights generation result text
+    ensures cut { result.status ≡ 5 → (text : List ℕ) × HasSummary terms generation result text
         × IsTaken (side K.held K.faults sink.old sink.new) text result.fault }
     ensures sink { FailsAt 5 (side K.held K.faults sink.old sink.new) result.status }
     ensures unwritten { (1 ≤ result.status) → (result.status ≤ 4) → sink.new ≡ sink.old }
@@ -168,7 +171,7 @@ fn run_drawn<K: Sink>(alloc: Global, weights: Weights, generation: Generation, s
     let Ok(work) = drawn_work(alloc, generation) else {
         return Run::without_steps(alloc, Fault::Memory);
     };
-    let Ok(Played { text, ended: left }) = play_drawn(alloc, weights, work) else {
+    let Ok(Played { text, ended: left }) = play_drawn(alloc, terms, work) else {
         return Run::without_steps(alloc, Fault::Memory);
     };
     let fault = tell(sink, &text);
@@ -235,7 +238,7 @@ fn run_tool<S: Source, K: Sink>(
 /// a workload that a seed draws as `run --size 7` does, and writes the summary of its run. A tool
 /// writes one line: `idset`, `hostlist` and `fluid` of the text in the words, `R` and `replay` of
 /// the text that the source has. The whole output is made before the first byte is written. Jobs
-/// have their priorities by the weights.
+/// are served on the terms.
 ///
 /// The status is 0 where all went well; 1 where the text was read whole, or is too long, and is
 /// refused; 2 where the words are no command's, and then nothing was read; 3 where the source
@@ -246,14 +249,15 @@ pub fn flux<S: Source, K: Sink>(
     words: &[String],
     source: &mut S,
     sink: &mut K,
-    weights: Weights,
+    terms: Terms,
 ) -> Run
+    requires { AreBuilt terms }
     ensures status { result.status ≡ status_of result.fault }
     // the headline: what was written prints the one chronicle, which is legal and whole, and
     // settled where the words ask for no shuffle, or is the summary of such a chronicle, or the
     // line of a tool
     ensures true_run { result.status ≡ 0 → (text : List ℕ)
-        × IsOutput weights
+        × IsOutput terms
         (map string_bytes words.now)
         (side S.left S.faults source.old source.new)
         result
@@ -261,7 +265,7 @@ pub fn flux<S: Source, K: Sink>(
         × IsWritten (side K.held K.faults sink.old sink.new) text }
     // a sink that failed took a part of such an output
     ensures cut { result.status ≡ 5 → (text : List ℕ)
-        × IsOutput weights
+        × IsOutput terms
         (map string_bytes words.now)
         (side S.left S.faults source.old source.new)
         result
@@ -298,10 +302,10 @@ pub fn flux<S: Source, K: Sink>(
         return Run::without_steps(alloc, Fault::Memory);
     };
     if let Some(options) = options {
-        return run_workload(alloc, weights, options, source, sink);
+        return run_workload(alloc, terms, options, source, sink);
     }
     if let Some(generation) = generation_of(words) {
-        return run_drawn(alloc, weights, generation, sink);
+        return run_drawn(alloc, terms, generation, sink);
     }
     if is_tool(words) {
         return run_tool(alloc, words, source, sink);

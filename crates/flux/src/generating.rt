@@ -6,6 +6,7 @@ ghost use Rattle.world.specs.homes.Grant.{grant_text};
 ghost use Rattle.world.specs.hierarchy.Headline.{IsTrueRun};
 ghost use Rattle.world.specs.hierarchy.Promises.{KeepsItsPromises};
 ghost use Rattle.world.specs.hierarchy.Stretches.{AreRunStretches};
+ghost use Rattle.world.specs.manager_rules.Terms.{AreBuilt};
 ghost use Rattle.summaries.specs.Summary.{IsSummary};
 ghost use Rattle.flux.specs.Runs.{setup_of};
 ghost use Rattle.flux.specs.Generated.{generated_options, generation_of, IsDrawn};
@@ -27,8 +28,8 @@ use world::hierarchy::grown::births_are_numbered;
 use world::homes::hosts_of_brokers;
 use world::kvs_core::CoreFault;
 use world::lists::Bytes;
+use world::manager_rules::Terms;
 use world::resource_set::print;
-use world::tap::Weights;
 use world::workload::Workload;
 use world::workload::limits::MOST_COMMANDS;
 use world::workload::words::{number, number_within};
@@ -101,26 +102,27 @@ fn first_grant(alloc: Global, size: u32, work: &Workload) -> Result<Bytes, Alloc
 }
 
 /// Runs a workload that was drawn to its end. Its text is the run's summary.
-pub fn play_drawn(alloc: Global, weights: Weights, work: Workload) -> Result<Played, CoreFault>
+pub fn play_drawn(alloc: Global, terms: Terms, work: Workload) -> Result<Played, CoreFault>
     requires within { IsWithin 7 work }
     requires built { All (λ line. IsBuilt line.command) work.lines }
     requires labels { HasOwnLabels work.lines }
     requires few { KeepsTallies work.lines }
+    requires terms { AreBuilt terms }
     ensures run { IfOk result (λ played. (answers : List ℕ)
-        × IsTrueRun (setup_of weights generated_options work) true false
+        × IsTrueRun (setup_of terms generated_options work) true false
         played.ended.chronicle answers) }
     ensures stretches { IfOk result (λ played. AreRunStretches
-        (setup_of weights generated_options work)
+        (setup_of terms generated_options work)
         played.ended.steps.items played.ended.ends.items played.ended.chronicle) }
     ensures promises { IfOk result (λ played.
-        KeepsItsPromises (setup_of weights generated_options work) played.ended.chronicle) }
+        KeepsItsPromises (setup_of terms generated_options work) played.ended.chronicle) }
     ensures summary { IfOk result (λ played. IsSummary
-        (setup_of weights generated_options work) played.ended.chronicle played.text.items) }
+        (setup_of terms generated_options work) played.ended.chronicle played.text.items) }
 {
     births_are_numbered();
     a_whole_run_is_legal_in_all();
     let grant = first_grant(alloc, OPTIONS.size, &work)?;
-    let Played { text, ended } = play(alloc, weights, OPTIONS, work)?;
+    let Played { text, ended } = play(alloc, terms, OPTIONS, work)?;
     let text = summary(alloc, &grant, OPTIONS.hash, &text, &ended.chronicle)?;
     Ok(Played { text, ended })
 }

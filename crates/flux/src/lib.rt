@@ -12,5 +12,5 @@ pub use call::{Fault, Run, flux};
 pub use generating::Generation;
 pub use notices::notice;
 pub use process::{
-    closing_notice, command_words, exit_code, program, program_weights, run_without_memory,
+    closing_notice, command_words, exit_code, program, program_terms, run_without_memory,
 };

@@ -8,6 +8,7 @@ ghost use Rattle.world.specs.hierarchy.Laws.{AreValid};
 ghost use Rattle.world.specs.hierarchy.Legal.{IsSettledRun};
 ghost use Rattle.world.specs.hierarchy.Promises.{KeepsItsPromises};
 ghost use Rattle.world.specs.hierarchy.Stretches.{AreRunStretches};
+ghost use Rattle.world.specs.manager_rules.Terms.{AreBuilt};
 ghost use Rattle.world.specs.Choice.{order_of};
 ghost use Rattle.world.specs.declared.order.Order.TheVariants as order;
 ghost use Rattle.flux.specs.Runs.{is_settled, schedule_of, setup_of};
@@ -17,8 +18,8 @@ use std::alloc::{AllocError, Global};
 use world::answers::{Chronicle, print_answers, print_journal};
 use world::hierarchy::a_true_run_keeps_its_promises;
 use world::kvs_core::CoreFault;
+use world::manager_rules::Terms;
 use world::run_laws::time_stays_within;
-use world::tap::Weights;
 use world::workload::Workload;
 use world::{Ended, Schedule, Setting, World};
 
@@ -65,8 +66,8 @@ fn output(
     work: &Workload,
     chronicle: &Chronicle,
 ) -> Result<Vec<u8>, AllocError>
-    ensures { IfOk result (λ text. (weights : Weights) → text.items
-        ≡ output_text options.journal (setup_of weights options work.now) chronicle.now) }
+    ensures { IfOk result (λ text. (terms : Terms) → text.items
+        ≡ output_text options.journal (setup_of terms options work.now) chronicle.now) }
 {
     let mut text = print_answers(alloc, work, chronicle)?;
     if options.journal {
@@ -77,19 +78,15 @@ fn output(
 }
 
 /// The world of a workload with its options, before anything has happened.
-fn begun(
-    alloc: Global,
-    weights: Weights,
-    options: Options,
-    work: Workload,
-) -> Result<World, CoreFault>
+fn begun(alloc: Global, terms: Terms, options: Options, work: Workload) -> Result<World, CoreFault>
     requires options { AreWithin options }
     requires within { IsWithin options.size work }
     requires built { All (λ line. IsBuilt line.command) work.lines }
     requires labels { HasOwnLabels work.lines }
     requires few { KeepsTallies work.lines }
+    requires terms { AreBuilt terms }
     ensures ready { IfOk result (λ world. world.spent ≡ false) }
-    ensures set { IfOk result (λ world. world.set ≡ setup_of weights options work) }
+    ensures set { IfOk result (λ world. world.set ≡ setup_of terms options work) }
     ensures order { IfOk result (λ world. world.order ≡ order_of (schedule_of options)) }
     ensures empty { IfOk result (λ world. world.chronicle ≡ []) }
 {
@@ -98,31 +95,27 @@ fn begun(
         fanout: options.fanout,
         hash: options.hash,
     };
-    let mut world = World::new(alloc, setting, weights, work)?;
+    let mut world = World::new(alloc, setting, terms, work)?;
     world.schedule(schedule_of(options));
     Ok(world)
 }
 
 /// Makes the run of a workload.
-fn run(
-    alloc: Global,
-    weights: Weights,
-    options: Options,
-    work: Workload,
-) -> Result<Played, CoreFault>
+fn run(alloc: Global, terms: Terms, options: Options, work: Workload) -> Result<Played, CoreFault>
     requires options { AreWithin options }
     requires within { IsWithin options.size work }
     requires built { All (λ line. IsBuilt line.command) work.lines }
     requires labels { HasOwnLabels work.lines }
     requires few { KeepsTallies work.lines }
-    ensures run { IfOk result (λ played. IsTrueRun (setup_of weights options work)
+    requires terms { AreBuilt terms }
+    ensures run { IfOk result (λ played. IsTrueRun (setup_of terms options work)
         (is_settled options) options.journal played.ended.chronicle played.text.items) }
-    ensures stretches { IfOk result (λ played. AreRunStretches (setup_of weights options work)
+    ensures stretches { IfOk result (λ played. AreRunStretches (setup_of terms options work)
         played.ended.steps.items played.ended.ends.items played.ended.chronicle) }
     ensures valid { IfOk result
-        (λ played. AreValid (setup_of weights options work) played.ended.chronicle) }
+        (λ played. AreValid (setup_of terms options work) played.ended.chronicle) }
 {
-    let mut world = begun(alloc, weights, options, work)?;
+    let mut world = begun(alloc, terms, options, work)?;
     // a fault lets go of the world by a call: in place it is some six minutes of proof
     match make_steps(&mut world) {
         Ok(()) => (),
@@ -149,7 +142,7 @@ fn run(
 /// Runs a workload to its end, and keeps what a run promises.
 pub fn play(
     alloc: Global,
-    weights: Weights,
+    terms: Terms,
     options: Options,
     work: Workload,
 ) -> Result<Played, CoreFault>
@@ -158,14 +151,15 @@ pub fn play(
     requires built { All (λ line. IsBuilt line.command) work.lines }
     requires labels { HasOwnLabels work.lines }
     requires few { KeepsTallies work.lines }
-    ensures run { IfOk result (λ played. IsTrueRun (setup_of weights options work)
+    requires terms { AreBuilt terms }
+    ensures run { IfOk result (λ played. IsTrueRun (setup_of terms options work)
         (is_settled options) options.journal played.ended.chronicle played.text.items) }
-    ensures stretches { IfOk result (λ played. AreRunStretches (setup_of weights options work)
+    ensures stretches { IfOk result (λ played. AreRunStretches (setup_of terms options work)
         played.ended.steps.items played.ended.ends.items played.ended.chronicle) }
     ensures promises { IfOk result
-        (λ played. KeepsItsPromises (setup_of weights options work) played.ended.chronicle) }
+        (λ played. KeepsItsPromises (setup_of terms options work) played.ended.chronicle) }
 {
     time_stays_within();
     a_true_run_keeps_its_promises();
-    run(alloc, weights, options, work)
+    run(alloc, terms, options, work)
 }

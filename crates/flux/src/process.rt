@@ -1,9 +1,10 @@
-//! The program as a process: its words, its weights, standard input and output, the notice in the
+//! The program as a process: its words, its terms, standard input and output, the notice in the
 //! end and the exit code.
 ghost use Rattle.std.specs.Prelude.{◌≡◌, IfOk, drop, max, min, option_map, string_bytes};
 ghost use Rattle.std.specs.Process.{exit_status};
 ghost use Rattle.flux.specs.Notices.{closing_text};
 ghost use Rattle.flux.specs.declared.call.Fault.TheVariants.{Memory};
+ghost use Rattle.world.specs.manager_rules.Terms.{AreBuilt};
 ghost use Rattle.world.specs.tap.Factors.{priority_by};
 ghost use Rattle.world.specs.tap.declared.Ask.{Ask};
 
@@ -14,13 +15,16 @@ use std::alloc::{AllocError, Global};
 use std::env;
 use std::io::ErrorKind;
 use std::process::ExitCode;
-use world::tap::Weights;
+use world::manager_rules::Terms;
 
-/// The weights of the program's runs: a job's priority is its urgency, at least 1.
-pub fn program_weights() -> Weights
-    ensures { (ask : Ask) → priority_by result ask ≡ min (max ask.urgency 1) 4294967294 }
+/// The terms of the program's runs: a job's priority is its urgency, at least 1, the first in the
+/// queue alone takes resources, and a job may ask for anything.
+pub fn program_terms() -> Terms
+    ensures priority { (ask : Ask)
+        → priority_by result.weights ask ≡ min (max ask.urgency 1) 4294967294 }
+    ensures built { AreBuilt result }
 {
-    Weights::URGENCY
+    Terms::PLAIN
 }
 
 /// The words of the command: all that the program was started with but the first, which is its
@@ -96,7 +100,7 @@ pub fn program(rt: &HostRuntime) -> ExitCode {
             command_words(&words),
             &mut source,
             &mut sink,
-            program_weights(),
+            program_terms(),
         ),
         Err(_) => run_without_memory(alloc),
     };

@@ -4,10 +4,10 @@
 //! input, each behind `< `, the lines of its output behind `> `, and, where its status isn't 0,
 //! that and its notice behind `! `. Every other line is a note.
 use flux::{flux, notice};
+use manager_rules::Terms;
 use outside::{MemSink, MemSource};
 use std::alloc::{AllocError, Global};
 use std::{fs, io, str};
-use tap::Weights;
 
 /// What stands behind a mark, and what is to come of it.
 #[derive(Drop)]
@@ -59,7 +59,7 @@ fn is_so(alloc: Global, case: &Case<'_>) -> Result<bool, AllocError> {
     let input = Vec::from_slice(alloc, case.input.as_bytes())?;
     let mut source = MemSource::new(input, 4096, Vec::new(alloc));
     let mut sink = MemSink::new(alloc, 65_536, 4096, Vec::new(alloc))?;
-    let run = flux(alloc, &words, &mut source, &mut sink, Weights::URGENCY);
+    let run = flux(alloc, &words, &mut source, &mut sink, Terms::PLAIN);
     let told = notice(alloc, &run.fault)?;
     let fault = format!(in alloc; "{} {told}", run.status)?;
     Ok(fault.as_str() == case.fault && sink.taken() == case.output.as_bytes())

@@ -8,11 +8,11 @@
 mod cases;
 
 use flux::flux;
+use manager_rules::Terms;
 use outside::{MemSink, MemSource};
 use std::alloc::{AllocError, Global};
 use std::process::ExitCode;
 use std::{env, fs, io};
-use tap::Weights;
 
 /// An example: the options of its run, its workload and the answers beside it.
 #[derive(Drop)]
@@ -61,7 +61,7 @@ fn answers_of(
     let text = Vec::from_slice(alloc, example.workload.as_slice())?;
     let mut source = MemSource::new(text, 4096, Vec::new(alloc));
     let mut sink = MemSink::new(alloc, 65_536, 4096, Vec::new(alloc))?;
-    let run = flux(alloc, &words, &mut source, &mut sink, Weights::URGENCY);
+    let run = flux(alloc, &words, &mut source, &mut sink, Terms::PLAIN);
     Ok(if run.status == 0 { Some(sink) } else { None })
 }
 

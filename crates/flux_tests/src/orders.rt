@@ -10,7 +10,7 @@ use workload_reader::laws::{
 use workload_reader::read;
 use world::answers::Step;
 use world::fl_digest::Hash;
-use world::tap::Weights;
+use world::manager_rules::Terms;
 use world::{Ended, Schedule, Setting, World};
 
 const SETTING: Setting = Setting {
@@ -31,7 +31,7 @@ fn begin(alloc: Global, text: &str) -> Result<World, Fail>
     spelled_commands_are_built();
     spelled_labels_are_their_own();
     spelled_tallies_are_kept();
-    Ok(World::new(alloc, SETTING, Weights::URGENCY, work)?)
+    Ok(World::new(alloc, SETTING, Terms::PLAIN, work)?)
 }
 
 /// Makes the next step for as long as there is one.

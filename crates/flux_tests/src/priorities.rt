@@ -2,6 +2,7 @@
 use flux::flux;
 use outside::{MemSink, MemSource};
 use std::test::Fail;
+use world::manager_rules::Terms;
 use world::tap::Weights;
 
 /// A job of four cores runs; behind it wait one of a core and, later, one of two.
@@ -65,7 +66,11 @@ fn weights_order_the_queue(rt: HostRuntime) -> Result<(), Fail> {
         let text = Vec::from_slice(alloc, THREE_JOBS.as_bytes())?;
         let mut source = MemSource::new(text, 4096, Vec::new(alloc));
         let mut sink = MemSink::new(alloc, 4096, 4096, Vec::new(alloc))?;
-        let run = flux(alloc, &words, &mut source, &mut sink, order.weights);
+        let terms = Terms {
+            weights: order.weights,
+            ..Terms::PLAIN
+        };
+        let run = flux(alloc, &words, &mut source, &mut sink, terms);
         assert_eq!(rt; run.status, 0);
         let told = format!(in alloc; "submitted f1\nsubmitted f2\nsubmitted f3\n{}", order.whys)?;
         assert!(rt; sink.taken() == told.as_bytes(), "{}", order.whys);

@@ -7,7 +7,7 @@ use std::alloc::Global;
 use std::ops::Range;
 use std::process::Abort;
 use std::test::Fail;
-use world::tap::Weights;
+use world::manager_rules::Terms;
 
 /// A run with these words, over a source and a sink in memory that fail at these calls.
 fn run(
@@ -27,7 +27,7 @@ fn run(
     let bytes = Vec::from_slice(alloc, input.as_bytes())?;
     let fails = Vec::from_slice(alloc, source_fails)?;
     let mut source = MemSource::new(bytes, most, fails);
-    Ok(flux(alloc, &strings, &mut source, sink, Weights::URGENCY))
+    Ok(flux(alloc, &strings, &mut source, sink, Terms::PLAIN))
 }
 
 #[test]

@@ -9,6 +9,7 @@ use Rattle.answers.specs.declared.chronicle.Entry.{Entry}
 use Rattle.answers.specs.declared.chronicle.Entry.TheVariants as entry
 use Rattle.answers.specs.declared.chronicle.Reply.TheVariants as reply
 use Rattle.answers.specs.declared.steps.Step.TheVariants as step
+use Rattle.answers.proofs.Plain.{plain_terms}
 use Rattle.hierarchy.specs.Births.{has_home, has_living_home, has_lost_home, lives, numbers}
 use Rattle.hierarchy.specs.Families.{left_in, living_in, second_in}
 use Rattle.hierarchy.specs.Legal.{HasHomeFor, HasRunGrounds}
@@ -34,7 +35,7 @@ grant = record {
 }
 
 abbrev setup : Setup
-setup = record { size = 8; fanout = 2; hash = hash.Sha1; grant = codes "grant"; resources = record { nodes = []; starttime = 0; expiration = 0 }; weights = record { urgency = 1; cores = 0 }; birth = 0; work = work }
+setup = record { size = 8; fanout = 2; hash = hash.Sha1; grant = codes "grant"; resources = record { nodes = []; starttime = 0; expiration = 0 }; terms = plain_terms; birth = 0; work = work }
 
 -- the child is born at the second 2, and shuts down at the second 5
 abbrev born : List Entry

@@ -52,7 +52,6 @@ waits_as l m by inst log w =
       where_,
       record {
         label = r.label;
-        asks = r.asks;
         waits = r.waits;
         store = r.store;
         standing = r.standing;
@@ -60,6 +59,7 @@ waits_as l m by inst log w =
         are = r.are;
         j = r.j;
         known = r.known;
+        asks = r.asks;
         names = r.names;
         is = r.is;
         goes_on = r.goes_on;

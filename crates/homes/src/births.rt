@@ -9,14 +9,15 @@ ghost use Rattle.hierarchy.specs.Own.{own_of, setup_in};
 ghost use Rattle.instance.specs.Agrees.{AgreesOwn};
 ghost use Rattle.instance.specs.Family.{bearing};
 ghost use Rattle.instance.specs.Makes.{Bears};
+ghost use Rattle.instance.specs.manager_rules.Terms.{AreBuilt};
 ghost use Rattle.instance.specs.resource_set.Valid.{IsR};
 ghost use Rattle.instance.specs.workload.Laws.{HasOwnLabels, IsBuilt, IsWithin, KeepsTallies};
 ghost use Rattle.homes.specs.Inside.{AreSettled, IsChildHome};
 
 use crate::homes::{Home, Origin, Place, is_at, work_for};
 use instance::lists::Bytes;
+use instance::manager_rules::Terms;
 use instance::resource_set::Resources;
-use instance::tap::Weights;
 use instance::workload::{ActorList, Workload};
 use instance::{CoreFault, Instance, Setting};
 use std::alloc::{AllocError, Global};
@@ -72,7 +73,7 @@ pub fn bear_for(
 pub fn child_home(
     alloc: Global,
     setting: Setting,
-    weights: Weights,
+    terms: Terms,
     work: &Workload,
     origin: Origin,
     grant: &Resources,
@@ -83,11 +84,12 @@ pub fn child_home(
     requires built { All (λ l. IsBuilt l.command) work.now.lines }
     requires labels { HasOwnLabels work.now.lines }
     requires few { KeepsTallies work.now.lines }
+    requires terms { AreBuilt terms }
     requires grant { IsR grant.now }
     requires some { 1 ≤ length grant.now.nodes }
     requires early { second + 2000000000 < 2 ^ 64 }
     ensures { IfOk result (λ home. (set : Setup) (b : Birth) → set.fanout ≡ setting.fanout
-        → set.hash ≡ setting.hash → set.weights ≡ weights → set.work ≡ work.now
+        → set.hash ≡ setting.hash → set.terms ≡ terms → set.work ≡ work.now
         → b.parent ≡ origin.parent → b.job ≡ origin.job → b.label ≡ origin.label
         → b.second ≡ second → b.grant ≡ grant.now → IsChildHome set b home) }
 {
@@ -98,7 +100,7 @@ pub fn child_home(
         fanout: setting.fanout,
         hash: setting.hash,
     };
-    let instance = Instance::new(alloc, setting, grant, &own, second, weights)?;
+    let instance = Instance::new(alloc, setting, grant, &own, second, terms)?;
     Ok(Home {
         origin: Some(origin),
         work: own,

@@ -19,7 +19,7 @@ use Rattle.services.specs.job_commands.Agrees.{HasUniqueLabels}
 use Rattle.services.specs.answers.Chronicle.{Setup}
 use Rattle.services.specs.answers.Commands.{broker_of, command_at}
 use Rattle.services.specs.answers.Jobs.{IsSetup, instance_of, job_ask_at, job_ask_of}
-use Rattle.services.proofs.answers_proofs.JobLogs.{is_instance}
+use Rattle.services.proofs.answers_proofs.JobLogs.{built_instance, is_instance}
 use Rattle.services.proofs.answers_proofs.Services.{eqb_is}
 use Rattle.services.specs.Agrees.{IsGiven}
 use Rattle.services.specs.workload.declared.work.Actor.{Actor}
@@ -32,7 +32,8 @@ use Rattle.services.specs.workload.Limits.{most_severity, most_urgency}
 use Rattle.services.specs.workload.Tallies.{declares}
 use Rattle.instance.specs.Agrees.{is_of}
 use Rattle.services.specs.tap.Factors.{priority_by}
-use Rattle.services.specs.tap.declared.weights.Weights.{Weights}
+use Rattle.services.specs.manager_rules.declared.terms.Terms.{Terms}
+use Rattle.services.specs.manager_rules.Terms.{AreBuilt}
 
 -- ---- commands stand in lines
 
@@ -216,15 +217,21 @@ unique_labels set own a b label urgency other needs named text more asks_a asks_
 
 -- ---- the whole
 
-pub is_given : (set : Setup) (size fanout : ℕ) (hash : Hash) (grant : Resources) (birth : ℕ) (weights : Weights) → set.size ≡ size → set.fanout ≡ fanout → set.hash ≡ hash → set.grant ≡ r_text grant → set.resources ≡ grant → set.weights ≡ weights → set.birth ≡ birth
-    → IsGrant grant.nodes → IsWithin set.size set.work → All (λ a. a.rank < set.size) set.work.actors → All (λ l. IsBuilt l.command) set.work.lines → HasOwnLabels set.work.lines → IsGiven (instance_of set) size fanout hash grant birth weights
-is_given set size fanout hash grant birth weights brokers children hashed text resources weighed born granted within ranks built own = record {
+pub is_given : (set : Setup) (size fanout : ℕ) (hash : Hash) (grant : Resources) (birth : ℕ) (terms : Terms) → set.size ≡ size → set.fanout ≡ fanout → set.hash ≡ hash → set.grant ≡ r_text grant → set.resources ≡ grant → set.terms ≡ terms → set.birth ≡ birth
+    → AreBuilt terms → IsGrant grant.nodes → IsWithin set.size set.work → All (λ a. a.rank < set.size) set.work.actors → All (λ l. IsBuilt l.command) set.work.lines → HasOwnLabels set.work.lines → IsGiven (instance_of set) size fanout hash grant birth terms
+is_given set size fanout hash grant birth terms brokers children hashed text resources same born offered granted within ranks built own = record {
   hash = hashed;
   served = record {
     valid = is_instance set (is_setup set within built (text ∙ ap r_text (sym resources)) (subst (λ (r : Resources). IsGrant r.nodes) (sym resources) granted));
     unique = unique_labels set own;
     ranks = in_ranks set within built ranks;
-    answer = ap priority_by weighed;
+    served = record {
+      built = built_instance set (subst AreBuilt (sym same) offered);
+      answer = ap (λ t. priority_by t.weights) same;
+      policy = ap (λ t. t.policy) same;
+      limits = ap (λ t. t.limits) same;
+      shown = ap (λ t. t.shown) same;
+    };
     birth = born;
     grant = resources;
     size = brokers;

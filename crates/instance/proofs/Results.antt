@@ -42,6 +42,7 @@ use Rattle.services.specs.answers.Whole.{HasClosingGrounds, has_ended, is_closin
 use Rattle.services.specs.workload.declared.work.Workload.{Workload}
 use Rattle.instance.proofs.Families.{same_living}
 use Rattle.instance.proofs.Logs.{job_replied, log_issued, log_unissued, log_with, served_log}
+use Rattle.services.proofs.answers_proofs.JobLogs.{unwatched}
 
 -- ---- a reply that hands on what became of a command
 
@@ -136,10 +137,17 @@ result_undecided v inst log h by label asks waits =
     one : {x y : rules.JobAsk} → ◌≡◌ {A = Option rules.JobAsk} (Some x) (Some y) → x ≡ y
     one e = cc
 
+-- a command that is left for a job asks for its result: none watches one
+asks_result : (set : Setup) (own : List Entry) (by : By) (where_ : State) (left : IsLeftResult (living_of set own) by where_) → job_ask_at set.work by ≡ Some (rules.ResultOf left.label)
+asks_result set own by where_ left = elim left.asks [
+  | inl asks ↦ asks
+  | inr watches ↦ absurd (unwatched set.work by left.label watches.0)
+]
+
 module _ (set : Setup) (c own : List Entry) (same : log_in set.work c ≡ log_in set.work own) (v : JobServiceValue) (h : AgreesJobs v (instance_of set) (log_in set.work own)) where
   -- one that is left at the end, in a chronicle with the same log
   pub result_uncarried : (by : By) (where_ : State) → IsLeftResult (living_of set own) by where_ → IsUncarried set c by
-  result_uncarried by where_ left = uncarried set c by (ap (is_decided by) same ∙ result_undecided v.commands (instance_of set) (log_in set.work own) h.commands by left.label left.asks left.waits)
+  result_uncarried by where_ left = uncarried set c by (ap (is_decided by) same ∙ result_undecided v.commands (instance_of set) (log_in set.work own) h.commands by left.label (asks_result set own by where_ left) left.waits)
 
   -- one that isn't issued
   pub unissued_uncarried : (by : By) → IsSome (job_ask_at set.work by) → is_issued by own ≡ false → IsUncarried set c by
@@ -148,7 +156,7 @@ module _ (set : Setup) (c own : List Entry) (same : log_in set.work c ≡ log_in
 -- what a closing reply to a command that waits for a result rests on
 pub left_grounds : (set : Setup) (c own closings : List Entry) → log_in set.work c ≡ log_in set.work own → (by : By) (where_ : State) → IsLeftResult (living_of set own) by where_ → HasClosingGrounds set c closings by (reply.UnfinishedJob where_)
 left_grounds set c own closings same by where_ left = (
-  sym (log_issued set.work by c (ap is_some left.asks)) ∙ ap (rules.is_issued by) same ∙ left.waits.issued,
+  sym (log_issued set.work by c (ap is_some (asks_result set own by where_ left))) ∙ ap (rules.is_issued by) same ∙ left.waits.issued,
   subst (λ l. IsLeftResult l by where_) (sym (same_living set c own same)) left,
 )
 

@@ -8,6 +8,7 @@ ghost use Rattle.services.specs.answers.Legal.{HasSettled};
 ghost use Rattle.services.specs.answers.Services.{log_of};
 ghost use Rattle.services.specs.job_service.Still.{awaited};
 ghost use Rattle.services.specs.kvs_model.Store.{Name};
+ghost use Rattle.services.specs.manager_rules.Terms.{AreBuilt};
 ghost use Rattle.services.specs.resource_set.Valid.{IsR};
 ghost use Rattle.services.specs.resource_set.Writing.{r_text};
 ghost use Rattle.services.specs.Asks.{Keeps};
@@ -42,7 +43,7 @@ use services::kvs_txn::{Author, By, Txn};
 use services::laws::shutdowns_leave_services;
 use services::lists::{Bytes, ListOf};
 use services::resource_set::Resources;
-use services::tap::Weights;
+use services::manager_rules::Terms;
 use services::workload::{Line, Workload};
 use std::alloc::{AllocError, Global};
 use std::marker::Model;
@@ -193,15 +194,15 @@ impl Instance {
     }
 
     /// An instance of some brokers with the actors of a workload that is born at this second,
-    /// before anything has happened. Its first store has the text of the grant, and its jobs have
-    /// their priorities by these weights.
+    /// before anything has happened. Its first store has the text of the grant, and its jobs are
+    /// served on these terms.
     pub fn new(
         alloc: Global,
         setting: Setting,
         grant: &Resources,
         work: &Workload,
         birth: u64,
-        weights: Weights,
+        terms: Terms,
     ) -> Result<Instance, CoreFault>
         requires grant { IsR grant.now }
         requires size { (1 ≤ setting.size) × (setting.size ≤ 32) }
@@ -212,13 +213,14 @@ impl Instance {
         requires labels { HasOwnLabels work.now.lines }
         requires few { KeepsTallies work.now.lines }
         requires early { birth + 2000000000 < 2 ^ 64 }
+        requires terms { AreBuilt terms }
         ensures ready { IfOk result (λ v. v.spent ≡ false) }
         ensures agrees { IfOk result (λ v. (set : Setup) → set.size ≡ setting.size
             → set.fanout ≡ setting.fanout → set.hash ≡ setting.hash → set.grant ≡ r_text grant.now
-            → set.resources ≡ grant.now → set.weights ≡ weights → set.birth ≡ birth
+            → set.resources ≡ grant.now → set.terms ≡ terms → set.birth ≡ birth
             → set.work ≡ work.now → AgreesOwn v set []) }
     {
-        let services = Services::new(alloc, setting, grant, birth, weights)?;
+        let services = Services::new(alloc, setting, grant, birth, terms)?;
         let seats = seated(alloc, work, setting.size)?;
         Ok(Instance {
             alloc,

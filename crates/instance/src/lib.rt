@@ -4,8 +4,8 @@
 
 // The crates below that those above reach through this one.
 pub use services::{
-    answers, fl_digest, idset, kvs_core, kvs_rules, kvs_txn, lists, resource_set, run_limits, tap,
-    workload,
+    answers, fl_digest, idset, kvs_core, kvs_rules, kvs_txn, lists, manager_rules, resource_set,
+    run_limits, tap, workload,
 };
 
 mod actors;

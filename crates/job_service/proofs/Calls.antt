@@ -56,7 +56,7 @@ use Rattle.job_deeds.specs.resource_set.Writing.{r_text}
 use Rattle.job_deeds.specs.resource_set.declared.node.Resources.{Resources}
 use Rattle.job_deeds.specs.tap.declared.Ask.{Ask}
 use Rattle.run_limits.specs.Limits.{most_seconds, most_submits}
-use Rattle.job_service.specs.Agrees.{AgreesJobs, IsAgreed, IsNewAsk, IsServedBy}
+use Rattle.job_service.specs.Agrees.{AgreesJobs, IsAgreed, IsNewAsk, IsServedBy, IsBookOf}
 use Rattle.job_service.specs.Children.{IsBearing}
 use Rattle.job_service.specs.Due.{IsEventDue, IsFoundBeside, Owes}
 use Rattle.job_service.specs.Judged.{AreJudged}
@@ -69,13 +69,14 @@ use Rattle.job_service.proofs.Facts.{Facts, besides_facts, served_facts, service
 use Rattle.job_service.proofs.Judging.{judged_begun}
 use Rattle.job_service.proofs.Owing.{found-alone, found-named}
 use Rattle.job_deeds.specs.tap.Factors.{priority_by}
-use Rattle.job_deeds.specs.tap.declared.weights.Weights.{Weights}
+use Rattle.job_deeds.specs.manager_rules.declared.terms.Terms.{Terms}
+use Rattle.job_deeds.specs.manager_rules.Terms.{AreBuilt}
 
 -- the service with other parts
 abbrev pub with_parts : JobServiceValue → Bool → ManagerValue → CommandsValue → List Refused → Option Post → ℕ → JobServiceValue
 with_parts v spent manager commands refused found submitted = record {
   spent = spent;
-  weights = v.weights;
+  terms = v.terms;
   birth = v.birth;
   second = v.second;
   manager = manager;
@@ -91,9 +92,13 @@ with_parts v spent manager commands refused found submitted = record {
 abbrev pub spanned : JobServiceValue → ℕ → Option ℕ → JobServiceValue
 spanned v span bearing = record v { span = span; bearing = bearing }
 
+-- a book with the same grant and policy is still the instance's
+pub same-book : (inst : Instance) (old new : BookValue) → new.grant ≡ old.grant → new.policy ≡ old.policy → IsBookOf inst old → IsBookOf inst new
+same-book inst old new grant policy of = record { grant = grant ∙ of.grant; policy = policy ∙ of.policy }
+
 pub respan : (v : JobServiceValue) (inst : Instance) (log : Log) (span : ℕ) (bearing : Option ℕ) → AgreesJobs v inst log → AgreesJobs (spanned v span bearing) inst log
 respan v inst log span bearing a = record {
-  kind = record { valid = a.kind.valid; unique = a.kind.unique; ranks = a.kind.ranks; answer = a.kind.answer; birth = a.kind.birth; grant = a.kind.grant };
+  kind = record { valid = a.kind.valid; unique = a.kind.unique; ranks = a.kind.ranks; terms = a.kind.terms; birth = a.kind.birth; book = a.kind.book };
   core = a.core;
   legal = a.legal;
   commands = a.commands;
@@ -109,17 +114,17 @@ module _ (v : JobServiceValue) (inst : Instance) (log : Log) (a : AgreesJobs v i
   pub facts : Facts v.commands v.refused v.second inst log
   facts = record { commands = a.commands; second = a.second; refused = a.refused; untold = a.untold; shutdowns = a.shutdowns }
 
-  pub joined : (spent : Bool) (manager : ManagerValue) (commands : CommandsValue) (refused : List Refused) (found : Option Post) (submitted : ℕ) (later : Log) → manager.book.grant ≡ v.manager.book.grant
+  pub joined : (spent : Bool) (manager : ManagerValue) (commands : CommandsValue) (refused : List Refused) (found : Option Post) (submitted : ℕ) (later : Log) → IsBookOf inst manager.book
       → Agrees manager.core inst.service (service_of later) → IsLegalLog inst.service (service_of later) → AreLabelled commands.labels manager.book.jobs → Owes manager.posted found (desk_of commands inst later manager.book.jobs) → Facts commands refused v.second inst later
       → AgreesJobs (with_parts v spent manager commands refused found submitted) inst later
-  joined spent manager commands refused found submitted later grant core legal labelled owes f = record {
+  joined spent manager commands refused found submitted later of core legal labelled owes f = record {
     kind = record {
       valid = a.kind.valid;
       unique = a.kind.unique;
       ranks = a.kind.ranks;
-      answer = a.kind.answer;
+      terms = a.kind.terms;
       birth = a.kind.birth;
-      grant = grant ∙ a.kind.grant;
+      book = of;
     };
     core = core;
     legal = legal;
@@ -146,7 +151,7 @@ module _ (v : JobServiceValue) (inst : Instance) (log : Log) (a : AgreesJobs v i
       → Agrees manager.core inst.service (service_of later) → IsLegalLog inst.service (service_of later) → Facts v.commands v.refused v.second inst later
       → AgreesJobs (with_parts v spent manager v.commands v.refused v.found v.submitted) inst later
   stays spent manager later book posted same core legal f =
-      joined spent manager v.commands v.refused v.found v.submitted later (ap (λ b. b.grant) book) core legal
+      joined spent manager v.commands v.refused v.found v.submitted later (same-book inst v.manager.book manager.book (ap (λ b. b.grant) book) (ap (λ b. b.policy) book) a.kind.book) core legal
       (subst (λ b. AreLabelled v.commands.labels b.jobs) (sym book) a.labelled) (owed manager later book posted same) f
 
   served : (spent : Bool) (manager : ManagerValue) (m : service.Moment) → Keeps v.manager manager → IsLegalAfter inst.service (service_of log) (m ∷ []) → Agrees manager.core inst.service (service_of log ++ m ∷ [])
@@ -194,7 +199,7 @@ module _ (v : JobServiceValue) (inst : Instance) (log : Log) (a : AgreesJobs v i
   -- ---- what is told
 
   pub stands : Stands v.commands v.manager v.second inst log
-  stands = record { commands = a.commands; service = a.core; legal = a.legal; grant = a.kind.grant; second = a.second }
+  stands = record { commands = a.commands; service = a.core; legal = a.legal; grant = a.kind.book.grant; policy = a.kind.book.policy; second = a.second }
 
   pub rank_within : (row : Row) → Contains v.commands.rows row → row.rank < v.manager.core.size
   rank_within row c =
@@ -221,19 +226,23 @@ module _ (v : JobServiceValue) (inst : Instance) (log : Log) (a : AgreesJobs v i
 
 -- ---- the beginning
 
-module _ (spent : Bool) (weights : Weights) (birth size fanout : ℕ) (grant : Resources) (manager : ManagerValue) (commands : CommandsValue)
-    (book : manager.book ≡ record { grant = grant; jobs = [] }) (posted : manager.posted ≡ None) (set : (inst : Instance) → AgreesCommands commands inst [])
+module _ (spent : Bool) (terms : Terms) (birth size fanout : ℕ) (grant : Resources) (manager : ManagerValue) (commands : CommandsValue)
+    (book : manager.book ≡ record { grant = grant; policy = terms.policy; jobs = [] }) (posted : manager.posted ≡ None) (set : (inst : Instance) → AgreesCommands commands inst [])
     (core : (s : Rattle.kvs_rules.specs.Namespaces.Setting) → s.size ≡ size → s.fanout ≡ fanout → s.grant ≡ r_text grant → Agrees manager.core s []) where
   abbrev begun : JobServiceValue
-  begun = record { spent = spent; weights = weights; birth = birth; second = birth; manager = manager; commands = commands; refused = []; found = None; bearing = None; submitted = 0; span = 0 }
+  begun = record { spent = spent; terms = terms; birth = birth; second = birth; manager = manager; commands = commands; refused = []; found = None; bearing = None; submitted = 0; span = 0 }
 
   -- an instance without commands
   abbrev plain : Instance
   plain = record {
     service = record { size = size; fanout = fanout; hash = Sha1; grant = r_text grant; asks = λ by. None };
     birth = birth;
+    start = birth;
     grant = grant;
-    answer = priority_by weights;
+    answer = priority_by terms.weights;
+    policy = terms.policy;
+    limits = terms.limits;
+    shown = terms.shown;
     asks = λ by. None;
     rank = λ by. 0;
   }
@@ -279,25 +288,25 @@ module _ (spent : Bool) (weights : Weights) (birth size fanout : ℕ) (grant : R
   pub begun_judged : AreJudged commands manager.book.jobs []
   begun_judged = judged_begun commands manager.book.jobs [] (no_row plain)
 
-  pub begun_sought : IsFoundBeside weights manager.posted commands manager.book birth birth None
+  pub begun_sought : IsFoundBeside terms manager.posted commands manager.book birth birth None
   begun_sought =
-      subst (λ p. IsFoundBeside weights p commands manager.book birth birth None) (sym posted)
+      subst (λ p. IsFoundBeside terms p commands manager.book birth birth None) (sym posted)
       (λ row c urgency named text spec needs asks is. no_row plain row c, λ due d. no_jobs d.j d.known)
 
-  pub begun_agrees : (inst : Instance) → IsServedBy inst size fanout grant birth weights → AgreesJobs begun inst []
+  pub begun_agrees : (inst : Instance) → IsServedBy inst size fanout grant birth terms → AgreesJobs begun inst []
   begun_agrees inst of = record {
     kind = record {
       valid = of.valid;
       unique = of.unique;
       ranks = of.ranks;
-      answer = of.answer;
+      terms = of.served;
       birth = of.birth;
-      grant = ap (λ b. b.grant) book ∙ sym of.grant;
+      book = record { grant = ap (λ b. b.grant) book ∙ sym of.grant; policy = ap (λ b. b.policy) book ∙ sym of.served.policy };
     };
     core = core inst.service of.size of.fanout (of.valid.text ∙ ap r_text of.grant);
     legal = tt;
     commands = set inst;
-    second = of.birth;
+    second = of.served.built.start ∙ of.birth;
     owes = begun_owes inst;
     labelled = λ id c. absurd (among_from [] id (subst (λ b. Contains (ids_of b.jobs) id) book c));
     refused = λ r c. absurd (among_from [] r c);
@@ -305,13 +314,14 @@ module _ (spent : Bool) (weights : Weights) (birth size fanout : ℕ) (grant : R
     shutdowns = λ by e. refl;
   }
 
-  pub begun_agreed : IsGrant grant.nodes → IsAgreed begun
-  begun_agreed sets = record {
+  pub begun_agreed : AreBuilt terms → IsGrant grant.nodes → IsAgreed begun
+  begun_agreed built sets = record {
     inst = plain;
     log = [];
     agrees = begun_agrees plain (record {
       valid = record {
         answers = λ ask. (omega arith, omega arith);
+        since = omega arith;
         grant = sets;
         text = refl;
         apart = λ by some. refl;
@@ -319,7 +329,13 @@ module _ (spent : Bool) (weights : Weights) (birth size fanout : ℕ) (grant : R
       };
       unique = λ a b label urgency other needs named text more ea eb. cc;
       ranks = λ by some. absurd (true≢false (sym some));
-      answer = refl;
+      served = record {
+        built = record { policy = built.policy; limits = built.limits; start = refl; unwatched = λ by label e. cc };
+        answer = refl;
+        policy = refl;
+        limits = refl;
+        shown = refl;
+      };
       birth = refl;
       grant = refl;
       size = refl;
@@ -349,10 +365,10 @@ pub is_soon : (v : JobServiceValue) → IsFit v → 1000 * (v.second - v.birth) 
 is_soon v i = let soon = i.soon in omega (arith, soon)
 
 pub alone_in : (v : JobServiceValue) → IsFit v → IsAlone v.manager.posted v.found
-alone_in v i = found-alone v.weights v.commands v.manager.book v.second v.birth v.manager.posted v.found i.sought
+alone_in v i = found-alone v.terms v.commands v.manager.book v.second v.birth v.manager.posted v.found i.sought
 
 pub fit : (v : JobServiceValue) → IsFit v → (spent : Bool) (manager : ManagerValue) (commands : CommandsValue) (refused : List Refused) (later : Option Post) (submitted span : ℕ) (bearing : Option ℕ) → manager.spent ≡ false → manager.core.size ≡ v.manager.core.size
-    → length commands.issued ≡ length v.commands.issued → IsFoundBeside v.weights manager.posted commands manager.book v.second v.birth later → IsNamed commands v.birth manager.posted
+    → length commands.issued ≡ length v.commands.issued → IsFoundBeside v.terms manager.posted commands manager.book v.second v.birth later → IsNamed commands v.birth manager.posted
     → length manager.book.jobs + count_by is_submit commands.rows ≤ submitted → submitted ≤ most_submits → GoesOn v manager commands refused submitted span bearing → IsAgreed (spanned (with_parts v spent manager commands refused later submitted) span bearing) → IsFit (spanned (with_parts v spent manager commands refused later submitted) span bearing)
 fit v i spent manager commands refused later submitted span bearing ready size same sought posted counted bounded goes agreed = record {
   ready = ready;
@@ -365,7 +381,7 @@ fit v i spent manager commands refused later submitted span bearing ready size s
   near = goes.near;
   sought = sought;
   posted = posted;
-  named = found-named v.weights commands manager.book v.second v.birth manager.posted later sought;
+  named = found-named v.terms commands manager.book v.second v.birth manager.posted later sought;
   counted = counted;
   bounded = bounded;
   drawn = goes.drawn;
@@ -380,7 +396,7 @@ pub fit_still : (v : JobServiceValue) → IsFit v → (spent : Bool) (manager : 
     → IsAgreed (with_parts v spent manager v.commands v.refused v.found v.submitted) → IsFit (with_parts v spent manager v.commands v.refused v.found v.submitted)
 fit_still v i spent manager ready size book posted agreed =
     fit v i spent manager v.commands v.refused v.found v.submitted v.span v.bearing ready size refl
-    (subst (λ p. IsFoundBeside v.weights p v.commands manager.book v.second v.birth v.found) (sym posted) (subst (λ b. IsFoundBeside v.weights v.manager.posted v.commands b v.second v.birth v.found) (sym book) i.sought)) (subst (IsNamed v.commands v.birth) (sym posted) i.posted)
+    (subst (λ p. IsFoundBeside v.terms p v.commands manager.book v.second v.birth v.found) (sym posted) (subst (λ b. IsFoundBeside v.terms v.manager.posted v.commands b v.second v.birth v.found) (sym book) i.sought)) (subst (IsNamed v.commands v.birth) (sym posted) i.posted)
     (subst (λ b. length b.jobs + count_by is_submit v.commands.rows ≤ v.submitted) (sym book) i.counted) i.bounded
     (record { timed = i.timed; near = i.near; bears = subst (λ b. IsBearing v.commands b v.bearing) (sym book) i.bearing; drawn = i.drawn; marked = i.marked; judged = subst (λ b. AreJudged v.commands b.jobs v.refused) (sym book) i.judged }) agreed
 
@@ -389,9 +405,9 @@ row_known v by result r e is = found by v.rows r.now (sym e ∙ ap option_copied
 
 -- ---- what is due
 
-pub of_finds : (w : Weights) (v : CommandsValue) (book : BookValue) (now : ℕ) (list : List Asked) (says : Ask → ℕ → Type 0) → SaysAs says (priority_by w) → list ≡ asked_of v → (o : Option Due) → Finds book now list says o → IsEventDue w v book now o
-of_finds w v book now list says known is None h = λ due d. h (priority_by w) known due (subst (λ l. IsDue (scene_of book now l (priority_by w)) due) (sym is) d)
-of_finds w v book now list says known is (Some due) h = subst (λ l. IsDue (scene_of book now l (priority_by w)) due) is (h (priority_by w) known)
+pub of_finds : (terms : Terms) (v : CommandsValue) (book : BookValue) (now : ℕ) (list : List Asked) (says : Ask → ℕ → Type 0) → SaysAs says (priority_by terms.weights) → list ≡ asked_of v → (o : Option Due) → Finds book now list says o → IsEventDue terms v book now o
+of_finds terms v book now list says known is None h = λ due d. h (priority_by terms.weights) terms.limits known due (subst (λ l. IsDue (scene_of book now l (priority_by terms.weights) terms.limits) due) (sym is) d)
+of_finds terms v book now list says known is (Some due) h = subst (λ l. IsDue (scene_of book now l (priority_by terms.weights) terms.limits) due) is (h (priority_by terms.weights) terms.limits known)
 
 -- a list of one that may be lacking
 pub at_some : {A : Type 0} (P : A → Type 0) (o : Option A) (x : A) → o ≡ Some x → IfSome o P → P x

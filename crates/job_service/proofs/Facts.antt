@@ -37,6 +37,8 @@ use Rattle.job_service.specs.declared.refusals.Refused.{Refused}
 use Rattle.job_service.specs.Agrees.{IsUntold}
 use Rattle.job_landings.specs.Landings.{happening}
 use Rattle.job_service.specs.Refusals.{IsFaultOf, is_refusal_of, refusals_of, reply_to}
+use Rattle.job_deeds.specs.manager_rules.Limits.{verdict_of}
+use Rattle.job_deeds.specs.job_spec.declared.spec.JobSpec.{JobSpec}
 
 -- what the log says of the commands, the refusals and the time
 pub record Facts (v : CommandsValue) (list : List Refused) (now : ℕ) (inst : Instance) (log : Log) : Type 0 where
@@ -61,7 +63,7 @@ since_kept by P log m h = record {
 }
 
 finds_kept : (inst : Instance) (log : Log) (m : Moment) (by : By) (a : Asks) → FindsNoJob inst log by a None → FindsNoJob inst (log ++ m ∷ []) by a None
-finds_kept inst log m by (Submit label urgency named text) h = (h.0, (h.1.0, h.1.1, since_kept by (LacksJob inst h.1.0 named) log m h.1.2))
+finds_kept inst log m by (Submit label urgency named text) h = (h.0, (h.1.0, h.1.1, h.1.2, since_kept by (LacksJob inst h.1.0 named) log m h.1.3))
 finds_kept inst log m by _ h = absurd h.2
 
 pub legal_kept : (inst : Instance) (log : Log) (m : Moment) (by : By) (f : Fault) → replies_now by m ≡ false → decides_now by m ≡ false → IsLegalReply inst log by (reply_to f) None → IsLegalReply inst (log ++ m ∷ []) by (reply_to f) None
@@ -100,7 +102,7 @@ module _ (v : CommandsValue) (list : List Refused) (now : ℕ) (inst : Instance)
   pub served_facts : (log : Log) (m : service.Moment) → IsBeside inst (Served m) → Facts v list now inst log → Facts v list now inst (log ++ Served m ∷ [])
   served_facts log m beside h = record {
     commands = beside_agrees v inst log (Served m) beside (λ job. refl) h.commands;
-    second = latest_push ticked inst.birth log (Served m) ∙ h.second;
+    second = latest_push ticked inst.start log (Served m) ∙ h.second;
     refused = λ r c. let l = h.refused r c in legal_kept inst log (Served m) r.by r.fault refl (beside r.by (refused_asks inst log r.by _ None l)).decides l;
     untold = λ by some e. untold_kept by log (Served m) refl (beside by some).decides (h.untold by some (unissued_before by log (Served m) e));
     shutdowns = λ by e. undecided_kept by log (Served m) (beside by (subst IsSome (sym e) refl)).decides (h.shutdowns by e);
@@ -131,7 +133,7 @@ pending_kept inst by some (e ∷ es) log beside p =
 pub ticked_facts : (v : CommandsValue) (list : List Refused) (now second : ℕ) (inst : Instance) (log : Log) → Facts v list now inst log → Facts v list second inst (log ++ Ticked second ∷ [])
 ticked_facts v list now second inst log h = record {
   commands = beside_agrees v inst log (Ticked second) (tick_beside inst second) (λ job. refl) h.commands;
-  second = latest_push ticked inst.birth log (Ticked second);
+  second = latest_push ticked inst.start log (Ticked second);
   refused = λ r c. legal_kept inst log (Ticked second) r.by r.fault refl refl (h.refused r c);
   untold = λ by some e. untold_kept by log (Ticked second) refl refl (h.untold by some (unissued_before by log (Ticked second) e));
   shutdowns = λ other e. undecided_kept other log (Ticked second) refl (h.shutdowns other e);
@@ -143,7 +145,7 @@ module _ (v new : CommandsValue) (list : List Refused) (now : ℕ) (inst : Insta
   pub born_facts : (job : ℕ) → AgreesCommands new inst (log ++ Born job ∷ []) → Facts new list now inst (log ++ Born job ∷ [])
   born_facts job agrees = record {
     commands = agrees;
-    second = latest_push ticked inst.birth log (Born job) ∙ h.second;
+    second = latest_push ticked inst.start log (Born job) ∙ h.second;
     refused = λ r c. legal_kept inst log (Born job) r.by r.fault refl refl (h.refused r c);
     untold = λ by some e. untold_kept by log (Born job) refl refl (h.untold by some (unissued_before by log (Born job) e));
     shutdowns = λ other e. undecided_kept other log (Born job) refl (h.shutdowns other e);
@@ -152,7 +154,7 @@ module _ (v new : CommandsValue) (list : List Refused) (now : ℕ) (inst : Insta
   pub gone_facts : (job : ℕ) (shut : Bool) → AgreesCommands new inst (log ++ Gone job shut ∷ []) → Facts new list now inst (log ++ Gone job shut ∷ [])
   gone_facts job shut agrees = record {
     commands = agrees;
-    second = latest_push ticked inst.birth log (Gone job shut) ∙ h.second;
+    second = latest_push ticked inst.start log (Gone job shut) ∙ h.second;
     refused = λ r c. legal_kept inst log (Gone job shut) r.by r.fault refl refl (h.refused r c);
     untold = λ by some e. untold_kept by log (Gone job shut) refl refl (h.untold by some (unissued_before by log (Gone job shut) e));
     shutdowns = λ other e. undecided_kept other log (Gone job shut) refl (h.shutdowns other e);
@@ -193,7 +195,7 @@ module _ (v new : CommandsValue) (list : List Refused) (now : ℕ) (inst : Insta
       let m = lands_at number authors groups in
       record {
         commands = agrees;
-        second = latest_push ticked inst.birth log m ∙ h.second;
+        second = latest_push ticked inst.start log m ∙ h.second;
         refused = λ r c.
             let o = left_refusal by list r c in
             let l = h.refused r o.0 in
@@ -228,7 +230,8 @@ module _ (v new : CommandsValue) (list : List Refused) (now : ℕ) (inst : Insta
 
   module _ (asked : JobAsk) (asks : inst.asks by ≡ Some (told asked)) (fresh : is_issued by log ≡ false)
       (store : Store) (standing : newest_store inst.service (service_of log) primary ≡ Some store) (jobs : List StoredJob) (are : AreJobsOf store jobs)
-      (lacking : (depends : List Depend) (named : List Named) → Lacks v.labels jobs depends named true → LacksSome inst log jobs depends (map named_of named)) where
+      (lacking : (depends : List Depend) (named : List Named) → Lacks v.labels jobs depends named true → LacksSome inst log jobs depends (map named_of named))
+      (passes : (spec : JobSpec) → verdict_of inst.limits spec ≡ 0) where
     untold_now : IsUntold by log
     untold_now = h.untold by (subst IsSome (sym asks) refl) fresh
 
@@ -259,6 +262,7 @@ module _ (v new : CommandsValue) (list : List Refused) (now : ℕ) (inst : Insta
         (
           is.0,
           is.1,
+          passes is.0,
           record {
             past = issued;
             later = [];
@@ -280,7 +284,7 @@ module _ (v new : CommandsValue) (list : List Refused) (now : ℕ) (inst : Insta
     pub issue_facts : (found : Option Fault) → IsFaultOf v jobs asked found → AgreesCommands new inst issued → Facts new (list ++ refusals_of by found) now inst issued
     issue_facts found is agrees = record {
       commands = agrees;
-      second = latest_push ticked inst.birth log (Issued by) ∙ h.second;
+      second = latest_push ticked inst.start log (Issued by) ∙ h.second;
       refused = λ r c. elim (Contains-append_cases list (refusals_of by found) r c) [
         | inl old ↦ legal_kept inst log (Issued by) r.by r.fault refl refl (h.refused r old)
         | inr now ↦ at r found is (among_from _ r now)
@@ -306,7 +310,7 @@ module _ (v new : CommandsValue) (list : List Refused) (now : ℕ) (inst : Insta
   pub reply_facts : is_issued by log ≡ true → AgreesCommands new inst replied → Facts new (filter (λ x. not (is_refusal_of by x)) list) now inst replied
   reply_facts was agrees = record {
     commands = agrees;
-    second = latest_push ticked inst.birth log (Replied by given number) ∙ h.second;
+    second = latest_push ticked inst.start log (Replied by given number) ∙ h.second;
     refused = λ r c. let o = left_refusal by list r c in legal_kept inst log (Replied by given number) r.by r.fault (differs r.by by o.1) refl (h.refused r o.0);
     untold = λ other some e.
         let before = unissued_before other log (Replied by given number) e in

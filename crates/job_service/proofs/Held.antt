@@ -36,7 +36,7 @@ held_still s h spent manager ready size book posted agreed = record {
 -- where the manager stays, and what is due is looked for anew
 pub held_next : (s : Inside) → IsHeld s → (spent : Bool) (commands : CommandsValue) (refused : Vec Refused) (later : Option Post) (submitted span : ℕ) (bearing : Option ℕ) → length commands.issued ≡ length s.commands.issued → IsNamed commands s.birth s.manager.posted
     → length s.manager.book.jobs + count_by is_submit commands.rows ≤ submitted → submitted ≤ most_submits → AreInTime commands s.birth s.second (most_seconds + span) → span ≤ most_seconds → IsBearing commands s.manager.book bearing → ((rank : ℕ) → rank < length commands.issued → slice_index commands.issued rank ≤ submitted) → AreMarkedBy commands s.second → AreJudged commands s.manager.book.jobs refused.items
-    → IsFoundBeside s.weights s.manager.posted commands s.manager.book s.second s.birth (option_map post_of later)
+    → IsFoundBeside s.terms s.manager.posted commands s.manager.book s.second s.birth (option_map post_of later)
     → IsAgreed (spanned (with_parts (value_of s) spent s.manager commands refused.items (option_map post_of later) submitted) span bearing) → IsHeld (record s { spent = spent; commands = commands; refused = refused; found = later; bearing = bearing; submitted = submitted; span = span })
 held_next s h spent commands refused later submitted span bearing size named counted bounded timed near bears drawn marked judged found agreed =
     let next = option_map post_of later in
@@ -52,7 +52,7 @@ held_posted s h spent manager id left post none ready is p names agreed =
     let v = value_of s in
     subst (λ o. IsHeld (record s { spent = spent; manager = manager; found = o; submitting = id })) (sym none)
     (record {
-      fit = fit v h.fit spent manager s.commands s.refused.items None s.submitted s.span s.bearing ready p.size refl (subst (λ o. IsFoundBeside s.weights o s.commands manager.book s.second s.birth None) (sym p.posted) refl) (subst (IsNamed s.commands s.birth) (is ∙ sym p.posted) h.fit.named)
+      fit = fit v h.fit spent manager s.commands s.refused.items None s.submitted s.span s.bearing ready p.size refl (subst (λ o. IsFoundBeside s.terms o s.commands manager.book s.second s.birth None) (sym p.posted) refl) (subst (IsNamed s.commands s.birth) (is ∙ sym p.posted) h.fit.named)
           (subst (λ b. length b.jobs + count_by is_submit s.commands.rows ≤ s.submitted) (sym p.book) h.fit.counted) h.fit.bounded
           (record { timed = h.fit.timed; near = h.fit.near; bears = subst (λ b. IsBearing s.commands b s.bearing) (sym p.book) h.fit.bearing; drawn = h.fit.drawn; marked = h.fit.marked; judged = subst (λ b. AreJudged s.commands b.jobs s.refused.items) (sym p.book) h.fit.judged }) agreed;
       submits = names ∙ sym (ap id_posted p.posted);
@@ -61,7 +61,7 @@ held_posted s h spent manager id left post none ready is p names agreed =
 -- where a post has landed
 pub held_landed : (s : Inside) → IsHeld s → (spent : Bool) (manager : ManagerValue) (commands : CommandsValue) (refused : Vec Refused) (later : Option Post) (bearing : Option ℕ) → manager.spent ≡ false → manager.core.size ≡ s.manager.core.size → manager.posted ≡ None → length commands.issued ≡ length s.commands.issued
     → length manager.book.jobs + count_by is_submit commands.rows ≤ s.submitted → AreInTime commands s.birth s.second (most_seconds + s.span) → IsBearing commands manager.book bearing → ((rank : ℕ) → rank < length commands.issued → slice_index commands.issued rank ≤ s.submitted) → AreMarkedBy commands s.second → AreJudged commands manager.book.jobs refused.items
-    → IsFoundBeside s.weights manager.posted commands manager.book s.second s.birth (option_map post_of later)
+    → IsFoundBeside s.terms manager.posted commands manager.book s.second s.birth (option_map post_of later)
     → IsAgreed (spanned (with_parts (value_of s) spent manager commands refused.items (option_map post_of later) s.submitted) s.span bearing) → IsHeld (record s { spent = spent; manager = manager; commands = commands; refused = refused; found = later; bearing = bearing; submitting = None })
 held_landed s h spent manager commands refused later bearing ready size posted same counted timed bears drawn marked judged found agreed =
     let next = option_map post_of later in
@@ -72,7 +72,7 @@ held_landed s h spent manager commands refused later bearing ready size posted s
 
 -- where time has gone on
 pub held_ticked : (s : Inside) → IsHeld s → (spent : Bool) (second : ℕ) (later : Option Post) → s.manager.posted ≡ None → MayPassTo (value_of s) second
-    → IsFoundBeside s.weights s.manager.posted s.commands s.manager.book second s.birth (option_map post_of later) → IsAgreed (ticked_value (value_of s) spent second (option_map post_of later)) → IsHeld (record s { spent = spent; second = second; found = later })
+    → IsFoundBeside s.terms s.manager.posted s.commands s.manager.book second s.birth (option_map post_of later) → IsAgreed (ticked_value (value_of s) spent second (option_map post_of later)) → IsHeld (record s { spent = spent; second = second; found = later })
 held_ticked s h spent second later posted may found agreed =
     let i = h.fit in
     let f = option_map post_of later in
@@ -89,7 +89,7 @@ held_ticked s h spent second later posted may found agreed =
         near = i.near;
         sought = found;
         posted = i.posted;
-        named = found-named s.weights s.commands s.manager.book second s.birth s.manager.posted f found;
+        named = found-named s.terms s.commands s.manager.book second s.birth s.manager.posted f found;
         counted = i.counted;
         bounded = i.bounded;
         drawn = i.drawn;
@@ -103,7 +103,7 @@ held_ticked s h spent second later posted may found agreed =
 
 -- where a child is born or goes
 pub held_child : (s : Inside) → IsHeld s → (spent : Bool) (commands : CommandsValue) (children : List Child) (later : Option Post) (bearing : Option ℕ) → commands ≡ record s.commands { children = children } → IsBearing commands s.manager.book bearing
-    → IsFoundBeside s.weights s.manager.posted commands s.manager.book s.second s.birth (option_map post_of later)
+    → IsFoundBeside s.terms s.manager.posted commands s.manager.book s.second s.birth (option_map post_of later)
     → IsAgreed (spanned (with_parts (value_of s) spent s.manager commands s.refused.items (option_map post_of later) s.submitted) s.span bearing) → IsHeld (record s { spent = spent; commands = commands; found = later; bearing = bearing })
 held_child s h spent commands children later bearing is bears found agreed =
     let i = h.fit in

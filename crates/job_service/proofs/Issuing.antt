@@ -55,7 +55,7 @@ use Rattle.job_service.specs.declared.refusals.Refused.{Refused}
 use Rattle.job_service.proofs.Calls.{facts, joined, labelled_still, respan, spanned, with_parts}
 use Rattle.job_service.proofs.Counting.{count_filter, count_more}
 use Rattle.job_service.proofs.Facts.{Facts, issue_facts, issued_service, replied_service, reply_facts}
-use Rattle.job_service.proofs.Owing.{MadeAreDue, UnmadeAreNot, beside-owes, posted-due}
+use Rattle.job_service.proofs.Owing.{MadeAreDue, UnmadeAreNot, beside-owes, posted-due, passes-all}
 
 -- what the law says of what waits
 abbrev pub StaysDue : Type 0
@@ -72,9 +72,9 @@ module _ (v : JobServiceValue) (inst : Instance) (log : Log) (a : AgreesJobs v i
   module _ (commands : CommandsValue) (refused : List Refused) (m : Moment) (f : Facts commands refused v.second inst (log ++ m ∷ [])) (labelled : AreLabelled commands.labels v.manager.book.jobs)
       (smalls : Each (λ j. j.id < 2 ^ 64) v.manager.book.jobs) (soon : 1000 * (v.second - v.birth) < 2 ^ 40) (short : length commands.issued ≤ 32) (made-due : MadeAreDue) (unmade-not : UnmadeAreNot) (stays : StaysDue)
       (leaves : (post : Post) → v.manager.posted ≡ Some post → LeavesOpen m post) (children : (post : Post) → v.manager.posted ≡ Some post → LeavesChildOf (asked_of v.commands) v.manager.book.jobs m post) where
-    pub owes_next : (later : Option Post) → IsFoundBeside v.weights v.manager.posted commands v.manager.book v.second v.birth later → Owes v.manager.posted later (desk_of commands inst (log ++ m ∷ []) v.manager.book.jobs)
+    pub owes_next : (later : Option Post) → IsFoundBeside v.terms v.manager.posted commands v.manager.book v.second v.birth later → Owes v.manager.posted later (desk_of commands inst (log ++ m ∷ []) v.manager.book.jobs)
     owes_next later h =
-        beside-owes v.weights commands v.manager.book v.second v.birth inst (log ++ m ∷ []) f.commands a.kind.valid f.second a.kind.answer a.kind.birth a.kind.grant labelled smalls soon short made-due unmade-not v.manager.posted later
+        beside-owes v.terms commands v.manager.book v.second v.birth inst (log ++ m ∷ []) f.commands a.kind.valid f.second a.kind.terms a.kind.birth a.kind.book labelled smalls soon short made-due unmade-not v.manager.posted later
         (λ post e. stays v.commands commands inst log m v.manager.book.jobs post a.commands f.commands (f.second ∙ sym a.second) (leaves post e) (children post e)
         (posted-due v.manager.posted v.found (desk_of v.commands inst log v.manager.book.jobs) a.owes post e))
         h
@@ -95,17 +95,17 @@ module _ (v : JobServiceValue) (inst : Instance) (log : Log) (a : AgreesJobs v i
     pub issued_facts : Facts commands (v.refused ++ refusals_of by fault) v.second inst (log ++ Issued by ∷ [])
     issued_facts =
         issue_facts v.commands commands v.refused v.second inst log by (facts v inst log a) asked new.asks new.new (newest_of v.manager.core) newest v.manager.book.jobs m.jobs
-        (λ depends named lacks. lacking v.commands inst log v.manager.book.jobs depends named a.commands lacks) fault is issued_commands
+        (λ depends named lacks. lacking v.commands inst log v.manager.book.jobs depends named a.commands lacks) (passes-all inst v.terms a.kind.terms) fault is issued_commands
 
     labelled_next : AreLabelled commands.labels v.manager.book.jobs
     labelled_next = labelled_still v.commands commands inst log (Issued by) v.manager.book.jobs a.commands issued_commands a.labelled
 
-    pub issue_all : Each (λ j. j.id < 2 ^ 64) v.manager.book.jobs → 1000 * (v.second - v.birth) < 2 ^ 40 → length commands.issued ≤ 32 → MadeAreDue → UnmadeAreNot → StaysDue → (later : Option Post) (submitted : ℕ) → IsFoundBeside v.weights v.manager.posted commands v.manager.book v.second v.birth later
+    pub issue_all : Each (λ j. j.id < 2 ^ 64) v.manager.book.jobs → 1000 * (v.second - v.birth) < 2 ^ 40 → length commands.issued ≤ 32 → MadeAreDue → UnmadeAreNot → StaysDue → (later : Option Post) (submitted : ℕ) → IsFoundBeside v.terms v.manager.posted commands v.manager.book v.second v.birth later
         → (span : ℕ) → AgreesJobs (spanned (with_parts v spent v.manager commands (v.refused ++ refusals_of by fault) later submitted) span v.bearing) inst (log ++ Issued by ∷ [])
     issue_all smalls soon short made-due unmade-not stays later submitted h span =
         let same = issued_service v.commands commands v.refused v.second inst log by (facts v inst log a) in
         respan (with_parts v spent v.manager commands (v.refused ++ refusals_of by fault) later submitted) inst (log ++ Issued by ∷ []) span v.bearing
-        (joined v inst log a spent v.manager commands (v.refused ++ refusals_of by fault) later submitted (log ++ Issued by ∷ []) refl
+        (joined v inst log a spent v.manager commands (v.refused ++ refusals_of by fault) later submitted (log ++ Issued by ∷ []) a.kind.book
         (subst (Agrees v.manager.core inst.service) (sym same) a.core)
         (subst (IsLegalLog inst.service) (sym same) a.legal)
         labelled_next
@@ -203,7 +203,7 @@ module _ (v : JobServiceValue) (inst : Instance) (log : Log) (a : AgreesJobs v i
     labelled_told : AreLabelled commands.labels v.manager.book.jobs
     labelled_told = labelled_still v.commands commands inst log (Replied by t.reply number) v.manager.book.jobs a.commands replied_commands a.labelled
 
-    pub reply_all : Each (λ j. j.id < 2 ^ 64) v.manager.book.jobs → 1000 * (v.second - v.birth) < 2 ^ 40 → length commands.issued ≤ 32 → MadeAreDue → UnmadeAreNot → StaysDue → is_kept_back v by ≡ false → (later : Option Post) → IsFoundBeside v.weights v.manager.posted commands v.manager.book v.second v.birth later
+    pub reply_all : Each (λ j. j.id < 2 ^ 64) v.manager.book.jobs → 1000 * (v.second - v.birth) < 2 ^ 40 → length commands.issued ≤ 32 → MadeAreDue → UnmadeAreNot → StaysDue → is_kept_back v by ≡ false → (later : Option Post) → IsFoundBeside v.terms v.manager.posted commands v.manager.book v.second v.birth later
         → Answers (with_parts v spent v.manager commands (filter (λ x. not (is_refusal_of by x)) v.refused) later v.submitted) inst log by given number
     reply_all smalls soon short made-due unmade-not stays free later h =
         let same = replied_service v.commands commands v.refused v.second inst log by t.reply number (facts v inst log a) in
@@ -211,7 +211,7 @@ module _ (v : JobServiceValue) (inst : Instance) (log : Log) (a : AgreesJobs v i
           reply = t.reply;
           hands = t.hands;
           legal = t.legal;
-          agrees = joined v inst log a spent v.manager commands (filter (λ x. not (is_refusal_of by x)) v.refused) later v.submitted (log ++ Replied by t.reply number ∷ []) refl
+          agrees = joined v inst log a spent v.manager commands (filter (λ x. not (is_refusal_of by x)) v.refused) later v.submitted (log ++ Replied by t.reply number ∷ []) a.kind.book
               (subst (Agrees v.manager.core inst.service) (sym same) a.core)
               (subst (IsLegalLog inst.service) (sym same) a.legal)
               labelled_told

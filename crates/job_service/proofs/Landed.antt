@@ -40,14 +40,14 @@ use Rattle.job_deeds.specs.manager_rules.Jobs.{StoredJob}
 use Rattle.job_deeds.specs.manager_rules.Posts.{Desk, Does, IsDuePost, Post, Submits, group_of, jobs_after, txn_of}
 use Rattle.job_deeds.specs.manager_rules.declared.due.Due.{Due}
 use Rattle.job_deeds.specs.store_laws.Posts.{is_manager, posts_in}
-use Rattle.job_service.specs.Agrees.{AgreesJobs}
+use Rattle.job_service.specs.Agrees.{AgreesJobs, IsBookOf}
 use Rattle.job_service.specs.Due.{IsFoundBeside}
 use Rattle.job_service.specs.Judged.{AreJudged}
 use Rattle.job_service.specs.Landed.{IsLanded, LandsAs, LandsEvent, LandsSubmission, command_of_first}
 use Rattle.job_service.specs.Posted.{IsNamed, id_posted}
 use Rattle.job_service.specs.Value.{JobServiceValue}
 use Rattle.job_service.specs.declared.refusals.Refused.{Refused}
-use Rattle.job_service.proofs.Calls.{facts, joined, labelled_still, with_parts}
+use Rattle.job_service.proofs.Calls.{facts, joined, labelled_still, with_parts, same-book}
 use Rattle.job_service.proofs.Counting.{count_carried, count_submitted, ids_after, length_done, length_submitted}
 use Rattle.job_service.proofs.Facts.{Facts, besides_facts, landed_facts, pending_kept, served_facts}
 use Rattle.job_service.proofs.Judging.{KeepJobs, jobs_kept, judged_landed, labels_kept}
@@ -305,15 +305,15 @@ module _ (v : JobServiceValue) (inst : Instance) (log : Log) (a : AgreesJobs v i
     labelled_later = subst (λ b. AreLabelled commands.labels b.jobs) (sym l.book) after.labelled
 
     pub landed_agrees : (spent : Bool) (found : Option Post) → Each (λ j. j.id < 2 ^ 64) manager.book.jobs → 1000 * (v.second - v.birth) < 2 ^ 40 → length commands.issued ≤ 32 → MadeAreDue → UnmadeAreNot
-        → IsFoundBeside v.weights manager.posted commands manager.book v.second v.birth found → AgreesJobs (with_parts v spent manager commands refused found v.submitted) inst later
+        → IsFoundBeside v.terms manager.posted commands manager.book v.second v.birth found → AgreesJobs (with_parts v spent manager commands refused found v.submitted) inst later
     landed_agrees spent found smalls soon short made-due unmade-not h =
         let same = service_all events log in
-        let grant : manager.book.grant ≡ v.manager.book.grant = ap (λ b. b.grant) l.book in
-        joined v inst log a spent manager commands refused found v.submitted later grant
+        let of : IsBookOf inst manager.book = same-book inst v.manager.book manager.book (ap (λ b. b.grant) l.book) (ap (λ b. b.policy) l.book) a.kind.book in
+        joined v inst log a spent manager commands refused found v.submitted later of
         (subst (Agrees manager.core inst.service) (sym same) (makes.agrees inst.service (service_of log) a.core))
         (subst (IsLegalLog inst.service) (sym same) (legal_joined inst.service [] (service_of log) (map service.Happened events) a.legal (makes.legal inst.service (service_of log) a.core)))
         labelled_later
-        (beside-owes v.weights commands manager.book v.second v.birth inst later facts_later.commands a.kind.valid facts_later.second a.kind.answer a.kind.birth (grant ∙ a.kind.grant)
+        (beside-owes v.terms commands manager.book v.second v.birth inst later facts_later.commands a.kind.valid facts_later.second a.kind.terms a.kind.birth of
         labelled_later smalls soon short made-due unmade-not manager.posted found
         (λ post e. absurd (let wrong : None ≡ Some post = sym l.posted ∙ e in cc)) h)
         facts_later

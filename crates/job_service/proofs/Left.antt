@@ -153,12 +153,12 @@ module _ (v : JobServiceValue) (i : IsFit v) (inst : Instance) (log : Log) (a : 
   jobs = v.manager.book.jobs
 
   abbrev scene : Scene
-  scene = scene_now v.weights v.commands v.manager.book v.second
+  scene = scene_now v.terms v.commands v.manager.book v.second
 
-  nothing : IsFound v.weights v.commands v.manager.book v.second v.birth None
+  nothing : IsFound v.terms v.commands v.manager.book v.second v.birth None
   nothing =
-      subst (λ f. IsFoundBeside v.weights None v.commands v.manager.book v.second v.birth f) (free_parts v still.due).1
-      (subst (λ p. IsFoundBeside v.weights p v.commands v.manager.book v.second v.birth v.found) unposted i.sought)
+      subst (λ f. IsFoundBeside v.terms None v.commands v.manager.book v.second v.birth f) (free_parts v still.due).1
+      (subst (λ p. IsFoundBeside v.terms p v.commands v.manager.book v.second v.birth v.found) unposted i.sought)
 
   none_due : (j : StoredJob) → Contains jobs j → (deed : Deed) → MayDo scene j deed → ⊥
   none_due j known deed may = nothing.1 (due_of v.second j deed) (record { j = j; known = known; deed = deed; may = may; is = refl })
@@ -264,18 +264,19 @@ module _ (v : JobServiceValue) (i : IsFit v) (inst : Instance) (log : Log) (a : 
     part_asked label rules.RKey = record { asked = ask.Info label key.R; is = refl }
     part_asked label rules.LogKey = record { asked = ask.Info label key.Eventlog; is = refl }
 
-    asked_as : (x : Asks) → x ≢ rules.Shutdown → IsAsked x
-    asked_as (rules.Submit label urgency needs text) other = record { asked = ask.Submit label urgency (map back needs) text; is = ap (λ ns. rules.Submit label urgency ns text) (there_and_back needs) }
-    asked_as (rules.Cancel label) other = record { asked = ask.Cancel label; is = refl }
-    asked_as (rules.Raise label kind severity note) other = record { asked = ask.Raise label kind severity note; is = refl }
-    asked_as (rules.Urge label urgency) other = record { asked = ask.Urge label urgency; is = refl }
-    asked_as (rules.StateOf label) other = record { asked = ask.StateOf label; is = refl }
-    asked_as (rules.Info label k) other = part_asked label k
-    asked_as rules.Jobs other = record { asked = ask.Jobs; is = refl }
-    asked_as (rules.Why label) other = record { asked = ask.Why label; is = refl }
-    asked_as (rules.ResultOf label) other = record { asked = ask.ResultOf label; is = refl }
-    asked_as (rules.Advance seconds) other = record { asked = ask.Advance seconds; is = refl }
-    asked_as rules.Shutdown other = absurd (other refl)
+    asked_as : (x : Asks) → x ≢ rules.Shutdown → ((label : List ℕ) → x ≢ rules.Watch label) → IsAsked x
+    asked_as (rules.Submit label urgency needs text) other unwatched = record { asked = ask.Submit label urgency (map back needs) text; is = ap (λ ns. rules.Submit label urgency ns text) (there_and_back needs) }
+    asked_as (rules.Cancel label) other unwatched = record { asked = ask.Cancel label; is = refl }
+    asked_as (rules.Raise label kind severity note) other unwatched = record { asked = ask.Raise label kind severity note; is = refl }
+    asked_as (rules.Urge label urgency) other unwatched = record { asked = ask.Urge label urgency; is = refl }
+    asked_as (rules.StateOf label) other unwatched = record { asked = ask.StateOf label; is = refl }
+    asked_as (rules.Info label k) other unwatched = part_asked label k
+    asked_as rules.Jobs other unwatched = record { asked = ask.Jobs; is = refl }
+    asked_as (rules.Why label) other unwatched = record { asked = ask.Why label; is = refl }
+    asked_as (rules.ResultOf label) other unwatched = record { asked = ask.ResultOf label; is = refl }
+    asked_as (rules.Watch label) other unwatched = absurd (unwatched label refl)
+    asked_as (rules.Advance seconds) other unwatched = record { asked = ask.Advance seconds; is = refl }
+    asked_as rules.Shutdown other unwatched = absurd (other refl)
 
     module _ (l : Living) (lives : IsLiving inst log l) where
       open_left : (by : By) (x : Asks) → inst.asks by ≡ Some x → x ≢ rules.Shutdown → IsOpen by log → IsSome (awaited v by) ⊎ IsLeftAdvance l by
@@ -298,7 +299,7 @@ module _ (v : JobServiceValue) (i : IsFit v) (inst : Instance) (log : Log) (a : 
 
           at : (o : Option Row) → row_in v.commands by ≡ o → (is_some (fault_for v.refused by) || option_map_or (is_ready labels v.manager v.second) o false) ≡ false → IsSome (option_and_then (λ row. awaited_by labels jobs row.ask) o) ⊎ IsLeftAdvance l by
           at None e none =
-              let t = asked_as x other in
+              let t = asked_as x other (λ label same. a.kind.terms.unwatched by label (asks ∙ ap Some same)) in
               let row = a.commands.all by t.asked (asks ∙ ap Some (sym t.is)) waits in
               absurd (not_found by v.commands.rows e row.0 row.1 row.2)
           at (Some row) e none =

@@ -26,7 +26,7 @@ use Rattle.job_service.specs.Agrees.{AgreesJobs}
 use Rattle.job_service.specs.Due.{Owes}
 use Rattle.job_service.specs.Posted.{IsAlone}
 use Rattle.job_service.specs.Value.{JobServiceValue}
-use Rattle.job_service.proofs.Calls.{facts, joined, with_parts}
+use Rattle.job_service.proofs.Calls.{facts, joined, with_parts, same-book}
 use Rattle.job_service.proofs.Owing.{found-due}
 
 -- ---- a command that asks nothing of the service is never answered by it
@@ -87,7 +87,7 @@ module _ (v : JobServiceValue) (inst : Instance) (log : Log) (a : AgreesJobs v i
 
   placed : (spent : Bool) (manager : ManagerValue) (post : Post) → IsDuePost desk post → Places post v.manager manager → AgreesJobs (with_parts v spent manager v.commands v.refused None v.submitted) inst log
   placed spent manager post d p =
-      joined v inst log a spent manager v.commands v.refused None v.submitted log (ap (λ b. b.grant) p.book)
+      joined v inst log a spent manager v.commands v.refused None v.submitted log (same-book inst v.manager.book manager.book (ap (λ b. b.grant) p.book) (ap (λ b. b.policy) p.book) a.kind.book)
       (p.agrees inst.service (service_of log) a.core (new_post post d)) a.legal
       (subst (λ b. Rattle.job_submissions.specs.Made.AreLabelled v.commands.labels b.jobs) (sym p.book) a.labelled)
       (subst (λ o. Owes o None (desk_of v.commands inst log manager.book.jobs)) (sym p.posted) (subst (λ b. IsDuePost (desk_of v.commands inst log b.jobs) post) (sym p.book) d))
@@ -103,6 +103,8 @@ module _ (v : JobServiceValue) (inst : Instance) (log : Log) (a : AgreesJobs v i
     desk = desk;
     valid = desk_kept inst a.kind.valid log (subst (λ n. n < 2 ^ 64) (sym a.second) small) (newest_of v.manager.core) desk (desk_is v.commands inst log a.commands (newest_of v.manager.core) v.manager.book.jobs m.jobs);
     jobs = refl;
-    grant = sym a.kind.grant;
+    grant = sym a.kind.book.grant;
+    policy = sym a.kind.book.policy;
+    old = λ id. refl;
     due = found-due v.manager.posted v.found desk a.owes none post e;
   }

@@ -17,34 +17,41 @@ use Rattle.job_deeds.specs.manager_rules.Jobs.{StoredJob}
 use Rattle.job_deeds.specs.manager_rules.Posts.{Desk, Does, IsDuePost, IsSubmission, Post, Submission, Submits}
 use Rattle.job_deeds.specs.manager_rules.Scene.{Scene}
 use Rattle.job_deeds.specs.manager_rules.declared.due.Due.{Due}
+use Rattle.job_service.specs.Agrees.{IsBookOf, IsOnTerms}
 use Rattle.job_service.specs.Due.{CanLook, IsFound, IsFoundBeside, Owes, scene_now}
 use Rattle.job_service.specs.Posted.{IsAlone, IsNamed}
-use Rattle.job_deeds.specs.tap.Factors.{priority_by}
-use Rattle.job_deeds.specs.tap.declared.weights.Weights.{Weights}
+use Rattle.job_deeds.specs.manager_rules.declared.terms.Terms.{Terms}
+use Rattle.job_deeds.specs.manager_rules.Limits.{no_limits, verdict_of}
+use Rattle.job_deeds.specs.job_spec.declared.spec.JobSpec.{JobSpec}
 
 -- what the law of submissions says of one that is made, and of those that aren't
 abbrev pub MadeAreDue : Type 0
-MadeAreDue = (c : CommandsValue) (i : Instance) (l : Log) (jobs : List StoredJob) (s : Submission) → AgreesCommands c i l → IsInstance i → length c.issued ≤ 2 ^ 14 → AreLabelled c.labels jobs → Each (λ j. j.id < 2 ^ 64) jobs → 1000 * (now_of i l - i.birth) < 2 ^ 40
+MadeAreDue = (c : CommandsValue) (i : Instance) (l : Log) (jobs : List StoredJob) (s : Submission) → AgreesCommands c i l → IsInstance i → i.limits ≡ no_limits → length c.issued ≤ 2 ^ 14 → AreLabelled c.labels jobs → Each (λ j. j.id < 2 ^ 64) jobs → 1000 * (now_of i l - i.birth) < 2 ^ 40
     → IsMade c jobs (now_of i l) i.birth s → IsSubmission (desk_of c i l jobs).scene i.birth (submits_of c i l) s
 
 abbrev pub UnmadeAreNot : Type 0
 UnmadeAreNot = (c : CommandsValue) (i : Instance) (l : Log) (jobs : List StoredJob) (s : Submission) → ((row : Row) → Contains c.rows row → MakesNone c.labels jobs row) → IsSubmission (desk_of c i l jobs).scene i.birth (submits_of c i l) s → ⊥
 
-module _ (w : Weights) (v : CommandsValue) (book : BookValue) (now birth : ℕ) (inst : Instance) (log : Log)
-    (a : AgreesCommands v inst log) (valid : IsInstance inst) (second : now_of inst log ≡ now) (answer : inst.answer ≡ priority_by w) (born : inst.birth ≡ birth) (grant : book.grant ≡ inst.grant) where
+-- nothing is turned away where nothing limits it
+pub passes-all : (inst : Instance) (terms : Terms) → IsOnTerms inst terms → (spec : JobSpec) → verdict_of inst.limits spec ≡ 0
+passes-all inst terms on spec = ap (λ limits. verdict_of limits spec) on.built.limits
+
+module _ (terms : Terms) (v : CommandsValue) (book : BookValue) (now birth : ℕ) (inst : Instance) (log : Log)
+    (a : AgreesCommands v inst log) (valid : IsInstance inst) (second : now_of inst log ≡ now) (on : IsOnTerms inst terms) (born : inst.birth ≡ birth) (of : IsBookOf inst book) where
   abbrev pub desk : Desk
   desk = desk_of v inst log book.jobs
 
-  pub scene-is : scene_now w v book now ≡ desk.scene
+  pub scene-is : scene_now terms v book now ≡ desk.scene
   scene-is =
       let now_is = sym second in
-      let answer_is = sym answer in
-      λ i. (let s : Scene = record { now = now_is i; grant = grant i; jobs = book.jobs; asked = asked_of v; answer = answer_is i } in s)
+      let answer_is = sym on.answer in
+      let limits_is = sym on.limits in
+      λ i. (let s : Scene = record { now = now_is i; grant = of.grant i; jobs = book.jobs; asked = asked_of v; answer = answer_is i; policy = of.policy i; limits = limits_is i; old = λ id. false } in s)
 
-  pub due-there : (due : Due) → IsDue (scene_now w v book now) due → IsDuePost desk (Does due)
+  pub due-there : (due : Due) → IsDue (scene_now terms v book now) due → IsDuePost desk (Does due)
   due-there due h = subst (λ s. IsDue s due) scene-is h
 
-  pub due-here : (due : Due) → IsDuePost desk (Does due) → IsDue (scene_now w v book now) due
+  pub due-here : (due : Due) → IsDuePost desk (Does due) → IsDue (scene_now terms v book now) due
   due-here due h = subst (λ s. IsDue s due) (sym scene-is) h
 
   pub can-look : birth ≤ now → 1000 * (now - birth) < 2 ^ 40 → length v.issued ≤ 32 → AreMarkedBy v now → CanLook v now birth
@@ -57,8 +64,8 @@ module _ (w : Weights) (v : CommandsValue) (book : BookValue) (now birth : ℕ) 
   soon-now h = subst (λ n. 1000 * (n - inst.birth) < 2 ^ 40) (sym second) (subst (λ b. 1000 * (now - b) < 2 ^ 40) (sym born) h)
 
   module _ (labelled : AreLabelled v.labels book.jobs) (smalls : Each (λ j. j.id < 2 ^ 64) book.jobs) (soon : 1000 * (now - birth) < 2 ^ 40) (short : length v.issued ≤ 32) (made-due : MadeAreDue) (unmade-not : UnmadeAreNot) where
-    found-owes : (found : Option Post) → IsFound w v book now birth found → Owes None found desk
-    found-owes (Some (Submits x)) h = made-due v inst log book.jobs x a valid (omega (arith, short)) labelled smalls (soon-now soon) (made-now x h)
+    found-owes : (found : Option Post) → IsFound terms v book now birth found → Owes None found desk
+    found-owes (Some (Submits x)) h = made-due v inst log book.jobs x a valid on.built.limits (omega (arith, short)) labelled smalls (soon-now soon) (made-now x h)
     found-owes (Some (Does due)) h = due-there due h
     found-owes None h = none
       where
@@ -66,7 +73,7 @@ module _ (w : Weights) (v : CommandsValue) (book : BookValue) (now birth : ℕ) 
         none (Submits x) d = unmade-not v inst log book.jobs x h.0 d
         none (Does due) d = h.1 due (due-here due d)
 
-    pub beside-owes : (posted found : Option Post) → ((post : Post) → posted ≡ Some post → IsDuePost desk post) → IsFoundBeside w posted v book now birth found → Owes posted found desk
+    pub beside-owes : (posted found : Option Post) → ((post : Post) → posted ≡ Some post → IsDuePost desk post) → IsFoundBeside terms posted v book now birth found → Owes posted found desk
     beside-owes (Some post) found due h = due post refl
     beside-owes None found due h = found-owes found h
 
@@ -75,7 +82,7 @@ module _ (w : Weights) (v : CommandsValue) (book : BookValue) (now birth : ℕ) 
 waits-as : (row : Row) → is_waiting row.stage ≡ true → is_submission (Some (told row.ask)) ≡ true → is_submit row ≡ true
 waits-as row w s = ap (λ b. b && is_submission (Some (told row.ask))) w ∙ s
 
-named-found : (w : Weights) (v : CommandsValue) (book : BookValue) (now birth : ℕ) (found : Option Post) → IsFound w v book now birth found → IsNamed v birth found
+named-found : (terms : Terms) (v : CommandsValue) (book : BookValue) (now birth : ℕ) (found : Option Post) → IsFound terms v book now birth found → IsNamed v birth found
 named-found w v book now birth (Some (Submits x)) h =
     let m = h.made in
     record {
@@ -88,16 +95,16 @@ named-found w v book now birth (Some (Submits x)) h =
 named-found w v book now birth (Some (Does due)) h = tt
 named-found w v book now birth None h = tt
 
-pub found-named : (w : Weights) (v : CommandsValue) (book : BookValue) (now birth : ℕ) (posted found : Option Post) → IsFoundBeside w posted v book now birth found → IsNamed v birth found
+pub found-named : (terms : Terms) (v : CommandsValue) (book : BookValue) (now birth : ℕ) (posted found : Option Post) → IsFoundBeside terms posted v book now birth found → IsNamed v birth found
 found-named w v book now birth (Some post) found none = subst (IsNamed v birth) (sym none) tt
 found-named w v book now birth None found h = named-found w v book now birth found h
 
-pub found-alone : (w : Weights) (v : CommandsValue) (book : BookValue) (now birth : ℕ) (posted found : Option Post) → IsFoundBeside w posted v book now birth found → IsAlone posted found
+pub found-alone : (terms : Terms) (v : CommandsValue) (book : BookValue) (now birth : ℕ) (posted found : Option Post) → IsFoundBeside terms posted v book now birth found → IsAlone posted found
 found-alone w v book now birth (Some post) found none = none
 found-alone w v book now birth None found h = tt
 
 -- what is found where nothing waits to land
-pub beside-none : (w : Weights) (v : CommandsValue) (book : BookValue) (now birth : ℕ) (posted found : Option Post) → is_some posted ≡ false → IsFound w v book now birth found → IsFoundBeside w posted v book now birth found
+pub beside-none : (terms : Terms) (v : CommandsValue) (book : BookValue) (now birth : ℕ) (posted found : Option Post) → is_some posted ≡ false → IsFound terms v book now birth found → IsFoundBeside terms posted v book now birth found
 beside-none w v book now birth None found e h = h
 beside-none w v book now birth (Some post) found e h = cc
 

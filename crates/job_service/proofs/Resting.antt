@@ -1,5 +1,5 @@
 -- A job service in which nothing can go on.
-use Rattle.std.proofs.Common.{◌≡◌, ℕ, ◌≤◌, List, [], ◌∷◌, Bool, true, false, ◌||◌, Option, Some, None, Contains, cond, refl, sym, ap, ◌∙◌, subst, true≢false}
+use Rattle.std.proofs.Common.{◌≡◌, ℕ, ◌≤◌, List, [], ◌∷◌, Bool, true, false, ◌||◌, Option, Some, None, Contains, cond, refl, sym, ap, ◌∙◌, subst, true≢false, inl}
 use Rattle.std.specs.Prelude.{All, is_some, nat_lt, option_and_then, option_map}
 use Rattle.std.proofs.lemmas.Bool.{false_from_ne_true, ltb-false}
 use Rattle.instance_rules.specs.Family.{IsLeftResult, Living}
@@ -117,7 +117,7 @@ module _ (v : JobServiceValue) (m : IsManaged v.manager) (l : Living) (by : By) 
       let named = job_named v.commands.labels v.manager.book.jobs r.label r.stands.j r.stands.there in
       record {
         label = r.label;
-        asks = ap l.inst.asks (sym same) ∙ agrees.asks ∙ ap (λ x. Some (told x)) r.is;
+        asks = inl (ap l.inst.asks (sym same) ∙ agrees.asks ∙ ap (λ x. Some (told x)) r.is);
         waits = subst (λ b. IsOpen b l.log) same agrees.waits;
         store = newest_of v.manager.core;
         standing = newest;

@@ -10,7 +10,7 @@ use Rattle.kvs_rules.specs.Answers.{IsLegalLog}
 use Rattle.kvs_rules.specs.Log.{same_command}
 use Rattle.job_deeds.specs.kvs_txn.declared.txn.By.{By}
 use Rattle.instance_rules.specs.Log as rules
-use Rattle.instance_rules.specs.Log.{Instance, IsOpen, Log, Moment, Served, Issued, Replied, Ticked, Born, Gone, Shut, Shutdown, is_issued, issues_now, now_of, seconds_from, service_of, ticked}
+use Rattle.instance_rules.specs.Log.{Instance, IsOpen, Log, Moment, Served, Issued, Replied, Ticked, Born, Gone, Fed, Shut, Shutdown, is_issued, issues_now, now_of, seconds_from, service_of, ticked}
 use Rattle.instance_rules.specs.Replies.{HasGrounds, IsLegalReply}
 use Rattle.job_commands.proofs.Logs.{differs, undecided_kept}
 use Rattle.job_commands.proofs.Steps.{reply_agrees, shutdown_agrees}
@@ -80,6 +80,7 @@ none_more [] (Served x) by h = absurd h
 none_more [] (Ticked second) by h = absurd h
 none_more [] (Born job) by h = absurd h
 none_more [] (Gone job shut) by h = absurd h
+none_more [] (Fed other number first count) by h = absurd h
 none_more (x ∷ log) m by h = ap (cons_option (ticked x)) (none_more log m by h)
 
 opened_same : (by : By) (now : ℕ) (log : Log) (m : Moment) → IsAside by m → seconds_from by now (log ++ m ∷ []) ≡ seconds_from by now log
@@ -89,12 +90,14 @@ opened_same by now [] (Served x) h = absurd h
 opened_same by now [] (Ticked second) h = absurd h
 opened_same by now [] (Born job) h = absurd h
 opened_same by now [] (Gone job shut) h = absurd h
+opened_same by now [] (Fed other number first count) h = absurd h
 opened_same by now (Issued other ∷ log) m h = ap₂ (λ ticks more. cond (same_command by other) (now ∷ ticks) more) (none_more log m by h) (opened_same by now log m h)
 opened_same by now (Ticked second ∷ log) m h = opened_same by second log m h
 opened_same by now (Served x ∷ log) m h = opened_same by now log m h
 opened_same by now (Replied other reply number ∷ log) m h = opened_same by now log m h
 opened_same by now (Born job ∷ log) m h = opened_same by now log m h
 opened_same by now (Gone job shut ∷ log) m h = opened_same by now log m h
+opened_same by now (Fed other number first count ∷ log) m h = opened_same by now log m h
 
 same_map : {A B : Type 0} (f g : A → Option B) (xs : List A) → ((x : A) → Among x xs → f x ≡ g x) → filter_map f xs ≡ filter_map g xs
 same_map f g [] h = refl
@@ -111,7 +114,7 @@ module _ (v : CommandsValue) (inst : Instance) (log : Log) (m : Moment) where
         text = text;
         seconds = seconds;
         issued = slice_index v.issued row.rank;
-      } in x)) (needs_of v.labels named)) (opened_same row.by inst.birth log m h)
+      } in x)) (needs_of v.labels named)) (opened_same row.by inst.start log m h)
   asked_same row _ h = refl
 
   submit_same : (row : Row) (s : Stage) → IsAside row.by m → submit_at v inst (log ++ m ∷ []) row s ≡ submit_at v inst log row s
@@ -124,7 +127,7 @@ module _ (v : CommandsValue) (inst : Instance) (log : Log) (m : Moment) where
   desk_same : (jobs : List StoredJob) → now_of inst (log ++ m ∷ []) ≡ now_of inst log → ((row : Row) → Contains v.rows row → IsAside row.by m) → desk_of v inst (log ++ m ∷ []) jobs ≡ desk_of v inst log jobs
   desk_same jobs now aside =
       ap₂ (λ (n : ℕ) (s : List Submit). (let d : Desk = record {
-        scene = record { now = n; grant = inst.grant; jobs = jobs; asked = asked_of v; answer = inst.answer };
+        scene = record { now = n; grant = inst.grant; jobs = jobs; asked = asked_of v; answer = inst.answer; policy = inst.policy; limits = inst.limits; old = λ id. false };
         birth = inst.birth;
         submits = s;
       } in d)) now (submits_same aside)
@@ -139,7 +142,7 @@ module _ (v : JobServiceValue) (inst : Instance) (log : Log) (a : AgreesJobs v i
   shutdown_issued =
       let m : Moment = Issued by in
       let same = issued_service v.commands v.commands v.refused v.second inst log by (facts v inst log a) in
-      let now : now_of inst (log ++ m ∷ []) ≡ now_of inst log = latest_push ticked inst.birth log m in
+      let now : now_of inst (log ++ m ∷ []) ≡ now_of inst log = latest_push ticked inst.start log m in
       let desk = desk_same v.commands inst log m v.manager.book.jobs now (λ row c. differs row.by by (other_rows row c)) in
       record {
         kind = a.kind;
@@ -168,7 +171,7 @@ module _ (v : JobServiceValue) (inst : Instance) (log : Log) (a : AgreesJobs v i
   shutdown_replied waits =
       let m : Moment = Replied by Shut None in
       let same = replied_service v.commands v.commands v.refused v.second inst log by Shut None (facts v inst log a) in
-      let now : now_of inst (log ++ m ∷ []) ≡ now_of inst log = latest_push ticked inst.birth log m in
+      let now : now_of inst (log ++ m ∷ []) ≡ now_of inst log = latest_push ticked inst.start log m in
       let desk = desk_same v.commands inst log m v.manager.book.jobs now (λ row c. tt) in
       record {
         kind = a.kind;

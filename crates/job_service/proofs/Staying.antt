@@ -11,7 +11,7 @@ use Rattle.kvs_rules.specs.Log.{same_command}
 use Rattle.job_deeds.specs.kvs_txn.declared.txn.By.{By}
 use Rattle.instance_rules.specs.Desks.{AreNamed, StandsAsked, StandsSubmitted, submits_at}
 use Rattle.instance_rules.specs.Log as rules
-use Rattle.instance_rules.specs.Log.{Instance, IsPending, Log, Moment, Served, Issued, Replied, Ticked, Born, Gone, child_of, child_told, is_decided, now_of, replies_now, seconds_from, seconds_open, ticked}
+use Rattle.instance_rules.specs.Log.{Instance, IsPending, Log, Moment, Served, Issued, Replied, Ticked, Born, Gone, Fed, child_of, child_told, is_decided, now_of, replies_now, seconds_from, seconds_open, ticked}
 use Rattle.job_commands.proofs.Children.{living_told, shut_told}
 use Rattle.job_commands.proofs.Desks.{asked_there, children_stand, asked_true, submits_there, submits_true}
 use Rattle.job_commands.proofs.Logs.{count_push, open_kept, undecided_kept}
@@ -49,9 +49,10 @@ opened_same by now (Served x ∷ log) m s i = opened_same by now log m s i
 opened_same by now (Replied other reply number ∷ log) m s i = opened_same by now log m s i
 opened_same by now (Born job ∷ log) m s i = opened_same by now log m s i
 opened_same by now (Gone job shut ∷ log) m s i = opened_same by now log m s i
+opened_same by now (Fed other number first count ∷ log) m s i = opened_same by now log m s i
 
 seconds_kept : (inst : Instance) (log : Log) (m : Moment) (by : By) (s : ℕ) → Contains (seconds_open inst log by) s → Contains (seconds_open inst (log ++ m ∷ []) by) s
-seconds_kept inst log m by s c = contains_from _ s (opened_same by inst.birth log m s (among_from _ s c))
+seconds_kept inst log m by s c = contains_from _ s (opened_same by inst.start log m s (among_from _ s c))
 
 module _ (inst : Instance) (log : Log) (m : Moment) where
   abbrev later : Log
@@ -161,6 +162,9 @@ module _ (inst : Instance) (log : Log) (m : Moment) where
           grant = refl;
           jobs = refl;
           answer = refl;
+          policy = refl;
+          limits = refl;
+          old = refl;
           shut = shut_after id ∙ ap (λ o. option_map_or (λ c. not c.0 && c.1) o false) e ∙ sym (shut_before id);
           living = λ ending gone. living_after id ∙ ap (λ o. option_map_or (λ c. c.0) o false) e ∙ sym (living_before id) ∙ gone;
         }
@@ -176,6 +180,9 @@ module _ (inst : Instance) (log : Log) (m : Moment) where
       grant = refl;
       jobs = refl;
       answer = refl;
+      policy = refl;
+      limits = refl;
+      old = refl;
       shut = shut_after id ∙ ap (λ o. option_map_or (λ c. not c.0 && c.1) o false) (born_told id is) ∙ sym open_;
       living = λ ending gone. absurd (alive ending);
     }
@@ -191,6 +198,7 @@ module _ (inst : Instance) (log : Log) (m : Moment) where
     submits : (x : Submission) → LeavesOpen m (Submits x) → (Contains (ids_of jobs) x.id → ⊥) → StillSubmits before.scene after.scene before.submits after.submits x
     submits x o new_id = record {
       now = same;
+      limits = refl;
       jobs = λ id c. c;
       new = new_id;
       waits = λ from c by.

@@ -179,18 +179,18 @@ module _ (v : JobServiceValue) (inst : Instance) (log : Log) (a : AgreesJobs v i
 -- ---- behind the second
 
 module _ (v : JobServiceValue) (inst : Instance) (log : Log) (a : AgreesJobs v inst log) (second : ℕ) (unposted : v.manager.posted ≡ None) where
-  pub ticked_agrees : (spent : Bool) (later : Option Post) → Each (λ j. j.id < 2 ^ 64) v.manager.book.jobs → 1000 * (second - v.birth) < 2 ^ 40 → length v.commands.issued ≤ 32 → MadeAreDue → UnmadeAreNot → IsFoundBeside v.weights v.manager.posted v.commands v.manager.book second v.birth later
+  pub ticked_agrees : (spent : Bool) (later : Option Post) → Each (λ j. j.id < 2 ^ 64) v.manager.book.jobs → 1000 * (second - v.birth) < 2 ^ 40 → length v.commands.issued ≤ 32 → MadeAreDue → UnmadeAreNot → IsFoundBeside v.terms v.manager.posted v.commands v.manager.book second v.birth later
       → AgreesJobs (ticked_value v spent second later) inst (log ++ Ticked second ∷ [])
   ticked_agrees spent later smalls soon short made-due unmade-not h =
       let f = ticked_facts v.commands v.refused v.second second inst log (facts v inst log a) in
       let same = ticked_service log second in
       record {
-        kind = record { valid = a.kind.valid; unique = a.kind.unique; ranks = a.kind.ranks; answer = a.kind.answer; birth = a.kind.birth; grant = a.kind.grant };
+        kind = record { valid = a.kind.valid; unique = a.kind.unique; ranks = a.kind.ranks; terms = a.kind.terms; birth = a.kind.birth; book = a.kind.book };
         core = subst (Agrees v.manager.core inst.service) (sym same) a.core;
         legal = subst (IsLegalLog inst.service) (sym same) a.legal;
         commands = f.commands;
         second = f.second;
-        owes = beside-owes v.weights v.commands v.manager.book second v.birth inst (log ++ Ticked second ∷ []) f.commands a.kind.valid f.second a.kind.answer a.kind.birth a.kind.grant a.labelled smalls soon short made-due unmade-not v.manager.posted later
+        owes = beside-owes v.terms v.commands v.manager.book second v.birth inst (log ++ Ticked second ∷ []) f.commands a.kind.valid f.second a.kind.terms a.kind.birth a.kind.book a.labelled smalls soon short made-due unmade-not v.manager.posted later
             (λ post e. absurd (let wrong : None ≡ Some post = sym unposted ∙ e in cc)) h;
         labelled = a.labelled;
         refused = f.refused;

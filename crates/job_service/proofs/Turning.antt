@@ -27,14 +27,14 @@ use Rattle.kvs_rules.specs.declared.events.KvsStep.{KvsStep}
 use Rattle.job_deeds.specs.kvs_txn.declared.txn.By.{By}
 use Rattle.job_deeds.specs.manager_rules.Jobs.{AreJobsOf, StoredJob}
 use Rattle.job_deeds.specs.manager_rules.Posts.{IsDuePost, Post, group_of}
-use Rattle.job_service.specs.Agrees.{AgreesJobs}
+use Rattle.job_service.specs.Agrees.{AgreesJobs, IsBookOf}
 use Rattle.job_service.specs.Due.{IsFoundBeside}
 use Rattle.job_service.specs.Judged.{AreJudged}
 use Rattle.job_service.specs.Landed.{IsLanded, command_of_first}
 use Rattle.job_service.specs.Posted.{IsNamed, id_posted}
 use Rattle.job_service.specs.Value.{JobServiceValue}
 use Rattle.job_service.specs.declared.refusals.Refused.{Refused}
-use Rattle.job_service.proofs.Calls.{with_parts}
+use Rattle.job_service.proofs.Calls.{with_parts, same-book}
 use Rattle.job_service.proofs.Facts.{Facts}
 use Rattle.job_service.proofs.Landed.{command_first, facts_later, landed_agrees, landed_counted, landed_drawn, landed_marks, landed_size, landed_time, later_judged, none_numbered}
 use Rattle.job_service.proofs.Owing.{MadeAreDue, UnmadeAreNot, posted-due}
@@ -106,9 +106,9 @@ module _ (v : JobServiceValue) (inst : Instance) (log : Log) (a : AgreesJobs v i
     pub turned_facts : Facts commands refused v.second inst (log ++ map happening events)
     turned_facts = facts_later v inst log a manager step events makes numbered_lands post_lands commands refused id is_id named carried
 
-    pub turned_grant : manager.book.grant ≡ v.manager.book.grant
-    turned_grant = ap (λ b. b.grant) numbered_lands.book
+    pub turned_book : IsBookOf inst manager.book
+    turned_book = same-book inst v.manager.book manager.book (ap (λ b. b.grant) numbered_lands.book) (ap (λ b. b.policy) numbered_lands.book) a.kind.book
 
     pub turned_agrees : (spent : Bool) (found : Option Post) → Each (λ j. j.id < 2 ^ 64) manager.book.jobs → 1000 * (v.second - v.birth) < 2 ^ 40 → length commands.issued ≤ 32 → MadeAreDue → UnmadeAreNot
-        → IsFoundBeside v.weights manager.posted commands manager.book v.second v.birth found → AgreesJobs (with_parts v spent manager commands refused found v.submitted) inst (log ++ map happening events)
+        → IsFoundBeside v.terms manager.posted commands manager.book v.second v.birth found → AgreesJobs (with_parts v spent manager commands refused found v.submitted) inst (log ++ map happening events)
     turned_agrees = landed_agrees v inst log a manager step events makes numbered_lands post_lands commands refused id is_id named carried

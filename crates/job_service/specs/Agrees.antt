@@ -6,8 +6,9 @@ use Rattle.kvs_rules.specs.Log.{is_asked}
 use Rattle.kvs_rules.specs.declared.events.KvsAsk.{KvsAsk}
 use Rattle.job_deeds.specs.kvs_model.Store.{Name}
 use Rattle.job_deeds.specs.kvs_txn.declared.txn.By.{By}
-use Rattle.instance_rules.specs.Log.{Instance, IsInstance, Log, Shutdown, is_decided, is_issued, is_replied, now_of, service_of}
+use Rattle.instance_rules.specs.Log.{Instance, IsBuilt, IsInstance, Log, Shutdown, is_decided, is_issued, is_replied, now_of, service_of}
 use Rattle.instance_rules.specs.Replies.{IsLegalReply}
+use Rattle.job_book.specs.Value.{BookValue}
 use Rattle.job_commands.specs.Agrees.{AgreesCommands, HasUniqueLabels}
 use Rattle.job_commands.specs.Asks.{told}
 use Rattle.job_commands.specs.Desks.{desk_of}
@@ -15,31 +16,44 @@ use Rattle.job_commands.specs.declared.ask.JobAsk.{JobAsk}
 use Rattle.job_submissions.specs.Made.{AreLabelled}
 use Rattle.job_deeds.specs.resource_set.declared.node.Resources.{Resources}
 use Rattle.job_deeds.specs.tap.Factors.{priority_by}
-use Rattle.job_deeds.specs.tap.declared.weights.Weights.{Weights}
+use Rattle.job_deeds.specs.manager_rules.declared.terms.Terms.{Terms}
 use Rattle.run_limits.specs.Limits.{most_submits}
 use Rattle.job_service.specs.declared.refusals.Refused.{Refused}
 use Rattle.job_service.specs.Due.{Owes}
 use Rattle.job_service.specs.Refusals.{reply_to}
 use Rattle.job_service.specs.Value.{JobServiceValue}
 
+-- an instance serves its jobs on these terms, and asks for nothing that isn't built
+pub record IsOnTerms (inst : Instance) (terms : Terms) : Type 0 where
+  pub built : IsBuilt inst
+  pub answer : inst.answer ≡ priority_by terms.weights
+  pub policy : inst.policy ≡ terms.policy
+  pub limits : inst.limits ≡ terms.limits
+  pub shown : inst.shown ≡ terms.shown
+
+-- the book has the grant and the policy of the instance
+pub record IsBookOf (inst : Instance) (book : BookValue) : Type 0 where
+  pub grant : book.grant ≡ inst.grant
+  pub policy : book.policy ≡ inst.policy
+
 -- the service is one of this instance: no two of its submissions have one label, each of its job
--- commands is of one of its brokers, and jobs are given their priorities by the service's weights
+-- commands is of one of its brokers, and jobs are served on the service's terms
 pub record IsOf (inst : Instance) (v : JobServiceValue) : Type 0 where
   pub valid : IsInstance inst
   pub unique : HasUniqueLabels inst
   pub ranks : (by : By) → IsSome (inst.asks by) → inst.rank by < inst.service.size
-  pub answer : inst.answer ≡ priority_by v.weights
+  pub terms : IsOnTerms inst v.terms
   pub birth : inst.birth ≡ v.birth
-  pub grant : v.manager.book.grant ≡ inst.grant
+  pub book : IsBookOf inst v.manager.book
 
 -- an instance with so many brokers in such a tree, with this grant, that is born at this second and
--- gives its jobs their priorities by these weights
+-- serves its jobs on these terms
 pub record IsServedBy (inst : Instance) (brokers children : ℕ)
-    (resources : Resources) (now : ℕ) (weights : Weights) : Type 0 where
+    (resources : Resources) (now : ℕ) (terms : Terms) : Type 0 where
   pub valid : IsInstance inst
   pub unique : HasUniqueLabels inst
   pub ranks : (by : By) → IsSome (inst.asks by) → inst.rank by < inst.service.size
-  pub answer : inst.answer ≡ priority_by weights
+  pub served : IsOnTerms inst terms
   pub birth : inst.birth ≡ now
   pub grant : inst.grant ≡ resources
   pub size : inst.service.size ≡ brokers

@@ -16,17 +16,17 @@ use Rattle.job_deeds.specs.manager_rules.Posts.{Desk, Does, IsDuePost, Post, Sub
 use Rattle.job_deeds.specs.manager_rules.Scene.{IsAsked, Scene, has_shut_child}
 use Rattle.job_deeds.specs.manager_rules.declared.asked.Asked.{Asked}
 use Rattle.job_deeds.specs.manager_rules.declared.due.Due.{Due}
+use Rattle.job_deeds.specs.manager_rules.declared.terms.Terms.{Terms}
 use Rattle.job_deeds.specs.tap.Factors.{priority_by}
-use Rattle.job_deeds.specs.tap.declared.weights.Weights.{Weights}
 
--- what the manager looks at of the jobs, which are given their priorities by these weights
-abbrev pub scene_now : Weights → CommandsValue → BookValue → ℕ → Scene
-scene_now w v book now = scene_of book now (asked_of v) (priority_by w)
+-- what the manager looks at of the jobs, which are served on these terms
+abbrev pub scene_now : Terms → CommandsValue → BookValue → ℕ → Scene
+scene_now terms v book now = scene_of book now (asked_of v) (priority_by terms.weights) terms.limits
 
 -- an event that is due for a job, or nothing where none is
-abbrev pub IsEventDue : Weights → CommandsValue → BookValue → ℕ → Option Due → Type 0
-IsEventDue w v book now (Some due) = IsDue (scene_now w v book now) due
-IsEventDue w v book now None = (due : Due) → IsDue (scene_now w v book now) due → ⊥
+abbrev pub IsEventDue : Terms → CommandsValue → BookValue → ℕ → Option Due → Type 0
+IsEventDue terms v book now (Some due) = IsDue (scene_now terms v book now) due
+IsEventDue terms v book now None = (due : Due) → IsDue (scene_now terms v book now) due → ⊥
 
 -- what can be looked at: the second isn't far behind the birth, and the numbers of the commands are
 -- within their ranges
@@ -44,17 +44,17 @@ MakeNone v book = (row : Row) → Contains v.rows row → MakesNone v.labels boo
 
 -- what is due of the open commands and the book: a submission that is made now or an event, or
 -- nothing where there is none
-abbrev pub IsFound : Weights → CommandsValue → BookValue → ℕ → ℕ → Option Post → Type 0
-IsFound w v book now birth (Some (Submits x)) = IsMade v book.jobs now birth x
-IsFound w v book now birth (Some (Does due)) = IsDue (scene_now w v book now) due
-IsFound w v book now birth None = MakeNone v book
-    × ((due : Due) → IsDue (scene_now w v book now) due → ⊥)
+abbrev pub IsFound : Terms → CommandsValue → BookValue → ℕ → ℕ → Option Post → Type 0
+IsFound terms v book now birth (Some (Submits x)) = IsMade v book.jobs now birth x
+IsFound terms v book now birth (Some (Does due)) = IsDue (scene_now terms v book now) due
+IsFound terms v book now birth None = MakeNone v book
+    × ((due : Due) → IsDue (scene_now terms v book now) due → ⊥)
 
 -- so where nothing is posted; else nothing is looked for
-abbrev pub IsFoundBeside : Weights → Option Post → CommandsValue → BookValue → ℕ → ℕ
+abbrev pub IsFoundBeside : Terms → Option Post → CommandsValue → BookValue → ℕ → ℕ
     → Option Post → Type 0
-IsFoundBeside w (Some post) v book now birth found = found ≡ None
-IsFoundBeside w None v book now birth found = IsFound w v book now birth found
+IsFoundBeside terms (Some post) v book now birth found = found ≡ None
+IsFoundBeside terms None v book now birth found = IsFound terms v book now birth found
 
 -- the manager has nothing to post
 abbrev pub OwesNothing : Desk → Type 0

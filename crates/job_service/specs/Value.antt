@@ -3,16 +3,16 @@ use Rattle.std.specs.Prelude.{ℕ, Bool, List, Option}
 use Rattle.job_commands.specs.Rows.{CommandsValue}
 use Rattle.job_manager.specs.Value.{ManagerValue}
 use Rattle.job_deeds.specs.manager_rules.Posts.{Post}
-use Rattle.job_deeds.specs.tap.declared.weights.Weights.{Weights}
+use Rattle.job_deeds.specs.manager_rules.declared.terms.Terms.{Terms}
 use Rattle.job_service.specs.declared.refusals.Refused.{Refused}
 
--- the weights by which its jobs have their priorities, the second of its birth and the present one,
--- the manager with the service below it, the open job commands and the children, submissions that
--- are refused, what is due and isn't posted, the first job whose child is to be born, how many
--- submissions were issued, and the seconds of all advances that were issued
+-- the terms on which its jobs are served, the second of its birth and the present one, the manager
+-- with the service below it, the open job commands and the children, submissions that are refused,
+-- what is due and isn't posted, the first job whose child is to be born, how many submissions were
+-- issued, and the seconds of all advances that were issued
 pub record JobServiceValue : Type 0 where
   pub spent : Bool
-  pub weights : Weights
+  pub terms : Terms
   pub birth : ℕ
   pub second : ℕ
   pub manager : ManagerValue

@@ -15,7 +15,7 @@ use Rattle.job_service.specs.Value.{JobServiceValue}
 abbrev pub value_of : Inside → JobServiceValue
 value_of s = record {
   spent = s.spent;
-  weights = s.weights;
+  terms = s.terms;
   birth = s.birth;
   second = s.second;
   manager = s.manager;
@@ -37,7 +37,7 @@ pub record IsFit (v : JobServiceValue) : Type 0 where
   pub early : v.birth + 2000000000 < 2 ^ 64
   pub timed : AreInTime v.commands v.birth v.second (most_seconds + v.span)
   pub near : v.span ≤ most_seconds
-  pub sought : IsFoundBeside v.weights v.manager.posted v.commands v.manager.book v.second v.birth
+  pub sought : IsFoundBeside v.terms v.manager.posted v.commands v.manager.book v.second v.birth
       v.found
   pub posted : IsNamed v.commands v.birth v.manager.posted
   pub named : IsNamed v.commands v.birth v.found

@@ -7,25 +7,24 @@ ghost use Rattle.job_service.specs.Due.{CanLook, IsEventDue, IsFound, IsFoundBes
 
 use job_book::Book;
 use job_commands::Commands;
-use job_deeds::manager_rules::Due;
-use job_deeds::tap::{Ask, Tap, Weights};
+use job_deeds::manager_rules::{Due, Terms};
+use job_deeds::tap::{Ask, Tap};
 use job_manager::{Manager, Post};
 use job_submissions::submission;
 use std::alloc::{AllocError, Global};
 
-/// An event that is due at this second, if one is, where jobs have their priorities by these
-/// weights.
+/// An event that is due at this second, if one is, where jobs are served on these terms.
 pub fn event_due(
     commands: &Commands,
     book: &Book,
     now: u64,
-    weights: Weights,
+    terms: Terms,
 ) -> Result<Option<Due>, AllocError>
     requires { All IsAsked (asked_of commands.now) }
-    ensures { IfOk result (IsEventDue weights commands.now book.now now) }
+    ensures { IfOk result (IsEventDue terms commands.now book.now now) }
 {
     let asked = commands.asked()?;
-    let tap = Tap::new(|ask: &Ask| weights.priority(ask));
+    let tap = Tap::new(|ask: &Ask| terms.weights.priority(ask));
     book.due(now, &asked, &tap)
 }
 
@@ -47,17 +46,17 @@ pub fn find(
     book: &Book,
     now: u64,
     birth: u64,
-    weights: Weights,
+    terms: Terms,
 ) -> Result<Option<Post>, AllocError>
     requires { CanLook commands.now now birth }
-    ensures { IfOk result (λ found. IsFound weights commands.now book.now now birth
+    ensures { IfOk result (λ found. IsFound terms commands.now book.now now birth
         (option_map post_of found)) }
 {
     let found = submission(alloc, commands, book, now, birth)?;
     if let Some(x) = found {
         return Ok(Some(Post::Submits(x)));
     }
-    let event = event_due(commands, book, now, weights)?;
+    let event = event_due(commands, book, now, terms)?;
     Ok(as_post(event))
 }
 
@@ -68,14 +67,14 @@ pub fn look(
     manager: &Manager,
     now: u64,
     birth: u64,
-    weights: Weights,
+    terms: Terms,
 ) -> Result<Option<Post>, AllocError>
     requires { CanLook commands.now now birth }
-    ensures { IfOk result (λ found. IsFoundBeside weights manager.now.posted commands.now
+    ensures { IfOk result (λ found. IsFoundBeside terms manager.now.posted commands.now
         manager.now.book now birth (option_map post_of found)) }
 {
     if manager.is_waiting() {
         return Ok(None);
     }
-    find(alloc, commands, manager.book(), now, birth, weights)
+    find(alloc, commands, manager.book(), now, birth, terms)
 }

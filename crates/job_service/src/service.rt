@@ -22,6 +22,7 @@ ghost use Rattle.job_book.specs.Seconds.{IsSoonest};
 ghost use Rattle.job_clock.specs.Standing.{IsLiving, IsTop};
 ghost use Rattle.job_deeds.specs.kvs_txn.declared.txn.By.{By as Command};
 ghost use Rattle.job_deeds.specs.manager_rules.Jobs.{StoredJob, is_live};
+ghost use Rattle.job_deeds.specs.manager_rules.Terms.{AreBuilt};
 ghost use Rattle.job_deeds.specs.manager_rules.Times.{IsEndDue, IsIdle, seconds_ahead};
 ghost use Rattle.job_service.specs.Still.{IsStill, awaited};
 ghost use Rattle.job_service.specs.Times.{Counts, HasTime, KeepsCounts, MayPassTo, targets_left};
@@ -44,8 +45,8 @@ use job_commands::{Commands, JobAsk};
 use job_deeds::job_states::State;
 use job_deeds::kvs_txn::By;
 use job_deeds::lists::Bytes;
+use job_deeds::manager_rules::Terms;
 use job_deeds::resource_set::Resources;
-use job_deeds::tap::Weights;
 use job_landings::{number_of_post, what_is_posted_lands_as_it_is_due};
 use job_manager::{Manager, Post};
 use job_replies::{Told, is_ready, tell};
@@ -63,8 +64,8 @@ use std::marker::Model;
 pub struct JobService {
     alloc: Global,
     spent: bool,
-    /// By what the jobs have their priorities.
-    weights: Weights,
+    /// On what terms the jobs are served.
+    terms: Terms,
     /// The second at which the instance was born.
     birth: u64,
     /// The present second.
@@ -104,28 +105,29 @@ impl JobService {
         setting: Setting,
         grant: &Resources,
         birth: u64,
-        weights: Weights,
+        terms: Terms,
     ) -> Result<JobService, CoreFault>
         requires size { (1 ≤ setting.size) × (setting.size ≤ 32) }
         requires fanout { (1 ≤ setting.fanout) × (setting.fanout ≤ 32) }
         requires grant { IsR grant.now }
         requires early { birth + 2000000000 < 2 ^ 64 }
+        requires terms { AreBuilt terms }
         ensures ready { IfOk result (λ v. v.spent ≡ false) }
         ensures size { IfOk result (λ v. v.manager.core.size ≡ setting.size) }
         ensures start { IfOk result (λ v. (v.submitted ≡ 0) × (v.span ≡ 0)) }
         ensures grant { IfOk result (λ v. IsGrant grant.now.nodes) }
         ensures agrees { IfOk result (λ v. (inst : Instance)
-            → IsServedBy inst setting.size setting.fanout grant.now birth weights
+            → IsServedBy inst setting.size setting.fanout grant.now birth terms
             → AgreesJobs v inst []) }
     {
-        let manager = Manager::new(alloc, setting, grant)?;
+        let manager = Manager::new(alloc, setting, grant, terms.policy)?;
         let commands = Commands::new(alloc, setting.size)?;
         // ids rise, and live jobs hold units of the grant
         manager.book().keeps();
         Ok(JobService {
             alloc,
             spent: false,
-            weights,
+            terms,
             birth,
             second: birth,
             manager,
@@ -233,7 +235,7 @@ impl JobService {
             &self.manager,
             self.second,
             self.birth,
-            self.weights,
+            self.terms,
         )?;
         self.bearing = bearing(&self.commands, self.manager.book())?;
         self.spent = false;
@@ -315,7 +317,7 @@ impl JobService {
             &self.manager,
             self.second,
             self.birth,
-            self.weights,
+            self.terms,
         )?;
         self.bearing = bearing(&self.commands, self.manager.book())?;
         self.spent = false;
@@ -366,7 +368,7 @@ impl JobService {
             &self.manager,
             self.second,
             self.birth,
-            self.weights,
+            self.terms,
         )?;
         self.bearing = bearing(&self.commands, self.manager.book())?;
         self.spent = false;
@@ -449,7 +451,7 @@ impl JobService {
             &self.manager,
             self.second,
             self.birth,
-            self.weights,
+            self.terms,
         )?;
         self.spent = false;
         Ok(())
@@ -555,7 +557,7 @@ impl JobService {
             &self.manager,
             second,
             self.birth,
-            self.weights,
+            self.terms,
         )?;
         self.spent = false;
         Ok(())
@@ -684,7 +686,7 @@ impl JobService {
             &self.manager,
             self.second,
             self.birth,
-            self.weights,
+            self.terms,
         )?;
         self.spent = false;
         Ok(told)

@@ -22,7 +22,7 @@ use Rattle.std.specs.Cmp.Lexicographic.{bytes_decides}
 use Rattle.kvs_model.specs.Store.{Name}
 use Rattle.kvs_core.specs.declared.service.Request.{Request as Request₀}
 use Rattle.kvs_core.specs.declared.service.Request.TheVariants as request
-use Rattle.kvs_core.specs.Requests.{IsKnown, IsMade, IfAsked}
+use Rattle.kvs_core.specs.Requests.{AsksAtRest, IsKnown, IsMade, IfAsked}
 use Rattle.kvs_requests.specs.Rows.{is_about_contents, IsKnownAsk, AtPlace, IsPlaced, ArePlaced, awaited}
 use Rattle.kvs_requests.specs.declared.rows.Stage.{Stage}
 use Rattle.kvs_requests.specs.Stages.{joined_in}
@@ -97,7 +97,7 @@ module _ {v : CoreValue} (s : IsSound v) {set₀ : Setting} {log : Log} (a : Agr
       omega arith
 
 -- before a command asks lies all
-until-none : {A : Type 0} (test : A → Bool) (xs : List A) (y : A) → list_any test xs ≡ false → test y ≡ true → until test (xs ++ y ∷ []) ≡ xs
+pub until-none : {A : Type 0} (test : A → Bool) (xs : List A) (y : A) → list_any test xs ≡ false → test y ≡ true → until test (xs ++ y ∷ []) ≡ xs
 until-none test [] y none e = ap (λ b. cond b [] (y ∷ [])) e
 until-none test (x ∷ xs) y none e = by (test x) (until-none test xs y) none
   where
@@ -106,7 +106,7 @@ until-none test (x ∷ xs) y none e = by (test x) (until-none test xs y) none
     by false again h = ap (λ l. x ∷ l) (again h e)
 
 module _ {v : CoreValue} (s : IsSound v) {set₀ : Setting} {log : Log} (a : Agrees v set₀ log) (by : By) (floor : ℕ) (some : IsSome (set₀.asks by)) (fresh : is_asked by log ≡ false) where
-  asks-itself : asks_now by (Asked by floor) ≡ true
+  pub asks-itself : asks_now by (Asked by floor) ≡ true
   asks-itself = same-self by
 
   pub asked-head : IsHead v.size v.fanout v.grant v.spaces set₀ (log ++ Asked by floor ∷ [])
@@ -179,10 +179,10 @@ asked-placed {v} s by broker name need st within on = All-push (IsPlaced v.fanou
 
 -- what a request says of the command that makes it
 pub asked-request : (v : CoreValue) (set₀ : Setting) (log : Log) (broker : ℕ) (made-by : Request₀) (by : By) (space : Name) (floor : ℕ) (asked : KvsAsk) → made-by ≡ request.Command by space floor asked → IsMade set₀ broker made-by → (P : Log → Type 0)
-    → (set₀.asks by ≡ Some (record { broker = broker; namespace = space; ask = asked }) → is_asked by log ≡ false → P (log ++ Asked by floor ∷ [])) → IfAsked v set₀ log made-by P
+    → (set₀.asks by ≡ Some (record { broker = broker; namespace = space; ask = asked }) → is_asked by log ≡ false → AsksAtRest set₀ v → P (log ++ Asked by floor ∷ [])) → IfAsked v set₀ log made-by P
 asked-request v set₀ log broker made-by by space floor asked is made P h =
     let m = subst (IsMade set₀ broker) is made in
-    subst (λ r. IfAsked v set₀ log r P) (sym is) (λ fresh. h m fresh)
+    subst (λ r. IfAsked v set₀ log r P) (sym is) (λ fresh rested. h m fresh rested)
 
 -- what the core carries out isn't about contents
 pub known-keys : (asked : KvsAsk) → IsKnownAsk asked → is_about_contents asked ≡ false

@@ -80,3 +80,4 @@ module _ {v : CoreValue} (s : IsSound v) (i : ℕ) (within : i < length v.rows) 
         let staged = arrived-staged s i within row read a (ask.Commit txn) is in
         joined-agrees s i within row read k found work.Commit arrived old new read-space (pushed old.merger member) now more sound-old.fences sound-old.members posts taken live tt a staged.0 (txn, staged.1)
         (each-join (IsWaiting set₀ old.name) old.merger.ready (group_of [] member ∷ []) there.kinds (inl users, tt)) there.joining
+        (λ settled. unrivalled-else set₀ log row.by (λ space fence count other h. fence-not-commit fence count other txn (asks-once set₀ row.by space (ask.Fence fence count other) (ask.Commit txn) (row-agrees s i within row read a).request h (row-agrees s i within row read a).made staged.1)))

@@ -79,3 +79,39 @@ module _ {v : CoreValue} (s : IsSound v) (i : ℕ) (within : i < length v.rows) 
         joined-agrees s i within row read k found work.Fence arrived old new read-space (joined old.merger name count member) now more fences-now members posts taken live tt a staged.0 (name, count, txn, staged.1)
         (joined-kinds name set₀ old.name old.merger count member asks there.joining same risen.1 (whole-user name old.merger count member risen.0 sound-old.members) there.kinds)
         (joined-joining name set₀ old.name old.merger count member asks there.joining same)
+        unrivalled
+      where
+        r : RowAgrees a.entered set₀ log v.spaces row
+        r = row-agrees s i within row read a
+
+        inside : k < length v.spaces
+        inside = found-there s row.namespace k found
+
+        kept-is : (other : ℕ) → other_than (Some other) count ≡ None → other ≡ count
+        kept-is other e = at (other == count) refl e
+          where
+            at : (b : Bool) → (other == count) ≡ b → (if b then None else Some other) ≡ None → other ≡ count
+            at true t q = eq-is other count t
+            at false t q = cc
+
+        -- the fence of an earlier member is open, and has the count of this one
+        unrivalled : IsTrue set₀.settled → (space : Name) → IsUnrivalled set₀ log space row.by
+        unrivalled settled space earlier fence₀ count₀ other here beside before =
+            let request₀ = here.1.1.request in
+            let one : request₀ ≡ r.request = some-same request₀ r.request (sym here.1.1.made ∙ r.made) in
+            let asked : ask.Fence fence₀ count₀ here.1.0 ≡ ask.Fence name count txn = asks-once set₀ row.by space (ask.Fence fence₀ count₀ here.1.0) (ask.Fence name count txn) r.request here.1.1 r.made (arrived-staged s i within row read a (ask.Fence name count txn) is).1 in
+            let fences : fence₀ ≡ name = cc in
+            let counts : count₀ ≡ count = cc in
+            let spaces : space ≡ old.name = sym here.1.1.inside ∙ ap (λ q. q.namespace) one ∙ r.inside ∙ named-so s i within row read k found old read-space in
+            let met = (comes-last (a.turns settled) a.apart i within row read (ap is_coming_stage is)).met earlier space fence₀ other (waited-other row.by earlier log before) beside in
+            let open_one : HasFence v.spaces space fence₀ other = met.1 in
+            let place : open_one.place ≡ k = one-place open_one.place open_one.within (open_one.named old ∙ spaces ∙ ap (λ x. x.name) read-space) in
+            let kept : option_map (λ f. f.count) (fence_of name old.merger.fences) ≡ Some other =
+            ap (λ n. option_map (λ f. f.count) (fence_of n old.merger.fences)) (sym fences) ∙ ap (λ x. option_map (λ f. f.count) (fence_of fence₀ x.merger.fences)) (read-space ∙ ap (λ j. get_or v.spaces j old) (sym place)) ∙ open_one.kept old in
+            kept-is other (ap (λ o. other_than o count) (sym kept) ∙ same) ∙ sym counts
+          where
+            one-place : (j : ℕ) → j < length v.spaces → (get_or v.spaces j old).name ≡ (get_or v.spaces k old).name → j ≡ k
+            one-place j l e = elim (cases_eq j k) [
+              | inl q ↦ q
+              | inr ne ↦ absurd (other-names v.spaces s.apart k inside j old l ne e)
+            ]

@@ -95,3 +95,4 @@ module _ (v : CoreValue) (set : Setting) (log : Log) (m : Moment) (a : Agrees v 
   pub contents-leave : Agrees v set (log ++ m ∷ [])
   contents-leave = agrees-of (head-kept (head-of a) m (opens-none set m h) (off set m h)
       (λ k d l. each-map (IsPlain set) (λ by. IsAside by m) (waiting (queued (get_or v.spaces k d).merger)) (space-plain (a.spaces k d l)) (λ by plain. plain-aside set m h by plain))) rows-now
+      (λ settled. turns-later (a.turns settled) m (λ by space fence count txn asks. (plain-aside set m h by (plain-asks set space by (ask.Fence fence count txn) asks refl)).asks))

@@ -38,6 +38,7 @@ use Rattle.kvs_space.specs.Space.{SpaceValue, carries, is_authored, is_named, kn
 use Rattle.kvs_space.proofs.Finding.{found-none, set-all, set-kept}
 use Rattle.kvs_core.proofs.Carried.{space-plain, IsAwaited, all-joined, each-map, map-append, other-commands, waiting}
 use Rattle.kvs_core.proofs.Delivering.{heard-head, heard-legal, heard-rows, named-apart}
+use Rattle.kvs_core.proofs.Turns.{arrived-comes, asks-once, fence-not-create, nobody-set, turns-happened, turns-quiet, unrivalled-else}
 use Rattle.kvs_core.proofs.Heads.{IsElsewhere, IsHead, agrees-of, removed-kept, rows-of, space-kept, untouched-kept}
 use Rattle.kvs_core.proofs.Heard.{no-space}
 use Rattle.kvs_core.proofs.Landing.{any-kept, last-stands, primary-there}
@@ -326,6 +327,7 @@ module _ {v : CoreValue} (s : IsSound v) (i : ℕ) (within : i < length v.rows) 
         let landing : IsLegalLanding set₀ log row.namespace 0 (Some row.by ∷ []) [] = record {
           fresh = record { differ = (tt, tt); fresh = (record { unanswered = r.unanswered; unlanded = staged.0.unlanded; undenied = staged.0.undenied; asked = λ some. r.asked }, tt) };
           form = inl (record { by = row.by; alone = refl; asked = record { request = r.request; made = r.made; inside = r.inside; asked = staged.1 }; empty = refl; first = refl; unused = unused; room = omega arith });
+          first = λ settled. (unrivalled-else set₀ log row.by (λ space fence number txn h. fence-not-create fence number txn (asks-once set₀ row.by space (ask.Fence fence number txn) ask.Create r.request h r.made staged.1)) row.namespace, tt);
         } in
         let hearing : IsLegalHearing set₀ (log ++ m ∷ []) 0 new.name 0 = heard-legal apart-wide (length v.spaces) last-there between new read-last long-between first-head first-rows 0 0 s.size less (omega arith) (inl refl) in
         (landing, (subst (λ n. IsLegalHearing set₀ (log ++ m ∷ []) 0 n 0) name hearing, tt))
@@ -339,7 +341,9 @@ module _ {v : CoreValue} (s : IsSound v) (i : ℕ) (within : i < length v.rows) 
         (subst (λ n. Agrees (record { spent = false; size = v.size; fanout = v.fanout; grant = v.grant; spaces = v.spaces ++ new ∷ []; rows = set v.rows i new-row }) set₀ (log ++ m ∷ Happened (event.Heard 0 n 0) ∷ [])) name
         (subst (Agrees (record { spent = false; size = v.size; fanout = v.fanout; grant = v.grant; spaces = v.spaces ++ new ∷ []; rows = set v.rows i new-row }) set₀) (append_assoc log (m ∷ []) (Happened (event.Heard 0 new.name 0) ∷ []))
         (subst (λ ss. Agrees (record { spent = false; size = v.size; fanout = v.fanout; grant = v.grant; spaces = ss; rows = set v.rows i new-row }) set₀ ((log ++ m ∷ []) ++ Happened (event.Heard 0 new.name 0) ∷ [])) (set-last v.spaces between new)
-        (agrees-of {v = record { spent = false; size = v.size; fanout = v.fanout; grant = v.grant; spaces = set (v.spaces ++ between ∷ []) (length v.spaces) new; rows = set v.rows i new-row }} head there))))
+        (agrees-of {v = record { spent = false; size = v.size; fanout = v.fanout; grant = v.grant; spaces = set (v.spaces ++ between ∷ []) (length v.spaces) new; rows = set v.rows i new-row }} head there
+        (λ settled. turns-quiet (turns-happened (turns-happened (a.turns settled) (event.Landed row.namespace 0 (Some row.by ∷ []) [])) (event.Heard 0 new.name 0)) (set (v.spaces ++ between ∷ []) (length v.spaces) new) (set v.rows i new-row)
+        (nobody-set (a.turns settled) a.apart i within row read (arrived-comes row.stage arrived) new-row refl refl))))))
       where
         new-row : Row
         new-row = with_stage (stage.Landed (length v.spaces) 0 work.Create) row

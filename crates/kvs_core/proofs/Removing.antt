@@ -37,6 +37,8 @@ use Rattle.kvs_space.specs.Space.{SpaceValue, carries, is_named, known_at, name_
 use Rattle.kvs_space.proofs.Finding.{eq-true, set-all, set-kept}
 use Rattle.kvs_core.proofs.Carried.{space-plain, IsAwaited, all-joined, each-map, joined-once, other-commands, untrue, waiting}
 use Rattle.kvs_core.proofs.Delivering.{heard-head, heard-legal, heard-rows, named-apart, other-names}
+use Rattle.kvs_core.specs.Turns.{is_coming_stage}
+use Rattle.kvs_core.proofs.Turns.{asks-once, dismissed-from, fence-not-remove, from-from, nobody-comes, set-from, turns-happened, turns-quiet, unrivalled-else}
 use Rattle.kvs_core.proofs.Heads.{IsElsewhere, IsHead, agrees-of, head-of, head-then, opened-there, rows-of, space-kept}
 use Rattle.kvs_core.proofs.Landing.{any-kept, last-stands, primary-there}
 use Rattle.kvs_requests.proofs.Later.{Grows, IsAside, differs, heard-push, need-kept, row-kept, told-silent}
@@ -404,6 +406,7 @@ module _ {v : CoreValue} (s : IsSound v) (i : ℕ) (within : i < length v.rows) 
           living = both-true (is_opened log old.name) (is_removed log old.name) opened-here (sa.removed ∙ h.was);
           other = other-primary s k inside pos old read-space;
         }));
+        first = λ settled. (unrivalled-else set₀ log row.by (λ space fence count txn h. fence-not-remove fence count txn (asks-once set₀ row.by space (ask.Fence fence count txn) ask.Remove r.request h r.made (arrived-staged s i within row read a ask.Remove is).1)) old.name, tt);
       }
 
     pub removal-agrees : (rows : List Row) → rows ≡ set items i (with_stage (stage.Landed k number work.Remove) row)
@@ -416,4 +419,11 @@ module _ {v : CoreValue} (s : IsSound v) (i : ℕ) (within : i < length v.rows) 
         (subst (λ n. Agrees (record { spent = false; size = v.size; fanout = v.fanout; grant = v.grant; spaces = set v.spaces k new; rows = set items i (with_stage (stage.Landed k n work.Remove) row) }) set₀ (log ++ Happened (event.Landed old.name n (Some row.by ∷ []) []) ∷ Happened (event.Heard 0 old.name n) ∷ [])) (sym counts)
         (subst (Agrees (record { spent = false; size = v.size; fanout = v.fanout; grant = v.grant; spaces = set v.spaces k new; rows = set items i new-row }) set₀) (append_assoc log (m ∷ []) (Happened (event.Heard 0 old.name (suc (landed log old.name))) ∷ []))
         (subst (λ ss. Agrees (record { spent = false; size = v.size; fanout = v.fanout; grant = v.grant; spaces = ss; rows = set items i new-row }) set₀ ((log ++ m ∷ []) ++ Happened (event.Heard 0 old.name (suc (landed log old.name))) ∷ [])) (set-twice v.spaces k between new)
-        (agrees-of {v = record { spent = false; size = v.size; fanout = v.fanout; grant = v.grant; spaces = set (set v.spaces k between) k new; rows = set items i new-row }} head there))))
+        (agrees-of {v = record { spent = false; size = v.size; fanout = v.fanout; grant = v.grant; spaces = set (set v.spaces k between) k new; rows = set items i new-row }} head there
+        (λ settled. turns-quiet (turns-happened (turns-happened (a.turns settled) (event.Landed old.name (suc (landed log old.name)) (Some row.by ∷ []) [])) (event.Heard 0 old.name (suc (landed log old.name)))) (set (set v.spaces k between) k new) (set items i new-row)
+        (nobody-comes (a.turns settled) a.apart i within row read (ap is_coming_stage is) (set items i new-row)
+        (from-from (set-from items i here new-row (λ e. by-there s i within row read e ∙ sym (dismissed-by v.fanout k (get_or v.rows i e) (get_or items i e) (all.each i e within))) (λ c. absurd (true≢false (sym c)))) (dismissed-from v.fanout k v.rows items all))
+        (λ l c. true≢false (sym (c row) ∙ ap (λ x. is_coming_stage x.stage) (get_or-set_same items i new-row row here)))))))))
+      where
+        here : i < length items
+        here = subst (λ n. i < n) (sym all.same_len) within

@@ -248,6 +248,7 @@ module _ (set : Setting) (by : By) (log : Log) (m : Moment) (aside : IsAside by 
                   differs = rivals.differs;
                   pending = rivals.pending;
                   accepted = λ n other c. never n other (contained-last log m _ c);
+                  first = rivals.first;
                 };
               },
             );

@@ -7,24 +7,30 @@ use Rattle.job_service.specs.resource_set.Writing.{r_text}
 use Rattle.job_service.specs.resource_set.declared.node.Resources.{Resources}
 use Rattle.services.specs.Agrees.{IsGiven}
 use Rattle.job_service.specs.tap.Factors.{priority_by}
-use Rattle.job_service.specs.tap.declared.weights.Weights.{Weights}
+use Rattle.job_service.specs.manager_rules.declared.terms.Terms.{Terms}
+use Rattle.job_service.specs.manager_rules.Terms.{AreBuilt}
 
-module _ (size fanout : ℕ) (hash : Hash) (grant : Resources) (birth : ℕ) (weights : Weights) where
+module _ (size fanout : ℕ) (hash : Hash) (grant : Resources) (birth : ℕ) (terms : Terms) where
   abbrev pub plain : Instance
   plain = record {
     service = record { size = size; fanout = fanout; hash = hash; grant = r_text grant; asks = λ by. None };
     birth = birth;
+    start = birth;
     grant = grant;
-    answer = priority_by weights;
+    answer = priority_by terms.weights;
+    policy = terms.policy;
+    limits = terms.limits;
+    shown = terms.shown;
     asks = λ by. None;
     rank = λ by. 0;
   }
 
-  pub plain_given : IsGrant grant.nodes → IsGiven plain size fanout hash grant birth weights
-  plain_given sets = record {
+  pub plain_given : AreBuilt terms → IsGrant grant.nodes → IsGiven plain size fanout hash grant birth terms
+  plain_given built sets = record {
     served = record {
       valid = record {
         answers = λ ask. (omega arith, omega arith);
+        since = omega arith;
         grant = sets;
         text = refl;
         apart = λ by some. absurd (true≢false (sym some));
@@ -32,7 +38,13 @@ module _ (size fanout : ℕ) (hash : Hash) (grant : Resources) (birth : ℕ) (we
       };
       unique = λ a b label urgency other needs named text more ea eb. cc;
       ranks = λ by some. absurd (true≢false (sym some));
-      answer = refl;
+      served = record {
+        built = record { policy = built.policy; limits = built.limits; start = refl; unwatched = λ by label e. cc };
+        answer = refl;
+        policy = refl;
+        limits = refl;
+        shown = refl;
+      };
       birth = refl;
       grant = refl;
       size = refl;

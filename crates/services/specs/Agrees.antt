@@ -7,8 +7,8 @@ use Rattle.job_service.specs.kvs_rules.Namespaces.{Setting}
 use Rattle.content_service.specs.Agrees.{AgreesService}
 use Rattle.job_service.specs.Agrees.{AgreesJobs, IsServedBy}
 use Rattle.job_service.specs.resource_set.declared.node.Resources.{Resources}
+use Rattle.job_service.specs.manager_rules.declared.terms.Terms.{Terms}
 use Rattle.services.specs.Value.{ServicesValue}
-use Rattle.job_service.specs.tap.declared.weights.Weights.{Weights}
 
 -- the jobs with the key-value service, and the contents, stand where one log of the instance leaves
 -- them, which has so many brokers in such a tree
@@ -33,8 +33,8 @@ pub record HaveContentsLog (v : ServicesValue) : Type 0 where
   pub agrees : AgreesService v.contents set log
 
 -- an instance with so many brokers in such a tree, with this hash and this grant, that is born at
--- this second and gives its jobs their priorities by these weights
+-- this second and serves its jobs on these terms
 pub record IsGiven (inst : Instance) (brokers children : ℕ)
-    (digest : Hash) (grant : Resources) (now : ℕ) (weights : Weights) : Type 0 where
-  pub served : IsServedBy inst brokers children grant now weights
+    (digest : Hash) (grant : Resources) (now : ℕ) (terms : Terms) : Type 0 where
+  pub served : IsServedBy inst brokers children grant now terms
   pub hash : inst.service.hash ≡ digest

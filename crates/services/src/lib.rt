@@ -6,7 +6,7 @@
 pub use job_service;
 pub use job_service::{
     answers, fl_digest, idset, job_commands, job_states, kvs_core, kvs_rules, kvs_txn, lists,
-    resource_set, run_limits, tap, workload,
+    manager_rules, resource_set, run_limits, tap, workload,
 };
 
 pub mod laws;

@@ -19,6 +19,7 @@ ghost use Rattle.job_service.specs.Times.{Counts, HasTime, MayPassTo, targets_le
 ghost use Rattle.job_service.specs.job_rules.Fits.{IsGrant};
 ghost use Rattle.job_service.specs.job_states.declared.job.State.{State};
 ghost use Rattle.job_service.specs.kvs_txn.declared.txn.By.{By as Command};
+ghost use Rattle.job_service.specs.manager_rules.Terms.{AreBuilt};
 ghost use Rattle.job_service.specs.manager_rules.Times.{IsIdle};
 ghost use Rattle.job_service.specs.resource_set.Valid.{IsR};
 ghost use Rattle.services.specs.Agrees.{AgreesServices, IsGiven};
@@ -43,7 +44,7 @@ use job_service::kvs_rules::{KvsAnswer, KvsAsk, KvsStep};
 use job_service::kvs_txn::By;
 use job_service::lists::Bytes;
 use job_service::resource_set::Resources;
-use job_service::tap::Weights;
+use job_service::manager_rules::Terms;
 use std::alloc::{AllocError, Global};
 use std::marker::Model;
 
@@ -88,21 +89,22 @@ impl Services {
         setting: Setting,
         grant: &Resources,
         birth: u64,
-        weights: Weights,
+        terms: Terms,
     ) -> Result<Services, CoreFault>
         requires size { (1 ≤ setting.size) × (setting.size ≤ 32) }
         requires fanout { (1 ≤ setting.fanout) × (setting.fanout ≤ 32) }
         requires grant { IsR grant.now }
         requires early { birth + 2000000000 < 2 ^ 64 }
+        requires terms { AreBuilt terms }
         ensures ready { IfOk result (λ v. v.spent ≡ false) }
         ensures size { IfOk result (λ v. v.size ≡ setting.size) }
         ensures start { IfOk result (λ v. (v.jobs.submitted ≡ 0) × (v.jobs.span ≡ 0)) }
         ensures grant { IfOk result (λ v. IsGrant grant.now.nodes) }
         ensures agrees { IfOk result (λ v. (inst : Instance)
-            → IsGiven inst setting.size setting.fanout setting.hash grant.now birth weights
+            → IsGiven inst setting.size setting.fanout setting.hash grant.now birth terms
             → AgreesServices v inst []) }
     {
-        let jobs = JobService::new(alloc, setting, grant, birth, weights)?;
+        let jobs = JobService::new(alloc, setting, grant, birth, terms)?;
         let contents = ContentService::new(alloc, setting.size, setting.fanout, setting.hash)?;
         Ok(Services {
             spent: false,

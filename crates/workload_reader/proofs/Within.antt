@@ -1,5 +1,5 @@
 -- What a text spells keeps to the limits.
-use Rattle.std.proofs.Common.{◌≡◌, ◌<◌, ◌≤◌, ◌&&◌, ℕ, zero, suc, true, false, List, [], ◌∷◌, ◌++◌, length, refl, sym, ap, ap₂, ◌∙◌, subst, arith, true≢false}
+use Rattle.std.proofs.Common.{◌≡◌, ◌<◌, ◌≤◌, ◌&&◌, ◌||◌, Bool, not, ℕ, zero, suc, true, false, List, [], ◌∷◌, ◌++◌, length, refl, sym, ap, ap₂, ◌∙◌, subst, arith, true≢false}
 use Rattle.std.specs.Prelude.{Option, Some, None, All, IfSome, is_none, is_some, nat_le, unwrap_or}
 use Rattle.std.specs.Str.{IsUtf8}
 use Rattle.std.proofs.lemmas.Bool.{leb-false}
@@ -8,7 +8,7 @@ use Rattle.std.proofs.lemmas.List.Elements.{All-nil, All-push, All-weaker}
 use Rattle.std.proofs.lemmas.List.Quantifiers.{position-Some}
 use Rattle.outcomes.specs.Outcomes.{first_of}
 use Rattle.workload.specs.Limits.{most_actors, most_commands}
-use Rattle.workload.specs.Words.{first_word}
+use Rattle.workload.specs.Words.{behind_word, first_word, is_empty}
 use Rattle.workload.specs.Actors.{are_together, home_of, place_of}
 use Rattle.workload.specs.Actors.{is_in_place}
 use Rattle.workload_reader.specs.Verbs.{faults_of, said}
@@ -72,12 +72,18 @@ some_place : (actors : List Actor) (place : Option ℕ) (name : List ℕ) → pl
 some_place actors None name is some = absurd (true≢false (sym some))
 some_place actors (Some i) name is some = (position-Some _ actors i (record { name = []; rank = 0; of = None }) is).0
 
+-- a name that stands there and is known where one stands there
+known_name : (empty known alone : Bool) → not (empty || known) ≡ false → not (not empty && alone) ≡ false → known ≡ true
+known_name true known alone named formed = absurd (true≢false formed)
+known_name false known alone named formed = stands known named
+
 -- a verb that has no fault tells one of the actors
 verb_tells : (work : Workload) (number : ℕ) (tail : List ℕ) (v : Verb) → first_of (faults_of number (said work v tail)) ≡ None
     → TellsKnown (length work.actors) (said work v tail).command
 verb_tells work number tail verb.Tell none =
     some_place work.actors (place_of (first_word tail) work.actors) (first_word tail) refl
-    (stands (is_some (place_of (first_word tail) work.actors)) (none_applies (faults_of number (said work verb.Tell tail)) none).0)
+    (let tests = none_applies (faults_of number (said work verb.Tell tail)) none in
+    known_name (is_empty (first_word tail)) (is_some (place_of (first_word tail) work.actors)) (is_empty (first_word (behind_word tail))) tests.0 tests.1.0)
 verb_tells work number tail v none = tt
 
 -- ---- the limits

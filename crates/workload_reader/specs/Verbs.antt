@@ -148,8 +148,8 @@ one_number made tail = record {
 -- a verb behind which an actor's name stands alone
 abbrev pub one_actor : Workload → (ℕ → Command) → List ℕ → Saying
 one_actor work made tail = record {
-  known = is_some (place_of (first_word tail) work.actors);
-  formed = is_empty (first_word (behind_word tail));
+  known = is_empty (first_word tail) || is_some (place_of (first_word tail) work.actors);
+  formed = not (is_empty (first_word tail)) && is_empty (first_word (behind_word tail));
   numbered = true;
   limits = [];
   command = made (unwrap_or (place_of (first_word tail) work.actors) 0);

@@ -303,6 +303,9 @@ fn tell(work: &Workload, line: u64, tail: &str) -> Result<Command, LineFault>
 {
     let (name, rest) = cut(tail);
     let (more, _) = cut(rest);
+    if name.is_empty() {
+        return Err(LineFault::BadCommand { line });
+    }
     let Some(actor) = place(&work.actors, name) else {
         return Err(LineFault::NoActor { line });
     };

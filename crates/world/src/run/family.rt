@@ -48,7 +48,7 @@ impl World {
         let home = child_home(
             self.alloc,
             self.setting,
-            self.weights,
+            self.terms,
             &self.work,
             origin,
             &grant,

@@ -19,7 +19,7 @@ top_legal set c alive own = record { lives = not_gone (is_gone c top) alive; leg
 
 pub summary-requires : goal.summary-requires
 summary-requires c =
-    let set = setup_of c.args.weights generated_options c.args.work in
+    let set = setup_of c.args.terms generated_options c.args.work in
     let run = c.in_ok-text.ensures.run in
     let chronicle = c.in_ok-text.field-0.ended.chronicle in (
       set,
@@ -29,7 +29,7 @@ summary-requires c =
 
 pub returns-clause-summary : goal.returns-clause-summary
 returns-clause-summary c =
-    let set = setup_of c.args.weights generated_options c.args.work in
+    let set = setup_of c.args.terms generated_options c.args.work in
     let run = c.in_ok-text.ensures.run in
     let chronicle = c.in_ok-text.field-0.ended.chronicle in
     c.in_ok-text-2.ensures set (sym c.in_ok-grant.ensures) refl

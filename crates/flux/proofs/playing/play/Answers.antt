@@ -18,7 +18,7 @@ of_played set settled journal law (Err fault) run valid = tt
 
 pub returns-clause-promises : goal.returns-clause-promises
 returns-clause-promises c =
-    let set = setup_of c.args.weights c.args.options c.args.work in
+    let set = setup_of c.args.terms c.args.options c.args.work in
     let settled = is_settled c.args.options in
     let journal = c.args.options.journal in
     of_played set settled journal

@@ -22,7 +22,7 @@ pub returns-in-Ok-output-clause-run : goal.returns-in-Ok-output-clause-run
 returns-in-Ok-output-clause-run c =
     let w = c.make_steps.new.world in
     let o = c.args.options in
-    let set : w.set ≡ setup_of c.args.weights o c.args.work = c.in-Ok.ensures.set ∙ c.in_ok-world.ensures.set in
+    let set : w.set ≡ setup_of c.args.terms o c.args.work = c.in-Ok.ensures.set ∙ c.in_ok-world.ensures.set in
     let told : c.finish.result.chronicle ≡ w.chronicle = c.finish.ensures.chronicle in
     let whole : IsWholeRun w.set w.chronicle = c.quiet.ensures.whole (c.quiet.ensures.value ∙ c.in-Ok.ensures.closed) in
     record {
@@ -31,12 +31,12 @@ returns-in-Ok-output-clause-run c =
       at_rest = λ calm.
           let there : IsSettledRun w.set w.chronicle = c.in-Ok.ensures.settled (c.in_ok-world.ensures.order ∙ calm_order o.size o.fanout o.hash o.shuffle o.journal calm) in
           subst (λ s. IsSettledRun s c.finish.result.chronicle) set (subst (IsSettledRun w.set) (sym told) there);
-      printed = c.in-Ok-output.ensures c.args.weights
-          ∙ ap₂ (λ work chronicle. output_text o.journal (setup_of c.args.weights o work) chronicle) (c.work.ensures ∙ ap (λ s. s.work) set) (c.chronicle.ensures.value ∙ sym told);
+      printed = c.in-Ok-output.ensures c.args.terms
+          ∙ ap₂ (λ work chronicle. output_text o.journal (setup_of c.args.terms o work) chronicle) (c.work.ensures ∙ ap (λ s. s.work) set) (c.chronicle.ensures.value ∙ sym told);
     }
 
 pub returns-in-Ok-output-clause-valid : goal.returns-in-Ok-output-clause-valid
 returns-in-Ok-output-clause-valid c =
     let w = c.make_steps.new.world in
-    let set : w.set ≡ setup_of c.args.weights c.args.options c.args.work = c.in-Ok.ensures.set ∙ c.in_ok-world.ensures.set in
+    let set : w.set ≡ setup_of c.args.terms c.args.options c.args.work = c.in-Ok.ensures.set ∙ c.in_ok-world.ensures.set in
     subst (λ s. AreValid s c.finish.result.chronicle) set (subst (AreValid w.set) (sym c.finish.ensures.chronicle) c.chronicle.ensures.valid)

@@ -33,7 +33,7 @@ look-requires c =
     let agrees = c.in_ok-born.ensures.agrees g.inst g.log g.agrees.commands in
     let f = born_facts v.commands c.born.new.self v.refused v.second g.inst g.log (facts v g.inst g.log g.agrees) c.args.job agrees in
     let short = short_next v i c.born.new.self (ap (λ w. length w.issued) c.in_ok-born.ensures.adds) in
-    can-look c.self.inside.weights c.born.new.self c.self.inside.manager.book c.self.inside.second c.self.inside.birth g.inst (g.log ++ Born c.args.job ∷ []) agrees g.agrees.kind.valid f.second g.agrees.kind.answer g.agrees.kind.birth g.agrees.kind.grant i.order (is_soon v i) short
+    can-look c.self.inside.terms c.born.new.self c.self.inside.manager.book c.self.inside.second c.self.inside.birth g.inst (g.log ++ Born c.args.job ∷ []) agrees g.agrees.kind.valid f.second g.agrees.kind.terms g.agrees.kind.birth g.agrees.kind.book i.order (is_soon v i) short
     (subst (λ w. AreMarkedBy w c.self.inside.second) (sym c.in_ok-born.ensures.adds) i.marked)
 
 pub invariant_of-self-2 : goal.invariant_of-self-2

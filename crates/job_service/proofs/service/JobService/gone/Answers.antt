@@ -31,7 +31,7 @@ look-requires c =
     let agrees = c.gone.ensures.agrees g.inst g.log g.agrees.commands in
     let f = gone_facts v.commands c.gone.new.self v.refused v.second g.inst g.log (facts v g.inst g.log g.agrees) c.args.job c.args.shut agrees in
     let short = short_next v i c.gone.new.self (ap (λ w. length w.issued) c.gone.ensures.ends) in
-    can-look c.self.inside.weights c.gone.new.self c.self.inside.manager.book c.self.inside.second c.self.inside.birth g.inst (g.log ++ Gone c.args.job c.args.shut ∷ []) agrees g.agrees.kind.valid f.second g.agrees.kind.answer g.agrees.kind.birth g.agrees.kind.grant i.order (is_soon v i) short
+    can-look c.self.inside.terms c.gone.new.self c.self.inside.manager.book c.self.inside.second c.self.inside.birth g.inst (g.log ++ Gone c.args.job c.args.shut ∷ []) agrees g.agrees.kind.valid f.second g.agrees.kind.terms g.agrees.kind.birth g.agrees.kind.book i.order (is_soon v i) short
     (subst (λ w. AreMarkedBy w c.self.inside.second) (sym c.gone.ensures.ends) i.marked)
 
 pub invariant_of-self-2 : goal.invariant_of-self-2

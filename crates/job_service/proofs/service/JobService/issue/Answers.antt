@@ -34,7 +34,7 @@ look-requires c =
     let fault = subst (λ b. IsFaultOf c.self.inside.commands b.jobs c.args.ask c.in_ok-fault.fault) c.book-2.ensures c.in_ok-fault.ensures in
     let f = issued_facts v m.inst m.log m.agrees false c.issue.new.self c.args.by c.args.rank c.args.ask m.new c.keeps.ensures newest c.what_is_lacking_is_so_by_the_log.ensures c.in_ok-fault.fault fault i.order c.in_ok-issue.ensures.agrees in
     let short = short_next v i c.issue.new.self c.in_ok-issue.ensures.size in
-    can-look c.self.inside.weights c.issue.new.self c.self.inside.manager.book c.self.inside.second c.self.inside.birth m.inst (m.log ++ Issued c.args.by ∷ []) f.commands m.agrees.kind.valid f.second m.agrees.kind.answer m.agrees.kind.birth m.agrees.kind.grant i.order (is_soon v i) short (c.in_ok-issue.ensures.marked i.marked)
+    can-look c.self.inside.terms c.issue.new.self c.self.inside.manager.book c.self.inside.second c.self.inside.birth m.inst (m.log ++ Issued c.args.by ∷ []) f.commands m.agrees.kind.valid f.second m.agrees.kind.terms m.agrees.kind.birth m.agrees.kind.book i.order (is_soon v i) short (c.in_ok-issue.ensures.marked i.marked)
 
 pub invariant_of-self-2 : goal.invariant_of-self-2
 invariant_of-self-2 c = λ _.

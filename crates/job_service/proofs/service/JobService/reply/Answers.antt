@@ -28,7 +28,7 @@ look-requires c =
     let t = c.in-Ok.ensures g.inst g.log (subst (λ w. AgreesJobs w g.inst g.log) c.self.view_is g.agrees) in
     let f = replied_facts v g.inst g.log g.agrees false c.reply.new.self c.args.by c.in-Ok.told.reply c.in-Ok.told.number t c.reply.ensures.agrees in
     let short = short_next v i c.reply.new.self (ap length c.reply.ensures.size) in
-    can-look c.self.inside.weights c.reply.new.self c.self.inside.manager.book c.self.inside.second c.self.inside.birth g.inst (g.log ++ Replied c.args.by t.reply c.in-Ok.told.number ∷ []) f.commands g.agrees.kind.valid f.second g.agrees.kind.answer g.agrees.kind.birth g.agrees.kind.grant i.order (is_soon v i) short
+    can-look c.self.inside.terms c.reply.new.self c.self.inside.manager.book c.self.inside.second c.self.inside.birth g.inst (g.log ++ Replied c.args.by t.reply c.in-Ok.told.number ∷ []) f.commands g.agrees.kind.valid f.second g.agrees.kind.terms g.agrees.kind.birth g.agrees.kind.book i.order (is_soon v i) short
     (subst (λ (marks : List Mark). (rank : ℕ) → (mark_at marks rank).second ≤ c.self.inside.second) (sym c.reply.ensures.marks) i.marked)
 
 pub invariant_of-self-2 : goal.invariant_of-self-2

@@ -26,7 +26,7 @@ look-requires c =
     let g = i.agreed in
     let f = ticked_facts c.self.inside.commands c.self.inside.refused.items c.self.inside.second c.args.second g.inst g.log (facts v g.inst g.log g.agrees) in
     let soon = then_soon v i c.args.second may in
-    can-look c.self.inside.weights c.self.inside.commands c.self.inside.manager.book c.args.second c.self.inside.birth g.inst (g.log ++ Ticked c.args.second ∷ []) f.commands g.agrees.kind.valid f.second g.agrees.kind.answer g.agrees.kind.birth g.agrees.kind.grant soon.0 soon.1 (short_next v i c.self.inside.commands refl)
+    can-look c.self.inside.terms c.self.inside.commands c.self.inside.manager.book c.args.second c.self.inside.birth g.inst (g.log ++ Ticked c.args.second ∷ []) f.commands g.agrees.kind.valid f.second g.agrees.kind.terms g.agrees.kind.birth g.agrees.kind.book soon.0 soon.1 (short_next v i c.self.inside.commands refl)
     (λ rank. let a = i.marked rank in let b = may.passes.above in omega (arith, a, b))
 
 pub invariant_of-self-2 : goal.invariant_of-self-2

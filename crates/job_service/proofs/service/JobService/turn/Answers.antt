@@ -15,7 +15,7 @@ use Rattle.job_service.proofs.Calls.{is_soon, respan, turn_agrees, turn_legal, w
 use Rattle.job_service.proofs.Held.{held_landed, held_still}
 use Rattle.job_service.proofs.Issuing.{short_next}
 use Rattle.job_service.proofs.Owing.{can-look}
-use Rattle.job_service.proofs.Turning.{turned_agrees, turned_counted, turned_drawn, turned_facts, turned_grant, turned_judged, turned_legal, turned_marked, turned_posted, turned_size, turned_time, unnumbered_stays}
+use Rattle.job_service.proofs.Turning.{turned_agrees, turned_counted, turned_drawn, turned_facts, turned_book, turned_judged, turned_legal, turned_marked, turned_posted, turned_size, turned_time, unnumbered_stays}
 use Rattle.job_service.proofs.service.JobService.turn.Goals as goal
 
 pub invariant_of-self-in_default : goal.invariant_of-self-in_default
@@ -67,8 +67,8 @@ look-requires c =
     let is_id = c.take.ensures.value ∙ held.submits in
     let f = turned_facts v g.inst g.log g.agrees c.keeps.ensures newest c.turn.new.self c.args.step c.in_ok-events.events e.makes e.follows c.what_is_posted_lands_as_it_is_due.ensures c.in-Some.number numbered c.land.new.commands c.land.new.refused.items c.command_posted-by.result c.take.result c.command_posted-by.ensures is_id i.posted c.in_ok-land.ensures in
     let short = short_next v i c.land.new.commands (ap length (turned_size v g.inst g.log g.agrees c.keeps.ensures newest c.turn.new.self c.args.step c.in_ok-events.events e.makes e.follows c.what_is_posted_lands_as_it_is_due.ensures c.in-Some.number numbered c.land.new.commands c.land.new.refused.items c.command_posted-by.result c.take.result c.command_posted-by.ensures is_id i.posted c.in_ok-land.ensures)) in
-    can-look c.self.inside.weights c.land.new.commands c.turn.new.self.book c.self.inside.second c.self.inside.birth g.inst (g.log ++ map happening c.in_ok-events.events) f.commands g.agrees.kind.valid f.second g.agrees.kind.answer g.agrees.kind.birth
-    (turned_grant v g.inst g.log g.agrees c.keeps.ensures newest c.turn.new.self c.args.step c.in_ok-events.events e.makes e.follows c.what_is_posted_lands_as_it_is_due.ensures c.in-Some.number numbered c.land.new.commands c.land.new.refused.items c.command_posted-by.result c.take.result c.command_posted-by.ensures is_id i.posted c.in_ok-land.ensures ∙ g.agrees.kind.grant) i.order (is_soon v i) short
+    can-look c.self.inside.terms c.land.new.commands c.turn.new.self.book c.self.inside.second c.self.inside.birth g.inst (g.log ++ map happening c.in_ok-events.events) f.commands g.agrees.kind.valid f.second g.agrees.kind.terms g.agrees.kind.birth
+    (turned_book v g.inst g.log g.agrees c.keeps.ensures newest c.turn.new.self c.args.step c.in_ok-events.events e.makes e.follows c.what_is_posted_lands_as_it_is_due.ensures c.in-Some.number numbered c.land.new.commands c.land.new.refused.items c.command_posted-by.result c.take.result c.command_posted-by.ensures is_id i.posted c.in_ok-land.ensures) i.order (is_soon v i) short
     (turned_marked v g.inst g.log g.agrees c.keeps.ensures newest c.turn.new.self c.args.step c.in_ok-events.events e.makes e.follows c.what_is_posted_lands_as_it_is_due.ensures c.in-Some.number numbered c.land.new.commands c.land.new.refused.items c.command_posted-by.result c.take.result c.command_posted-by.ensures is_id i.posted c.in_ok-land.ensures c.self.inside.second i.marked)
 
 pub invariant_of-self-2 : goal.invariant_of-self-2

@@ -12,6 +12,9 @@ use Rattle.kvs_space.specs.Space.{is_named}
 use Rattle.kvs_core.proofs.Heads.{agrees-of, head-of}
 use Rattle.kvs_core.proofs.Looking.{returned-agrees, returned-fewer, returned-sound}
 use Rattle.kvs_core.proofs.Extending.{as-before}
+use Rattle.kvs_core.specs.Turns.{InTurn, is_coming_stage}
+use Rattle.kvs_core.proofs.Turns.{returning-goes, turns-taken}
+use Rattle.kvs_requests.specs.Rows.{with_stage}
 use Rattle.kvs_core.specs.Histories.{history_of}
 use Rattle.kvs_core.proofs.service.Core.give_back.Goals as goal
 
@@ -52,5 +55,7 @@ returns-clause-moves c =
           (returned-fewer s c.args.i within row read c.args.k found back.asked (back.was any) look back.stage (back.goes any) c.send_back.new.rows.items (back.others any)));
       agrees = λ set log a.
           let b = subst (λ v. Agrees v set log) e a in
-          agrees-of (head-of b) (returned-agrees s c.args.i within row read c.args.k found back.asked (back.was any) look back.stage (back.goes any) b c.send_back.new.rows.items (back.others any));
+          agrees-of (head-of b) (returned-agrees s c.args.i within row read c.args.k found back.asked (back.was any) look back.stage (back.goes any) b c.send_back.new.rows.items (back.others any))
+          (λ settled. subst (InTurn b.entered set log c.self.inside.spaces.items) (sym (back.others any))
+          (turns-taken (b.turns settled) b.apart c.args.i within row read (ap is_coming_stage (back.was any)) (with_stage back.stage row) refl (returning-goes c.self.inside.fanout 0 row.broker c.args.k back.asked back.stage (back.goes any)) c.self.inside.spaces.items));
     }

@@ -6,7 +6,7 @@ use Rattle.services.proofs.services.Services.new.Goals as goal
 pub invariant_of-result : goal.invariant_of-result
 invariant_of-result c = λ _.
     let s = c.args.setting in
-    let inst : Instance = plain s.size s.fanout s.hash c.args.grant.now c.args.birth c.args.weights in
+    let inst : Instance = plain s.size s.fanout s.hash c.args.grant.now c.args.birth c.args.terms in
     record {
       jobs = c.in_ok-jobs.ensures.ready;
       contents = c.in_ok-contents.ensures.ready;
@@ -17,7 +17,7 @@ invariant_of-result c = λ _.
         inst = inst;
         log = [];
         fanout = refl;
-        agrees = c.in_ok-jobs.ensures.agrees inst (plain_given s.size s.fanout s.hash c.args.grant.now c.args.birth c.args.weights c.in_ok-jobs.ensures.grant).served;
+        agrees = c.in_ok-jobs.ensures.agrees inst (plain_given s.size s.fanout s.hash c.args.grant.now c.args.birth c.args.terms c.requires.terms c.in_ok-jobs.ensures.grant).served;
       };
       contents_log = record {
         set = inst.service;

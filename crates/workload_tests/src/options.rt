@@ -1,8 +1,8 @@
 //! Words behind `run`, and the options that they spell.
+use fl_digest::Hash;
 use run_options::{Options, read_options};
 use std::alloc::Global;
 use std::test::Fail;
-use world::fl_digest::Hash;
 
 /// The options that stand where no word says else.
 const DEFAULT: Options = Options {

@@ -1,11 +1,11 @@
 //! The faults of texts at their limits, and drawn words.
+use run_limits::MOST_TEXT;
 use std::alloc::Global;
 use std::test::Fail;
+use workload::draws::Draws;
+use workload::limits::{MOST_COMMANDS, MOST_LINE, MOST_VALUE};
 use workload_reader::faults::{LineFault, Which};
 use workload_reader::reader::read;
-use world::run_limits::MOST_TEXT;
-use world::workload::draws::Draws;
-use world::workload::limits::{MOST_COMMANDS, MOST_LINE, MOST_VALUE};
 
 const SIZE: u32 = 4;
 

@@ -1,11 +1,11 @@
 //! Texts of numbers, authors and replies that no run comes to.
+use answers::chronicle::{Chronicle, Entry, Reply};
+use answers::printing::{print_answers, print_journal};
+use kvs_txn::{Author, AuthorNames, By, Cause, Found, Group, Refusal, Txn};
+use lists::{Bytes, ListOf};
 use std::alloc::{AllocError, Global};
 use std::test::Fail;
-use world::answers::chronicle::{Chronicle, Entry, Reply};
-use world::answers::printing::{print_answers, print_journal};
-use world::kvs_txn::{Author, AuthorNames, By, Cause, Found, Group, Refusal, Txn};
-use world::lists::{Bytes, ListOf};
-use world::workload::{Command, Line, Workload};
+use workload::{Command, Line, Workload};
 
 /// A workload with a command line of each of these actors.
 fn lines_of(alloc: Global, actors: &[u32]) -> Result<Workload, AllocError> {
