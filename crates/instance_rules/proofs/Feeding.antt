@@ -1,6 +1,6 @@
 -- Watches are fed all that is new, and what is not asked for does not happen.
-use Rattle.std.proofs.Common.{◌≡◌, ◌≤◌, ℕ, ◌+◌, append-nil, append_assoc, subst, arith, List, [], ◌∷◌, ◌++◌, Bool, ◌&&◌, Option, Some, None, refl, sym, ap, ap₂, ◌∙◌, inl, inr}
-use Rattle.std.specs.Prelude.{◌≢◌, ◌↔◌, filter_map, sum, unwrap_or, if◌then◌else◌, false, true}
+use Rattle.std.proofs.Common.{◌≡◌, ◌≤◌, ℕ, ◌+◌, append-nil, append_assoc, subst, arith, List, [], ◌∷◌, ◌++◌, ◌&&◌, Option, Some, None, refl, sym, ap, ap₂, ◌∙◌, inl, inr}
+use Rattle.std.specs.Prelude.{◌↔◌, filter_map, sum, unwrap_or, if◌then◌else◌, false, true}
 use Rattle.std.specs.List.{cons_option}
 use Rattle.std.proofs.lemmas.Bool.{eq-eqb}
 use Rattle.std.proofs.lemmas.List.Elements.{filter_map-append}
@@ -46,18 +46,18 @@ fed_all inst log by number first count feed = record {
 one : By
 one = record { actor = 1; command = 0 }
 
-other : By
-other = record { actor = 2; command = 0 }
+two : By
+two = record { actor = 2; command = 0 }
 
 feeds : Log
-feeds = Fed one 3 0 2 ∷ Ticked 9 ∷ Fed other 4 0 7 ∷ Fed one 5 2 1 ∷ []
+feeds = Fed one 3 0 2 ∷ Ticked 9 ∷ Fed two 4 0 7 ∷ Fed one 5 2 1 ∷ []
 
 three_events : fed_in_all one feeds ≡ 3
-unfolding one other feeds
+unfolding one two feeds
 three_events = refl
 
 at_the_fifth : last_fed one feeds ≡ Some 5
-unfolding one other feeds
+unfolding one two feeds
 at_the_fifth = refl
 
 -- ---- what is not asked for

@@ -2,7 +2,8 @@
 ghost use Rattle.std.specs.Prelude.{◌≡◌};
 ghost use Rattle.std.specs.Fn.{FnReturnsAt};
 ghost use Rattle.job_spec.specs.Sound.{IsSpec};
-ghost use Rattle.manager_rules.specs.Scene.{Scene, ask_of, cores_of, priority_of};
+ghost use Rattle.manager_rules.specs.Limits.{cores_of};
+ghost use Rattle.manager_rules.specs.Scene.{Scene, ask_of, priority_of};
 ghost use Rattle.tap.specs.Priorities.{AnswersOnce};
 ghost use Rattle.job_deeds.specs.Choices.{SaysAs};
 

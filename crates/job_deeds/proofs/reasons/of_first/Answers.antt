@@ -9,8 +9,8 @@ use Rattle.job_deeds.proofs.reasons.of_first.Goals as goal
 pub returns-in-Units : goal.returns-in-Units
 returns-in-Units c = λ s seen first.
     let graph = c.args.desk.now.graph.now in
-    let fit = subst (λ j. AreFirstFit graph j.spec c.args.desk.now.second c.in-Units._0) c.row.view_is (subst (Answers graph c.row.inside.spec c.args.desk.now.second) c.in-Units.is c.in_ok-fit.ensures) in
-    said_ready c.args.desk.now s seen c.args.row.now c.in-Units._0 first fit
+    let fit = subst (λ j. AreFirstFit graph j.spec c.args.desk.now.second c.in-Units.field-0) c.row.view_is (subst (Answers graph c.row.inside.spec c.args.desk.now.second) c.in-Units.is c.in_ok-fit.ensures) in
+    said_ready c.args.desk.now s seen c.args.row.now c.in-Units.field-0 first fit
 
 pub returns-in-Busy : goal.returns-in-Busy
 returns-in-Busy c = λ s seen first.

@@ -1,4 +1,4 @@
-use Rattle.std.proofs.Common.{◌≡◌, ◌∙◌, ◌∷◌, Some, sym, ap, subst, true≢false}
+use Rattle.std.proofs.Common.{◌≡◌, ◌∙◌, ◌∷◌, sym, ap, subst, true≢false}
 use Rattle.std.specs.Map.{keys_of}
 use Rattle.job_commands.specs.Rows.{job_at}
 use Rattle.job_commands.specs.Shown.{shown}
