@@ -299,7 +299,7 @@ module _ (v : JobServiceValue) (i : IsFit v) (inst : Instance) (log : Log) (a : 
 
           at : (o : Option Row) → row_in v.commands by ≡ o → (is_some (fault_for v.refused by) || option_map_or (is_ready labels v.manager v.second) o false) ≡ false → IsSome (option_and_then (λ row. awaited_by labels jobs row.ask) o) ⊎ IsLeftAdvance l by
           at None e none =
-              let t = asked_as x other (λ label same. a.kind.terms.unwatched by label (asks ∙ ap Some same)) in
+              let t = asked_as x other (λ label same. a.kind.terms.built.unwatched by label (asks ∙ ap Some same)) in
               let row = a.commands.all by t.asked (asks ∙ ap Some (sym t.is)) waits in
               absurd (not_found by v.commands.rows e row.0 row.1 row.2)
           at (Some row) e none =

@@ -43,8 +43,8 @@ use job_service::kvs_core::{Core, CoreFault, Held, KvsEvents, Setting};
 use job_service::kvs_rules::{KvsAnswer, KvsAsk, KvsStep};
 use job_service::kvs_txn::By;
 use job_service::lists::Bytes;
-use job_service::resource_set::Resources;
 use job_service::manager_rules::Terms;
+use job_service::resource_set::Resources;
 use std::alloc::{AllocError, Global};
 use std::marker::Model;
 
