@@ -6,9 +6,9 @@ use Rattle.std.specs.Str.{bytes_eq}
 use Rattle.flux_tools.specs.Tools.{asked}
 use Rattle.run_options.specs.declared.Options.{Options}
 use Rattle.run_options.specs.Words.{options_of}
-use Rattle.flux.specs.declared.generating.Generation.{Generation}
-use Rattle.flux.specs.Generated.{generation_from, generation_of}
-use Rattle.flux.specs.Runs.{run_options}
+use Rattle.flux_commands.specs.declared.drawing.Generation.{Generation}
+use Rattle.flux_commands.specs.Asked.{run_options}
+use Rattle.flux_commands.specs.Drawn.{generation_from, generation_of}
 
 -- a first word that is `run` isn't `gen`
 other_word : (word : List ℕ) → bytes_eq word (codes "run") ≡ true → bytes_eq word (codes "gen") ≡ false

@@ -2,11 +2,13 @@
 use Rattle.std.specs.Prelude.{◌≡◌, ◌⊎◌, ℕ, List, Some, Ok}
 use Rattle.run_options.specs.declared.Options.{Options}
 use Rattle.flux_tools.specs.Tools.{AreToolWords, HasAnswer}
-use Rattle.flux.specs.declared.call.Run.{Run}
-use Rattle.flux.specs.declared.generating.Generation.{Generation}
-use Rattle.flux.specs.Generated.{AreDrawnWords, HasSummary, generation_of}
-use Rattle.flux.specs.Runs.{AreRunWords, HasRun, run_options}
-use Rattle.flux.specs.Sides.{Side}
+use Rattle.flux_commands.specs.declared.faults.Run.{Run}
+use Rattle.flux_commands.specs.declared.drawing.Generation.{Generation}
+use Rattle.flux_commands.specs.Asked.{AreRunWords, run_options}
+use Rattle.flux_commands.specs.Drawn.{AreDrawnWords, generation_of}
+use Rattle.flux_commands.specs.Sides.{Side}
+use Rattle.flux.specs.Generated.{HasSummary}
+use Rattle.flux.specs.Runs.{HasRun}
 use Rattle.world.specs.manager_rules.declared.terms.Terms.{Terms}
 
 -- the words of a command: of a run, of one whose workload is drawn, or of a tool

@@ -1,11 +1,7 @@
 -- What a run promises.
-use Rattle.std.specs.Prelude.{◌≡◌, ◌≢◌, ℕ, List, [], ◌∷◌, Option, Some, None, Bool, not, is_some, codes, if◌then◌else◌}
-use Rattle.std.specs.Str.{bytes_eq}
-use Rattle.std.specs.Io.KnownBytes.{Consumes, IsAtEnd}
+use Rattle.std.specs.Prelude.{ℕ, List, Option, Some, None, Bool, not, is_some}
 use Rattle.run_options.specs.declared.Options.{Options}
-use Rattle.run_options.specs.Words.{options_of}
 use Rattle.world.specs.workload.declared.work.Workload.{Workload}
-use Rattle.workload_reader.specs.Reading.{first_fault, spelled}
 use Rattle.world.specs.answers.Chronicle.{Setup}
 use Rattle.world.specs.declared.order.Schedule.{Schedule}
 use Rattle.world.specs.declared.order.Schedule.TheVariants as schedule
@@ -13,18 +9,10 @@ use Rattle.world.specs.hierarchy.Headline.{IsTrueRun}
 use Rattle.world.specs.hierarchy.Promises.{KeepsItsPromises}
 use Rattle.world.specs.hierarchy.Stretches.{AreRunStretches}
 use Rattle.world.specs.homes.Grant.{first_resources, grant_text}
-use Rattle.flux.specs.declared.call.Run.{Run}
-use Rattle.flux.specs.Sides.{Side}
+use Rattle.flux_commands.specs.declared.faults.Run.{Run}
+use Rattle.flux_commands.specs.Asked.{IsSpelled}
+use Rattle.flux_commands.specs.Sides.{Side}
 use Rattle.world.specs.manager_rules.declared.terms.Terms.{Terms}
-
--- the options of a run of a workload, where the words ask for one
-abbrev pub run_options : List (List ℕ) → Option Options
-run_options [] = None
-run_options (word ∷ words) = if bytes_eq word (codes "run") then options_of words else None
-
--- the words of a run of a workload
-abbrev pub AreRunWords : List (List ℕ) → Type 0
-AreRunWords words = run_options words ≢ None
 
 -- a run makes every step that can be made before the next command is issued, unless its words ask
 -- for a drawn order
@@ -53,18 +41,6 @@ schedule_of o = by o.shuffle
     by : Option ℕ → Schedule
     by None = schedule.Settled
     by (Some seed) = schedule.Shuffled seed
-
--- the workload is what a text spells for so many brokers
-pub record IsWorkOf (size : ℕ) (text : List ℕ) (work : Workload) : Type 0 where
-  pub sound : first_fault size text ≡ None
-  pub means : work ≡ spelled text
-
--- the source was read to its end, and the text that was read is the workload's, for so many brokers
-pub record IsSpelled (size : ℕ) (input : Side) (work : Workload) : Type 0 where
-  pub text : List ℕ
-  pub read : Consumes input.before input.after text
-  pub ended : IsAtEnd input.after
-  pub spelled_so : IsWorkOf size text work
 
 -- the chronicle of the workload keeps what a run promises; it is legal and whole, settled where no
 -- drawn order is asked for, the text prints it, and the steps made tell the whole of it

@@ -3,14 +3,11 @@
 
 mod call;
 mod generating;
-mod notices;
 mod playing;
 mod process;
-mod reading;
 
-pub use call::{Fault, Run, flux};
-pub use generating::Generation;
-pub use notices::notice;
-pub use process::{
-    closing_notice, command_words, exit_code, program, program_terms, run_without_memory,
+pub use call::flux;
+pub use flux_commands::{
+    Fault, Generation, Run, closing_notice, command_words, exit_code, notice, run_without_memory,
 };
+pub use process::{program, program_terms};

@@ -1,7 +1,7 @@
 use Rattle.std.proofs.Common.{◌≡◌, rules, map, string_bytes}
 use Rattle.std.specs.Prelude.{None, Some}
-use Rattle.flux.specs.Generated.{generation_of}
-use Rattle.flux.specs.Runs.{run_options}
+use Rattle.flux_commands.specs.Asked.{run_options}
+use Rattle.flux_commands.specs.Drawn.{generation_of}
 use Rattle.flux.proofs.Apart.{run_draws_nothing, run_is_undrawn}
 use Rattle.flux.proofs.call.flux.Goals as goal
 

@@ -5,7 +5,7 @@ use Rattle.world.specs.answers.declared.chronicle.Entry.{Entry}
 use Rattle.world.specs.hierarchy.Births.{is_gone, lives}
 use Rattle.world.specs.hierarchy.Legal.{AreOwnLegal}
 use Rattle.summaries.specs.Summary.{IsTopLegal}
-use Rattle.flux.specs.Generated.{generated_options}
+use Rattle.flux_commands.specs.Drawn.{generated_options}
 use Rattle.flux.specs.Runs.{setup_of}
 use Rattle.flux.proofs.generating.play_drawn.Goals as goal
 

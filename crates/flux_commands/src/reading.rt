@@ -1,20 +1,38 @@
-//! What the source is read for.
-ghost use Rattle.std.specs.Prelude.{◌≤◌, All, IfOk, IfErr, OnOk};
-ghost use Rattle.world.specs.workload.Laws.{HasOwnLabels, IsBuilt, IsWithin, KeepsTallies};
-ghost use Rattle.flux.specs.Runs.{IsSpelled};
-ghost use Rattle.flux.specs.Sides.{side, FailsAt, IsSteady};
-ghost use Rattle.flux.specs.Faults.{HasReadCause, status_of};
+//! What a run is asked for and reads.
+ghost use Rattle.std.specs.Prelude.{◌≡◌, ◌≤◌, map, string_bytes, All, IfOk, IfErr, IfSome, OnOk};
+ghost use Rattle.run_options.specs.Given.{AreWithin};
+ghost use Rattle.workload.specs.Laws.{HasOwnLabels, IsBuilt, IsWithin, KeepsTallies};
+ghost use Rattle.flux_commands.specs.Asked.{IsSpelled, run_options};
+ghost use Rattle.flux_commands.specs.Sides.{side, FailsAt, IsSteady};
+ghost use Rattle.flux_commands.specs.Faults.{HasReadCause, status_of};
 
-use crate::call::Fault;
+use crate::faults::Fault;
 use outside::{ReadFault, Source, read_all};
-use std::alloc::Global;
+use run_limits::MOST_TEXT;
+use run_options::{Options, read_options};
+use std::alloc::{AllocError, Global};
+use workload::Workload;
 use workload_reader::laws::{
     spelled_commands_are_built, spelled_labels_are_their_own, spelled_tallies_are_kept,
     spelled_workloads_are_within,
 };
 use workload_reader::{LineFault, read};
-use world::run_limits::MOST_TEXT;
-use world::workload::Workload;
+
+/// The options of a run, where the words are a run's.
+pub fn options_of_run(alloc: Global, words: &[String]) -> Result<Option<Options>, AllocError>
+    ensures value { IfOk result (λ options.
+        options ≡ run_options (map string_bytes words.now)) }
+    ensures within { IfOk result (λ options. IfSome options AreWithin) }
+{
+    match words {
+        [word, options @ ..] => if word.as_str() == "run" {
+            read_options(alloc, options)
+        } else {
+            Ok(None)
+        },
+        [] => Ok(None),
+    }
+}
 
 /// Reads the source to its end, for the workload that it spells for so many brokers. A text of more
 /// than 16 MiB is refused at the first byte past them.

@@ -1,6 +1,6 @@
 use Rattle.std.proofs.Common.{inr, refl}
-use Rattle.flux.proofs.TooLong.{too_long}
-use Rattle.flux.proofs.reading.read_work.Goals as goal
+use Rattle.flux_commands.proofs.TooLong.{too_long}
+use Rattle.flux_commands.proofs.reading.read_work.Goals as goal
 
 pub returns-in-Err-TooLong-clause-cause : goal.returns-in-Err-TooLong-clause-cause
 returns-in-Err-TooLong-clause-cause g c =

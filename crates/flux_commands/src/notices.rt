@@ -1,8 +1,8 @@
 //! What the program says of a fault.
 ghost use Rattle.std.specs.Prelude.{◌≡◌, IfOk, string_bytes};
-ghost use Rattle.flux.specs.Notices.{notice_text};
+ghost use Rattle.flux_commands.specs.Notices.{notice_text};
 
-use crate::call::Fault;
+use crate::faults::Fault;
 use std::alloc::{AllocError, Global};
 
 /// The notice of a fault, for standard error.

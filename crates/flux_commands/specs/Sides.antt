@@ -2,7 +2,7 @@
 use Rattle.std.specs.Prelude.{◌≡◌, ◌≢◌, ℕ, ◌⊎◌, ◌+◌, List, Option, length}
 use Rattle.std.specs.Io.KnownBytes.{Consumes, Appends, IsAtEnd}
 use Rattle.outside.specs.Causes.{Rose}
-use Rattle.world.specs.run_limits.Limits.{most_text}
+use Rattle.run_limits.specs.Limits.{most_text}
 
 -- the bytes that a source has left or a sink holds, where they are told, and the count of its
 -- faults

@@ -1,10 +1,10 @@
 -- A text that goes on past the limit.
 use Rattle.std.proofs.Common.{◌≡◌, ℕ, ◌+◌, List, length, ap, arith, Some, cond, not}
 use Rattle.std.proofs.lemmas.Bool.{lt-ltb}
-use Rattle.world.specs.run_limits.Limits.{most_text}
+use Rattle.run_limits.specs.Limits.{most_text}
 use Rattle.std.specs.Str.{is_utf8}
 use Rattle.workload_reader.specs.Lines.{lines_of}
-use Rattle.world.specs.workload.Laws.{empty}
+use Rattle.workload.specs.Laws.{empty}
 use Rattle.workload_reader.specs.Reading.{first_fault, fault_in}
 use Rattle.workload_reader.specs.declared.faults.LineFault.TheVariants as line_fault
 

@@ -3,11 +3,11 @@ use Rattle.std.specs.Prelude.{◌≡◌, ◌⊎◌, ℕ, ◌<◌, List, Some, le
 use Rattle.std.specs.Io.KnownBytes.{Appends}
 use Rattle.workload_reader.specs.declared.faults.LineFault.{LineFault}
 use Rattle.workload_reader.specs.Reading.{first_fault}
-use Rattle.flux.specs.declared.call.Fault.{Fault}
-use Rattle.flux.specs.declared.call.Fault.TheVariants as fault
+use Rattle.flux_commands.specs.declared.faults.Fault.{Fault}
+use Rattle.flux_commands.specs.declared.faults.Fault.TheVariants as fault
 use Rattle.run_options.specs.declared.Options.{Options}
-use Rattle.flux.specs.Runs.{run_options}
-use Rattle.flux.specs.Sides.{Side, HasFailed, IsRead, IsWritten}
+use Rattle.flux_commands.specs.Asked.{run_options}
+use Rattle.flux_commands.specs.Sides.{Side, HasFailed, IsRead, IsWritten}
 use Rattle.flux_tools.specs.Tools.{IsRefused as RefusesTool}
 
 -- the status that a run with this fault ends with

@@ -2,9 +2,9 @@
 use Rattle.std.specs.Prelude.{ℕ, ◌==◌, List, Option, Some, None, codes, if◌then◌else◌}
 use Rattle.workload_reader.specs.Faults.{fault_text as line_text}
 use Rattle.flux_tools.specs.Notices.{fault_text as tool_text}
-use Rattle.flux.specs.declared.call.Fault.{Fault}
-use Rattle.flux.specs.declared.call.Fault.TheVariants as fault
-use Rattle.flux.specs.declared.call.Run.{Run}
+use Rattle.flux_commands.specs.declared.faults.Fault.{Fault}
+use Rattle.flux_commands.specs.declared.faults.Fault.TheVariants as fault
+use Rattle.flux_commands.specs.declared.faults.Run.{Run}
 
 abbrev pub notice_text : Fault → List ℕ
 notice_text fault.Nothing = codes "done"

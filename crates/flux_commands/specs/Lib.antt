@@ -1,0 +1,5 @@
+pub mod Sides
+pub mod Asked
+pub mod Drawn
+pub mod Faults
+pub mod Notices
