@@ -67,7 +67,7 @@ no_job e = cc
 unread : HasSettled (given reading) (entry.Issued 0 0 ∷ []) → ⊥
 unread h = elim (h.waits first (refl, refl)) [
   | inl r ↦ no_read (setting_of (given reading)) (service_of (log_in reading (entry.Issued 0 0 ∷ []))) r.request r.asks r.left
-  | inr other ↦ elim other [ inl a ↦ no_job a.asks | inr r ↦ no_job r.1.asks ]
+  | inr other ↦ elim other [ inl a ↦ no_job a.asks | inr r ↦ elim r.1.asks [ inl e ↦ no_job e | inr e ↦ no_job e.0 ] ]
 ]
 
 -- so a settled chronicle replies to it before the next issue, and tells of no later landing
@@ -86,7 +86,7 @@ asking = record {
 unasked : HasSettled (given asking) (entry.Issued 0 0 ∷ []) → ⊥
 unasked h = elim (h.waits first (refl, refl)) [
   | inl r ↦ no_request r.asks
-  | inr other ↦ elim other [ inl a ↦ no_advance a.asks | inr r ↦ no_result r.1.asks ]
+  | inr other ↦ elim other [ inl a ↦ no_advance a.asks | inr r ↦ elim r.1.asks [ inl e ↦ no_result e | inr e ↦ no_watch e.0 ] ]
 ]
   where
     no_request : {r : Request} → ◌≡◌ {A = Option Request} None (Some r) → ⊥
@@ -97,6 +97,9 @@ unasked h = elim (h.waits first (refl, refl)) [
 
     no_result : {label : List ℕ} → ◌≡◌ {A = Option JobAsk} (Some (rules.StateOf (codes "j"))) (Some (rules.ResultOf label)) → ⊥
     no_result e = cc
+
+    no_watch : {label : List ℕ} → ◌≡◌ {A = Option JobAsk} (Some (rules.StateOf (codes "j"))) (Some (rules.Watch label)) → ⊥
+    no_watch e = cc
 
 -- no tick comes before its reply
 no_early_tick : (second : ℕ) (more : List Entry) → IsSettled (given asking) (entry.Issued 0 0 ∷ entry.Ticked second ∷ more) → ⊥
@@ -144,7 +147,7 @@ not_left r e left =
 unfenced : HasSettled (given fencing) both_open → ⊥
 unfenced h = elim (h.waits second (refl, refl)) [
   | inl r ↦ not_left r.request r.asks r.left
-  | inr other ↦ elim other [ inl a ↦ no_job a.asks | inr r ↦ no_job r.1.asks ]
+  | inr other ↦ elim other [ inl a ↦ no_job a.asks | inr r ↦ elim r.1.asks [ inl e ↦ no_job e | inr e ↦ no_job e.0 ] ]
 ]
 
 -- so no two members of one count make a fence while the first one waits with another
@@ -164,7 +167,7 @@ joins : (work : Workload) (by : By) (count : ℕ) → request_of work by ≡ Som
     → IsPending by (log_of work top both_open) → IsMember (setting_of (given work)) (log_of work top both_open) primary fence count by
 joins work by count made waits = (waits, (no_ops by.actor, record { request = record { broker = 0; namespace = primary; ask = ask.Fence fence count (no_ops by.actor) }; made = made; inside = refl; asked = refl }))
 
-three_or_one : 3 ≡ 1 → ⊥
+three_or_one : ◌≡◌ {A = ℕ} 3 1 → ⊥
 three_or_one e = absurd (omega (arith, e))
 
 -- it doesn't land past the first one's member
