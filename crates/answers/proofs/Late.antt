@@ -67,7 +67,7 @@ no_job e = cc
 unread : HasSettled (given reading) (entry.Issued 0 0 ∷ []) → ⊥
 unread h = elim (h.waits first (refl, refl)) [
   | inl r ↦ no_read (setting_of (given reading)) (service_of (log_in reading (entry.Issued 0 0 ∷ []))) r.request r.asks r.left
-  | inr other ↦ elim other [ inl a ↦ no_job a.asks | inr r ↦ elim r.1.asks [ inl e ↦ no_job e | inr w ↦ no_job w.0 ] ]
+  | inr other ↦ elim other [ inl a ↦ no_job a.asks | inr r ↦ elim r.1.asks [ inl e ↦ no_job e | inr e ↦ no_job e.0 ] ]
 ]
 
 -- so a settled chronicle replies to it before the next issue, and tells of no later landing
@@ -86,7 +86,7 @@ asking = record {
 unasked : HasSettled (given asking) (entry.Issued 0 0 ∷ []) → ⊥
 unasked h = elim (h.waits first (refl, refl)) [
   | inl r ↦ no_request r.asks
-  | inr other ↦ elim other [ inl a ↦ no_advance a.asks | inr r ↦ elim r.1.asks [ inl e ↦ no_result e | inr w ↦ no_watch w.0 ] ]
+  | inr other ↦ elim other [ inl a ↦ no_advance a.asks | inr r ↦ elim r.1.asks [ inl e ↦ no_result e | inr e ↦ no_watch e.0 ] ]
 ]
   where
     no_request : {r : Request} → ◌≡◌ {A = Option Request} None (Some r) → ⊥
@@ -147,7 +147,7 @@ not_left r e left =
 unfenced : HasSettled (given fencing) both_open → ⊥
 unfenced h = elim (h.waits second (refl, refl)) [
   | inl r ↦ not_left r.request r.asks r.left
-  | inr other ↦ elim other [ inl a ↦ no_job a.asks | inr r ↦ elim r.1.asks [ inl e ↦ no_job e | inr w ↦ no_job w.0 ] ]
+  | inr other ↦ elim other [ inl a ↦ no_job a.asks | inr r ↦ elim r.1.asks [ inl e ↦ no_job e | inr e ↦ no_job e.0 ] ]
 ]
 
 -- so no two members of one count make a fence while the first one waits with another
