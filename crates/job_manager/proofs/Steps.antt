@@ -24,6 +24,7 @@ use Rattle.manager_rules.specs.Posts.{Desk, Does, IsDesk, IsDuePost, Post, Submi
 use Rattle.manager_rules.specs.Sound.{IsSoundStore}
 use Rattle.manager_rules.proofs.Others.{first_jobs}
 use Rattle.manager_rules.proofs.Taking.{first_only}
+use Rattle.manager_rules.specs.declared.policy.Policy.{Policy}
 use Rattle.job_manager.specs.Follows.{after_post}
 use Rattle.job_manager.specs.Managed.{IsManaged, IsOutstanding, WasDuePost}
 use Rattle.job_manager.specs.Posts.{command_of}
@@ -32,9 +33,9 @@ use Rattle.job_manager.proofs.Landing.{Stands, after-behind, post-through, users
 
 -- ---- at the beginning
 
-pub begins : (v : CoreValue) (book : BookValue) (grant : Resources) (text : List ℕ) → v.spent ≡ false → newest_of v ≡ first_store text → posted v ≡ [] → book ≡ record { grant = grant; jobs = [] } → IsKept book → IsStore (first_store text) → (spent : Bool)
+pub begins : (v : CoreValue) (book : BookValue) (grant : Resources) (policy : Policy) (text : List ℕ) → v.spent ≡ false → newest_of v ≡ first_store text → posted v ≡ [] → book ≡ record { grant = grant; policy = policy; jobs = [] } → IsKept book → IsStore (first_store text) → (spent : Bool)
     → IsManaged (record { spent = spent; core = v; book = book; posted = None })
-begins v book grant text ready newest none is kept store spent =
+begins v book grant policy text ready newest none is kept store spent =
     let jobs : AreJobsOf (newest_of v) book.jobs = subst (λ st. AreJobsOf st book.jobs) (sym newest) (subst (λ b. AreJobsOf (first_store text) b.jobs) (sym is) (first_jobs text)) in
     record {
       ready = ready;

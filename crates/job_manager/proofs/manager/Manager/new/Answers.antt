@@ -4,7 +4,7 @@ use Rattle.job_manager.proofs.manager.Manager.new.Goals as goal
 
 pub invariant_of-result : goal.invariant_of-result
 invariant_of-result c = λ _.
-    begins c.in_ok-core.core c.in_ok-book.book c.args.grant.now _ c.in_ok-core.ensures.ready c.in_ok-core.ensures.newest c.in_ok-core.ensures.posted c.in_ok-book.ensures c.keeps.ensures (c.stores_stay_stores.ensures.first _) false
+    begins c.in_ok-core.core c.in_ok-book.book c.args.grant.now c.args.policy _ c.in_ok-core.ensures.ready c.in_ok-core.ensures.newest c.in_ok-core.ensures.posted c.in_ok-book.ensures c.keeps.ensures (c.stores_stay_stores.ensures.first _) false
 
 pub returns-clause-agrees : goal.returns-clause-agrees
 returns-clause-agrees c = λ set size fanout grant. c.in_ok-core.ensures.agrees set size fanout (grant ∙ sym (c.from_vec-text.ensures ∙ c.in_ok-print.ensures.canonical))
