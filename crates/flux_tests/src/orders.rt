@@ -86,7 +86,7 @@ fn is_begun_once(world: &mut World) -> Result<bool, Fail>
 
 /// The same of a world that begins.
 fn knows_its_start(alloc: Global) -> Result<bool, Fail> {
-    let mut world = begin(alloc, WORK)?;
+    let mut world = begin(alloc, WORK, Schedule::Settled)?;
     let known = is_begun_once(&mut world);
     drop(world);
     known
