@@ -71,7 +71,7 @@ since_kept by P log m h = record {
 }
 
 finds_kept : (inst : Instance) (log : Log) (m : Moment) (by : By) (a : JobAsk) → FindsNoJob inst log by a None → FindsNoJob inst (log ++ m ∷ []) by a None
-finds_kept inst log m by (Submit label urgency named text) h = (h.0, (h.1.0, h.1.1, since_kept by (LacksJob inst h.1.0 named) log m h.1.2))
+finds_kept inst log m by (Submit label urgency named text) h = (h.0, (h.1.0, h.1.1, h.1.2, since_kept by (LacksJob inst h.1.0 named) log m h.1.3))
 finds_kept inst log m by _ h = absurd h.2
 
 legal_kept : (inst : Instance) (log : Log) (m : Moment) (by : By) (f : Fault) → replies_now by m ≡ false → decides_now by m ≡ false → IsLegalReply inst log by (reply_to f) None → IsLegalReply inst (log ++ m ∷ []) by (reply_to f) None
