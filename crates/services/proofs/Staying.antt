@@ -122,7 +122,7 @@ module _ (stays : CoreStays) (v : JobServiceValue) (inst : Instance) where
     core = subst (Agrees v.manager.core inst.service) (sym (served_is log m)) (stays v.manager.core inst.service (service_of log) m a.core legal own);
     legal = subst (IsLegalLog inst.service) (sym (served_is log m)) (legal_joined inst.service [] (service_of log) (m ∷ []) a.legal (legal, tt));
     commands = beside_agrees v.commands inst log (Served m) beside (λ job. refl) a.commands;
-    second = latest_push ticked inst.birth log (Served m) ∙ a.second;
+    second = latest_push ticked inst.start log (Served m) ∙ a.second;
     owes = subst (Owes v.manager.posted v.found) (sym (desk_same v.commands inst log m v.manager.book.jobs)) a.owes;
     labelled = a.labelled;
     refused = λ r c.
