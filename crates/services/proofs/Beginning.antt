@@ -1,5 +1,5 @@
 -- An instance without job commands, at its birth.
-use Rattle.std.proofs.Common.{ℕ, None, false, refl, true≢false, sym, arith}
+use Rattle.std.proofs.Common.{ℕ, None, refl, false, true≢false, sym, arith}
 use Rattle.job_service.specs.fl_digest.declared.Hash.{Hash}
 use Rattle.job_service.specs.instance_rules.Log.{Instance}
 use Rattle.job_service.specs.job_rules.Fits.{IsGrant}
