@@ -106,7 +106,8 @@ fn follow(book: &mut Book, post: Post) -> Result<(), AllocError>
 }
 
 impl Manager {
-    /// A manager of a grant by this policy, before anything has happened. The first store has the grant's text.
+    /// A manager of a grant by this policy, before anything has happened. The first store has the
+    /// grant's text.
     pub fn new(
         alloc: Global,
         setting: Setting,
