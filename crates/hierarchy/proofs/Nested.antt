@@ -184,6 +184,13 @@ pub begun_number : (e : Entry) (i k : ℕ) → begins i e ≡ true → begins k 
 begun_number (entry.Born child parent job label second grant) i k h g = sym (eqb-true child i h) ∙ eqb-true child k g
 begun_number _ i k h g = absurd (true≢false (sym h))
 
+-- only a birth is told as one
+no_birth : {A : Type 0} {b : Birth} → ◌≡◌ {A = Option Birth} None (Some b) → A
+no_birth e = cc
+
+same_birth : {b d : Birth} → Some b ≡ Some d → b ≡ d
+same_birth e = cc
+
 birth_before : (c more : List Entry) (i : ℕ) (b : Birth) → is_born c i ≡ true → birth_of (c ++ more) i ≡ Some b → birth_of c i ≡ Some b
 birth_before c more i b was is = sym (birth_kept c more i was) ∙ is
 
@@ -222,10 +229,10 @@ module _ (set : Setup) where
     where
       of_born : (xs : List Entry) (e : Entry) → IsLegalRunEntry set xs e → (i : ℕ) (b : Birth) → birth_in e ≡ Some b → lives (xs ++ e ∷ []) b.parent ≡ true
       of_born xs (entry.Born child parent job label second grant) l i b is =
-          let same : parent ≡ b.parent = cc in
+          let same : parent ≡ b.parent = ap (λ d. d.parent) (same_birth is) in
           subst (λ n. lives (xs ++ entry.Born child parent job label second grant ∷ []) n ≡ true) same
           (lives_on xs (entry.Born child parent job label second grant) parent (member_lives set xs l.grounds.due.living parent l.grounds.due.lives l.grounds.due.named) refl)
-      of_born xs _ l i b is = cc
+      of_born xs _ l i b is = no_birth is
 
   parents_live : (c : List Entry) → IsLegalRun set c → ParentsLive c
   unfolding ParentsLive
@@ -486,25 +493,25 @@ module _ (set : Setup) where
   born_nested xs (entry.Born child parent job label second grant) l i b is =
       let e : Entry = entry.Born child parent job label second grant in
       let there = bearer_lives set xs child parent job label second grant l.grounds in
-      let at : parent ≡ b.parent = cc in
-      let same_job : b.job ≡ job = cc in
-      let same_grant : b.grant ≡ grant = cc in
+      let at : parent ≡ b.parent = ap (λ d. d.parent) (same_birth is) in
+      let same_job : b.job ≡ job = sym (ap (λ d. d.job) (same_birth is)) in
+      let same_grant : b.grant ≡ grant = sym (ap (λ d. d.grant) (same_birth is)) in
       let o : own_entry set.work.actors (label_of xs parent) parent e ≡ Some (entry.Born child top job label second grant) = ap (λ t. only_if t (entry.Born child top job label second grant)) (eq-eqb parent parent refl) in
       subst (λ p. NestedIn (setup_in set (xs ++ e ∷ []) p) (own_of set (xs ++ e ∷ []) p) b) at
       (subst (λ s. NestedIn s (own_of set (xs ++ e ∷ []) parent) b) (sym (setup_kept set xs (e ∷ []) parent (alive xs parent there).0))
       (subst (λ own. NestedIn (setup_in set xs parent) own b) (sym (own_push set xs e parent there refl ∙ ap (λ o. own_of set xs parent ++ cons_option o []) o))
       (nested_birth set xs child parent job label second grant l.grounds b same_job same_grant)))
-  born_nested xs _ l i b is = cc
+  born_nested xs _ l i b is = no_birth is
 
   -- it is the only one of its job
   born_only : (xs : List Entry) (e : Entry) → IsLegalRunEntry set xs e → (b d : Birth) → birth_in e ≡ Some d → b.parent ≡ d.parent → b.job ≡ d.job → NestedAt xs b → ⊥
   unfolding NestedAt
   born_only xs (entry.Born child parent job label second grant) l b d is same_parent same_job n =
-      let at : b.parent ≡ parent = same_parent ∙ (let p : d.parent ≡ parent = cc in p) in
-      let one : b.job ≡ job = same_job ∙ (let p : d.job ≡ job = cc in p) in
+      let at : b.parent ≡ parent = same_parent ∙ sym (ap (λ d. d.parent) (same_birth is)) in
+      let one : b.job ≡ job = same_job ∙ sym (ap (λ d. d.job) (same_birth is)) in
       bears_first set xs child parent job label second grant l.grounds
       (subst (λ p. ChildLives (setup_in set xs p).work (own_of set xs p) job) at (subst (ChildLives (setup_in set xs b.parent).work (own_of set xs b.parent)) one n.child))
-  born_only xs _ l b d is same_parent same_job n = cc
+  born_only xs _ l b d is same_parent same_job n = no_birth is
 
   step : (xs : List Entry) (e : Entry) → EachAfter (IsLegalRunEntry set) [] xs → IsLegalRunEntry set xs e → AreApart xs → AreApart (xs ++ e ∷ [])
   step xs e run l old = record {
