@@ -1,6 +1,7 @@
 use Rattle.std.proofs.Common.{◌≡◌, ◌∙◌, ◌<◌, ◌^◌, ◌++◌, false, true, ap, arith, get_or, length, subst, sym}
 use Rattle.std.specs.Prelude.{filter_map, slice_set}
 use Rattle.std.proofs.lemmas.List.{with_items_is}
+use Rattle.std.proofs.lemmas.Option.{slice_get_within}
 use Rattle.instance.specs.answers.declared.steps.Step.TheVariants as step
 use Rattle.hierarchy.specs.Inside.{marked_below}
 use Rattle.instance.specs.Family.{may_end}
@@ -31,6 +32,29 @@ tell_ends-requires c =
     let runs : v.closed ≡ false = ap (λ v. v.closed) c.self.view_is ∙ c.requires.can.0 in
     let long : length c.deref-3.result.now ≡ length v.homes = ap length c.deref-3.ensures.value ∙ c.in_ok-marks.ensures.all ∙ ap length c.deref.ensures.value in
     subst (λ n. n < 2 ^ 32) (sym long) (h.runs runs).homes.few
+
+pub overflow_cast-parent : goal.overflow_cast-parent
+overflow_cast-parent c =
+    let v = value_of c.self.inside in
+    let h : IsSound v = c.self.invariant (ap (λ v. v.spent) c.self.view_is ∙ c.requires.ready) in
+    let runs : v.closed ≡ false = ap (λ v. v.closed) c.self.view_is ∙ c.requires.can.0 in
+    let can : can_make v (step.End c.args.number) ≡ true = ap (λ v. can_make v (step.End c.args.number)) c.self.view_is ∙ c.requires.can.1 in
+    let o = c.in-Some.origin in
+    let l = leaves v h runs c.args.number c.index-home.result.now o can c.index-home.ensures c.in-Some.is in
+    let within = slice_get_within v.homes o.parent l.may.p l.may.bearer in
+    let few = (h.runs runs).homes.few in
+    omega (arith, within, few)
+
+pub index_mut-requires : goal.index_mut-requires
+index_mut-requires c =
+    let v = value_of c.self.inside in
+    let h : IsSound v = c.self.invariant (ap (λ v. v.spent) c.self.view_is ∙ c.requires.ready) in
+    let runs : v.closed ≡ false = ap (λ v. v.closed) c.self.view_is ∙ c.requires.can.0 in
+    let can : can_make v (step.End c.args.number) ≡ true = ap (λ v. can_make v (step.End c.args.number)) c.self.view_is ∙ c.requires.can.1 in
+    let o = c.in-Some.origin in
+    let l = leaves v h runs c.args.number c.index-home.result.now o can c.index-home.ensures c.in-Some.is in
+    let within = slice_get_within v.homes o.parent l.may.p l.may.bearer in
+    omega (arith, within, c.self.inside.homes.ok.0)
 
 pub release-requires-clause-ready : goal.release-requires-clause-ready
 release-requires-clause-ready c =
