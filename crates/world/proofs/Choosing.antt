@@ -1,15 +1,16 @@
 -- The step of a number can be made.
-use Rattle.std.proofs.Common.{◌≡◌, ◌∙◌, ℕ, List, [], ◌++◌, false, true, get_or, refl, sym, ap, append_assoc, arith}
+use Rattle.std.proofs.Common.{◌≡◌, ◌∙◌, ℕ, List, [], ◌++◌, false, true, get_or, refl, sym, ap, append_assoc, arith, subst}
 use Rattle.std.specs.Prelude.{Contains, IfOk, Result, Ok, Err}
 use Rattle.std.proofs.lemmas.List.{nil_from_length}
 use Rattle.std.proofs.lemmas.Option.{slice_get-get_or}
 use Rattle.instance.specs.kvs_core.Walk.{nth}
 use Rattle.instance.specs.answers.declared.steps.Step.{Step}
 use Rattle.instance.specs.answers.declared.steps.Step.TheVariants as step
+use Rattle.instance.specs.answers.Chronicle.{Setup}
 use Rattle.homes.specs.Homes.{ListTurns}
 use Rattle.world.specs.Choice.{behind, is_settled}
 use Rattle.world.specs.Order.{before_end, steps_of}
-use Rattle.world.specs.Sound.{IsRunning}
+use Rattle.world.specs.Sound.{IsRunning, IsSound}
 use Rattle.world.specs.Steps.{CanMake, can_make}
 use Rattle.world.specs.Value.{WorldValue}
 use Rattle.world.specs.Walks.{by_instances, by_the_run}
@@ -65,3 +66,14 @@ none_listed v left e = nil_from_length (before_end v) (let all = lengthy (before
 pub behind_settled : (o : Order) → is_settled (behind o) ≡ is_settled o
 behind_settled order.Settled = refl
 behind_settled (order.Shuffled draws word) = refl
+
+-- nothing that holds between the steps reads the order
+pub reordered : (v : WorldValue) (s : Setup) (o : Order) → s ≡ v.set → IsSound v → IsSound (record v { set = s; order = o })
+reordered v s o same sound = subst (λ x. IsSound (record v { set = x; order = o })) (sym same) (record {
+  run = sound.run;
+  legal = sound.legal;
+  valid = sound.valid;
+  stretches = sound.stretches;
+  runs = λ closed. (let r = sound.runs closed in record { on = r.on; homes = r.homes; places = r.places });
+  ended = sound.ended;
+})
