@@ -4,6 +4,7 @@ use Rattle.run_options.specs.declared.Options.{Options}
 use Rattle.world.specs.answers.Chronicle.{Setup}
 use Rattle.world.specs.fl_digest.declared.Hash.{Hash}
 use Rattle.world.specs.Choice.{is_settled as is_settled_order, order_of}
+use Rattle.world.specs.declared.order.Schedule.{Schedule}
 use Rattle.flux.specs.Runs.{is_settled, schedule_of, setup_of}
 use Rattle.flux.proofs.playing.begun.Goals as goal
 
@@ -19,4 +20,5 @@ returns-clause-set c =
     let o = c.args.options in
     let given : Setup = setup_of c.args.terms o c.args.work in
     IfOk-weaker c.new.result _ (λ world. world.set ≡ setup_of c.args.terms o c.args.work)
-    (λ world is. is ∙ ap (λ (b : Bool). (let s : Setup = record given { settled = b } in s)) (settled_so o.size o.fanout o.hash o.shuffle o.journal)) c.new.ensures.set
+    (λ world is. is ∙ ap (λ (b : Bool). (let s : Setup = record given { settled = b } in s))
+    (ap (λ (how : Schedule). is_settled_order (order_of how)) c.schedule_of.ensures ∙ settled_so o.size o.fanout o.hash o.shuffle o.journal)) c.new.ensures.set
