@@ -18,3 +18,4 @@ pub mod Taking
 pub mod Rules
 pub mod Reserving
 pub mod Plain
+mod Passing
