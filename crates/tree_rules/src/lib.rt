@@ -10,7 +10,10 @@ ghost use Rattle.fl_digest.specs.declared.Hash.{Hash};
 ghost use Rattle.kvs_txn.specs.declared.answers.Query.{Query};
 ghost use Rattle.kvs_model.specs.Store.{Name, Path, Store, Directory, Value, IsStore, node_at, is_within};
 ghost use Rattle.tree_rules.specs.Texts.{is_long, objects, objects_in, stored_at, directory_text, blobs, IsOfBlob};
+ghost use Rattle.kvs_model.specs.Walk.{Family};
+ghost use Rattle.kvs_model.specs.OneStore.{HasOwnLinks};
 ghost use Rattle.tree_rules.specs.Needs.{needs};
+ghost use Rattle.tree_rules.specs.OneStore.{own_needs};
 ghost use Rattle.tree_rules.specs.Held.{Table, Keeps, IsRootOf};
 ghost use Rattle.tree_rules.specs.Names.{name_cmp};
 
@@ -40,10 +43,20 @@ pub fn what_stands_by_reference_is_a_blob()
         → Contains (blobs hash st) bytes }
 {}
 
-/// All that a walk needs are blobs of the store.
+/// All that a walk needs are blobs of stores of its family.
 pub fn a_walk_needs_blobs()
-    ensures { (hash : Hash) (st : Store) (asked : Query) (path : Path) (reference : BlobRef)
-        → Contains (needs hash st asked path) reference → IsOfBlob hash st reference }
+    ensures { (hash : Hash) (family : Family) (space : Name) (asked : Query) (path : Path)
+        (reference : BlobRef) → Contains (needs hash family space asked path) reference
+        → (name : Name) × (st : Store) × (family name ≡ Some st) × IsOfBlob hash st reference }
+{}
+
+/// Where no link of a store names a namespace, its walks need its blobs alone.
+pub fn own_links_need_their_store()
+    ensures needs { (hash : Hash) (family : Family) (space : Name) (st : Store) (asked : Query)
+        (path : Path) → family space ≡ Some st → HasOwnLinks st
+        → needs hash family space asked path ≡ own_needs hash st asked path }
+    ensures blobs { (hash : Hash) (st : Store) (asked : Query) (path : Path) (reference : BlobRef)
+        → Contains (own_needs hash st asked path) reference → IsOfBlob hash st reference }
 {}
 
 /// A table that keeps what it has holds the stores that it held.
