@@ -32,7 +32,7 @@ impl Copied for Command {
             },
             Command::Symlink { path, target } => Command::Symlink {
                 path: Copied::copy(path)?,
-                target: Copied::copy(target)?,
+                target: target.copy()?,
             },
             Command::Commit => Command::Commit,
             Command::Fence { name, count } => Command::Fence {

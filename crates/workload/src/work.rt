@@ -6,7 +6,7 @@ ghost use Rattle.workload.specs.Laws.{empty};
 use crate::grant::Grant;
 use fl_digest::BlobRef;
 use job_spec::Scheme;
-use kvs_txn::Path;
+use kvs_txn::{Path, Target};
 use lists::{Bytes, ListOf};
 use std::alloc::Global;
 
@@ -47,7 +47,7 @@ pub enum Command {
     },
     Symlink {
         path: Path,
-        target: Path,
+        target: Target,
     },
     Commit,
     Fence {
