@@ -6,6 +6,7 @@ use Rattle.std.proofs.lemmas.List.Elements.{Contains-append_cases}
 use Rattle.std.proofs.lemmas.List.Folds.{list_any-append}
 use Rattle.kvs_txn.specs.declared.txn.By.{By}
 use Rattle.kvs_txn.specs.declared.txn.Group.{Group}
+use Rattle.kvs_model.specs.Store.{Name}
 use Rattle.kvs_rules.specs.declared.events.KvsAnswer.{KvsAnswer}
 use Rattle.kvs_rules.specs.declared.events.KvsEvent.{KvsEvent}
 use Rattle.kvs_rules.specs.declared.events.KvsEvent.TheVariants as event
@@ -90,7 +91,7 @@ module _ (set : Setup) where
   some_event true x y e = cc
   some_event false x y e = cc
 
-  asked_event : {A : Type 0} (b : Bool) (other : By) (floor : ℕ) (y : KvsEvent) → cond b (Some (Asked other floor)) None ≡ Some (Happened y) → A
+  asked_event : {A : Type 0} (b : Bool) (other : By) (floors : Name → ℕ) (y : KvsEvent) → cond b (Some (Asked other floors)) None ≡ Some (Happened y) → A
   asked_event true other floor y e = cc
   asked_event false other floor y e = cc
 
@@ -176,7 +177,7 @@ happened : (by : By) (b : Bool) (x : KvsEvent) → carried_of by (cond b (Some (
 happened by true x h = h
 happened by false x h = no_author by h
 
-asked_none : (by : By) (b : Bool) (other : By) (floor : ℕ) → carried_of by (cond b (Some (Asked other floor)) None) ≡ false
+asked_none : (by : By) (b : Bool) (other : By) (floors : Name → ℕ) → carried_of by (cond b (Some (Asked other floors)) None) ≡ false
 asked_none by true other floor = refl
 asked_none by false other floor = refl
 

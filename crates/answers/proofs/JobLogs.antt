@@ -5,7 +5,7 @@ use Rattle.std.specs.Option.{option_and_then, option_map_or}
 use Rattle.std.specs.List.{AllByRecursion as Each, cons_option, list_any}
 use Rattle.kvs_model.specs.Store.{Name}
 use Rattle.kvs_rules.specs.Log.{same_command}
-use Rattle.kvs_rules.specs.Namespaces.{primary}
+use Rattle.kvs_rules.specs.Namespaces.{primary, fresh}
 use Rattle.kvs_rules.specs.Sequence.{until}
 use Rattle.kvs_rules.proofs.Asking.{command_is}
 use Rattle.kvs_txn.specs.declared.txn.By.{By}
@@ -272,7 +272,7 @@ is_instance set h = record {
   answers = λ ask. (omega arith, omega arith);
   since = omega arith;
   grant = h.grant;
-  text = h.text;
+  text = ap fresh h.text;
   apart = λ by some. asks_no_service set.work by some;
   asks = h.asks;
 }

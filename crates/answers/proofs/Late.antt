@@ -25,6 +25,7 @@ use Rattle.answers.specs.declared.chronicle.Entry.{Entry}
 use Rattle.answers.specs.declared.chronicle.Entry.TheVariants as entry
 use Rattle.answers.specs.declared.chronicle.Reply.TheVariants as reply
 use Rattle.answers.specs.Chronicle.{Setup, top}
+use Rattle.answers.specs.Floors.{floor}
 use Rattle.answers.specs.Jobs.{log_in}
 use Rattle.answers.specs.Legal.{HasSettled, IsLegalEntry, IsSettled}
 use Rattle.answers.specs.Services.{log_of, request_of, setting_of}
@@ -184,8 +185,8 @@ no_passing number groups h =
 none_before : (past later : ServiceLog) → log_of fencing top both_open ≡ past ++ later → is_asked first past ≡ true → (rival : By) → IsPending rival (before_asked first past) → ⊥
 none_before [] later e asked rival p = true≢false (sym asked)
 none_before (m ∷ rest) later e asked rival p =
-    let same : m ≡ Asked first 0 = cc in
-    let none : IsPending rival (before_asked first (Asked first 0 ∷ rest)) = subst (λ x. IsPending rival (before_asked first (x ∷ rest))) same p in
+    let same : m ≡ Asked first (floor fencing [] 0) = cc in
+    let none : IsPending rival (before_asked first (Asked first (floor fencing [] 0) ∷ rest)) = subst (λ x. IsPending rival (before_asked first (x ∷ rest))) same p in
     true≢false (sym none.waits.asked)
 
 -- the first isn't told of the second one's count

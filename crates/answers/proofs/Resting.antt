@@ -17,7 +17,7 @@ use Rattle.kvs_model.specs.Store.{Store}
 use Rattle.kvs_rules.specs.declared.events.KvsEvent.TheVariants as event
 use Rattle.kvs_rules.specs.Landings.{IsAdvance, IsLegalLanding, IsManagers, IsUser, IsUsers}
 use Rattle.kvs_rules.specs.Log as service
-use Rattle.kvs_rules.specs.Log.{Asked, Happened}
+use Rattle.kvs_rules.specs.Log.{Asked, Happened, Resumed}
 use Rattle.kvs_rules.specs.Namespaces.{groups_landed, landed, landings, newest_store, number_landed, primary}
 use Rattle.kvs_rules.proofs.Logs.{landed_push, number_or_not, own_number}
 use Rattle.kvs_rules.proofs.Sequences.{each_along, latest_push}
@@ -48,7 +48,7 @@ use Rattle.answers.specs.Whole.{HasComeToRest, HasToldAll}
 use Rattle.answers.proofs.Carried.{lands_so, legal_in}
 use Rattle.answers.proofs.Alone.{family_closes}
 use Rattle.answers.proofs.JobLogs.{asks_nothing, no_advance, service_kept}
-use Rattle.answers.proofs.Services.{log_push}
+use Rattle.answers.proofs.Services.{log_push, never_resumes}
 
 none_in : {A P : Type 0} (x : A) → Contains [] x → P
 none_in x h = absurd (omega (arith, h.1))
@@ -111,7 +111,8 @@ module _ (id : ℕ) where
 -- ---- the moments that land nothing in `primary`
 
 no_groups : (m : service.Moment) → number_landed primary m ≡ None → groups_landed primary m ≡ None
-no_groups (Asked by floor) e = refl
+no_groups (Asked by floors) e = refl
+no_groups (Resumed number) e = refl
 no_groups (Happened (event.Landed other number authors [])) e = refl
 no_groups (Happened (event.Landed other number authors (g ∷ gs))) e = apart (Rattle.std.specs.Str.bytes_eq primary other) e
   where
@@ -213,7 +214,8 @@ module _ (set : Setup) (without : IsWithoutJobs set.work) where
   pushed c e None is legal h = subst HasNoJobs (sym (append-nil (log_of set.work top c))) h
   pushed c e (Some m) is legal h = elim (number_or_not primary m) [
     | inl none ↦ passes (log_of set.work top c) m none h
-    | inr l ↦
+    | inr (inr r) ↦ never_resumes set.work top c e r.number (is ∙ ap (λ x. Some x) r.is)
+    | inr (inl l) ↦
         let so = lands_so set c e l.number l.authors l.groups (is ∙ ap (λ x. Some x) l.is) in
         let it : IsLegalEntry set c (entry.Landed so.instance primary l.number l.authors l.groups) = subst (IsLegalEntry set c) so.is legal in
         let kept = service_kept set.work c in
