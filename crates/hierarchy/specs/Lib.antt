@@ -11,3 +11,4 @@ pub mod Laws
 pub mod Closing
 pub mod Grows
 pub mod Inside
+pub mod Clashes

@@ -1,5 +1,5 @@
 -- Which entries a step of a run with child instances may make.
-use Rattle.std.specs.Prelude.{◌≡◌, ℕ, ◌≤◌, List, [], ◌∷◌, IsTrue, length, map, slice_range}
+use Rattle.std.specs.Prelude.{◌≡◌, ◌⊎◌, ℕ, ◌≤◌, List, [], ◌∷◌, ◌++◌, IsTrue, length, map, slice_range}
 use Rattle.answers.specs.Chronicle.{Setup, top}
 use Rattle.answers.specs.Stretches.{IsStretch}
 use Rattle.answers.specs.declared.chronicle.Entry.{Entry}
@@ -55,3 +55,18 @@ FallsIntoRun set from (s ∷ steps) [] c = ⊥
 -- the steps made tell the whole chronicle
 abbrev pub AreRunStretches : Setup → List Step → List ℕ → List Entry → Type 0
 AreRunStretches set steps ends c = FallsIntoRun set 0 steps ends c
+
+-- the same, but the last step may have told only a first part of what it would: a step that meets a
+-- clash
+abbrev pub FallsShort : Setup → ℕ → List Step → List ℕ → List Entry → Type 0
+FallsShort set from (s ∷ []) (end ∷ []) c = (from ≤ end) × (end ≡ length c)
+    × ((rest : List Entry)
+    × IsRunStretch set (slice_range c 0 from) s (slice_range c from end ++ rest))
+FallsShort set from (s ∷ (t ∷ steps)) (end ∷ ends) c = (from ≤ end) × (end ≤ length c)
+    × IsRunStretch set (slice_range c 0 from) s (slice_range c from end)
+    × FallsShort set end (t ∷ steps) ends c
+FallsShort set from _ _ c = ⊥
+
+-- the steps made tell the chronicle of a run that a clash has ended
+abbrev pub AreStretchesShort : Setup → List Step → List ℕ → List Entry → Type 0
+AreStretchesShort set steps ends c = ((steps ≡ []) × (c ≡ [])) ⊎ FallsShort set 0 steps ends c
