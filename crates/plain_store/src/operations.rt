@@ -7,7 +7,7 @@ ghost use Rattle.plain_store.specs.Held.{IsInOrder, store_of, node_of, undone};
 ghost use Rattle.plain_store.specs.Effects.{Gives};
 
 use crate::slots::{Item, Table};
-use crate::walks::follow;
+use crate::walks::resolve;
 use kvs_model::MOST_BYTES;
 use kvs_txn::{Author, Cause, Op, Path, Scope};
 use lists::{Bytes, Copied};
@@ -275,8 +275,10 @@ pub fn operate(
     if key.is_empty() {
         return Ok(Some(Cause::RootOp));
     }
-    let Some(at) = follow(alloc, table, key, true)? else {
-        return Ok(Some(Cause::Loop));
+    let end = resolve(alloc, table, key)?;
+    let at = match end {
+        Ok(at) => at,
+        Err(why) => return Ok(Some(why)),
     };
     let at = at.as_slice();
     if let Some(why) = refusal(table, who, space, op, at) {

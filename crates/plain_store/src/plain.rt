@@ -3,7 +3,7 @@ ghost use Rattle.std.specs.Prelude.{◌≡◌, ◌∷◌, [], Ok, Err, Some, IfO
 ghost use Rattle.kvs_model.specs.Store.{IsStore, Directory, empty_store};
 ghost use Rattle.kvs_model.specs.History.{first_store};
 ghost use Rattle.kvs_model.specs.Operation.{effect};
-ghost use Rattle.kvs_model.specs.Walk.{walk};
+ghost use Rattle.kvs_model.specs.OneStore.{own_walk};
 ghost use Rattle.plain_store.specs.Held.{store_of, undone, written};
 ghost use Rattle.plain_store.specs.Effects.{IsRefusalOf, Answers};
 
@@ -170,7 +170,7 @@ impl Store {
 
     /// What a reader finds who asks this of the path.
     pub fn look(&self, query: Query, path: &Path) -> Result<Found, AllocError>
-        ensures { IfOk result (λ found. found ≡ walk self.now query path.now) }
+        ensures { IfOk result (λ found. found ≡ own_walk self.now query path.now) }
     {
         look(self.alloc, &self.table, query, path.as_slice())
     }

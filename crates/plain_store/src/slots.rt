@@ -9,7 +9,7 @@ ghost use Rattle.plain_store.specs.Held.{node_of, store_of, slot_at, written, un
 
 use crate::counts::{Counts, count_in, forget_count, make_count, recount};
 use kvs_model::MOST_NAMES;
-use kvs_txn::{Kind, Listed, NameList, Path};
+use kvs_txn::{Kind, Listed, NameList, Target};
 use lists::{Bytes, Copied, ListOf};
 use std::alloc::{AllocError, Global};
 use std::collections::BTreeMap;
@@ -21,7 +21,7 @@ use std::mem;
 pub enum Item {
     Value(Bytes),
     Directory,
-    Link(Path),
+    Link(Target),
 }
 
 /// What stood at a path before a change.
@@ -262,7 +262,7 @@ impl Table {
     }
 
     /// The target of the link at the path, if one stands there.
-    pub fn link(&self, path: &[Bytes]) -> Option<&Path>
+    pub fn link(&self, path: &[Bytes]) -> Option<&Target>
         ensures { option_copied result
             ≡ link_target (node_at (store_of self.now.slots.entries) path.now) }
     {

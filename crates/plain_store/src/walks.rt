@@ -1,11 +1,12 @@
 //! Where a path leads, and what a reader finds there.
-ghost use Rattle.std.specs.Prelude.{◌≡◌, ◌≤◌, length, take, drop, IfOk, option_map};
-ghost use Rattle.kvs_model.specs.Walk.{stop, walk, found_at, most_links};
+ghost use Rattle.std.specs.Prelude.{◌≡◌, ◌≤◌, length, take, drop, Ok, Err, IfOk, MatchResult, option_map};
+ghost use Rattle.kvs_model.specs.Walk.{stop, found_at, most_links, past_inner_link, resolved};
+ghost use Rattle.kvs_model.specs.OneStore.{own_walk};
 ghost use Rattle.plain_store.specs.Held.{store_of, node_of};
-ghost use Rattle.plain_store.specs.Next.{next_of, leaves_last, followed};
+ghost use Rattle.plain_store.specs.Next.{next_of, is_outside, leaves_last, followed};
 
 use crate::slots::{Item, Table, copy_of, joined};
-use kvs_txn::{Found, Query};
+use kvs_txn::{Cause, Found, Query};
 use lists::{Bytes, Copied};
 use std::alloc::{AllocError, Global};
 
@@ -43,7 +44,7 @@ fn past_link(
     }
     match table.link(&path[..count]) {
         None => Ok(None),
-        Some(target) => Ok(Some(joined(alloc, target.as_slice(), &path[count..])?)),
+        Some(target) => Ok(Some(joined(alloc, target.path.as_slice(), &path[count..])?)),
     }
 }
 
@@ -69,6 +70,49 @@ pub fn follow(
     match past_link(alloc, table, here.as_slice(), inner)? {
         None => Ok(Some(here)),
         Some(_) => Ok(None),
+    }
+}
+
+/// Whether the first link before the path's last place names a namespace.
+fn leads_outside(table: &Table, path: &[Bytes]) -> bool
+    ensures { result
+        ≡ is_outside (past_inner_link (store_of table.now.slots.entries) path.now) }
+{
+    let count = passed(table, path);
+    if count == path.len() {
+        return false;
+    }
+    match table.link(&path[..count]) {
+        None => false,
+        Some(target) => target.namespace.is_some(),
+    }
+}
+
+/// Where an operation at the path works, or why it works nowhere.
+pub fn resolve(
+    alloc: Global,
+    table: &Table,
+    path: &[Bytes],
+) -> Result<Result<Vec<Bytes>, Cause>, AllocError>
+    ensures { IfOk result (λ end. MatchResult end
+        (λ at. resolved (store_of table.now.slots.entries) path.now ≡ Ok at.items)
+        (λ why. resolved (store_of table.now.slots.entries) path.now ≡ Err why)) }
+{
+    let mut here = copy_of(alloc, path)?;
+    let mut count = 0u32;
+    while count < 10 {
+        if leads_outside(table, here.as_slice()) {
+            return Ok(Err(Cause::OtherSpace));
+        }
+        match past_link(alloc, table, here.as_slice(), true)? {
+            None => return Ok(Ok(here)),
+            Some(next) => here = next,
+        }
+        count += 1;
+    }
+    match past_link(alloc, table, here.as_slice(), true)? {
+        None => Ok(Ok(here)),
+        Some(_) => Ok(Err(Cause::Loop)),
     }
 }
 
@@ -110,7 +154,7 @@ fn found_in(table: &Table, query: Query, place: &[Bytes], item: &Item) -> Result
 /// What a reader finds who asks this of the path.
 pub fn look(alloc: Global, table: &Table, query: Query, path: &[Bytes]) -> Result<Found, AllocError>
     ensures { IfOk result
-        (λ found. found ≡ walk (store_of table.now.slots.entries) query path.now) }
+        (λ found. found ≡ own_walk (store_of table.now.slots.entries) query path.now) }
 {
     let Some(end) = follow(alloc, table, path, is_of_links(query))? else {
         return Ok(Found::Loop);
