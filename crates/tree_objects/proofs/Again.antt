@@ -1,6 +1,6 @@
 -- What is printed is read again as the same object.
 use Rattle.std.proofs.Common.{◌≡◌, ◌≢◌, ◌≤◌, ◌+◌, ◌*◌, ℕ, lit<, List, [], ◌∷◌, map, length, refl, sym, ap, ap₂, ◌∙◌, subst, arith, codes, Some}
-use Rattle.std.specs.Prelude.{IsTrue, slice_index, Result, Ok}
+use Rattle.std.specs.Prelude.{IfSome, IsTrue, Option, None, slice_index, Result, Ok}
 use Rattle.std.specs.List.{AllByRecursion}
 use Rattle.std.specs.Ordering.{is_lt}
 use Rattle.std.specs.FinMap.Entries as finite
@@ -12,14 +12,17 @@ use Rattle.fl_digest.specs.Reference.{reference_text, IsWhole}
 use Rattle.fl_digest.proofs.References.{reference_text_once, whole_text}
 use Rattle.fl_json.specs.Valid.{IsValid, AreValid, HaveValid, IsBefore}
 use Rattle.kvs_txn.specs.Keys.{components, IsKey}
+use Rattle.kvs_txn.specs.Names.{is_name}
 use Rattle.kvs_txn.specs.Words.{path_text}
+use Rattle.kvs_txn.specs.declared.words.Target.{Target}
+use Rattle.serde_json.specs.Find.{get}
 use Rattle.kvs_txn.proofs.Components.{read_again}
 use Rattle.kvs_model.specs.Store.{Path, Name}
 use Rattle.serde_json.specs.Data.{Data, string, array, object, Items, no_items, item, Members, no_members, member}
 use Rattle.serde_json.specs.View.{items_of}
 use Rattle.tree_rules.specs.Objects.{Tree, val, valref, dir, dirref, symlink, Entries, no_entries, entry, listed, framed, references_data, target_data, tree_data, entries_data}
 use Rattle.tree_rules.specs.Names.{name_cmp}
-use Rattle.tree_objects.specs.Reading.{type_of, IsObject, TellReferences, TellsTarget, TellsBytes, TellsList, Tells, TellEntries, IsReadable, AreReadable}
+use Rattle.tree_objects.specs.Reading.{type_of, IsObject, TellReferences, TellsPath, TellsSpace, TellsTarget, TellsBytes, TellsList, Tells, TellEntries, IsReadable, AreReadable}
 use Rattle.tree_objects.proofs.Pairs.{and_parts}
 
 -- ---- what is written tells the object
@@ -34,10 +37,18 @@ tell_written (r ∷ rs) whole = (record { text = refl; well_formed = whole_text 
 list_written : (rs : List BlobRef) → AllByRecursion IsWhole rs → rs ≢ [] → TellsList (references_data rs) rs
 list_written rs whole some = record { items = items_of (map (λ r. string (reference_text r)) rs); list = refl; told = tell_written rs whole; some = some }
 
-target_written : (path : Path) → IsKey path → TellsTarget (target_data path) path
-target_written path key =
+path_written : (d : Data) (path : Path) → get (codes "target") d ≡ Some (string (path_text path)) → IsKey path → TellsPath d path
+path_written d path is key =
     let again : components (path_text path) ≡ path = read_again path key.named in
-    record { text = path_text path; target = refl; no_namespace = refl; spelled = sym again; short = key.short; few = subst (λ (p : Path). length p ≤ 32) (sym again) key.few }
+    record { text = path_text path; target = is; spelled = sym again; short = key.short; few = subst (λ (p : Path). length p ≤ 32) (sym again) key.few }
+
+-- the data of a link, with what it names taken apart
+abbrev link_data : Path → Option Name → Data
+link_data path namespace = target_data (record { path = path; namespace = namespace })
+
+target_written : (path : Path) (namespace : Option Name) → IsKey path → IfSome namespace (λ name. IsTrue (is_name name)) → TellsTarget (link_data path namespace) (record { path = path; namespace = namespace })
+target_written path None key named = record { inside = path_written (link_data path None) path refl key; space = refl }
+target_written path (Some name) key named = record { inside = path_written (link_data path (Some name)) path refl key; space = (refl, named) }
 
 bytes_written : (bytes : List ℕ) → IsBytes bytes → TellsBytes (string (encode_of standard bytes)) bytes
 bytes_written bytes small = record { text = encode_of standard bytes; written = refl; read = decode_of-encode_of standard bytes refl small }
@@ -51,7 +62,7 @@ mutual
   tells_written (valref rs) h = (references_data rs, object_framed (codes "valref") (references_data rs), list_written rs h.0 h.1)
   tells_written (dir es) h = (entries_data es, object_framed (codes "dir") (object (entries_data es)), tell_entries es h.1)
   tells_written (dirref r) h = (references_data (r ∷ []), object_framed (codes "dirref") (references_data (r ∷ [])), list_written (r ∷ []) (h, tt) (not_none r))
-  tells_written (symlink path) h = (target_data path, object_framed (codes "symlink") (target_data path), target_written path h)
+  tells_written (symlink t) h = (target_data t, object_framed (codes "symlink") (target_data t), target_written t.path t.namespace h.0 h.1)
 
   tell_entries : (es : Entries) → AreReadable es → TellEntries (entries_data es) es
   tell_entries no_entries h = tt
@@ -70,13 +81,17 @@ before : (name : Name) (es : Entries) → IsTrue (finite.below_all name_cmp name
 before name no_entries h = tt
 before name (entry next tree es) h = (and_parts (is_lt (name_cmp name next)) (finite.below_all name_cmp name (listed es)) h).0
 
+link_valid : (path : Path) (namespace : Option Name) → IsValid (link_data path namespace)
+link_valid path None = (tt, tt, tt)
+link_valid path (Some name) = (refl, tt, (tt, tt, tt))
+
 mutual
   pub written_valid : (tree : Tree) → IsReadable tree → IsValid (tree_data tree)
   written_valid (val bytes) h = framed_valid (codes "val") (string (encode_of standard bytes)) tt
   written_valid (valref rs) h = framed_valid (codes "valref") (references_data rs) (references_valid rs)
   written_valid (dir es) h = framed_valid (codes "dir") (object (entries_data es)) (entries_valid es h.0 h.1)
   written_valid (dirref r) h = framed_valid (codes "dirref") (references_data (r ∷ [])) (references_valid (r ∷ []))
-  written_valid (symlink path) h = framed_valid (codes "symlink") (target_data path) (tt, tt, tt)
+  written_valid (symlink t) h = framed_valid (codes "symlink") (target_data t) (link_valid t.path t.namespace)
 
   entries_valid : (es : Entries) → IsTrue (finite.is_sorted name_cmp (listed es)) → AreReadable es → HaveValid (entries_data es)
   entries_valid no_entries s h = tt
@@ -129,10 +144,19 @@ list_once d rs ss x y =
 one_same : (r s : BlobRef) → ◌≡◌ {A = List BlobRef} (r ∷ []) (s ∷ []) → r ≡ s
 one_same r s e = cc
 
-target_once : (d : Data) (p q : Path) → TellsTarget d p → TellsTarget d q → p ≡ q
-target_once d p q x y =
+path_once : (d : Data) (p q : Path) → TellsPath d p → TellsPath d q → p ≡ q
+path_once d p q x y =
     let texts : string x.text ≡ string y.text = some_same (string x.text) (string y.text) (sym x.target ∙ y.target) in
     x.spelled ∙ ap components (string_same x.text y.text texts) ∙ sym y.spelled
+
+space_once : (d : Data) (a b : Option Name) → TellsSpace d a → TellsSpace d b → a ≡ b
+space_once d None None x y = refl
+space_once d None (Some b) x y = absurd (let e = sym x ∙ y.0 in cc)
+space_once d (Some a) None x y = absurd (let e = sym y ∙ x.0 in cc)
+space_once d (Some a) (Some b) x y = ap Some (string_same a b (some_same (string a) (string b) (sym x.0 ∙ y.0)))
+
+target_once : (d : Data) (a b : Target) → TellsTarget d a → TellsTarget d b → a ≡ b
+target_once d a b x y = ap₂ (λ p n. record { path = p; namespace = n }) (path_once d a.path b.path x.inside y.inside) (space_once d a.namespace b.namespace x.space y.space)
 
 -- a number that tells the types apart
 tag : List ℕ → ℕ
@@ -143,7 +167,7 @@ number_of (val bytes) = 1183
 number_of (valref rs) = 1186
 number_of (dir es) = 1003
 number_of (dirref r) = 1006
-number_of (symlink path) = 1157
+number_of (symlink target) = 1157
 
 tagged : (d : Data) (tree : Tree) → Tells d tree → (kind : List ℕ) × (type_of d ≡ Some kind) × (tag kind ≡ number_of tree)
 unfolding tag

@@ -1,5 +1,5 @@
 -- On directories in which no directory is, and which are read again.
-use Rattle.std.proofs.Common.{◌≡◌, ℕ, ◌<◌, ◌≤◌, ◌*◌, ◌/◌, ◌%◌, lit≤, true, List, [], ◌∷◌, length, inl, inr, codes, refl, sym, ap, ◌∙◌, subst, arith}
+use Rattle.std.proofs.Common.{◌≡◌, ℕ, ◌<◌, ◌≤◌, ◌*◌, ◌/◌, ◌%◌, lit≤, true, List, [], ◌∷◌, length, Option, Some, None, inl, inr, codes, refl, sym, ap, ◌∙◌, subst, arith}
 use Rattle.std.specs.Prelude.{IsTrue, slice_index_or}
 use Rattle.std.specs.FinMap.Entries as finite
 use Rattle.std.specs.List.{All, AllPass}
@@ -11,8 +11,8 @@ use Rattle.fl_digest.specs.declared.Digest.TheVariants as digest
 use Rattle.fl_digest.specs.Reference.{hex_digit, hex_text, digest_text, reference_text, is_lower_digit, AreBytes, IsReferenceText, IsWhole, IsWholeDigest}
 use Rattle.serde_json.specs.Data.{depth, members_depth}
 use Rattle.serde_json.specs.Read.{max_depth}
-use Rattle.kvs_model.specs.Store.{Name}
-use Rattle.tree_rules.specs.Objects.{Tree, dir, Entries, entries_of, listed, tree_data, entries_data}
+use Rattle.kvs_model.specs.Store.{Name, Path}
+use Rattle.tree_rules.specs.Objects.{Tree, dir, symlink, Entries, entries_of, listed, tree_data, entries_data}
 use Rattle.tree_rules.specs.Names.{name_cmp}
 use Rattle.tree_objects.specs.Reading.{IsReadable, AreReadable, IsFlat}
 
@@ -52,6 +52,11 @@ whole_digest (digest.Sha256 x) (inr p) = whole_bytes 32 x p.0 (append_cancel_lef
 
 pub whole_reference : (text : List ℕ) (r : BlobRef) → text ≡ reference_text r → IsReferenceText text → IsWhole r
 whole_reference text r same h = whole_digest r.digest (subst IsReferenceText same h)
+
+-- a link stands in few levels
+pub link_shallow : (path : Path) (namespace : Option Name) → depth (tree_data (symlink (record { path = path; namespace = namespace }))) ≤ 2
+link_shallow path None = lit≤ tt
+link_shallow path (Some name) = lit≤ tt
 
 -- what is left of a directory's entries, none of which is a directory
 pub record AreFlat (rest : List (Name × Tree)) : Type 0 where

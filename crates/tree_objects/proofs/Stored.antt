@@ -1,6 +1,6 @@
 -- The text of an object is read again as the same value.
 use Rattle.std.proofs.Common.{◌≡◌, ℕ, suc, ◌<◌, ◌≤◌, ◌^◌, Bool, true, false, lit<, List, [], ◌∷◌, ◌++◌, map, Some, decimal, refl, sym, ap, ap₂, ◌∙◌, subst, arith, codes, append-nil, Less, Greater, nat_cmp}
-use Rattle.std.specs.Prelude.{⊤, max, IsTrue, Ok, option_map, option_and_then}
+use Rattle.std.specs.Prelude.{⊤, max, IfSome, IsTrue, Option, None, Ok, option_map, option_and_then}
 use Rattle.std.specs.Fmt.{digits}
 use Rattle.std.specs.List.{AllByRecursion}
 use Rattle.std.specs.Ordering.{is_lt, ordering_reverse}
@@ -29,7 +29,10 @@ use Rattle.json.proofs.Printed.Tokens.{tokens-print}
 use Rattle.json.proofs.Printed.Trees.{ArePrintable-json_tokens, value-json_tokens}
 use Rattle.json.proofs.Printed.Utf8.{IsUtf8-are_ascii, IsUtf8-quoted, IsUtf8-boolean}
 use Rattle.kvs_txn.proofs.Components.{key_text}
-use Rattle.kvs_model.specs.Store.{Name}
+use Rattle.kvs_txn.proofs.Names.{name_utf8}
+use Rattle.kvs_txn.specs.Keys.{IsKey}
+use Rattle.kvs_txn.specs.Names.{is_name}
+use Rattle.kvs_model.specs.Store.{Name, Path}
 use Rattle.serde_json.specs.Data.{Num, unsigned, negative, float, Data, null, boolean, number, string, array, object, Items, no_items, item, Members, no_members, member, put, depth, items_depth, members_depth}
 use Rattle.serde_json.specs.Read.{number_of, of_json, of_items, of_members, max_depth, read}
 use Rattle.serde_json.specs.View.{items_of}
@@ -239,13 +242,17 @@ above_all name (entry next tree es) h =
     let parts = and_parts (is_lt (name_cmp name next)) (finite.below_all name_cmp name (listed es)) h in
     (less_is (name_cmp name next) parts.0, above_all name es parts.1)
 
+link_plain : (path : Path) (namespace : Option Name) → IsKey path → IfSome namespace (λ name. IsTrue (is_name name)) → IsPlain (target_data (record { path = path; namespace = namespace }))
+link_plain path None key named = (IsUtf8-are_ascii (codes "target") refl, tt, key_text path key.named, tt)
+link_plain path (Some name) key named = (IsUtf8-are_ascii (codes "namespace") refl, (refl, tt), name_utf8 name named, (IsUtf8-are_ascii (codes "target") refl, tt, key_text path key.named, tt))
+
 mutual
   tree_plain : (t : Tree) → IsReadable t → HasTextNames t → IsPlain (tree_data t)
   tree_plain (val bytes) h n = framed_plain (codes "val") (string (encode_of standard bytes)) (IsUtf8-are_ascii (codes "val") refl) (IsUtf8-from_ascii (encode_of standard bytes) (IsAscii-encode_of standard bytes))
   tree_plain (valref rs) h n = framed_plain (codes "valref") (references_data rs) (IsUtf8-are_ascii (codes "valref") refl) (references_plain rs h.0)
   tree_plain (dir es) h n = framed_plain (codes "dir") (object (entries_data es)) (IsUtf8-are_ascii (codes "dir") refl) (entries_plain es h.0 h.1 n)
   tree_plain (dirref r) h n = framed_plain (codes "dirref") (references_data (r ∷ [])) (IsUtf8-are_ascii (codes "dirref") refl) (references_plain (r ∷ []) (h, tt))
-  tree_plain (symlink path) h n = framed_plain (codes "symlink") (target_data path) (IsUtf8-are_ascii (codes "symlink") refl) (IsUtf8-are_ascii (codes "target") refl, tt, key_text path h.named, tt)
+  tree_plain (symlink t) h n = framed_plain (codes "symlink") (target_data t) (IsUtf8-are_ascii (codes "symlink") refl) (link_plain t.path t.namespace h.0 h.1)
 
   entries_plain : (es : Entries) → IsTrue (finite.is_sorted name_cmp (listed es)) → AreReadable es → HaveTextNames es → HavePlain (entries_data es)
   entries_plain no_entries s h n = tt

@@ -17,6 +17,7 @@ use Rattle.serde_json.specs.Find.{get, as_object, as_array}
 use Rattle.serde_json.specs.View.{view, items_view, members_view}
 use Rattle.serde_json.specs.declared.value.Value.{Value}
 use Rattle.serde_json.proofs.Views.{Entry}
+use Rattle.kvs_txn.specs.declared.words.Target.{Target}
 use Rattle.tree_rules.specs.Objects.{Tree, val, valref, dir, dirref, symlink, Entries, no_entries, entry, listed}
 use Rattle.tree_objects.specs.Directories.{with_last}
 use Rattle.tree_rules.specs.Names.{name_cmp}
@@ -174,9 +175,9 @@ module _ (d content : Data) where
   no_dirref is none (valref rs) told = let e : ◌≡◌ {A = ℕ} 1186 1006 = other d (codes "valref") (codes "dirref") told.1.typed is.typed in absurd (omega arith)
   no_dirref is none (symlink path) told = let e : ◌≡◌ {A = ℕ} 1157 1006 = other d (codes "symlink") (codes "dirref") told.1.typed is.typed in absurd (omega arith)
 
-  pub no_symlink : IsObject (codes "symlink") content d → ((path : List Name) → TellsTarget content path → ⊥) → (tree : Tree) → Tells d tree → ⊥
+  pub no_symlink : IsObject (codes "symlink") content d → ((target : Target) → TellsTarget content target → ⊥) → (tree : Tree) → Tells d tree → ⊥
   unfolding tag
-  no_symlink is none (symlink path) told = none path (subst (λ (x : Data). TellsTarget x path) (content_is d told.0 content told.1.holds is.holds) told.2)
+  no_symlink is none (symlink target) told = none target (subst (λ (x : Data). TellsTarget x target) (content_is d told.0 content told.1.holds is.holds) told.2)
   no_symlink is none (val bytes) told = let e : ◌≡◌ {A = ℕ} 1183 1157 = other d (codes "val") (codes "symlink") told.1.typed is.typed in absurd (omega arith)
   no_symlink is none (dir es) told = let e : ◌≡◌ {A = ℕ} 1003 1157 = other d (codes "dir") (codes "symlink") told.1.typed is.typed in absurd (omega arith)
   no_symlink is none (valref rs) told = let e : ◌≡◌ {A = ℕ} 1186 1157 = other d (codes "valref") (codes "symlink") told.1.typed is.typed in absurd (omega arith)

@@ -14,7 +14,7 @@ abbrev mutual
   tree_size (valref references) = 0
   tree_size (dir es) = entries_size es
   tree_size (dirref reference) = 0
-  tree_size (symlink path) = 0
+  tree_size (symlink target) = 0
 
   pub entries_size : Entries → ℕ
   entries_size no_entries = 0

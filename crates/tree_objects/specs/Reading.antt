@@ -1,5 +1,5 @@
 -- Which object the text of an object tells, and the faults of texts that tell none.
-use Rattle.std.specs.Prelude.{◌≡◌, ◌≢◌, ◌≤◌, ℕ, ◌==◌, List, [], ◌∷◌, Bool, true, false, Option, Some, None, option_and_then, Result, Ok, Err, IsTrue, ⊤, codes, length}
+use Rattle.std.specs.Prelude.{◌≡◌, ◌≢◌, ◌≤◌, ℕ, ◌==◌, List, [], ◌∷◌, Bool, true, false, Option, Some, None, option_and_then, Result, Ok, Err, IfSome, IsTrue, ⊤, codes, length}
 use Rattle.std.specs.FinMap.Entries as finite
 use Rattle.std.specs.List.{AllByRecursion, list_any}
 use Rattle.std.specs.Option.{option_map_or}
@@ -9,8 +9,10 @@ use Rattle.base64.specs.GeneralPurpose.{decode_of, IsBytes}
 use Rattle.fl_digest.specs.declared.BlobRef.{BlobRef}
 use Rattle.fl_digest.specs.Reference.{reference_text, IsReferenceText, IsWhole}
 use Rattle.fl_json.specs.Reading.{as_natural, reading}
-use Rattle.kvs_model.specs.Store.{Path}
+use Rattle.kvs_model.specs.Store.{Name, Path}
 use Rattle.kvs_txn.specs.Keys.{components, IsKey}
+use Rattle.kvs_txn.specs.Names.{is_name}
+use Rattle.kvs_txn.specs.declared.words.Target.{Target}
 use Rattle.serde_json.specs.Data.{Data, string, array, object, Items, no_items, item, Members, no_members, member, depth}
 use Rattle.serde_json.specs.Find.{get, as_str}
 use Rattle.tree_rules.specs.Objects.{Tree, val, valref, dir, dirref, symlink, Entries, no_entries, entry, listed, tree_data}
@@ -57,14 +59,24 @@ TellReferences no_items (r ∷ rs) = ⊥
 TellReferences (item d ds) [] = ⊥
 TellReferences (item d ds) (r ∷ rs) = TellsReference d r × TellReferences ds rs
 
--- a target without a namespace, whose text is a key
-pub record TellsTarget (d : Data) (path : Path) : Type 0 where
+-- the path of a link, whose text is a key
+pub record TellsPath (d : Data) (path : Path) : Type 0 where
   pub text : List ℕ
   pub target : get (codes "target") d ≡ Some (string text)
-  pub no_namespace : get (codes "namespace") d ≡ None
   pub spelled : path ≡ components text
   pub short : length text ≤ 255
   pub few : length (components text) ≤ 32
+
+-- the namespace that a link names, if there is one
+abbrev pub TellsSpace : Data → Option Name → Type 0
+TellsSpace d None = get (codes "namespace") d ≡ None
+TellsSpace d (Some name) =
+    (get (codes "namespace") d ≡ Some (string name)) × IsTrue (is_name name)
+
+-- where a link leads
+pub record TellsTarget (d : Data) (target : Target) : Type 0 where
+  pub inside : TellsPath d target.path
+  pub space : TellsSpace d target.namespace
 
 -- the bytes that a text in base64 writes
 pub record TellsBytes (d : Data) (bytes : List ℕ) : Type 0 where
@@ -90,8 +102,8 @@ abbrev mutual
       × TellEntries members es
   Tells d (dirref reference) = (content : Data) × IsObject (codes "dirref") content d
       × TellsList content (reference ∷ [])
-  Tells d (symlink path) = (content : Data) × IsObject (codes "symlink") content d
-      × TellsTarget content path
+  Tells d (symlink target) = (content : Data) × IsObject (codes "symlink") content d
+      × TellsTarget content target
 
   -- the members tell the entries
   pub TellEntries : Members → Entries → Type 0
@@ -121,15 +133,16 @@ Gives text (Err BadData) = (d : Data) × (reading text ≡ Ok d) × GivesObject 
 Gives text (Ok found) = (d : Data) × (reading text ≡ Ok d) × Tells d (tree_of found)
 
 -- an object that is read again from its text, as each is whose parts are those of values of the
--- program: bytes are below 256, references whole and, of a value, not none, a path is that of a
--- key, and the names of a directory rise
+-- program: bytes are below 256, references whole and, of a value, not none, the path of a link
+-- is that of a key, in a namespace with a name if it names one, and the names of a directory rise
 abbrev mutual
   pub IsReadable : Tree → Type 0
   IsReadable (val bytes) = IsBytes bytes
   IsReadable (valref references) = AllByRecursion IsWhole references × (references ≢ [])
   IsReadable (dir es) = IsTrue (finite.is_sorted name_cmp (listed es)) × AreReadable es
   IsReadable (dirref reference) = IsWhole reference
-  IsReadable (symlink path) = IsKey path
+  IsReadable (symlink target) =
+      IsKey target.path × IfSome target.namespace (λ name. IsTrue (is_name name))
 
   pub AreReadable : Entries → Type 0
   AreReadable no_entries = ⊤
@@ -142,7 +155,7 @@ abbrev mutual
   HasTextNames (valref references) = ⊤
   HasTextNames (dir es) = HaveTextNames es
   HasTextNames (dirref reference) = ⊤
-  HasTextNames (symlink path) = ⊤
+  HasTextNames (symlink target) = ⊤
 
   pub HaveTextNames : Entries → Type 0
   HaveTextNames no_entries = ⊤

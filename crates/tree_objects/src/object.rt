@@ -13,13 +13,13 @@ ghost use Rattle.tree_rules.specs.Objects.{dir, tree_text};
 
 use crate::pieces::directory_text;
 use fl_digest::{BlobRef, RefList};
-use kvs_txn::Path;
+use kvs_txn::Target;
 use lists::{Bytes, Copied};
 use std::alloc::{AllocError, Global};
 use std::marker::Model;
 
 /// An object: a value or references to its bytes, a directory or the reference of its text, or a
-/// link to a path.
+/// link.
 #[cycle(object)]
 #[derive(Drop)]
 pub enum Object {
@@ -27,7 +27,7 @@ pub enum Object {
     Valref(RefList),
     Dir(ObjectMap),
     Dirref(BlobRef),
-    Symlink(Path),
+    Symlink(Target),
 }
 
 /// Objects by their names, which contracts see as entries in the byte order of the names. The text
@@ -212,7 +212,7 @@ fn copy_object(object: &Object) -> Result<Object, AllocError>
         Object::Valref(references) => Object::Valref(references.copy()?),
         Object::Dir(map) => Object::Dir(copy_map(map)?),
         Object::Dirref(reference) => Object::Dirref(*reference),
-        Object::Symlink(path) => Object::Symlink(path.copy()?),
+        Object::Symlink(target) => Object::Symlink(target.copy()?),
     })
 }
 

@@ -2,7 +2,7 @@
 ghost use Rattle.std.specs.Prelude.{◌≡◌, codes};
 ghost use Rattle.serde_json.specs.Data.{Data};
 ghost use Rattle.serde_json.specs.View.{view, items_view, members_view};
-ghost use Rattle.tree_objects.specs.Reading.{is_version_1, IsObject, TellsReference, TellReferences, TellsTarget, TellsBytes, TellsList, TellEntries, GivesObject, GivesPart, Gives, TellsKind, NamesKind, IsOnly, AreSome, inner_fault};
+ghost use Rattle.tree_objects.specs.Reading.{is_version_1, IsObject, TellsReference, TellReferences, TellsPath, TellsSpace, TellsTarget, TellsBytes, TellsList, TellEntries, GivesObject, GivesPart, Gives, TellsKind, NamesKind, IsOnly, AreSome, inner_fault};
 ghost use Rattle.fl_json.specs.Valid.{IsValid, HaveValid};
 
 use crate::faults::ObjectFault;
@@ -12,7 +12,7 @@ use base64::DecodeAllocError;
 use base64::engine::general_purpose::STANDARD;
 use fl_digest::{BlobRef, RefList};
 use fl_json::{JsonFault, Value};
-use kvs_txn::{Path, PathFault};
+use kvs_txn::{Path, PathFault, SpaceName, Target};
 use lists::Bytes;
 use serde_json::Map;
 use std::alloc::Global;
@@ -133,13 +133,26 @@ fn references_in(alloc: Global, content: &Value) -> Result<RefList, ObjectFault>
     }
 }
 
-/// The target of a link in the same namespace.
-fn target_in(alloc: Global, content: &Value) -> Result<Path, ObjectFault>
-    ensures { GivesPart (TellsTarget (view content.now)) result }
+/// The namespace that a link names, if it names one.
+fn namespace_in(alloc: Global, content: &Value) -> Result<Option<SpaceName>, ObjectFault>
+    ensures { GivesPart (TellsSpace (view content.now)) result }
 {
-    if content.get("namespace").is_some() {
+    let Some(found) = content.get("namespace") else {
+        return Ok(None);
+    };
+    let Some(text) = found.as_str() else {
         return Err(ObjectFault::BadData);
+    };
+    match SpaceName::of(Bytes::of(alloc, text.as_bytes())?) {
+        Some(name) => Ok(Some(name)),
+        None => Err(ObjectFault::BadData),
     }
+}
+
+/// The path of a link.
+fn path_in(alloc: Global, content: &Value) -> Result<Path, ObjectFault>
+    ensures { GivesPart (TellsPath (view content.now)) result }
+{
     let Some(target) = content.get("target") else {
         return Err(ObjectFault::BadData);
     };
@@ -150,6 +163,20 @@ fn target_in(alloc: Global, content: &Value) -> Result<Path, ObjectFault>
         Ok(path) => Ok(path),
         Err(PathFault::NoMemory) => Err(ObjectFault::NoMemory),
         Err(_) => Err(ObjectFault::BadData),
+    }
+}
+
+/// Where a link leads.
+fn target_in(alloc: Global, content: &Value) -> Result<Target, ObjectFault>
+    ensures { GivesPart (TellsTarget (view content.now)) result }
+{
+    let namespace = match namespace_in(alloc, content) {
+        Ok(namespace) => namespace,
+        Err(fault) => return Err(fault),
+    };
+    match path_in(alloc, content) {
+        Ok(path) => Ok(Target { path, namespace }),
+        Err(fault) => Err(fault),
     }
 }
 
@@ -202,7 +229,7 @@ fn symlink_in(alloc: Global, content: &Value) -> Result<Object, ObjectFault>
     ensures { (d : Data) → IsObject (codes "symlink") (view content.now) d → GivesObject d result }
 {
     match target_in(alloc, content) {
-        Ok(path) => Ok(Object::Symlink(path)),
+        Ok(target) => Ok(Object::Symlink(target)),
         Err(fault) => Err(fault),
     }
 }

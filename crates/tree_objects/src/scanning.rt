@@ -14,7 +14,7 @@ use crate::object::{Object, ObjectMap};
 use crate::printing::print;
 use base64::engine::general_purpose::STANDARD;
 use fl_digest::{BlobRef, RefList};
-use kvs_txn::Path;
+use kvs_txn::{Path, SpaceName, Target};
 use lists::Bytes;
 use std::alloc::Global;
 
@@ -46,12 +46,20 @@ fn value_first(alloc: Global, text: &[u8]) -> Option<(Object, &[u8])> {
     Some((Object::Val(Bytes::from_vec(bytes)), rest))
 }
 
-/// A link, and what stands behind it.
-fn link_first(alloc: Global, text: &[u8]) -> Option<(Object, &[u8])> {
+/// A link with the namespace that it names, and what stands behind it.
+fn link_first(alloc: Global, namespace: Option<SpaceName>, text: &[u8]) -> Option<(Object, &[u8])> {
     let (letters, rest) = string_first(text)?;
-    let target = Path::read(alloc, std::str::from_utf8(letters).ok()?).ok()?;
+    let path = Path::read(alloc, std::str::from_utf8(letters).ok()?).ok()?;
     let rest = rest.strip_prefix(b"},\"type\":\"symlink\",\"ver\":1}".as_slice())?;
-    Some((Object::Symlink(target), rest))
+    Some((Object::Symlink(Target { path, namespace }), rest))
+}
+
+/// A link that names a namespace, and what stands behind it.
+fn named_link_first(alloc: Global, text: &[u8]) -> Option<(Object, &[u8])> {
+    let (letters, rest) = string_first(text)?;
+    let name = SpaceName::of(Bytes::of(alloc, letters).ok()?)?;
+    let inside = rest.strip_prefix(b",\"target\":\"".as_slice())?;
+    link_first(alloc, Some(name), inside)
 }
 
 /// An object that is a reference, and what stands behind it.
@@ -76,7 +84,10 @@ fn object_first(alloc: Global, text: &[u8]) -> Option<(Object, &[u8])> {
     if let Some(inside) = text.strip_prefix(b"[\"".as_slice()) {
         return reference_first(alloc, inside);
     }
-    link_first(alloc, text.strip_prefix(b"{\"target\":\"".as_slice())?)
+    if let Some(inside) = text.strip_prefix(b"{\"target\":\"".as_slice()) {
+        return link_first(alloc, None, inside);
+    }
+    named_link_first(alloc, text.strip_prefix(b"{\"namespace\":\"".as_slice())?)
 }
 
 /// Adds the entry that comes first to a directory, and gives what stands behind it.
@@ -128,8 +139,8 @@ fn is_flat(alloc: Global, object: &Object) -> bool
             are_bytes(bytes.as_slice());
             true
         }
-        Object::Symlink(path) => {
-            path.is_key();
+        Object::Symlink(target) => {
+            target.is_target();
             true
         }
         Object::Dirref(reference) => is_whole(alloc, reference),

@@ -3,6 +3,7 @@ ghost use Rattle.std.specs.Prelude.{OnOk, ◌∷◌, [], decimal};
 ghost use Rattle.std.specs.Str.{IsUtf8};
 ghost use Rattle.json.specs.Token.{begin_object, end_object, key, string, number};
 ghost use Rattle.kvs_txn.specs.Keys.{IsKey};
+ghost use Rattle.kvs_txn.specs.Words.{path_text};
 ghost use Rattle.std.specs.Prelude.{codes};
 ghost use Rattle.tree_rules.specs.Objects.{references_data, target_data, entries_data, tree_data};
 ghost use Rattle.serde_json.specs.Data.{object};
@@ -14,7 +15,7 @@ use crate::object::{Object, ObjectMap};
 use base64::engine::general_purpose::STANDARD;
 use fl_digest::BlobRef;
 use json::Writer;
-use kvs_txn::Path;
+use kvs_txn::{Path, SpaceName, Target};
 use lists::Bytes;
 use std::alloc::{AllocError, Global};
 
@@ -66,16 +67,41 @@ fn add_references(alloc: Global, out: &mut Writer, references: &[BlobRef]) -> Re
     out.end_array()
 }
 
-/// Adds the data of a link.
-fn add_target(alloc: Global, out: &mut Writer, path: &Path) -> Result<(), AllocError>
-    ensures { OnOk result (Adds out.old out.new (tokens_of (target_data path.now))) }
+/// Adds the path of a link, and ends its data.
+fn add_path(alloc: Global, out: &mut Writer, path: &Path) -> Result<(), AllocError>
+    ensures { OnOk result (Adds out.old out.new
+        (key (codes "target") ∷ string (path_text path.now) ∷ end_object ∷ [])) }
 {
     path.is_key();
     kvs_txn::words::keys_are_read_again();
-    out.begin_object()?;
     out.key("target")?;
     add_text(out, path.print(alloc)?.as_slice())?;
     out.end_object()
+}
+
+/// Adds the namespace that a link names.
+fn add_namespace(out: &mut Writer, name: &SpaceName) -> Result<(), AllocError>
+    ensures { OnOk result (Adds out.old out.new
+        (key (codes "namespace") ∷ string name.now ∷ [])) }
+{
+    name.is_name();
+    kvs_txn::words::names_are_texts();
+    out.key("namespace")?;
+    add_text(out, name.as_slice())
+}
+
+/// Adds the data of a link.
+fn add_target(alloc: Global, out: &mut Writer, target: &Target) -> Result<(), AllocError>
+    ensures { OnOk result (Adds out.old out.new (tokens_of (target_data target.now))) }
+{
+    out.begin_object()?;
+    match &target.namespace {
+        None => add_path(alloc, out, &target.path),
+        Some(name) => {
+            add_namespace(out, name)?;
+            add_path(alloc, out, &target.path)
+        }
+    }
 }
 
 /// Adds an object.
@@ -103,8 +129,8 @@ pub(crate) fn add_object(alloc: Global, out: &mut Writer, object: &Object) -> Re
             add_references(alloc, out, &[*reference])?;
             end(out, "dirref")
         }
-        Object::Symlink(path) => {
-            add_target(alloc, out, path)?;
+        Object::Symlink(target) => {
+            add_target(alloc, out, target)?;
             end(out, "symlink")
         }
     }

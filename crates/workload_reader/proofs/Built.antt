@@ -16,7 +16,8 @@ use Rattle.workload_reader.specs.Reading.{first_fault, spelled}
 use Rattle.workload.specs.Laws.{IsBuilt, IsKeyPath}
 use Rattle.workload_reader.proofs.Along.{none_applies, stands}
 use Rattle.workload_reader.proofs.Commands.{IsSpoken, lines_keep}
-use Rattle.workload_reader.proofs.Texts.{behind_utf8, name_utf8}
+use Rattle.workload_reader.proofs.Texts.{behind_utf8}
+use Rattle.kvs_txn.proofs.Names.{name_utf8}
 use Rattle.workload.specs.declared.work.Command.TheVariants as command
 use Rattle.workload.specs.declared.work.Line.{Line}
 use Rattle.workload.specs.declared.work.Workload.{Workload}

@@ -1,17 +1,16 @@
 -- What is cut out of a UTF-8 text between ASCII bytes is UTF-8.
 use Rattle.std.proofs.Common.{◌≡◌, ◌⊎◌, inl, inr, ℕ, ◌+◌, ◌-◌, ◌<◌, ◌≤◌, Bool, true, false, cond, eqb, not, List, [], ◌∷◌, ◌++◌, length, take, drop, refl, sym, ap, ap₂, ◌∙◌, subst, arith, lit<}
 use Rattle.std.specs.Prelude.{slice_index}
-use Rattle.std.specs.List.{AllByRecursion as Each, slice_split, join_with_byte, prefix_len, before_first, after_first, list_all}
-use Rattle.std.specs.Str.{IsUtf8, IsAscii, IsCharBoundary}
+use Rattle.std.specs.List.{AllByRecursion as Each, slice_split, join_with_byte, prefix_len, before_first, after_first}
+use Rattle.std.specs.Str.{IsUtf8, IsCharBoundary}
 use Rattle.std.specs.Str.Lines.{strip_carriage_return}
 use Rattle.std.proofs.lemmas.Bool.{and_parts}
 use Rattle.std.proofs.lemmas.Bool.Decides.{nat_tests}
-use Rattle.std.proofs.lemmas.Str.{IsUtf8-nil, IsUtf8-take, IsUtf8-drop, IsUtf8-from_ascii, encode_ascii, encode_same}
-use Rattle.std.proofs.lemmas.Str.Ascii.{IsAscii-nil, IsAscii-cons}
+use Rattle.std.proofs.lemmas.Str.{IsUtf8-nil, IsUtf8-take, IsUtf8-drop, encode_ascii, encode_same}
 use Rattle.std.proofs.lemmas.List.Splits.{join_with_byte-slice_split}
 use borrow.Author.Tests.{eqb-true}
 use Rattle.workload_reader.specs.Lines.{TextLine, lines_in, lines_of}
-use Rattle.workload.specs.Words.{is_space, after_spaces, first_word, behind_word, is_name, is_name_byte}
+use Rattle.workload.specs.Words.{is_space, after_spaces, first_word, behind_word}
 use Rattle.workload.proofs.WordLemmas.{before_cons, after_cons}
 
 -- an ASCII byte begins a character
@@ -111,14 +110,3 @@ behind_utf8 text h = elim (cut_there (after_spaces text)) [
   | inl none ↦ subst IsUtf8 (sym none) IsUtf8-nil
   | inr cut ↦ (around (first_word text) 32 (behind_word text) (lit< tt) (subst IsUtf8 cut (from_word text h))).1
 ]
-
--- ---- names
-
-bytes_ascii : (name : List ℕ) → list_all is_name_byte name ≡ true → IsAscii name
-bytes_ascii [] h = IsAscii-nil
-bytes_ascii (b ∷ bs) h =
-    let both = and_parts (is_name_byte b) (list_all is_name_byte bs) h in
-    IsAscii-cons b bs (grind (arith, nat_tests)) (bytes_ascii bs both.1)
-
-pub name_utf8 : (name : List ℕ) → is_name name ≡ true → IsUtf8 name
-name_utf8 name h = IsUtf8-from_ascii name (bytes_ascii name (and_parts _ (list_all is_name_byte name) h).1)

@@ -75,6 +75,6 @@ pub add_object-returns-in_ok-add_target-in-Symlink-clause-written : goal.add_obj
 add_object-returns-in_ok-add_target-in-Symlink-clause-written t c =
     on_ok_weaker c.end-in-Symlink.result (λ e. (
       e.0 ∙ c.in_ok-add_target-in-Symlink.ensures.0 ∙ c.in_ok-begin.ensures.0,
-      framed_tokens c.args.out.now.tokens c.begin.new.out.tokens c.add_target.new.out.tokens c.end-in-Symlink.new.out.tokens (codes "symlink") (target_data c.in-Symlink.path) c.in_ok-begin.ensures.1 c.in_ok-add_target-in-Symlink.ensures.1 e.1
+      framed_tokens c.args.out.now.tokens c.begin.new.out.tokens c.add_target.new.out.tokens c.end-in-Symlink.new.out.tokens (codes "symlink") (target_data c.in-Symlink.target) c.in_ok-begin.ensures.1 c.in_ok-add_target-in-Symlink.ensures.1 e.1
           ∙ ap (λ o. c.args.out.now.tokens ++ tokens_of (tree_data (tree_of o))) (sym c.in-Symlink.is),
     )) c.end-in-Symlink.ensures
