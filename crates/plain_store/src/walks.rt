@@ -1,9 +1,9 @@
 //! Where a path leads, and what a reader finds there.
-ghost use Rattle.std.specs.Prelude.{◌≡◌, ◌≤◌, length, take, drop, Ok, Err, IfOk, MatchResult, option_map};
-ghost use Rattle.kvs_model.specs.Walk.{stop, found_at, most_links, past_inner_link, resolved};
+ghost use Rattle.std.specs.Prelude.{◌≡◌, ◌≤◌, length, take, drop, IfOk, option_map};
+ghost use Rattle.kvs_model.specs.Walk.{stop, found_at, most_links, past_inner_link};
 ghost use Rattle.kvs_model.specs.OneStore.{own_walk};
 ghost use Rattle.plain_store.specs.Held.{store_of, node_of};
-ghost use Rattle.plain_store.specs.Next.{next_of, is_outside, leaves_last, followed};
+ghost use Rattle.plain_store.specs.Next.{next_of, is_outside, leaves_last, followed, LeadsTo};
 
 use crate::slots::{Item, Table, copy_of, joined};
 use kvs_txn::{Cause, Found, Query};
@@ -94,9 +94,7 @@ pub fn resolve(
     table: &Table,
     path: &[Bytes],
 ) -> Result<Result<Vec<Bytes>, Cause>, AllocError>
-    ensures { IfOk result (λ end. MatchResult end
-        (λ at. resolved (store_of table.now.slots.entries) path.now ≡ Ok at.items)
-        (λ why. resolved (store_of table.now.slots.entries) path.now ≡ Err why)) }
+    ensures { IfOk result (LeadsTo (store_of table.now.slots.entries) path.now) }
 {
     let mut here = copy_of(alloc, path)?;
     let mut count = 0u32;

@@ -1,24 +1,34 @@
--- The path behind links, one after another.
-use Rattle.std.proofs.Common.{◌≡◌, ℕ, zero, suc, ◌+◌, ◌-◌, ◌<◌, Option, Some, None, sym, ap, ◌∙◌, arith}
-use Rattle.kvs_model.specs.Store.{Path, Store}
-use Rattle.kvs_model.specs.Walk.{at_end, past_inner_link, follow}
-use Rattle.tree_store.specs.Shown.{followed}
+-- What the code tells of a link, as the walk of an operation takes it.
+use Rattle.std.proofs.Common.{◌≡◌, true, Option, Some, None, is_some, option_map, refl, ap, ◌∙◌}
+use Rattle.kvs_txn.specs.declared.words.Target.{Target}
+use Rattle.kvs_model.specs.Store.{Name, Path}
+use Rattle.kvs_model.specs.Walk.{inside}
+use Rattle.plain_store.specs.Next.{is_outside}
+use Rattle.tree_store.specs.Shown.{own_path, path_in_store}
 
-one_more : (next : Path → Option Path) (n : ℕ) (p q : Path) → Some q ≡ next p → follow next (suc n) p ≡ follow next n q
-one_more next n p q e = ap (λ o. at_end p o (λ further. follow next n further)) (sym e)
+pub ends : (o : Option Target) → None ≡ option_map own_path o → o ≡ None
+ends None e = refl
+ends (Some t) e = absurd (cc)
 
-pub follow_more : (st : Store) (i : ℕ) (p q : Path) → i < 10 → Some q ≡ past_inner_link st p → followed st (10 - i) p ≡ followed st (10 - (i + 1)) q
-unfolding followed
-follow_more st i p q h e =
-    let n : 10 - i ≡ suc (10 - (i + 1)) = omega arith in
-    ap (λ k. follow (past_inner_link st) k p) n ∙ one_more (past_inner_link st) (10 - (i + 1)) p q e
+pub goes_on : (o : Option Target) (q : Path) → Some (Some q) ≡ option_map own_path o → o ≡ Some (inside q)
+goes_on None q e = absurd (cc)
+goes_on (Some t) q e = by t.namespace refl e
+  where
+    by : (n : Option Name) → t.namespace ≡ n → Some (Some q) ≡ Some (path_in_store n t.path) → Some t ≡ Some (inside q)
+    by None is e =
+        let same : t.path ≡ q = cc in
+        ap (λ n. Some (record { path = t.path; namespace = n })) is ∙ ap (λ p. Some (inside p)) same
+    by (Some name) is e = absurd (cc)
 
-pub follow_done : (st : Store) (n : ℕ) (p : Path) → None ≡ past_inner_link st p → followed st n p ≡ Some p
-unfolding followed
-follow_done st zero p e = ap (λ o. at_end p o (λ _. None)) (sym e)
-follow_done st (suc n) p e = ap (λ o. at_end p o (λ further. follow (past_inner_link st) n further)) (sym e)
+pub leaves : (o : Option Target) → Some None ≡ option_map own_path o → is_outside o ≡ true
+leaves None e = absurd (cc)
+leaves (Some t) e = by t.namespace refl e
+  where
+    by : (n : Option Name) → t.namespace ≡ n → ◌≡◌ {A = Option (Option Path)} (Some None) (Some (path_in_store n t.path)) → is_some t.namespace ≡ true
+    by None is e = absurd (cc)
+    by (Some name) is e = ap is_some is
 
-pub follow_out : (st : Store) (n : ℕ) (p q : Path) → n ≡ 0 → Some q ≡ past_inner_link st p → followed st n p ≡ None
-unfolding followed
-follow_out st zero p q n e = ap (λ o. at_end p o (λ _. None)) (sym e)
-follow_out st (suc n) p q h e = absurd (omega arith)
+-- there is a link
+pub some_link : (o : Option Target) (there : Option Path) → Some there ≡ option_map own_path o → is_some o ≡ true
+some_link None there e = absurd (cc)
+some_link (Some t) there e = refl

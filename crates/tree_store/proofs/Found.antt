@@ -7,6 +7,7 @@ use Rattle.kvs_model.specs.Store.{Name, Path, Node, Directory, Store, IsStore, n
 use Rattle.kvs_model.specs.Operation.{is_directory}
 use Rattle.tree_rules.specs.Held.{Table}
 use Rattle.tree_rules.specs.Names.{name_cmp}
+use Rattle.kvs_txn.specs.declared.words.Target.{Target}
 use Rattle.tree_rules.specs.Objects.{Tree, val, valref, dir, dirref, symlink, Entries, listed}
 use Rattle.tree_store.specs.Shown.{Directories, opened_at, above, object_in, object_at, Stands, Shows, OpensAbove, link_target}
 use Rattle.tree_store.proofs.Opening.{above_child, is_some, not_both}
@@ -70,7 +71,7 @@ is_dir (Some (dir es)) = true
 is_dir (Some (dirref reference)) = true
 is_dir (Some (symlink target)) = false
 
-abbrev pub link_of : Option Tree → Option Path
+abbrev pub link_of : Option Tree → Option Target
 link_of None = None
 link_of (Some (val bytes)) = None
 link_of (Some (valref references)) = None
@@ -111,7 +112,7 @@ pub free_told : (ds : Directories) (path : Path) (b : Bool) → b ≡ is_none (o
     → (h : Hash) (table : Table) (st : Store) → Shows h table ds st → OpensAbove ds st path → b ≡ is_none (node_at st path)
 free_told ds path b is some h table st shows opens = is ∙ none_told h table ds st path (object_at ds path) (stands_at h table ds st path shows opens some)
 
-pub target_told : (ds : Directories) (path : Path) (o : Option Path) → o ≡ link_of (object_at ds path)
+pub target_told : (ds : Directories) (path : Path) (o : Option Target) → o ≡ link_of (object_at ds path)
     → (h : Hash) (table : Table) (st : Store) → Shows h table ds st → OpensAbove ds st path → o ≡ link_target (node_at st path)
 target_told ds [] o is h table st shows opens = is ∙ ap link_target (sym shows.store.rooted)
 target_told ds (x ∷ path) o is h table st shows opens = is ∙ link_told h table ds st (x ∷ path) (object_at ds (x ∷ path)) (stands_at h table ds st (x ∷ path) shows opens (omega arith))

@@ -21,6 +21,7 @@ use Rattle.tree_rules.proofs.Below.{names_rise}
 use Rattle.tree_rules.proofs.Objects.{child_is}
 use Rattle.tree_objects.specs.Level.{tree_of}
 use Rattle.tree_objects.specs.Reading.{Tells, Gives, IsReadable, AreReadable, HasTextNames, HaveTextNames, is_version_1, has_type}
+use Rattle.tree_objects.proofs.Flat.{link_shallow}
 use Rattle.tree_objects.specs.declared.object.Object.{Object}
 use Rattle.tree_objects.specs.declared.object.Object.TheVariants.{Val, Valref, Dir, Dirref, Symlink}
 use Rattle.tree_objects.specs.declared.faults.ObjectFault.{ObjectFault}
@@ -57,7 +58,7 @@ object_flat h (Value bytes) es small =
       | false ↦ record { readable = are_bytes bytes small; named = tt; shallow = lit≤ tt }
     ]
 object_flat h Directory es small = record { readable = reference_whole h (text_of es); named = tt; shallow = lit≤ tt }
-object_flat h (Link target) es key = record { readable = key; named = tt; shallow = lit≤ tt }
+object_flat h (Link target) es key = record { readable = key; named = tt; shallow = link_shallow target.path target.namespace }
 
 -- ---- the objects of a store
 

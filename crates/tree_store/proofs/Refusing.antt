@@ -10,6 +10,7 @@ use Rattle.kvs_txn.specs.declared.txn.Scope.{Scope}
 use Rattle.kvs_txn.specs.declared.txn.Op.{Op}
 use Rattle.kvs_txn.specs.declared.txn.Op.TheVariants as op
 use Rattle.kvs_model.specs.Operation.{appended, is_reserved, first_cause, refusals, enters_full_from, overfills_value, is_directory, is_link, most_bytes}
+use Rattle.kvs_txn.specs.declared.words.Target.{Target}
 use Rattle.kvs_model.specs.Store.{Path, Node, Value, Directory, Link, Store, node_at}
 use Rattle.tree_rules.specs.Held.{Table}
 use Rattle.tree_rules.specs.Objects.{val, valref}
@@ -95,5 +96,5 @@ of_put who space st path at bytes free = of_other who space st at (overfills_val
 pub of_mkdir : (who : Author) (space : Scope) (st : Store) (path at : Path) → is_reserved who space at ≡ false → first_cause (refusals st who space (op.Mkdir path) at) ≡ full st at
 of_mkdir who space st path at free = of_other who space st at (overfills_value st who (op.Mkdir path) at) free (no_overfill who st (op.Mkdir path) at (λ p b e. absurd (cc)))
 
-pub of_link : (who : Author) (space : Scope) (st : Store) (path at target : Path) → is_reserved who space at ≡ false → first_cause (refusals st who space (op.Link path target) at) ≡ full st at
+pub of_link : (who : Author) (space : Scope) (st : Store) (path at : Path) (target : Target) → is_reserved who space at ≡ false → first_cause (refusals st who space (op.Link path target) at) ≡ full st at
 of_link who space st path at target free = of_other who space st at (overfills_value st who (op.Link path target) at) free (no_overfill who st (op.Link path target) at (λ p b e. absurd (cc)))

@@ -1,12 +1,13 @@
 -- What an operation leaves can be told by texts again.
-use Rattle.std.proofs.Common.{◌≡◌, ℕ, zero, suc, Bool, true, false, cond, List, [], ◌∷◌, ◌++◌, map, Option, Some, None, refl, subst, Less, Equal, Greater}
+use Rattle.std.proofs.Common.{◌≡◌, ℕ, zero, suc, Bool, true, false, cond, List, [], ◌∷◌, ◌++◌, map, Option, Some, None, Ok, refl, subst, Less, Equal, Greater}
 use Rattle.std.specs.Prelude.{fold, not}
 use Rattle.std.specs.List.{AllByRecursion}
 use Rattle.std.specs.Ordering.{eq_by_cmp}
 use Rattle.std.specs.FinMap.Entries as finite
 use Rattle.kvs_txn.specs.Keys.{IsComponent, IsKey}
 use Rattle.kvs_model.specs.Store.{Name, Path, Node, Value, Directory, Link, Store, path_cmp, node_at, with_node, without, is_within}
-use Rattle.kvs_model.specs.Walk.{Stop, go_on, stop_from, stop, behind_inner_link, past_inner_link, at_end, follow}
+use Rattle.kvs_txn.specs.declared.words.Target.{Target}
+use Rattle.kvs_model.specs.Walk.{Stop, go_on, stop_from, stop, behind_inner_link, past_inner_link, at_end, follow, inside, most_links, next_inside, path_at, path_inside, resolved, unless_outside}
 use Rattle.kvs_model.specs.Operation.{places_above, with_places_above, placed}
 use Rattle.tree_rules.specs.Held.{IsStorable, IsStorableNode}
 
@@ -74,30 +75,48 @@ both_named : (p q : Path) → IsNamed p → IsNamed q → IsNamed (p ++ q)
 both_named [] q a b = b
 both_named (n ∷ p) q a b = (a.0, both_named p q a.1 b)
 
-some_path : (p q : Path) → Some p ≡ Some q → p ≡ q
-some_path p q e = cc
+same_target : (t u : Target) → Some t ≡ Some u → t ≡ u
+same_target t u e = cc
 
-behind_named : (o : Option Node) (rest next : Path) → ((node : Node) → o ≡ Some node → IsStorableNode node) → IsNamed rest → behind_inner_link o rest ≡ Some next → IsNamed next
+behind_named : (o : Option Node) (rest : Path) (next : Target) → ((node : Node) → o ≡ Some node → IsStorableNode node) → IsNamed rest → behind_inner_link o rest ≡ Some next → IsNamed next.path
 behind_named o [] next good named e = absurd (cc)
 behind_named None (n ∷ rest) next good named e = absurd (cc)
 behind_named (Some (Value bytes)) (n ∷ rest) next good named e = absurd (cc)
 behind_named (Some Directory) (n ∷ rest) next good named e = absurd (cc)
 behind_named (Some (Link target)) (n ∷ rest) next good named e =
-    let key : IsKey target = good (Link target) refl in
-    subst IsNamed (some_path (target ++ n ∷ rest) next e) (both_named target (n ∷ rest) key.named named)
+    let key : IsKey target.path = (good (Link target) refl).0 in
+    subst (λ (t : Target). IsNamed t.path) (same_target (record { path = target.path ++ n ∷ rest; namespace = target.namespace }) next e) (both_named target.path (n ∷ rest) key.named named)
 
-past_named : (st : Store) (path next : Path) → IsStorable st → IsNamed path → past_inner_link st path ≡ Some next → IsNamed next
-past_named st path next all named e =
-    behind_named (node_at st (stop st path).place) (stop st path).rest next (λ node f. found_good st (stop st path).place node all f) (stop_named st [] path named) e
+-- a walk that goes on does so past a link
+past_inside : (space : Option Name) (o : Option Target) (next : Target) → unless_outside space o ≡ Some next → o ≡ Some next
+past_inside None o next e = e
+past_inside (Some name) o next e = absurd (cc)
 
-pub follow_named : (st : Store) (n : ℕ) (path end : Path) → IsStorable st → IsNamed path → follow (past_inner_link st) n path ≡ Some end → IsNamed end
-follow_named st zero path end all named e =
-    elim (past_inner_link st path) as (λ o. at_end path o (λ _. None) ≡ Some end → IsNamed end) [
-      | None ↦ λ f. subst IsNamed (some_path path end f) named
+past_named : (st : Store) (at next : Target) → IsStorable st → IsNamed at.path → next_inside st at ≡ Some next → IsNamed next.path
+past_named st at next all named e =
+    let path = at.path in
+    behind_named (node_at st (stop st path).place) (stop st path).rest next (λ node f. found_good st (stop st path).place node all f) (stop_named st [] path named) (past_inside at.namespace (past_inner_link st path) next e)
+
+follow_named : (st : Store) (n : ℕ) (at end : Target) → IsStorable st → IsNamed at.path → follow (next_inside st) n at ≡ Some end → IsNamed end.path
+follow_named st zero at end all named e =
+    elim (next_inside st at) as (λ o. at_end at o (λ _. None) ≡ Some end → IsNamed end.path) [
+      | None ↦ λ f. subst (λ (t : Target). IsNamed t.path) (same_target at end f) named
       | Some further ↦ λ f. absurd (cc)
     ] e
-follow_named st (suc n) path end all named e =
-    elim (past_inner_link st path) as (λ o. past_inner_link st path ≡ o → at_end path o (λ further. follow (past_inner_link st) n further) ≡ Some end → IsNamed end) [
-      | None ↦ λ is f. subst IsNamed (some_path path end f) named
-      | Some further ↦ λ is f. follow_named st n further end all (past_named st path further all named is) f
+follow_named st (suc n) at end all named e =
+    elim (next_inside st at) as (λ o. next_inside st at ≡ o → at_end at o (λ further. follow (next_inside st) n further) ≡ Some end → IsNamed end.path) [
+      | None ↦ λ is f. subst (λ (t : Target). IsNamed t.path) (same_target at end f) named
+      | Some further ↦ λ is f. follow_named st n further end all (past_named st at further all named is) f
     ] refl e
+
+pub resolved_named : (st : Store) (key at : Path) → IsStorable st → IsNamed key → resolved st key ≡ Ok at → IsNamed at
+unfolding resolved
+resolved_named st key at all named e = by (follow (next_inside st) most_links (inside key)) refl e
+  where
+    from_place : (space : Option Name) (p : Path) → path_inside space p ≡ Ok at → IsNamed p → IsNamed at
+    from_place None p e h = let same : p ≡ at = cc in subst IsNamed same h
+    from_place (Some name) p e h = absurd (cc)
+
+    by : (o : Option Target) → follow (next_inside st) most_links (inside key) ≡ o → path_at o ≡ Ok at → IsNamed at
+    by None is e = absurd (cc)
+    by (Some t) is e = from_place t.namespace t.path e (follow_named st most_links (inside key) t all named is)

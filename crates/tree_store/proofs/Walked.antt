@@ -2,6 +2,7 @@
 use Rattle.std.proofs.Common.{◌≡◌, ℕ, zero, suc, ◌<◌, ◌≤◌, false, List, [], ◌∷◌, ◌++◌, length, take, drop, Option, Some, None, option_map, refl, sym, ap, ◌∙◌, subst, inl, inr, true≢false, arith, append_assoc}
 use Rattle.std.specs.Prelude.{IsSome, ◌⊎◌}
 use Rattle.kvs_model.specs.Operation.{is_directory}
+use Rattle.kvs_txn.specs.declared.words.Target.{Target}
 use Rattle.kvs_model.specs.Store.{Path, Node, Value, Directory, Link, Store, IsStore, node_at}
 use Rattle.kvs_model.specs.Walk.{stop, past_inner_link, behind_inner_link}
 use Rattle.std.proofs.lemmas.List.{drop_all}
@@ -27,7 +28,11 @@ opens_upto ds st path n opens k w is =
 
 -- ---- the path behind a link
 
-behind_is : (o : Option Node) (rest : Path) → 0 < length rest → behind_inner_link o rest ≡ option_map (λ t. t ++ rest) (link_target o)
+-- a link's target with the components behind it
+abbrev pub with_rest : Path → Target → Target
+with_rest rest t = record { path = t.path ++ rest; namespace = t.namespace }
+
+behind_is : (o : Option Node) (rest : Path) → 0 < length rest → behind_inner_link o rest ≡ option_map (with_rest rest) (link_target o)
 behind_is o [] w = absurd (omega arith)
 behind_is None (x ∷ rest) w = refl
 behind_is (Some (Value bytes)) (x ∷ rest) w = refl
@@ -35,7 +40,7 @@ behind_is (Some Directory) (x ∷ rest) w = refl
 behind_is (Some (Link target)) (x ∷ rest) w = refl
 
 pub next_at : (st : Store) (path : Path) (n : ℕ) → stop st path ≡ record { place = take n path; rest = drop n path } → 0 < length (drop n path)
-    → past_inner_link st path ≡ option_map (λ t. t ++ drop n path) (link_target (node_at st (take n path)))
+    → past_inner_link st path ≡ option_map (with_rest (drop n path)) (link_target (node_at st (take n path)))
 next_at st path n is w = ap (λ at. behind_inner_link (node_at st at.place) at.rest) is ∙ behind_is (node_at st (take n path)) (drop n path) w
 
 pub next_none : (st : Store) (path : Path) (n : ℕ) → stop st path ≡ record { place = take n path; rest = drop n path } → length path ≤ n → past_inner_link st path ≡ None

@@ -13,7 +13,9 @@ use Rattle.kvs_txn.specs.declared.txn.Author.{Author}
 use Rattle.kvs_txn.specs.declared.txn.Author.TheVariants as author
 use Rattle.kvs_model.specs.Store.{Name, Path, Node, Value, Directory, Link, Store, IsStore, root, node_at, path_cmp, is_within}
 use Rattle.kvs_model.specs.Operation.{most_bytes}
-use Rattle.kvs_model.specs.Walk.{past_inner_link, follow}
+use Rattle.kvs_txn.specs.declared.words.Target.{Target}
+use Rattle.tree_store.specs.declared.walks.Further.{Further}
+use Rattle.tree_store.specs.declared.walks.Further.TheVariants as further
 use Rattle.tree_rules.specs.Held.{Table, IsStorable}
 use Rattle.tree_rules.specs.Names.{name_cmp}
 use Rattle.tree_rules.specs.Objects.{Tree, val, valref, dir, dirref, symlink, Entries, no_entries, entry, entries_of, listed, tree_text}
@@ -207,13 +209,21 @@ abbrev pub with_open : Directories → Path → Entries → Directories
 with_open directories path es =
     finite.put path_cmp path es (with_object directories path (dir no_entries))
 
--- the path after each link before its last place is followed, and none where that takes more than
--- so many links
-unfoldable pub followed : Store → ℕ → Path → Option Path
-followed st n path = follow (past_inner_link st) n path
+-- the path to which a link leads in its own store, and none where it names a namespace
+abbrev pub path_in_store : Option Name → Path → Option Path
+path_in_store None path = Some path
+path_in_store (Some name) path = None
+
+abbrev pub own_path : Target → Option Path
+own_path target = path_in_store target.namespace target.path
+
+-- the same of what the code tells
+abbrev pub path_further : Further → Option Path
+path_further (further.Inside path) = Some path.items
+path_further further.Outside = None
 
 -- the target of a link, if a link stands there
-abbrev pub link_target : Option Node → Option Path
+abbrev pub link_target : Option Node → Option Target
 link_target None = None
 link_target (Some (Value bytes)) = None
 link_target (Some Directory) = None

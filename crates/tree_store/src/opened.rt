@@ -26,7 +26,7 @@ use crate::kept::Kept;
 use blob_store::BlobStore;
 use fl_digest::BlobRef;
 use kvs_model::MOST_NAMES;
-use kvs_txn::Path;
+use kvs_txn::Target;
 use lists::{Bytes, Copied};
 use std::alloc::{AllocError, Global};
 use std::collections::BTreeMap;
@@ -190,7 +190,7 @@ impl Opened {
     }
 
     /// The target of the link at the path, if one stands there.
-    pub fn link(&self, path: &[Bytes]) -> Option<&Path>
+    pub fn link(&self, path: &[Bytes]) -> Option<&Target>
         ensures { (hash : Hash) (held : Table) (st : Store) → Shows hash held self.now st
             → OpensAbove self.now st path.now
             → option_copied result ≡ link_target (node_at st path.now) }

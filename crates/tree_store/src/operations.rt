@@ -145,7 +145,7 @@ fn change(
             opened.make(alloc, at)
         }
         Op::Link { path: _, target } => {
-            target.is_key();
+            target.is_target();
             let target = Copied::copy(target)?;
             place(alloc, opened, at, Object::Symlink(target))
         }
@@ -314,8 +314,10 @@ pub fn operate(
     if key.is_empty() {
         return Ok(Some(Cause::RootOp));
     }
-    let Some(at) = resolve(alloc, store, kept, opened, key)? else {
-        return Ok(Some(Cause::Loop));
+    let end = resolve(alloc, store, kept, opened, key)?;
+    let at = match end {
+        Ok(at) => at,
+        Err(why) => return Ok(Some(why)),
     };
     let at = at.as_slice();
     if let Some(why) = refusal(store, opened, who, space, op, at) {

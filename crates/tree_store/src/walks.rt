@@ -1,16 +1,18 @@
 //! Where a path leads.
-ghost use Rattle.std.specs.Prelude.{◌≡◌, ◌≤◌, ◌<◌, ◌++◌, ℕ, length, take, drop, None, IfOk, IfSome};
+ghost use Rattle.std.specs.Prelude.{◌≡◌, ◌≤◌, ◌<◌, ◌++◌, ℕ, length, take, drop, None, IfOk};
 ghost use Rattle.std.specs.Prelude.{OnOk, IsSome, option_map, false};
 ghost use Rattle.fl_digest.specs.declared.Hash.{Hash};
 ghost use Rattle.kvs_model.specs.Operation.{is_directory};
 ghost use Rattle.kvs_model.specs.Store.{Store, node_at};
-ghost use Rattle.kvs_model.specs.Walk.{stop, past_inner_link, most_links};
+ghost use Rattle.kvs_model.specs.Walk.{stop, past_inner_link};
+ghost use Rattle.plain_store.specs.Next.{LeadsTo};
 ghost use Rattle.tree_store.specs.Landing.{table};
-ghost use Rattle.tree_store.specs.Shown.{opened_at, followed, Shows, IsShown, OpensAbove};
+ghost use Rattle.tree_store.specs.Shown.{opened_at, own_path, path_further, Shows, IsShown, OpensAbove};
 
 use crate::kept::Kept;
 use crate::opened::{Opened, copy_of};
 use blob_store::BlobStore;
+use kvs_txn::Cause;
 use lists::{Bytes, Copied};
 use std::alloc::{AllocError, Global};
 
@@ -57,17 +59,26 @@ fn joined(alloc: Global, front: &[Bytes], back: &[Bytes]) -> Result<Vec<Bytes>, 
     Ok(whole)
 }
 
-/// The path after the first link before its last place is followed, if there is one.
+/// Where a link leads.
+pub enum Further {
+    /// To this path of its own store.
+    Inside(Vec<Bytes>),
+    /// Into the namespace that it names.
+    Outside,
+}
+
+/// Where the first link before the path's last place leads, if there is one.
 fn past_inner_link(
     alloc: Global,
     store: &BlobStore,
     kept: &mut Kept,
     opened: &mut Opened,
     path: &[Bytes],
-) -> Result<Option<Vec<Bytes>>, AllocError>
+) -> Result<Option<Further>, AllocError>
     requires { IsShown (table store.now) opened.old }
     ensures next { (hash : Hash) (st : Store) → Shows hash (table store.now) opened.old st
-        → IfOk result (λ next. option_map (λ v. v.items) next ≡ past_inner_link st path.now) }
+        → IfOk result (λ next.
+        option_map path_further next ≡ option_map own_path (past_inner_link st path.now)) }
     ensures shown { (hash : Hash) (st : Store) → Shows hash (table store.now) opened.old st
         → OnOk result (Shows hash (table store.now) opened.new st) }
     ensures opens { (hash : Hash) (st : Store) → Shows hash (table store.now) opened.old st
@@ -77,41 +88,45 @@ fn past_inner_link(
     if count == path.len() {
         return Ok(None);
     }
-    match opened.link(&path[..count]) {
-        None => Ok(None),
-        Some(target) => Ok(Some(joined(alloc, target.as_slice(), &path[count..])?)),
+    let Some(target) = opened.link(&path[..count]) else {
+        return Ok(None);
+    };
+    if target.namespace.is_some() {
+        return Ok(Some(Further::Outside));
     }
+    let next = joined(alloc, target.path.as_slice(), &path[count..])?;
+    Ok(Some(Further::Inside(next)))
 }
 
-/// The path after at most ten links before its last place are followed, if no more are left.
-/// The directories above it are open then, down to the first place where none stands.
+/// Where an operation at the path works, or why it works nowhere. The directories above that place
+/// are open then, down to the first where none stands.
 pub fn resolve(
     alloc: Global,
     store: &BlobStore,
     kept: &mut Kept,
     opened: &mut Opened,
     path: &[Bytes],
-) -> Result<Option<Vec<Bytes>>, AllocError>
+) -> Result<Result<Vec<Bytes>, Cause>, AllocError>
     requires { IsShown (table store.now) opened.old }
     ensures end { (hash : Hash) (st : Store) → Shows hash (table store.now) opened.old st
-        → IfOk result (λ end.
-        option_map (λ v. v.items) end ≡ followed st most_links path.now) }
+        → IfOk result (LeadsTo st path.now) }
     ensures shown { (hash : Hash) (st : Store) → Shows hash (table store.now) opened.old st
         → OnOk result (Shows hash (table store.now) opened.new st) }
     ensures opens { (hash : Hash) (st : Store) → Shows hash (table store.now) opened.old st
-        → IfOk result (λ end. IfSome end (λ at. OpensAbove opened.new st at.items)) }
+        → IfOk result (λ end. IfOk end (λ at. OpensAbove opened.new st at.items)) }
 {
     let mut here = copy_of(alloc, path)?;
     let mut links = 0u32;
     while links < 10 {
         match past_inner_link(alloc, store, kept, opened, here.as_slice())? {
-            None => return Ok(Some(here)),
-            Some(next) => here = next,
+            None => return Ok(Ok(here)),
+            Some(Further::Outside) => return Ok(Err(Cause::OtherSpace)),
+            Some(Further::Inside(next)) => here = next,
         }
         links += 1;
     }
     match past_inner_link(alloc, store, kept, opened, here.as_slice())? {
-        None => Ok(Some(here)),
-        Some(_) => Ok(None),
+        None => Ok(Ok(here)),
+        Some(_) => Ok(Err(Cause::Loop)),
     }
 }

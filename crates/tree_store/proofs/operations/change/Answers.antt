@@ -62,4 +62,4 @@ pub returns-in_ok-target-in-Link : goal.returns-in_ok-target-in-Link
 returns-in_ok-target-in-Link c = λ h st shows opens.
     let at = c.args.at.now in
     subst (λ (s : Store). OnOk c.place-in-Link.result (Shows h (table c.args.store.now) c.place-in-Link.new.opened s)) (sym (ap (λ (o : Op). changed st o at) c.in-Link.is))
-    (c.place-in-Link.ensures h (table c.args.store.now) st (Link c.in-Link.target) shows opens c.requires.below (ap Link (sym c.in_ok-target-in-Link.ensures)) c.is_key.ensures)
+    (c.place-in-Link.ensures h (table c.args.store.now) st (Link c.in-Link.target) shows opens c.requires.below (ap Link (sym c.in_ok-target-in-Link.ensures)) (c.is_target.ensures.key, c.is_target.ensures.named))
