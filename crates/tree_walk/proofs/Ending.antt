@@ -8,10 +8,11 @@ use Rattle.kvs_txn.specs.declared.answers.Query.{Query}
 use Rattle.kvs_txn.specs.declared.answers.Query.TheVariants as query
 use Rattle.kvs_txn.specs.declared.answers.Found.{Found}
 use Rattle.kvs_txn.specs.declared.answers.Found.TheVariants as found
+use Rattle.kvs_txn.specs.declared.words.Target.{Target}
 use Rattle.kvs_model.specs.Store.{Path, Node, Value, Directory, Link, Store, root, node_at, names_in}
-use Rattle.kvs_model.specs.Walk.{Stop, go_on, stop, stop_from, found_at, found_from, found_along}
+use Rattle.kvs_model.specs.Walk.{Stop, go_on, stop, stop_from, found_at, found_from, found_in}
 use Rattle.cache_node.specs.Cache.{Cache, clean_at}
-use Rattle.tree_rules.specs.Needs.{found_needs}
+use Rattle.tree_rules.specs.OneStore.{own_found_needs}
 use Rattle.tree_rules.specs.Objects.{Tree, val, valref, dir, dirref, symlink}
 use Rattle.tree_rules.specs.Texts.{is_long, objects, objects_in, stored_at}
 use Rattle.tree_objects.specs.Level.{tree_of}
@@ -74,7 +75,7 @@ value_needs what cache old new rs x r found some is same clean passed = subst (�
 -- ---- what a query finds in the last place
 
 abbrev pub LastTells : Hash → Store → Query → Path → Node → Cache → List BlobRef → List BlobRef → Advance → Type 0
-LastTells hash st asked place node cache old new told = EndTells (found_at st asked place node) (found_needs hash st (Some place) (found_at st asked place node)) cache old new told
+LastTells hash st asked place node cache old new told = EndTells (found_at st asked place node) (own_found_needs hash st (Some place) (found_at st asked place node)) cache old new told
 
 -- an object of a node at a place
 pub record IsOf (hash : Hash) (st : Store) (place : Path) (node : Node) (tree : Tree) : Type 0 where
@@ -120,12 +121,12 @@ is_dir_last h st p node cache old r is =
     let v = dirref_node h node (objects_in p (objects h st)) r (object_at h st p node (dirref r) is.stored is.there) in
     subst (λ (n : Node). LastTells h st query.Get p n cache old old (advance.Done found.IsDir)) (sym v.0) (needs_none found.IsDir [] cache old found.IsDir refl refl)
 
-pub loop_last : (h : Hash) (st : Store) (p : Path) (node : Node) (cache : Cache) (old : List BlobRef) (target : Path) → IsOf h st p node (symlink target) → LastTells h st query.Get p node cache old old (advance.Done found.Loop)
+pub loop_last : (h : Hash) (st : Store) (p : Path) (node : Node) (cache : Cache) (old : List BlobRef) (target : Target) → IsOf h st p node (symlink target) → LastTells h st query.Get p node cache old old (advance.Done found.Loop)
 loop_last h st p node cache old target is =
     let v = symlink_node h node (objects_in p (objects h st)) target (object_at h st p node (symlink target) is.stored is.there) in
     subst (λ (n : Node). LastTells h st query.Get p n cache old old (advance.Done found.Loop)) (sym v) (needs_none found.Loop [] cache old found.Loop refl refl)
 
-pub list_loop_last : (h : Hash) (st : Store) (p : Path) (node : Node) (cache : Cache) (old : List BlobRef) (target : Path) → IsOf h st p node (symlink target) → LastTells h st query.List p node cache old old (advance.Done found.Loop)
+pub list_loop_last : (h : Hash) (st : Store) (p : Path) (node : Node) (cache : Cache) (old : List BlobRef) (target : Target) → IsOf h st p node (symlink target) → LastTells h st query.List p node cache old old (advance.Done found.Loop)
 list_loop_last h st p node cache old target is =
     let v = symlink_node h node (objects_in p (objects h st)) target (object_at h st p node (symlink target) is.stored is.there) in
     subst (λ (n : Node). LastTells h st query.List p n cache old old (advance.Done found.Loop)) (sym v) (needs_none found.Loop [] cache old found.Loop refl refl)
@@ -163,25 +164,25 @@ target_told h st p node (dirref r) is = ap (found_at st query.Link p) (dirref_no
 target_told h st p node (symlink target) is = ap (found_at st query.Link p) (symlink_node h node (objects_in p (objects h st)) target (object_at h st p node (symlink target) is.stored is.there))
 
 -- a link needs nothing more
-link_needs : (h : Hash) (st : Store) (p : Path) (node : Node) → found_needs h st (Some p) (found_at st query.Link p node) ≡ []
+link_needs : (h : Hash) (st : Store) (p : Path) (node : Node) → own_found_needs h st (Some p) (found_at st query.Link p node) ≡ []
 link_needs h st p (Value bytes) = refl
 link_needs h st p Directory = refl
 link_needs h st p (Link target) = refl
 
 pub link_last : (h : Hash) (st : Store) (p : Path) (node : Node) (cache : Cache) (old : List BlobRef) (found : Found) → found ≡ found_at st query.Link p node → LastTells h st query.Link p node cache old old (advance.Done found)
-link_last h st p node cache old found is = needs_none (found_at st query.Link p node) (found_needs h st (Some p) (found_at st query.Link p node)) cache old found is (link_needs h st p node)
+link_last h st p node cache old found is = needs_none (found_at st query.Link p node) (own_found_needs h st (Some p) (found_at st query.Link p node)) cache old found is (link_needs h st p node)
 
 -- ---- where a walk ends
 
 abbrev pub AlongTells : Hash → Store → Query → Path → Cache → List BlobRef → List BlobRef → Advance → Type 0
-AlongTells hash st asked path cache old new told = EndTells (found_along st asked (Some path)) (found_needs hash st (Some path) (found_along st asked (Some path))) cache old new told
+AlongTells hash st asked path cache old new told = EndTells (found_in st asked path) (own_found_needs hash st (Some path) (found_in st asked path)) cache old new told
 
 -- nothing stands there
 pub ends_none : (h : Hash) (st : Store) (asked : Query) (path : Path) (whole : Bool) (cache : Cache) (old : List BlobRef) → EndsAt h st path None whole → AlongTells h st asked path cache old old (advance.Done found.Nothing)
 ends_none h st asked path whole cache old ends =
     let at = stop st path in
-    let what : found_along st asked (Some path) ≡ found.Nothing = ap (λ o. found_from st asked at.place o at.rest) (none_there h st at.place ends.stands) in
-    subst (λ (w : Found). EndTells w (found_needs h st (Some path) w) cache old old (advance.Done found.Nothing)) (sym what) (needs_none found.Nothing [] cache old found.Nothing refl refl)
+    let what : found_in st asked path ≡ found.Nothing = ap (λ o. found_from st asked at.place o at.rest) (none_there h st at.place ends.stands) in
+    subst (λ (w : Found). EndTells w (own_found_needs h st (Some path) w) cache old old (advance.Done found.Nothing)) (sym what) (needs_none found.Nothing [] cache old found.Nothing refl refl)
 
 found_short : (st : Store) (asked : Query) (place : Path) (node : Node) (rest : Path) → 0 < length rest → found_from st asked place (Some node) rest ≡ found.NotDir
 found_short st asked place node [] w = absurd (omega arith)
@@ -192,14 +193,14 @@ pub ends_part : (h : Hash) (st : Store) (asked : Query) (path : Path) (object : 
 ends_part h st asked path object cache old ends =
     let at = stop st path in
     let node = node_there h st at.place (tree_of object) ends.stands in
-    let what : found_along st asked (Some path) ≡ found.NotDir = ap (λ o. found_from st asked at.place o at.rest) node.1 ∙ found_short st asked at.place node.0 at.rest (ends.part refl) in
-    subst (λ (w : Found). EndTells w (found_needs h st (Some path) w) cache old old (advance.Done found.NotDir)) (sym what) (needs_none found.NotDir [] cache old found.NotDir refl refl)
+    let what : found_in st asked path ≡ found.NotDir = ap (λ o. found_from st asked at.place o at.rest) node.1 ∙ found_short st asked at.place node.0 at.rest (ends.part refl) in
+    subst (λ (w : Found). EndTells w (own_found_needs h st (Some path) w) cache old old (advance.Done found.NotDir)) (sym what) (needs_none found.NotDir [] cache old found.NotDir refl refl)
 
 -- none is left: the place is the path
 pub record EndsWhole (hash : Hash) (st : Store) (path : Path) (object : Object) : Type 0 where
   pub node : Node
   pub is : IsOf hash st path node (tree_of object)
-  pub found : (asked : Query) → found_along st asked (Some path) ≡ found_at st asked path node
+  pub found : (asked : Query) → found_in st asked path ≡ found_at st asked path node
 
 go_on_whole : (o : Option Node) (before further : Stop) (path : Path) → before.place ++ before.rest ≡ path → further.place ++ further.rest ≡ path → (go_on o before further).place ++ (go_on o before further).rest ≡ path
 go_on_whole (Some Directory) before further path a b = b
@@ -229,4 +230,4 @@ ends_whole h st path object ends =
 
 pub whole_told : (h : Hash) (st : Store) (asked : Query) (path : Path) (object : Object) (cache : Cache) (old new : List BlobRef) (told : Advance) (whole : EndsWhole h st path object) → LastTells h st asked path whole.node cache old new told → AlongTells h st asked path cache old new told
 whole_told h st asked path object cache old new told whole tells =
-    subst (λ (w : Found). EndTells w (found_needs h st (Some path) w) cache old new told) (sym (whole.found asked)) tells
+    subst (λ (w : Found). EndTells w (own_found_needs h st (Some path) w) cache old new told) (sym (whole.found asked)) tells

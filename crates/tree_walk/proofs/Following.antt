@@ -9,10 +9,13 @@ use Rattle.kvs_txn.specs.declared.answers.Query.{Query}
 use Rattle.kvs_txn.specs.declared.answers.Query.TheVariants as query
 use Rattle.kvs_txn.specs.declared.answers.Found.{Found}
 use Rattle.kvs_txn.specs.declared.answers.Found.TheVariants as found
+use Rattle.kvs_txn.specs.declared.words.Target.{Target}
 use Rattle.kvs_model.specs.Store.{Path, Node, Value, Directory, Link, Store, node_at}
-use Rattle.kvs_model.specs.Walk.{Stop, stop, at_end, follow, walk, walk_end, found_along, behind_link, behind_inner_link}
+use Rattle.kvs_model.specs.Walk.{Stop, stop, at_end, follow, followed, found_in, behind_link, behind_inner_link}
 use Rattle.cache_node.specs.Cache.{Cache}
-use Rattle.tree_rules.specs.Needs.{next_path, followed, looked_in, passed, found_needs, needs}
+use Rattle.kvs_model.specs.OneStore.{own_end, own_next, own_walk}
+use Rattle.tree_rules.specs.Needs.{looked_in}
+use Rattle.tree_rules.specs.OneStore.{own_found_needs, own_needs, own_passed}
 use Rattle.tree_rules.specs.Texts.{stored_at, directory_reference}
 use Rattle.tree_objects.specs.Level.{tree_of}
 use Rattle.tree_objects.specs.declared.object.Object.{Object}
@@ -26,13 +29,13 @@ use Rattle.tree_walk.proofs.Passing.{none_clean, both_clean}
 
 -- ---- the path behind a link
 
-behind_is : (o : Option Node) (rest : Path) → behind_link o rest ≡ option_map (λ t. t ++ rest) (link_target o)
+behind_is : (o : Option Node) (rest : Path) → option_map (λ (t : Target). t.path) (behind_link o rest) ≡ option_map (λ (t : Target). t.path ++ rest) (link_target o)
 behind_is None rest = refl
 behind_is (Some (Value bytes)) rest = refl
 behind_is (Some Directory) rest = refl
 behind_is (Some (Link target)) rest = refl
 
-inner_is : (o : Option Node) (rest : Path) → 0 < length rest → behind_inner_link o rest ≡ option_map (λ t. t ++ rest) (link_target o)
+inner_is : (o : Option Node) (rest : Path) → 0 < length rest → option_map (λ (t : Target). t.path) (behind_inner_link o rest) ≡ option_map (λ (t : Target). t.path ++ rest) (link_target o)
 inner_is o [] h = absurd (omega arith)
 inner_is o (x ∷ rest) h = behind_is o (x ∷ rest)
 
@@ -50,16 +53,16 @@ rest_none path n e = drop_all n path (omega (arith, same_of n (length path) e))
 
 -- the path behind the link at which a walk stops, where it isn't left
 next_is : (st : Store) (asked : Query) (path : Path) (n : ℕ) → stop st path ≡ record { place = take n path; rest = drop n path } → n ≤ length path → leaves_link asked (n == length path) ≡ false
-    → next_path st asked path ≡ option_map (λ t. t ++ drop n path) (link_target (node_at st (take n path)))
-next_is st query.Get path n s w e = ap (λ (at : Stop). behind_link (node_at st at.place) at.rest) s ∙ behind_is (node_at st (take n path)) (drop n path)
-next_is st query.List path n s w e = ap (λ (at : Stop). behind_link (node_at st at.place) at.rest) s ∙ behind_is (node_at st (take n path)) (drop n path)
-next_is st query.Link path n s w e = ap (λ (at : Stop). behind_inner_link (node_at st at.place) at.rest) s ∙ inner_is (node_at st (take n path)) (drop n path) (rest_some path n w e)
+    → own_next asked st path ≡ option_map (λ (t : Target). t.path ++ drop n path) (link_target (node_at st (take n path)))
+next_is st query.Get path n s w e = ap (λ (at : Stop). option_map (λ (t : Target). t.path) (behind_link (node_at st at.place) at.rest)) s ∙ behind_is (node_at st (take n path)) (drop n path)
+next_is st query.List path n s w e = ap (λ (at : Stop). option_map (λ (t : Target). t.path) (behind_link (node_at st at.place) at.rest)) s ∙ behind_is (node_at st (take n path)) (drop n path)
+next_is st query.Link path n s w e = ap (λ (at : Stop). option_map (λ (t : Target). t.path) (behind_inner_link (node_at st at.place) at.rest)) s ∙ inner_is (node_at st (take n path)) (drop n path) (rest_some path n w e)
 
 -- a query for a link leaves one in the last place
-next_left : (st : Store) (asked : Query) (path : Path) (n : ℕ) → stop st path ≡ record { place = take n path; rest = drop n path } → leaves_link asked (n == length path) ≡ true → next_path st asked path ≡ None
+next_left : (st : Store) (asked : Query) (path : Path) (n : ℕ) → stop st path ≡ record { place = take n path; rest = drop n path } → leaves_link asked (n == length path) ≡ true → own_next asked st path ≡ None
 next_left st query.Get path n s e = absurd (cc)
 next_left st query.List path n s e = absurd (cc)
-next_left st query.Link path n s e = ap (λ (at : Stop). behind_inner_link (node_at st at.place) at.rest) s ∙ ap (behind_inner_link (node_at st (take n path))) (rest_none path n e)
+next_left st query.Link path n s e = ap (λ (at : Stop). option_map (λ (t : Target). t.path) (behind_inner_link (node_at st at.place) at.rest)) s ∙ ap (λ (rest : Path). option_map (λ (t : Target). t.path) (behind_inner_link (node_at st (take n path)) rest)) (rest_none path n e)
 
 ends_there : (h : Hash) (st : Store) (path : Path) (n : ℕ) (found : Option Object) → StopsAt h st path n found → n ≤ length path → EndsAt h st path found (n == length path)
 ends_there h st path n found stops w = record {
@@ -73,18 +76,18 @@ pub goes_left : (h : Hash) (st : Store) (asked : Query) (path : Path) (n : ℕ) 
     → GoesFrom h st asked path (turn.Ends found (n == length path))
 goes_left h st asked path n found stops w leaves = (next_left st asked path n stops.ends leaves, ends_there h st path n found stops w)
 
-next_told : (h : Hash) (st : Store) (asked : Query) (path : Path) (n : ℕ) (found : Option Object) (o : Option Path) → StopsAt h st path n found → n ≤ length path → leaves_link asked (n == length path) ≡ false → o ≡ target_in (option_map tree_of found)
-    → next_path st asked path ≡ option_map (λ t. t ++ drop n path) o
+next_told : (h : Hash) (st : Store) (asked : Query) (path : Path) (n : ℕ) (found : Option Object) (o : Option Target) → StopsAt h st path n found → n ≤ length path → leaves_link asked (n == length path) ≡ false → o ≡ target_in (option_map tree_of found)
+    → own_next asked st path ≡ option_map (λ (t : Target). t.path ++ drop n path) o
 next_told h st asked path n found o stops w leaves is =
-    next_is st asked path n stops.ends w leaves ∙ ap (option_map (λ t. t ++ drop n path)) (sym (is ∙ target_stored h st (take n path) (option_map tree_of found) stops.stands))
+    next_is st asked path n stops.ends w leaves ∙ ap (option_map (λ (t : Target). t.path ++ drop n path)) (sym (is ∙ target_stored h st (take n path) (option_map tree_of found) stops.stands))
 
 pub goes_nowhere : (h : Hash) (st : Store) (asked : Query) (path : Path) (n : ℕ) (found : Option Object) → StopsAt h st path n found → n ≤ length path → leaves_link asked (n == length path) ≡ false → None ≡ target_in (option_map tree_of found)
     → GoesFrom h st asked path (turn.Ends found (n == length path))
 goes_nowhere h st asked path n found stops w leaves is = (next_told h st asked path n found None stops w leaves is, ends_there h st path n found stops w)
 
 -- and one that doesn't goes on along the path behind the link
-pub goes_on : (h : Hash) (st : Store) (asked : Query) (path : Path) (n : ℕ) (found : Option Object) (target next : Path) → StopsAt h st path n found → n ≤ length path → leaves_link asked (n == length path) ≡ false → Some target ≡ target_in (option_map tree_of found)
-    → next ≡ target ++ drop n path → next_path st asked path ≡ Some next
+pub goes_on : (h : Hash) (st : Store) (asked : Query) (path : Path) (n : ℕ) (found : Option Object) (target : Target) (next : Path) → StopsAt h st path n found → n ≤ length path → leaves_link asked (n == length path) ≡ false → Some target ≡ target_in (option_map tree_of found)
+    → next ≡ target.path ++ drop n path → own_next asked st path ≡ Some next
 goes_on h st asked path n found target next stops w leaves is joined = next_told h st asked path n found (Some target) stops w leaves is ∙ ap Some (sym joined)
 
 -- what a walk along a path has passed, and how it goes on
@@ -97,17 +100,17 @@ turn_tells h st asked path cache old new (turn.Ends found whole) passes goes = (
 
 -- the references that are needed along a path and behind its links, at most so many
 abbrev legs_needs : Hash → Store → Query → ℕ → Path → List BlobRef
-legs_needs hash st asked n path = map (directory_reference hash st) (flat_map (looked_in st) (followed (next_path st asked) n path))
+legs_needs hash st asked n path = map (directory_reference hash st) (flat_map (looked_in st) (followed (own_next asked st) n path))
 
 -- a walk has followed so many links and come to this path, all that it needed before being passed
 pub record OnLinks (hash : Hash) (st : Store) (asked : Query) (path : Path) (cache : Cache) (old new : List BlobRef) (links : ℕ) (here : Path) : Type 0 where
   pub done : List BlobRef
   pub noted : new ≡ old ++ done
   pub clean : AreClean cache done
-  pub all : map (directory_reference hash st) (passed st asked path) ≡ done ++ legs_needs hash st asked (10 - links) here
-  pub end : walk_end st asked path ≡ follow (next_path st asked) (10 - links) here
+  pub all : map (directory_reference hash st) (own_passed st asked path) ≡ done ++ legs_needs hash st asked (10 - links) here
+  pub end : own_end st asked path ≡ follow (own_next asked st) (10 - links) here
 
-end_followed : (st : Store) (asked : Query) (path : Path) → walk_end st asked path ≡ follow (next_path st asked) 10 path
+end_followed : (st : Store) (asked : Query) (path : Path) → own_end st asked path ≡ follow (own_next asked st) 10 path
 end_followed st query.Get path = refl
 end_followed st query.List path = refl
 end_followed st query.Link path = refl
@@ -123,46 +126,46 @@ links_begin h st asked path cache old = record {
 
 -- what is needed along a path comes before what is needed behind its links
 abbrev Behind : Hash → Store → Query → Option Path → ℕ → List BlobRef
-Behind hash st asked o n = map (directory_reference hash st) (flat_map (looked_in st) (option_map_or (λ further. followed (next_path st asked) n further) o []))
+Behind hash st asked o n = map (directory_reference hash st) (flat_map (looked_in st) (option_map_or (λ further. followed (own_next asked st) n further) o []))
 
-legs_suc : (h : Hash) (st : Store) (asked : Query) (n : ℕ) (here : Path) (o : Option Path) → next_path st asked here ≡ o → legs_needs h st asked (suc n) here ≡ leg_needs h st here ++ Behind h st asked o n
+legs_suc : (h : Hash) (st : Store) (asked : Query) (n : ℕ) (here : Path) (o : Option Path) → own_next asked st here ≡ o → legs_needs h st asked (suc n) here ≡ leg_needs h st here ++ Behind h st asked o n
 legs_suc h st asked n here o e =
-    ap (λ (p : Option Path). map (directory_reference h st) (looked_in st here ++ flat_map (looked_in st) (option_map_or (λ further. followed (next_path st asked) n further) p []))) e
-    ∙ map-append (directory_reference h st) (looked_in st here) (flat_map (looked_in st) (option_map_or (λ further. followed (next_path st asked) n further) o []))
+    ap (λ (p : Option Path). map (directory_reference h st) (looked_in st here ++ flat_map (looked_in st) (option_map_or (λ further. followed (own_next asked st) n further) p []))) e
+    ∙ map-append (directory_reference h st) (looked_in st here) (flat_map (looked_in st) (option_map_or (λ further. followed (own_next asked st) n further) o []))
 
 legs_zero : (h : Hash) (st : Store) (asked : Query) (here : Path) → legs_needs h st asked 0 here ≡ leg_needs h st here
 legs_zero h st asked here = ap (map (directory_reference h st)) (append-nil (looked_in st here))
 
-legs_none : (h : Hash) (st : Store) (asked : Query) (n : ℕ) (here : Path) → next_path st asked here ≡ None → legs_needs h st asked n here ≡ leg_needs h st here
+legs_none : (h : Hash) (st : Store) (asked : Query) (n : ℕ) (here : Path) → own_next asked st here ≡ None → legs_needs h st asked n here ≡ leg_needs h st here
 legs_none h st asked zero here e = legs_zero h st asked here
 legs_none h st asked (suc n) here e = legs_suc h st asked n here None e ∙ append-nil (leg_needs h st here)
 
 legs_parts : (h : Hash) (st : Store) (asked : Query) (n : ℕ) (here : Path) → (behind : List BlobRef) × (legs_needs h st asked n here ≡ leg_needs h st here ++ behind)
 legs_parts h st asked zero here = ([], legs_zero h st asked here ∙ sym (append-nil (leg_needs h st here)))
-legs_parts h st asked (suc n) here = (Behind h st asked (next_path st asked here) n, legs_suc h st asked n here (next_path st asked here) refl)
+legs_parts h st asked (suc n) here = (Behind h st asked (own_next asked st here) n, legs_suc h st asked n here (own_next asked st here) refl)
 
 -- links that are left to follow
 one_less : (n : ℕ) → n < 10 → 10 - n ≡ suc (10 - (n + 1))
 one_less n w = omega arith
 
 pub links_on : (h : Hash) (st : Store) (asked : Query) (path : Path) (cache : Cache) (old new more : List BlobRef) (n : ℕ) (here next : Path) → OnLinks h st asked path cache old new n here → n < 10
-    → PassesAll cache (leg_needs h st here) new more → next_path st asked here ≡ Some next → OnLinks h st asked path cache old more (n + 1) next
+    → PassesAll cache (leg_needs h st here) new more → own_next asked st here ≡ Some next → OnLinks h st asked path cache old more (n + 1) next
 links_on h st asked path cache old new more n here next on w passes goes = record {
   done = on.done ++ leg_needs h st here;
   noted = passes.passed ∙ ap (λ (rs : List BlobRef). rs ++ leg_needs h st here) on.noted ∙ append_assoc old on.done (leg_needs h st here);
   clean = both_clean cache on.done (leg_needs h st here) on.clean passes.clean;
   all = on.all ∙ ap (λ (rs : List BlobRef). on.done ++ rs) (ap (λ k. legs_needs h st asked k here) (one_less n w) ∙ legs_suc h st asked (10 - (n + 1)) here (Some next) goes)
       ∙ sym (append_assoc on.done (leg_needs h st here) (legs_needs h st asked (10 - (n + 1)) next));
-  end = on.end ∙ ap (λ k. follow (next_path st asked) k here) (one_less n w) ∙ ap (λ o. at_end here o (λ further. follow (next_path st asked) (10 - (n + 1)) further)) goes;
+  end = on.end ∙ ap (λ k. follow (own_next asked st) k here) (one_less n w) ∙ ap (λ o. at_end here o (λ further. follow (own_next asked st) (10 - (n + 1)) further)) goes;
 }
 
 -- the text that is missing along a path is the next one that the walk needs
 pub links_miss : (h : Hash) (st : Store) (asked : Query) (path : Path) (cache : Cache) (old new more : List BlobRef) (n : ℕ) (here : Path) (r : BlobRef) → OnLinks h st asked path cache old new n here
-    → Misses cache (leg_needs h st here) new more r → Misses cache (needs h st asked path) old more r
-unfolding needs
+    → Misses cache (leg_needs h st here) new more r → Misses cache (own_needs h st asked path) old more r
+unfolding own_needs
 links_miss h st asked path cache old new more n here r on misses =
     let parts = legs_parts h st asked (10 - n) here in
-    let last = found_needs h st (walk_end st asked path) (walk st asked path) in
+    let last = own_found_needs h st (own_end st asked path) (own_walk st asked path) in
     let rest = misses.behind ++ parts.0 ++ last in
     record {
       before = on.done ++ misses.before;
@@ -179,23 +182,23 @@ links_miss h st asked path cache old new more n here r on misses =
 
 -- where the walk goes no further, what is found there is found, and what that needs is needed last
 pub links_end : (h : Hash) (st : Store) (asked : Query) (path : Path) (cache : Cache) (old new more last : List BlobRef) (n : ℕ) (here : Path) (told : Advance) → OnLinks h st asked path cache old new n here
-    → PassesAll cache (leg_needs h st here) new more → next_path st asked here ≡ None
-    → EndTells (found_along st asked (Some here)) (found_needs h st (Some here) (found_along st asked (Some here))) cache more last told
-    → EndTells (walk st asked path) (needs h st asked path) cache old last told
-unfolding needs walk
+    → PassesAll cache (leg_needs h st here) new more → own_next asked st here ≡ None
+    → EndTells (found_in st asked here) (own_found_needs h st (Some here) (found_in st asked here)) cache more last told
+    → EndTells (own_walk st asked path) (own_needs h st asked path) cache old last told
+unfolding own_needs own_walk
 links_end h st asked path cache old new more last n here told on passes none ends =
-    let end : walk_end st asked path ≡ Some here = on.end ∙ end_here (10 - n) in
+    let end : own_end st asked path ≡ Some here = on.end ∙ end_here (10 - n) in
     let done = on.done ++ leg_needs h st here in
-    let all : map (directory_reference h st) (passed st asked path) ≡ done = on.all ∙ ap (λ (rs : List BlobRef). on.done ++ rs) (legs_none h st asked (10 - n) here none) in
+    let all : map (directory_reference h st) (own_passed st asked path) ≡ done = on.all ∙ ap (λ (rs : List BlobRef). on.done ++ rs) (legs_none h st asked (10 - n) here none) in
     let now : more ≡ old ++ done = passes.passed ∙ ap (λ (rs : List BlobRef). rs ++ leg_needs h st here) on.noted ∙ append_assoc old on.done (leg_needs h st here) in
     let clean : AreClean cache done = both_clean cache on.done (leg_needs h st here) on.clean passes.clean in
-    subst (λ (o : Option Path). EndTells (found_along st asked o) (map (directory_reference h st) (passed st asked path) ++ found_needs h st o (found_along st asked o)) cache old last told) (sym end)
-    (subst (λ (rs : List BlobRef). EndTells (found_along st asked (Some here)) (rs ++ found_needs h st (Some here) (found_along st asked (Some here))) cache old last told) (sym all)
-    (after_done (found_along st asked (Some here)) (found_needs h st (Some here) (found_along st asked (Some here))) done told now clean ends))
+    subst (λ (o : Option Path). EndTells (option_map_or (found_in st asked) o found.Loop) (map (directory_reference h st) (own_passed st asked path) ++ own_found_needs h st o (option_map_or (found_in st asked) o found.Loop)) cache old last told) (sym end)
+    (subst (λ (rs : List BlobRef). EndTells (found_in st asked here) (rs ++ own_found_needs h st (Some here) (found_in st asked here)) cache old last told) (sym all)
+    (after_done (found_in st asked here) (own_found_needs h st (Some here) (found_in st asked here)) done told now clean ends))
   where
-    end_here : (k : ℕ) → follow (next_path st asked) k here ≡ Some here
+    end_here : (k : ℕ) → follow (own_next asked st) k here ≡ Some here
     end_here zero = ap (λ o. at_end here o (λ _. None)) none
-    end_here (suc k) = ap (λ o. at_end here o (λ further. follow (next_path st asked) k further)) none
+    end_here (suc k) = ap (λ o. at_end here o (λ further. follow (own_next asked st) k further)) none
 
     after_done : (what : Found) (wanted done : List BlobRef) (told : Advance) → more ≡ old ++ done → AreClean cache done → EndTells what wanted cache more last told → EndTells what (done ++ wanted) cache old last told
     after_done what wanted done (advance.Done found) now clean ends = (
@@ -216,22 +219,22 @@ links_end h st asked path cache old new more last n here told on passes none end
 
 -- behind the most links nothing more is followed
 pub links_out : (h : Hash) (st : Store) (asked : Query) (path : Path) (cache : Cache) (old new more : List BlobRef) (n : ℕ) (here next : Path) → OnLinks h st asked path cache old new n here → n ≡ 10
-    → PassesAll cache (leg_needs h st here) new more → next_path st asked here ≡ Some next → EndTells (walk st asked path) (needs h st asked path) cache old more (advance.Done found.Loop)
-unfolding needs walk
+    → PassesAll cache (leg_needs h st here) new more → own_next asked st here ≡ Some next → EndTells (own_walk st asked path) (own_needs h st asked path) cache old more (advance.Done found.Loop)
+unfolding own_needs own_walk
 links_out h st asked path cache old new more n here next on is passes goes =
     let zero_left : 10 - n ≡ 0 = omega arith in
-    let end : walk_end st asked path ≡ None = on.end ∙ ap (λ k. follow (next_path st asked) k here) zero_left ∙ ap (λ o. at_end here o (λ _. None)) goes in
+    let end : own_end st asked path ≡ None = on.end ∙ ap (λ k. follow (own_next asked st) k here) zero_left ∙ ap (λ o. at_end here o (λ _. None)) goes in
     let done = on.done ++ leg_needs h st here in
-    let all : map (directory_reference h st) (passed st asked path) ≡ done = on.all ∙ ap (λ (rs : List BlobRef). on.done ++ rs) (ap (λ k. legs_needs h st asked k here) zero_left ∙ legs_zero h st asked here) in
+    let all : map (directory_reference h st) (own_passed st asked path) ≡ done = on.all ∙ ap (λ (rs : List BlobRef). on.done ++ rs) (ap (λ k. legs_needs h st asked k here) zero_left ∙ legs_zero h st asked here) in
     let now : more ≡ old ++ done = passes.passed ∙ ap (λ (rs : List BlobRef). rs ++ leg_needs h st here) on.noted ∙ append_assoc old on.done (leg_needs h st here) in
     let clean : AreClean cache done = both_clean cache on.done (leg_needs h st here) on.clean passes.clean in
-    subst (λ (o : Option Path). EndTells (found_along st asked o) (map (directory_reference h st) (passed st asked path) ++ found_needs h st o (found_along st asked o)) cache old more (advance.Done found.Loop)) (sym end)
-    (refl, subst (λ (rs : List BlobRef). PassesAll cache rs old more) (sym (append-nil (map (directory_reference h st) (passed st asked path)) ∙ all)) (record { passed = now; clean = clean }))
+    subst (λ (o : Option Path). EndTells (option_map_or (found_in st asked) o found.Loop) (map (directory_reference h st) (own_passed st asked path) ++ own_found_needs h st o (option_map_or (found_in st asked) o found.Loop)) cache old more (advance.Done found.Loop)) (sym end)
+    (refl, subst (λ (rs : List BlobRef). PassesAll cache rs old more) (sym (append-nil (map (directory_reference h st) (own_passed st asked path)) ∙ all)) (record { passed = now; clean = clean }))
 
 -- the walk as it is after so many links, of which one may be too many
 pub record IsAfter (hash : Hash) (st : Store) (asked : Query) (path : Path) (cache : Cache) (old new : List BlobRef) (links : ℕ) (here : Path) : Type 0 where
   pub on : links ≤ 10 → OnLinks hash st asked path cache old new links here
-  pub out : links ≡ 11 → EndTells (walk st asked path) (needs hash st asked path) cache old new (advance.Done found.Loop)
+  pub out : links ≡ 11 → EndTells (own_walk st asked path) (own_needs hash st asked path) cache old new (advance.Done found.Loop)
 
 pub after_none : (h : Hash) (st : Store) (asked : Query) (path : Path) (cache : Cache) (old : List BlobRef) (here : Path) → here ≡ path → IsAfter h st asked path cache old old 0 here
 after_none h st asked path cache old here same = record {
@@ -240,7 +243,7 @@ after_none h st asked path cache old here same = record {
 }
 
 pub after_more : (h : Hash) (st : Store) (asked : Query) (path : Path) (cache : Cache) (old new more : List BlobRef) (n : ℕ) (here next : Path) → IsAfter h st asked path cache old new n here → n ≤ 10
-    → PassesAll cache (leg_needs h st here) new more → next_path st asked here ≡ Some next → IsAfter h st asked path cache old more (n + 1) next
+    → PassesAll cache (leg_needs h st here) new more → own_next asked st here ≡ Some next → IsAfter h st asked path cache old more (n + 1) next
 after_more h st asked path cache old new more n here next after w passes goes = record {
   on = λ v. links_on h st asked path cache old new more n here next (after.on w) (omega arith) passes goes;
   out = λ e. links_out h st asked path cache old new more n here next (after.on w) (omega arith) passes goes;

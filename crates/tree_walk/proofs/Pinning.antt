@@ -12,13 +12,13 @@ use Rattle.fl_digest.specs.declared.Hash.{Hash}
 use Rattle.fl_digest.specs.Reference.{same_reference}
 use Rattle.kvs_txn.specs.declared.answers.Query.{Query}
 use Rattle.kvs_model.specs.Store.{Path, Store}
-use Rattle.kvs_model.specs.Walk.{walk}
+use Rattle.kvs_model.specs.OneStore.{own_walk}
 use Rattle.cache_node.specs.declared.content.Held.{Held}
 use Rattle.cache_node.specs.Order.{pinned, used}
 use Rattle.cache_node.specs.Cache.{Cache, held_at, clean_at, with_pin, with_clean}
 use Rattle.cache_node.proofs.Same.{same_true, derived_same}
 use Rattle.fl_digest.specs.contracts.BlobRefPartialEq.TheImpl.{eq-value as derived}
-use Rattle.tree_rules.specs.Needs.{needs}
+use Rattle.tree_rules.specs.OneStore.{own_needs}
 use Rattle.tree_walk.specs.declared.Advance.{Advance}
 use Rattle.tree_walk.specs.declared.Advance.TheVariants.{Done, Needs}
 use Rattle.tree_walk.specs.Legs.{EndTells}
@@ -127,11 +127,11 @@ tells_by : (hash : Hash) (st : Store) (old : Walk) (before after : Cache) (passe
     → after ≡ with_pins fresh before
     → ((r : BlobRef) → Contains passed r → Contains (old.pinned ++ fresh) r)
     → ((r : BlobRef) → Contains fresh r → Contains passed r)
-    → EndTells (walk st old.asked old.path) (needs hash st old.asked old.path) before [] passed told
+    → EndTells (own_walk st old.asked old.path) (own_needs hash st old.asked old.path) before [] passed told
     → Tells hash st old (record { root = old.root; asked = old.asked; path = old.path; pinned = old.pinned ++ fresh }) after told
 tells_by hash st old before after passed fresh (Done found) is all only told =
     let w : Walk = record { root = old.root; asked = old.asked; path = old.path; pinned = old.pinned ++ fresh } in
-    let wanted = needs hash st old.asked old.path in
+    let wanted = own_needs hash st old.asked old.path in
     record {
       next = (told.0, λ r has. passed_now w before after fresh r is (all r (subst (λ (l : List BlobRef). Contains l r) (sym told.1.passed) has)) (told.1.clean r has));
       pins = λ r has. elim (Contains-append_cases old.pinned fresh r has) as (λ _. Contains old.pinned r ⊎ Contains wanted r) [
@@ -141,7 +141,7 @@ tells_by hash st old before after passed fresh (Done found) is all only told =
     }
 tells_by hash st old before after passed fresh (Needs reference) is all only told =
     let w : Walk = record { root = old.root; asked = old.asked; path = old.path; pinned = old.pinned ++ fresh } in
-    let wanted = needs hash st old.asked old.path in
+    let wanted = own_needs hash st old.asked old.path in
     record {
       next = (told.before, told.behind, told.parts, λ r has. passed_now w before after fresh r is (all r (subst (λ (l : List BlobRef). Contains l r) (sym told.passed) has)) (told.clean r has), after_pins before after fresh reference is ∙ told.missing);
       pins = λ r has. elim (Contains-append_cases old.pinned fresh r has) as (λ _. Contains old.pinned r ⊎ Contains wanted r) [
@@ -170,13 +170,13 @@ pub record IsPinned (before after : Cache) (pinned passed more now : List BlobRe
 
 pub advance_tells : (hash : Hash) (st : Store) (top : BlobRef) (asked : Query) (path slice : Path) (pinned passed more now none : List BlobRef) (old : Walk) (before after : Cache) (told : Advance)
     → record { root = top; asked = asked; path = path; pinned = pinned } ≡ old → IsPinned before after pinned passed more now → none ≡ [] → slice ≡ path
-    → (Reads hash st top before → EndTells (walk st asked slice) (needs hash st asked slice) before none passed told)
+    → (Reads hash st top before → EndTells (own_walk st asked slice) (own_needs hash st asked slice) before none passed told)
     → Reads hash st old.root before → Tells hash st old (record { root = top; asked = asked; path = path; pinned = now }) after told
 advance_tells hash st top asked path slice pinned passed more now none old before after told is has empty same looks =
     let w : Walk = record { root = top; asked = asked; path = path; pinned = pinned } in
     let here = λ (reads : Reads hash st top before).
     tells_by hash st w before after passed more told has.pins has.fresh.all has.fresh.only
-    (subst (λ (l : List BlobRef). EndTells (walk st asked path) (needs hash st asked path) before l passed told) empty
-    (subst (λ (q : Path). EndTells (walk st asked q) (needs hash st asked q) before none passed told) same (looks reads))) in
+    (subst (λ (l : List BlobRef). EndTells (own_walk st asked path) (own_needs hash st asked path) before l passed told) empty
+    (subst (λ (q : Path). EndTells (own_walk st asked q) (own_needs hash st asked q) before none passed told) same (looks reads))) in
     subst (λ (v : Walk). Reads hash st v.root before → Tells hash st v (record { root = top; asked = asked; path = path; pinned = now }) after told) is
     (λ reads. subst (λ (l : List BlobRef). Tells hash st w (record { root = top; asked = asked; path = path; pinned = l }) after told) (sym has.added) (here reads))

@@ -8,6 +8,7 @@ use Rattle.fl_digest.specs.Reference.{reference_of}
 use Rattle.fl_json.specs.Reading.{reading}
 use Rattle.kvs_txn.specs.declared.answers.Listed.{Listed}
 use Rattle.kvs_model.specs.Operation.{is_directory}
+use Rattle.kvs_txn.specs.declared.words.Target.{Target}
 use Rattle.kvs_model.specs.Store.{Name, Path, Node, Value, Directory, Link, Store, IsStore, root, node_at, child_name, names_in, kind_of, listed as line_of}
 use Rattle.cache_node.specs.Cache.{Cache, clean_at}
 use Rattle.tree_rules.specs.Held.{IsStorable}
@@ -58,7 +59,7 @@ dirref_node h (Value b) es r e =
 dirref_node h Directory es r e = let same : reference_of h (text_of es) ≡ r = cc in (refl, sym same)
 dirref_node h (Link target) es r e = absurd (cc)
 
-pub symlink_node : (h : Hash) (node : Node) (es : List (Name × Tree)) (target : Path) → object_of h node es ≡ symlink target → node ≡ Link target
+pub symlink_node : (h : Hash) (node : Node) (es : List (Name × Tree)) (target : Target) → object_of h node es ≡ symlink target → node ≡ Link target
 symlink_node h (Value b) es target e =
     elim (is_long b) as (λ l. cond l (valref (reference_of h b ∷ [])) (val b) ≡ symlink target → Value b ≡ Link target) [
       | true ↦ λ f. absurd (cc)
@@ -118,7 +119,7 @@ root_stored h st r is named = ap (λ (x : BlobRef). Some (dirref x)) named ∙ s
 abbrev Below : Type 0
 Below = List (Name × Tree)
 
-abbrev pub link_target : Option Node → Option Path
+abbrev pub link_target : Option Node → Option Target
 link_target None = None
 link_target (Some (Value bytes)) = None
 link_target (Some Directory) = None

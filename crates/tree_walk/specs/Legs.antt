@@ -8,10 +8,12 @@ use Rattle.kvs_txn.specs.declared.answers.Kind.TheVariants as kind
 use Rattle.kvs_txn.specs.declared.answers.Listed.{Listed}
 use Rattle.kvs_txn.specs.declared.answers.Query.{Query}
 use Rattle.kvs_txn.specs.declared.answers.Query.TheVariants as query
+use Rattle.kvs_txn.specs.declared.words.Target.{Target}
 use Rattle.kvs_model.specs.Store.{Name, Path, Store}
 use Rattle.kvs_model.specs.Walk.{stop}
 use Rattle.cache_node.specs.Cache.{Cache, clean_at}
-use Rattle.tree_rules.specs.Needs.{next_path, looked_in}
+use Rattle.kvs_model.specs.OneStore.{own_next}
+use Rattle.tree_rules.specs.Needs.{looked_in}
 use Rattle.tree_rules.specs.Objects.{Tree, val, valref, dir, dirref, symlink}
 use Rattle.tree_rules.specs.Texts.{directory_reference, stored_at}
 use Rattle.tree_objects.specs.Level.{tree_of}
@@ -53,7 +55,7 @@ directory_in (Some (dirref reference)) = Some reference
 directory_in (Some (symlink target)) = None
 
 -- the target of a link
-abbrev pub target_in : Option Tree → Option Path
+abbrev pub target_in : Option Tree → Option Target
 target_in None = None
 target_in (Some (val bytes)) = None
 target_in (Some (valref references)) = None
@@ -111,9 +113,9 @@ pub record EndsAt (hash : Hash) (st : Store) (path : Path)
 -- where a query's walk goes from the place where it stops on a path
 abbrev pub GoesFrom : Hash → Store → Query → Path → Turn → Type 0
 GoesFrom hash st asked path (turn.Needs reference) = ⊥
-GoesFrom hash st asked path (turn.Follows next) = next_path st asked path ≡ Some next.items
+GoesFrom hash st asked path (turn.Follows next) = own_next asked st path ≡ Some next.items
 GoesFrom hash st asked path (turn.Ends found whole) =
-    (next_path st asked path ≡ None) × EndsAt hash st path found whole
+    (own_next asked st path ≡ None) × EndsAt hash st path found whole
 
 -- how it goes on that has passed some references before
 abbrev pub TurnTells : Hash → Store → Query → Path

@@ -4,10 +4,10 @@ use Rattle.fl_digest.specs.declared.BlobRef.{BlobRef}
 use Rattle.fl_digest.specs.declared.Hash.{Hash}
 use Rattle.kvs_txn.specs.declared.answers.Query.{Query}
 use Rattle.kvs_model.specs.Store.{Path, Store}
-use Rattle.kvs_model.specs.Walk.{walk}
+use Rattle.kvs_model.specs.OneStore.{own_walk}
 use Rattle.cache_node.specs.Cache.{Cache, clean_at, with_pin, without_pin}
 use Rattle.tree_rules.specs.Held.{Table, IsRootOf}
-use Rattle.tree_rules.specs.Needs.{needs}
+use Rattle.tree_rules.specs.OneStore.{own_needs}
 use Rattle.tree_walk.specs.declared.Advance.{Advance}
 use Rattle.tree_walk.specs.declared.Advance.TheVariants.{Done, Needs}
 
@@ -52,11 +52,11 @@ IsPassed w cache reference = IsSome (clean_at reference cache) × Contains w.pin
 -- what an advance of a walk in this store tells: at the end what is found, all needs being passed;
 -- before, the first need that isn't clean, those before it being passed
 abbrev pub TellsNext : Hash → Store → Walk → Cache → Advance → Type 0
-TellsNext hash st w cache (Done found) = (found ≡ walk st w.asked w.path) × ((reference : BlobRef)
-    → Contains (needs hash st w.asked w.path) reference → IsPassed w cache reference)
+TellsNext hash st w cache (Done found) = (found ≡ own_walk st w.asked w.path) × ((reference : BlobRef)
+    → Contains (own_needs hash st w.asked w.path) reference → IsPassed w cache reference)
 TellsNext hash st w cache (Needs reference) =
     (before : List BlobRef) × (behind : List BlobRef)
-    × (needs hash st w.asked w.path ≡ before ++ reference ∷ behind)
+    × (own_needs hash st w.asked w.path ≡ before ++ reference ∷ behind)
     × ((passed : BlobRef) → Contains before passed → IsPassed w cache passed)
     × (clean_at reference cache ≡ None)
 
@@ -65,4 +65,4 @@ pub record Tells (hash : Hash) (st : Store) (old new : Walk)
     (cache : Cache) (told : Advance) : Type 0 where
   pub next : TellsNext hash st new cache told
   pub pins : (reference : BlobRef) → Contains new.pinned reference
-      → Contains old.pinned reference ⊎ Contains (needs hash st old.asked old.path) reference
+      → Contains old.pinned reference ⊎ Contains (own_needs hash st old.asked old.path) reference

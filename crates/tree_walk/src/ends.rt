@@ -4,8 +4,8 @@ ghost use Rattle.fl_digest.specs.declared.BlobRef.{BlobRef as Reference};
 ghost use Rattle.fl_digest.specs.declared.Hash.{Hash};
 ghost use Rattle.fl_digest.specs.Reference.{reference_of};
 ghost use Rattle.kvs_model.specs.Store.{Path as Place, Node, Value, Directory, Store, node_at, names_in};
-ghost use Rattle.kvs_model.specs.Walk.{found_at, found_along};
-ghost use Rattle.tree_rules.specs.Needs.{found_needs};
+ghost use Rattle.kvs_model.specs.Walk.{found_at, found_in};
+ghost use Rattle.tree_rules.specs.OneStore.{own_found_needs};
 ghost use Rattle.tree_rules.specs.Objects.{listed};
 ghost use Rattle.tree_rules.specs.Texts.{is_long, directory_reference, stored_at};
 ghost use Rattle.tree_objects.specs.Level.{tree_of};
@@ -85,7 +85,7 @@ fn names(
         → Some (tree_of object) ≡ stored_at hash st place
         → let what = found_at st Query.List place node in
         IfOk result (EndTells what
-        (found_needs hash st (Some place) what) cache.now passed.old.items passed.new.items) }
+        (own_found_needs hash st (Some place) what) cache.now passed.old.items passed.new.items) }
 {
     match object {
         Object::Dirref(reference) => names_at(alloc, cache, &reference, passed),
@@ -136,7 +136,7 @@ fn value(
         → Some (tree_of object) ≡ stored_at hash st place
         → let what = found_at st Query.Get place node in
         IfOk result (EndTells what
-        (found_needs hash st (Some place) what) cache.now passed.old.items passed.new.items) }
+        (own_found_needs hash st (Some place) what) cache.now passed.old.items passed.new.items) }
 {
     match object {
         Object::Val(bytes) => Ok(Advance::Done(Found::Value(bytes))),
@@ -177,7 +177,7 @@ fn last(
         → Some (tree_of object) ≡ stored_at hash st place
         → let what = found_at st asked place node in
         IfOk result (EndTells what
-        (found_needs hash st (Some place) what) cache.now passed.old.items passed.new.items) }
+        (own_found_needs hash st (Some place) what) cache.now passed.old.items passed.new.items) }
 {
     match asked {
         Query::Get => value(cache, object, passed),
@@ -199,9 +199,9 @@ pub fn found(
     ensures { (hash : Hash) (st : Store) (root : Reference) (path : Place)
         → Reads hash st root cache.now
         → EndsAt hash st path object whole
-        → let what = found_along st asked (Some path) in
+        → let what = found_in st asked path in
         IfOk result (EndTells what
-        (found_needs hash st (Some path) what) cache.now passed.old.items passed.new.items) }
+        (own_found_needs hash st (Some path) what) cache.now passed.old.items passed.new.items) }
 {
     let Some(object) = object else {
         return Ok(Advance::Done(Found::Nothing));

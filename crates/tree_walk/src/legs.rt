@@ -2,8 +2,8 @@
 ghost use Rattle.std.specs.Prelude.{◌≡◌, ◌≤◌, ◌++◌, length, option_map, option_copied, IfOk};
 ghost use Rattle.fl_digest.specs.declared.Hash.{Hash};
 ghost use Rattle.kvs_model.specs.Store.{Store};
-ghost use Rattle.kvs_model.specs.Walk.{walk};
-ghost use Rattle.tree_rules.specs.Needs.{needs};
+ghost use Rattle.kvs_model.specs.OneStore.{own_walk};
+ghost use Rattle.tree_rules.specs.OneStore.{own_needs};
 ghost use Rattle.tree_objects.specs.Level.{tree_of};
 ghost use Rattle.tree_walk.specs.Legs.{directory_in, target_in, leaves_link, LegTells, StopsAt, StopsWithin, TurnTells, GoesFrom, EndTells};
 ghost use Rattle.tree_walk.specs.Walks.{Reads};
@@ -13,7 +13,7 @@ use crate::ends::found;
 use crate::texts::directory_at;
 use cache_node::CacheNode;
 use fl_digest::BlobRef;
-use kvs_txn::{Found, Path, Query};
+use kvs_txn::{Found, Query, Target};
 use lists::{Bytes, Copied};
 use std::alloc::{AllocError, Global};
 use tree_objects::Object;
@@ -60,7 +60,7 @@ fn directory_in(object: &Option<Object>) -> Option<BlobRef>
 }
 
 /// The target of a link.
-fn target_in(object: &Option<Object>) -> Option<&Path>
+fn target_in(object: &Option<Object>) -> Option<&Target>
     ensures { option_copied result ≡ target_in (option_map tree_of object.now) }
 {
     match object {
@@ -158,7 +158,7 @@ fn past_link(
     match target_in(&object) {
         None => Ok(Turn::Ends { object, whole }),
         Some(target) => {
-            let next = joined(alloc, target.as_slice(), &path[count..])?;
+            let next = joined(alloc, target.path.as_slice(), &path[count..])?;
             Ok(Turn::Follows(next))
         }
     }
@@ -195,8 +195,8 @@ pub fn look(
     passed: &mut Vec<BlobRef>,
 ) -> Result<Advance, AllocError>
     ensures { (hash : Hash) (st : Store) → Reads hash st root.now cache.now
-        → IfOk result (EndTells (walk st asked path.now)
-        (needs hash st asked path.now) cache.now passed.old.items passed.new.items) }
+        → IfOk result (EndTells (own_walk st asked path.now)
+        (own_needs hash st asked path.now) cache.now passed.old.items passed.new.items) }
 {
     let mut here = copy_of(alloc, path)?;
     let mut links = 0u32;

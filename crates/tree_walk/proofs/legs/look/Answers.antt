@@ -1,7 +1,7 @@
 use Rattle.std.proofs.Common.{subst, arith}
 use Rattle.kvs_model.specs.Store.{Path}
-use Rattle.kvs_model.specs.Walk.{walk}
-use Rattle.tree_rules.specs.Needs.{needs}
+use Rattle.kvs_model.specs.OneStore.{own_walk}
+use Rattle.tree_rules.specs.OneStore.{own_needs}
 use Rattle.tree_walk.specs.Legs.{TurnTells, EndTells}
 use Rattle.tree_walk.specs.declared.legs.Turn.{Turn}
 use Rattle.tree_walk.specs.declared.legs.Turn.TheVariants as turn
@@ -38,7 +38,7 @@ returns-in-Ends c = λ h st reads.
     let told = subst (λ (q : Path). TurnTells h st c.args.asked q cache new more (turn.Ends c.in-Ends.object c.in-Ends.whole)) c.as_slice.ensures.value
     (subst (λ (t : Turn). TurnTells h st c.args.asked c.as_slice.result.now cache new more t) c.in-Ends.is (c.in_ok-turn.ensures h st reads)) in
     let on = (c.loop-links.invariant.after h st reads).on c.loop-links-test.true in
-    ok_by (AlongTells h st c.args.asked here cache more last) (EndTells (walk st c.args.asked c.args.path.now) (needs h st c.args.asked c.args.path.now) cache old last)
+    ok_by (AlongTells h st c.args.asked here cache more last) (EndTells (own_walk st c.args.asked c.args.path.now) (own_needs h st c.args.asked c.args.path.now) cache old last)
     (λ found tells. links_end h st c.args.asked c.args.path.now cache old new more last c.loop-links.links here found on told.0 told.1.0 tells)
     c.found.result (c.found.ensures h st c.args.root.now here reads told.1.1)
 
