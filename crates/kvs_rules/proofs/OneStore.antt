@@ -1,5 +1,5 @@
 -- Reads in a store none of whose links names a namespace.
-use Rattle.std.proofs.Common.{◌≡◌, ◌↔◌, ℕ, List, [], ◌∷◌, map, Bool, true, false, cond, Option, Some, None, IfSome, IsSome, is_some, option_and_then, Result, Ok, Err, refl, sym, ap, ◌∙◌, subst, bytes_eq}
+use Rattle.std.proofs.Common.{◌≡◌, ◌↔◌, ℕ, List, [], ◌∷◌, map, Bool, true, false, cond, Option, Some, None, IfSome, is_some, codes, option_and_then, Result, Ok, refl, sym, ap, ◌∙◌, subst}
 use Rattle.std.specs.List.{AllByRecursion as Each}
 use Rattle.std.specs.Cmp.Lexicographic.{bytes_decides}
 use Rattle.fl_digest.specs.declared.BlobRef.{BlobRef}
@@ -7,16 +7,16 @@ use Rattle.kvs_txn.specs.declared.answers.Found.{Found}
 use Rattle.kvs_txn.specs.declared.answers.Numbered.{Numbered}
 use Rattle.kvs_txn.specs.declared.answers.Query.{Query}
 use Rattle.kvs_txn.specs.declared.txn.By.{By}
-use Rattle.kvs_model.specs.Store.{Name, Path, Store, empty_store}
-use Rattle.kvs_model.specs.History.{after}
-use Rattle.kvs_model.specs.Walk.{Family, used, walk}
+use Rattle.std.specs.Ordering.{eq_by_cmp}
+use Rattle.kvs_model.specs.Store.{Name, Path, Value, Directory, Link, Store, empty_store, path_cmp, root}
+use Rattle.kvs_model.specs.History.{after, first_store}
 use Rattle.kvs_model.specs.OneStore.{AreOwn, HasOwnLinks, own_walk}
 use Rattle.kvs_model.proofs.OneStore.{walk_is_own, none_used, landings_own}
 use Rattle.tree_rules.specs.Needs.{needs}
 use Rattle.tree_rules.specs.OneStore.{own_needs}
 use Rattle.tree_rules.proofs.Blobs.{needs_are_own}
 use Rattle.kvs_rules.specs.Log.{Log}
-use Rattle.kvs_rules.specs.Namespaces.{Request, Setting, above_first, begun_at, family_at, first_number, is_opened, is_primary, landings, scope_of, store_after}
+use Rattle.kvs_rules.specs.Namespaces.{Request, Setting, above_first, begun_at, family_at, first_number, fresh, is_opened, is_primary, landings, scope_of, store_after}
 use Rattle.kvs_rules.specs.Brokers.{HeldAtOnce}
 use Rattle.kvs_rules.specs.Answers.{HasHeldNeeds, IsFresh, WalkTells, roots_of}
 
@@ -69,3 +69,17 @@ stores_own set log space number base own = opened (is_opened log space)
     opened : (b : Bool) → IfSome (cond b (option_and_then (λ count. after (scope_of space) (landings log space) count (begun_at set space)) (above_first (first_number set space) number)) None) HasOwnLinks
     opened true = counted (above_first (first_number set space) number)
     opened false = tt
+
+-- a store with the grant's text has none
+first_own : (grant : List ℕ) → HasOwnLinks (first_store grant)
+first_own grant path target e = by (eq_by_cmp path_cmp path root) (eq_by_cmp path_cmp path (codes "job" ∷ [])) (eq_by_cmp path_cmp path (codes "resource" ∷ [])) (eq_by_cmp path_cmp path (codes "resource" ∷ codes "R" ∷ [])) e
+  where
+    by : (a b c d : Bool) → cond a (Some Directory) (cond b (Some Directory) (cond c (Some Directory) (cond d (Some (Value grant)) None))) ≡ Some (Link target) → target.namespace ≡ None
+    by true b c d e = cc
+    by false true c d e = cc
+    by false false true d e = cc
+    by false false false true e = cc
+    by false false false false e = cc
+
+pub fresh_own : (set : Setting) (grant : List ℕ) → set.base ≡ fresh grant → HasOwnLinks set.base.store
+fresh_own set grant e = subst (λ b. HasOwnLinks b.store) (sym e) (first_own grant)
