@@ -1,22 +1,29 @@
 -- What a further moment leaves of what the log says of a request.
-use Rattle.std.proofs.Common.{◌≡◌, ◌≢◌, ℕ, zero, suc, ◌<◌, ◌≤◌, ◌⊎◌, inl, inr, [], ◌∷◌, ◌++◌, List, append_assoc, Bool, true, false, ◌||◌, Option, Some, None, unwrap_or, IfSome, IsSomeAnd, Contains, bytes_eq, refl, sym, ap, ◌∙◌, subst, arith}
+use Rattle.std.proofs.Common.{true≢false, ◌≡◌, ◌≢◌, ℕ, zero, suc, ◌<◌, ◌≤◌, ◌⊎◌, inl, inr, [], ◌∷◌, ◌++◌, List, append_assoc, Bool, true, false, ◌||◌, Option, Some, None, unwrap_or, IfSome, IsSomeAnd, Contains, bytes_eq, refl, sym, ap, ◌∙◌, subst, arith}
 use Rattle.std.specs.List.{list_any}
 use Rattle.std.proofs.Math.Bool.{or-false}
 use Rattle.std.proofs.lemmas.List.Elements.{Contains-append_left, Contains-append_cases}
 use Rattle.kvs_txn.specs.declared.txn.By.{By}
 use Rattle.kvs_txn.specs.declared.answers.Refusal.{Refusal}
-use Rattle.kvs_model.specs.Store.{Name, Store}
+use Rattle.std.specs.List.{AllByRecursion as Each}
+use Rattle.std.specs.Prelude.{Result, Ok, is_some}
+use Rattle.kvs_txn.specs.declared.answers.Found.{Found}
+use Rattle.kvs_txn.specs.declared.answers.Numbered.{Numbered}
+use Rattle.kvs_txn.specs.declared.answers.Query.{Query}
+use Rattle.kvs_model.specs.Store.{Name, Path, Store}
+use Rattle.kvs_model.specs.Walk.{Family, used, walk}
 use Rattle.kvs_rules.specs.declared.events.KvsAnswer.{KvsAnswer}
 use Rattle.kvs_rules.specs.declared.events.KvsAnswer.TheVariants as answer
 use Rattle.kvs_rules.specs.declared.events.KvsEvent.TheVariants as event
-use Rattle.kvs_rules.specs.Log.{Log, Moment, Happened, asks_now, answers_now, lands_now, denies_now, SinceAsked, before_asked, floor_at, is_asked, is_answered, is_landed, is_denied, same_command}
-use Rattle.kvs_rules.specs.Namespaces.{Setting, Request, landed, is_opened, is_primary, is_removed, opened_names}
+use Rattle.kvs_rules.specs.Log.{Log, Moment, Happened, Resumed, asks_now, answers_now, lands_now, denies_now, SinceAsked, before_asked, floor_at, is_asked, is_answered, is_landed, is_denied, same_command}
+use Rattle.kvs_rules.specs.Namespaces.{Setting, Request, family_at, landed, store_after, is_opened, is_primary, is_removed, opened_names}
 use Rattle.kvs_rules.specs.Brokers.{heard, HasHeard, number_heard}
-use Rattle.kvs_rules.specs.Answers.{IsDeniedWith, IsLegalAnswer, IsFresh, IsCarriedOut, InFreshStore, HasGrounds, TellsEnd, HasHeardRemoval, FindsNoNamespace}
+use Rattle.kvs_rules.specs.Answers.{IsDeniedWith, IsLegalAnswer, IsFresh, IsFreshRoot, IsCarriedOut, InFreshStore, WalkTells, roots_of, HasGrounds, TellsEnd, HasHeardRemoval, FindsNoNamespace}
 use Rattle.kvs_rules.specs.declared.events.KvsAsk.{KvsAsk}
 use Rattle.kvs_rules.specs.declared.events.KvsAsk.TheVariants as ask
 use Rattle.kvs_rules.proofs.Sequences.{latest_push, until-append}
-use Rattle.kvs_rules.proofs.Logs.{store_kept, HearsIn, heard_or_not}
+use Rattle.kvs_rules.proofs.Logs.{store_kept, HearsIn, ResumesIn, heard_or_not}
+use Rattle.kvs_rules.proofs.Families.{Stands, same_family}
 use Rattle.kvs_rules.proofs.Stores.{any_push, opened_push, removed_push}
 use Rattle.kvs_rules.proofs.Asking.{command_is, floor_unchanged}
 use Rattle.kvs_requests.specs.declared.rows.Row.{Row}
@@ -64,9 +71,10 @@ told-more log broker space new news b s number h = by (heard_or_not b s m)
     m : Moment
     m = Happened (event.Heard broker space new)
 
-    by : (number_heard b s m ≡ None) ⊎ HearsIn b s m → HasHeard (log ++ m ∷ []) b s number
+    by : (number_heard b s m ≡ None) ⊎ HearsIn b s m ⊎ ResumesIn s m → HasHeard (log ++ m ∷ []) b s number
     by (inl e) = subst (λ o. IsSomeAnd o (λ n. number ≤ n)) (sym (heard-push log m b s ∙ ap (λ o. unwrap_or o (heard log b s)) e)) h
-    by (inr l) =
+    by (inr (inr r)) = let e : m ≡ Resumed r.number = r.is in absurd (cc)
+    by (inr (inl l)) =
         let same : m ≡ Happened (event.Heard b s l.number) = l.is in
         let b-is : broker ≡ b = cc in
         let s-is : space ≡ s = cc in
@@ -89,8 +97,8 @@ module _ {by : By} (log : Log) {m : Moment} (aside : IsAside by m) where
   pub denied-kept : is_denied by (log ++ m ∷ []) ≡ is_denied by log
   denied-kept = any_push (denies_now by) log m ∙ ap (λ b. is_denied by log || b) aside.denies ∙ or-false _
 
-  pub floor-kept : floor_at by (log ++ m ∷ []) ≡ floor_at by log
-  floor-kept = floor_unchanged by log m aside.asks
+  pub floor-kept : (space : Name) → floor_at by (log ++ m ∷ []) space ≡ floor_at by log space
+  floor-kept space = floor_unchanged by log m space aside.asks
 
   pub before-kept : is_asked by log ≡ true → before_asked by (log ++ m ∷ []) ≡ before_asked by log
   before-kept asked = until-append (asks_now by) log (m ∷ []) asked
@@ -126,7 +134,7 @@ IsPlainAnswer answer.Fenced = Unit {0}
 IsPlainAnswer answer.Created = Unit {0}
 IsPlainAnswer answer.Removed = Unit {0}
 IsPlainAnswer (answer.Refused refusal) = Unit {0}
-IsPlainAnswer (answer.Read found) = Unit {0}
+IsPlainAnswer (answer.Read found uses) = Unit {0}
 IsPlainAnswer answer.Reached = Unit {0}
 IsPlainAnswer answer.NoNamespace = Unit {0}
 IsPlainAnswer answer.Exists = Unit {0}
@@ -183,15 +191,49 @@ module _ (set : Setting) (by : By) (log : Log) (m : Moment) (aside : IsAside by 
   none-kept request ask.Flush h = absurd h
   none-kept request ask.DropClean h = absurd h
 
+  fresh-kept : (broker : ℕ) (space : Name) (n : ℕ) → IsFresh log by broker space n → IsFresh (log ++ m ∷ []) by broker space n
+  fresh-kept broker space n fresh = record {
+    floor = subst (λ x. x ≤ n) (sym (floor-kept log aside space)) fresh.floor;
+    known = subst (λ l. unwrap_or (heard l broker space) 0 ≤ n) (sym (before-kept log aside asked)) fresh.known;
+    told = grows.told _ _ _ fresh.told;
+  }
+
   store-kept : (request : Request) (n : ℕ) (P : Store → Type 0) → InFreshStore set log by request P n → InFreshStore set (log ++ m ∷ []) by request P n
-  store-kept request n P h =
-      let fresh : IsFresh log by request n = h.fresh in
-      let is : IsFresh (log ++ m ∷ []) by request n = record {
-        floor = subst (λ x. x ≤ n) (sym (floor-kept log aside)) fresh.floor;
-        known = subst (λ l. unwrap_or (heard l request.broker request.namespace) 0 ≤ n) (sym (before-kept log aside asked)) fresh.known;
-        told = grows.told _ _ _ fresh.told;
-      } in
-      record { fresh = is; store = h.store; standing = store_kept set log (m ∷ []) request.namespace n h.store h.standing; held = h.held }
+  store-kept request n P h = record {
+    fresh = fresh-kept request.broker request.namespace n h.fresh;
+    store = h.store;
+    standing = store_kept set log (m ∷ []) request.namespace n h.store h.standing;
+    held = h.held;
+  }
+
+  stands-still : (o other : Option Store) → ((st : Store) → o ≡ Some st → other ≡ Some st) → (x : Option Store) → o ≡ x → is_some x ≡ true → is_some other ≡ true
+  stands-still o other kept None is some = absurd (true≢false (sym some))
+  stands-still o other kept (Some st) is some = ap is_some (kept st is)
+
+  root-kept : (broker : ℕ) (root : Numbered) → IsFreshRoot set log by broker root → IsFreshRoot set (log ++ m ∷ []) by broker root
+  root-kept broker root h = record {
+    fresh = fresh-kept broker root.namespace root.number h.fresh;
+    stands = stands-still (store_after set log root.namespace root.number) (store_after set (log ++ m ∷ []) root.namespace root.number)
+        (λ st e. store_kept set log (m ∷ []) root.namespace root.number st e) (store_after set log root.namespace root.number) refl h.stands;
+  }
+
+  roots-kept : (broker : ℕ) (roots : List Numbered) → Each (IsFreshRoot set log by broker) roots → Each (IsFreshRoot set (log ++ m ∷ []) by broker) roots
+  roots-kept broker [] h = tt
+  roots-kept broker (root ∷ roots) h = (root-kept broker root h.0, roots-kept broker roots h.1)
+
+  all-stand : (broker : ℕ) (roots : List Numbered) → Each (IsFreshRoot set log by broker) roots → Each (Stands set log) roots
+  all-stand broker [] h = tt
+  all-stand broker (root ∷ roots) h = (h.0.stands, all-stand broker roots h.1)
+
+  walk-kept : (request : Request) (asked : Query) (path : Path) (uses : List Numbered) (told : Result Found Name) (n : ℕ) → WalkTells set log by request asked path uses told n → WalkTells set (log ++ m ∷ []) by request asked path uses told n
+  walk-kept request asked path uses told n h =
+      let roots : List Numbered = roots_of request n uses in
+      let same : family_at set (log ++ m ∷ []) roots ≡ family_at set log roots = same_family set log (m ∷ []) roots (all-stand request.broker roots h.fresh) in
+      record {
+        fresh = roots-kept request.broker roots h.fresh;
+        tells = ap (λ (f : Family). walk f request.namespace asked path) same ∙ h.tells;
+        exactly = h.exactly ∙ ap (λ (f : Family). used f request.namespace asked path) (sym same);
+      }
 
   grounds-kept : (request : Request) (given : KvsAnswer) (number : Option ℕ) → IsPlainAnswer given → HasGrounds set log by request given number → HasGrounds set (log ++ m ∷ []) by request given number
   grounds-kept request answer.Committed number made h = (h.0, outs-kept request number h.1)
@@ -199,8 +241,8 @@ module _ (set : Setting) (by : By) (log : Log) (m : Moment) (aside : IsAside by 
   grounds-kept request answer.Created number made h = (h.0, outs-kept request number h.1)
   grounds-kept request answer.Removed number made h = (h.0, outs-kept request number h.1)
   grounds-kept request (answer.Refused refusal) number made h = (h.0, denial-kept log m by refusal h.1)
-  grounds-kept request (answer.Read found) None made h = absurd h.3
-  grounds-kept request (answer.Read found) (Some n) made h = (h.0, h.1, h.2, store-kept request n _ h.3)
+  grounds-kept request (answer.Read found uses) None made h = absurd h.3
+  grounds-kept request (answer.Read found uses) (Some n) made h = (h.0, h.1, h.2, walk-kept request h.0 h.1 uses (Ok found) n h.3)
   grounds-kept request answer.Reached None made h = absurd h.2
   grounds-kept request answer.Reached (Some n) made h = (h.0, h.1, (h.2.0, store-kept request n _ h.2.1))
   grounds-kept request answer.NoNamespace number made h = (h.0, none-kept request request.ask h.1)
@@ -267,7 +309,7 @@ module _ (set : Setting) (by : By) (log : Log) (m : Moment) (aside : IsAside by 
     tell-kept number answer.Created h = (legal-kept number answer.Created tt h.0, tt, tt)
     tell-kept number answer.Removed h = (legal-kept number answer.Removed tt h.0, tt, tt)
     tell-kept number (answer.Refused refusal) h = (legal-kept number (answer.Refused refusal) tt h.0, tt, tt)
-    tell-kept number (answer.Read found) h = (legal-kept number (answer.Read found) tt h.0, tt, tt)
+    tell-kept number (answer.Read found uses) h = (legal-kept number (answer.Read found uses) tt h.0, tt, tt)
     tell-kept number answer.Reached h = (legal-kept number answer.Reached tt h.0, tt, tt)
     tell-kept number answer.NoNamespace h = (legal-kept number answer.NoNamespace tt h.0, tt, tt)
     tell-kept number answer.Exists h = (legal-kept number answer.Exists tt h.0, tt, tt)
@@ -292,7 +334,7 @@ pub need-kept : (log : Log) (m : Moment) (by : By) (request : Request) (need : �
 need-kept log m by request need grows quiet asked h =
     let at : heard_at (log ++ m ∷ []) by request ≡ heard_at log by request = ap (λ l. unwrap_or (heard l request.broker request.namespace) 0) (until-append (asks_now by) log (m ∷ []) asked) in
     record {
-      needs = rw (floor_unchanged by log m quiet, at) h.needs;
+      needs = rw (floor_unchanged by log m request.namespace quiet, at) h.needs;
       low = let r = grows.rises request.namespace in let l = h.low in omega arith;
     }
 

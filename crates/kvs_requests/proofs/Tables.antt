@@ -95,8 +95,8 @@ aside-heard by broker space number = record { asks = refl; answers = refl; lands
 pub aside-answered : (by other : By) (number : Option ℕ) (given : KvsAnswer) → by ≢ other → IsAside by (Happened (event.Answered other number given))
 aside-answered by other number given ne = record { asks = refl; answers = differs by other ne; lands = refl; denies = refl }
 
-pub aside-asked : (by other : By) (floor : ℕ) → by ≢ other → IsAside by (Asked other floor)
-aside-asked by other floor ne = record { asks = differs by other ne; answers = refl; lands = refl; denies = refl }
+pub aside-asked : (by other : By) (floors : Name → ℕ) → by ≢ other → IsAside by (Asked other floors)
+aside-asked by other floors ne = record { asks = differs by other ne; answers = refl; lands = refl; denies = refl }
 
 -- of a command, where more may have been let wait
 abbrev More : Entrants → Entrants → By → Type 0
@@ -108,7 +108,7 @@ upheld-more entered entered₁ set log by number answer.Fenced more legal made h
 upheld-more entered entered₁ set log by number answer.Created more legal made h = tt
 upheld-more entered entered₁ set log by number answer.Removed more legal made h = tt
 upheld-more entered entered₁ set log by number (answer.Refused refusal) more legal made h = tt
-upheld-more entered entered₁ set log by number (answer.Read found) more legal made h = tt
+upheld-more entered entered₁ set log by number (answer.Read found uses) more legal made h = tt
 upheld-more entered entered₁ set log by number answer.Reached more legal made h = tt
 upheld-more entered entered₁ set log by number answer.NoNamespace more legal made h = tt
 upheld-more entered entered₁ set log by number answer.Exists more legal made h = tt
@@ -239,16 +239,16 @@ module _ {entered : Entrants} {set₀ : Setting} {log : Log} {spaces : List Spac
   }
 
   -- a command asks, and its row comes last
-  pub rows-asked : (by : By) (floor : ℕ) (new : Row) → new.by ≡ by → is_asked by log ≡ false → Grows log (Asked by floor) → RowAgrees entered set₀ (log ++ Asked by floor ∷ []) spaces new → RowsAgree entered set₀ (log ++ Asked by floor ∷ []) spaces (rows ++ new ∷ [])
-  rows-asked by floor new is fresh grows h = record {
+  pub rows-asked : (by : By) (floors : Name → ℕ) (new : Row) → new.by ≡ by → is_asked by log ≡ false → Grows log (Asked by floors) → RowAgrees entered set₀ (log ++ Asked by floors ∷ []) spaces new → RowsAgree entered set₀ (log ++ Asked by floors ∷ []) spaces (rows ++ new ∷ [])
+  rows-asked by floors new is fresh grows h = record {
     rows = rows-now;
     apart = all_pairs_push (λ one other. one.by ≢ other.by) rows new all.apart (λ k d l e. other k d l (e ∙ is));
-    strange = strange-kept set₀ log m all.strange (λ b some e was. aside-asked b by floor (λ q. true≢false (sym (any_push (asks_now b) log m ∙ ap (λ x. is_asked b log || x) (ap (λ x. same_command x by) q ∙ same-self by) ∙ or-true _) ∙ e)));
+    strange = strange-kept set₀ log m all.strange (λ b some e was. aside-asked b by floors (λ q. true≢false (sym (any_push (asks_now b) log m ∙ ap (λ x. is_asked b log || x) (ap (λ x. same_command x by) q ∙ same-self by) ∙ or-true _) ∙ e)));
     outside = outside-kept log m all.outside;
     open_rows = open-now;
   } where
     m : Moment
-    m = Asked by floor
+    m = Asked by floors
 
     other : (k : ℕ) (d : Row) → k < length rows → (get_or rows k d).by ≢ by
     other k d l e = true≢false (sym (all.rows k d l).asked ∙ ap (λ b. is_asked b log) e ∙ fresh)
@@ -257,7 +257,7 @@ module _ {entered : Entrants} {set₀ : Setting} {log : Log} {spaces : List Spac
     rows-now k d l = elim (cases_lt k (length rows)) [
       | inl lt ↦
           subst (RowAgrees entered set₀ (log ++ m ∷ []) spaces) (sym (get_or_append_left rows (new ∷ []) d k lt))
-          (row-kept entered set₀ log spaces m (get_or rows k d) grows (λ other accepted number kept e. cc) (aside-asked (get_or rows k d).by by floor (other k d lt)) (all.rows k d lt))
+          (row-kept entered set₀ log spaces m (get_or rows k d) grows (λ other accepted number kept e. cc) (aside-asked (get_or rows k d).by by floors (other k d lt)) (all.rows k d lt))
       | inr ge ↦
           let n = length-append rows (new ∷ []) in
           let e : k ≡ length rows = omega arith in

@@ -1,11 +1,11 @@
 -- The open requests and their stages.
-use Rattle.std.specs.Prelude.{◌≡◌, ◌≢◌, ℕ, ◌-◌, ◌==◌, ◌<◌, ◌≤◌, List, Bool, true, false, Option, Some, None, length, slice_index_or, slice_set, if◌then◌else◌}
+use Rattle.std.specs.Prelude.{◌≡◌, ◌≢◌, ℕ, ◌-◌, ◌==◌, ◌<◌, ◌≤◌, List, [], Bool, true, false, Option, Some, None, length, slice_index_or, slice_set, if◌then◌else◌}
 use Rattle.std.specs.List.{AllPairs, list_any}
 use Rattle.std.specs.Option.{option_map_or}
 use Rattle.kvs_txn.specs.declared.txn.By.{By}
 use Rattle.kvs_txn.specs.declared.txn.Group.{Group}
 use Rattle.kvs_model.specs.Store.{Store}
-use Rattle.kvs_model.specs.Walk.{walk}
+use Rattle.kvs_model.specs.OneStore.{own_walk}
 use Rattle.kvs_rules.specs.Landings.{IsUser}
 use Rattle.kvs_rules.specs.Namespaces.{Setting}
 use Rattle.kvs_rules.specs.declared.events.KvsAsk.{KvsAsk}
@@ -145,7 +145,7 @@ place_of _ = 0
 
 -- what a request is told that needed its broker to hear a number, where the broker has this store
 abbrev pub found_for : Store → KvsAsk → KvsAnswer
-found_for store (ask.Read query path) = answer.Read (walk store query path)
+found_for store (ask.Read query path) = answer.Read (own_walk store query path) []
 found_for store _ = answer.Reached
 
 -- the stage of a request that its broker answers, which knows of so many roots of the namespace,

@@ -16,10 +16,10 @@ ghost use Rattle.kvs_requests.specs.Stages.{is_message, is_on, has_come, may_ser
 
 use kvs_rules::{KvsAnswer, KvsAsk};
 use kvs_space::Space;
-use kvs_txn::{By, GroupList, Refusal, Txn};
+use kvs_txn::{By, GroupList, NumberList, Refusal, Txn};
 use lists::{Bytes, ListOf};
 use plain_store::Store;
-use std::alloc::AllocError;
+use std::alloc::{AllocError, Global};
 use std::mem::replace;
 
 /// What a landing carries out for a command.
@@ -477,18 +477,27 @@ pub fn place_of(row: &Row) -> usize
 }
 
 /// What a request is told that needed its broker to hear a number, where the broker has this store.
-fn found(ask: KvsAsk, store: &Store) -> Result<KvsAnswer, AllocError>
+fn found(alloc: Global, ask: KvsAsk, store: &Store) -> Result<KvsAnswer, AllocError>
     ensures { IfOk result (λ given. given ≡ found_for store.now ask) }
 {
     match ask {
-        KvsAsk::Read { query, path } => Ok(KvsAnswer::Read(store.look(query, &path)?)),
+        KvsAsk::Read { query, path } => Ok(KvsAnswer::Read {
+            found: store.look(query, &path)?,
+            uses: NumberList::new(alloc),
+        }),
         _ => Ok(KvsAnswer::Reached),
     }
 }
 
 /// The stage of a request that its broker answers, which knows of so many roots of the namespace,
 /// has this store, and may have heard the namespace's removal.
-fn answer(stage: Stage, known: u64, ended: bool, store: &Store) -> Result<Stage, AllocError>
+fn answer(
+    alloc: Global,
+    stage: Stage,
+    known: u64,
+    ended: bool,
+    store: &Store,
+) -> Result<Stage, AllocError>
     ensures { IfOk result (λ held. held ≡ answered known ended store.now stage) }
 {
     Ok(match stage {
@@ -506,7 +515,7 @@ fn answer(stage: Stage, known: u64, ended: bool, store: &Store) -> Result<Stage,
         },
         Stage::Parked { ask, .. } => Stage::Held {
             number: Some(known.saturating_sub(1)),
-            answer: found(ask, store)?,
+            answer: found(alloc, ask, store)?,
         },
         other => other,
     })
@@ -527,9 +536,10 @@ pub fn give(
         ≡ slice_set rows.old.items i (with_stage (answered known ended store.now
         (slice_index_or rows.old.items i d).stage) (slice_index_or rows.old.items i d))) }
 {
+    let alloc = *rows.allocator();
     let row = &mut rows[i];
     let stage = take_stage(&mut row.stage);
-    set_stage(row, answer(stage, known, ended, store)?);
+    set_stage(row, answer(alloc, stage, known, ended, store)?);
     Ok(())
 }
 
