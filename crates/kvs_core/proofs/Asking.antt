@@ -105,40 +105,40 @@ until-none test (x ∷ xs) y none e = by (test x) (until-none test xs y) none
     by true again h = cc
     by false again h = ap (λ l. x ∷ l) (again h e)
 
-module _ {v : CoreValue} (s : IsSound v) {set₀ : Setting} {log : Log} (a : Agrees v set₀ log) (by : By) (floor : ℕ) (some : IsSome (set₀.asks by)) (fresh : is_asked by log ≡ false) where
-  pub asks-itself : asks_now by (Asked by floor) ≡ true
+module _ {v : CoreValue} (s : IsSound v) {set₀ : Setting} {log : Log} (a : Agrees v set₀ log) (by : By) (floors : Name → ℕ) (some : IsSome (set₀.asks by)) (fresh : is_asked by log ≡ false) where
+  pub asks-itself : asks_now by (Asked by floors) ≡ true
   asks-itself = same-self by
 
-  pub asked-head : IsHead v.size v.fanout v.grant v.spaces set₀ (log ++ Asked by floor ∷ [])
-  asked-head = head-kept (head-of a) (Asked by floor) refl (λ name. record { groups = refl; number = refl; removed = refl; silent = λ b. refl })
-      (λ k d l. each-map (IsFreshCommand set₀ log) (λ b. IsAside b (Asked by floor)) (waiting (queued (get_or v.spaces k d).merger)) (a.spaces k d l).fresh.fresh
-      (λ b p. aside-asked b by floor (λ e. true≢false (sym (p.asked (ap (λ x. is_some (set₀.asks x)) e ∙ some)) ∙ ap (λ x. is_asked x log) e ∙ fresh))))
+  pub asked-head : IsHead v.size v.fanout v.grant v.spaces set₀ (log ++ Asked by floors ∷ [])
+  asked-head = head-kept (head-of a) (Asked by floors) refl (λ name. record { groups = refl; number = refl; removed = refl; silent = λ b. refl })
+      (λ k d l. each-map (IsFreshCommand set₀ log) (λ b. IsAside b (Asked by floors)) (waiting (queued (get_or v.spaces k d).merger)) (a.spaces k d l).fresh.fresh
+      (λ b p. aside-asked b by floors (λ e. true≢false (sym (p.asked (ap (λ x. is_some (set₀.asks x)) e ∙ some)) ∙ ap (λ x. is_asked x log) e ∙ fresh))))
 
-  pub asked-now : is_asked by (log ++ Asked by floor ∷ []) ≡ true
-  asked-now = any_push (asks_now by) log (Asked by floor) ∙ ap (λ x. is_asked by log || x) asks-itself ∙ or-true (is_asked by log)
+  pub asked-now : is_asked by (log ++ Asked by floors ∷ []) ≡ true
+  asked-now = any_push (asks_now by) log (Asked by floors) ∙ ap (λ x. is_asked by log || x) asks-itself ∙ or-true (is_asked by log)
     where
       or-true : (b : Bool) → (b || true) ≡ true
       or-true true = refl
       or-true false = refl
 
-  floor-now : floor_at by (log ++ Asked by floor ∷ []) ≡ floor
-  floor-now = floor_at_push by log (Asked by floor) ∙ ap (λ b. unwrap_or (cond b (Some floor) None) (floor_at by log)) asks-itself
+  floor-now : (space : Name) → floor_at by (log ++ Asked by floors ∷ []) space ≡ floors space
+  floor-now space = floor_at_push by log (Asked by floors) space ∙ ap (λ b. unwrap_or (cond b (Some (floors space)) None) (floor_at by log space)) asks-itself
 
   uncarried : (k : ℕ) (d : SpaceValue) → k < length v.spaces → carries (get_or v.spaces k d) by ≡ false
   uncarried k d l = untrue (carries (get_or v.spaces k d) by) (λ t. authored-is (λ b. b ≡ by → ⊥) by (queued (get_or v.spaces k d).merger) t
       (each-map (IsFreshCommand set₀ log) (λ b. b ≡ by → ⊥) (waiting (queued (get_or v.spaces k d).merger)) (a.spaces k d l).fresh.fresh (λ b p e. true≢false (sym (p.asked (ap (λ x. is_some (set₀.asks x)) e ∙ some)) ∙ ap (λ x. is_asked x log) e ∙ fresh))) refl)
 
   module _ (broker : ℕ) (within : broker < v.size) (name : Name) (asked : KvsAsk) (made : set₀.asks by ≡ Some (record { broker = broker; namespace = name; ask = asked }))
-      (place : Option ℕ) (found : place ≡ position (is_known_to broker name) v.spaces) (need known : ℕ) (knows : known ≡ option_map_or (λ k. known_at v.spaces k broker - 1) place 0) (needs : need ≡ max (max floor known) (awaited asked)) (st : Stage) where
+      (place : Option ℕ) (found : place ≡ position (is_known_to broker name) v.spaces) (need known : ℕ) (knows : known ≡ option_map_or (λ k. known_at v.spaces k broker - 1) place 0) (needs : need ≡ max (max (floors name) known) (awaited asked)) (st : Stage) where
     named-there : (o : Option ℕ) → o ≡ position (is_known_to broker name) v.spaces → IfSome o (λ k. name_at v.spaces k ≡ Some name)
     named-there None e = tt
     named-there (Some k) e = known-named s a broker within name k e
 
     pub asked-row : is_about_contents asked ≡ false → ((entered : Entrants) (set₁ : Setting) (log₁ : Log) (spaces : List SpaceValue) (by₁ : By) (request : Request) → request.ask ≡ asked → IsUndecided log₁ by₁ → entered by₁ ≡ false → IfSome place (λ k. name_at spaces k ≡ Some request.namespace) → StageAgrees entered set₁ log₁ spaces by₁ request st)
         → ((j : ℕ) → joined_in j st ≡ false)
-        → RowsAgree a.entered set₀ (log ++ Asked by floor ∷ []) v.spaces (v.rows ++ record { by = by; broker = broker; namespace = name; need = need; stage = st } ∷ [])
+        → RowsAgree a.entered set₀ (log ++ Asked by floors ∷ []) v.spaces (v.rows ++ record { by = by; broker = broker; namespace = name; need = need; stage = st } ∷ [])
     asked-row keys agrees unjoined =
-        let m : Moment = Asked by floor in
+        let m : Moment = Asked by floors in
         let u = a.strange by some fresh in
         let undecided : IsUndecided (log ++ m ∷ []) by = record {
           unlanded = any_push (lands_now by) log m ∙ or-false _ ∙ u.undecided.unlanded;
@@ -148,7 +148,7 @@ module _ {v : CoreValue} (s : IsSound v) {set₀ : Setting} {log : Log} (a : Agr
         let heard-then : heard_at (log ++ m ∷ []) by request ≡ known =
         ap (λ l. unwrap_or (heard l broker name) 0) (until-none (asks_now by) log m fresh asks-itself) ∙ heard-known s a broker within name place found ∙ sym knows in
         let needed : IsNeeded (log ++ m ∷ []) by request need = record {
-          needs = rw (floor-now, heard-then) needs;
+          needs = rw (floor-now name, heard-then) needs;
           low =
               let h = heard-then in
               let p : landed (log ++ m ∷ []) name ≡ landed log name = landed_push log m name in
@@ -167,7 +167,7 @@ module _ {v : CoreValue} (s : IsSound v) {set₀ : Setting} {log : Log} (a : Agr
           staged = agrees a.entered set₀ (log ++ m ∷ []) v.spaces by request refl undecided (a.outside by fresh) (named-there place found);
           tied = λ j d l. unjoined j ∙ sym (uncarried j d l);
         } in
-        rows-asked (rows-of a) by floor (record { by = by; broker = broker; namespace = name; need = need; stage = st }) refl fresh (grows-silent log m (λ space. refl) (λ b space. refl)) row
+        rows-asked (rows-of a) by floors (record { by = by; broker = broker; namespace = name; need = need; stage = st }) refl fresh (grows-silent log m (λ space. refl) (λ b space. refl)) row
 
 -- the namespace that a broker knows is in the table
 pub known-within : (spaces : List SpaceValue) (broker : ℕ) (name : Name) (place : Option ℕ) → place ≡ position (is_known_to broker name) spaces → IfSome place (λ k. k < length spaces)
@@ -179,10 +179,10 @@ asked-placed {v} s by broker name need st within on = All-push (IsPlaced v.fanou
 
 -- what a request says of the command that makes it
 pub asked-request : (v : CoreValue) (set₀ : Setting) (log : Log) (broker : ℕ) (made-by : Request₀) (by : By) (space : Name) (floor : ℕ) (asked : KvsAsk) → made-by ≡ request.Command by space floor asked → IsMade set₀ broker made-by → (P : Log → Type 0)
-    → (set₀.asks by ≡ Some (record { broker = broker; namespace = space; ask = asked }) → is_asked by log ≡ false → AsksAtRest set₀ v → P (log ++ Asked by floor ∷ [])) → IfAsked v set₀ log made-by P
+    → (set₀.asks by ≡ Some (record { broker = broker; namespace = space; ask = asked }) → (floors : Name → ℕ) → floors space ≡ floor → is_asked by log ≡ false → AsksAtRest set₀ v → P (log ++ Asked by floors ∷ [])) → IfAsked v set₀ log made-by P
 asked-request v set₀ log broker made-by by space floor asked is made P h =
     let m = subst (IsMade set₀ broker) is made in
-    subst (λ r. IfAsked v set₀ log r P) (sym is) (λ fresh rested. h m fresh rested)
+    subst (λ r. IfAsked v set₀ log r P) (sym is) (λ floors seen fresh rested. h m floors seen fresh rested)
 
 -- what the core carries out isn't about contents
 pub known-keys : (asked : KvsAsk) → IsKnownAsk asked → is_about_contents asked ≡ false

@@ -8,7 +8,7 @@ use Rattle.kvs_model.specs.Store.{Name}
 use Rattle.kvs_rules.specs.declared.events.KvsAnswer.{KvsAnswer}
 use Rattle.kvs_rules.specs.declared.events.KvsAnswer.TheVariants as answer
 use Rattle.kvs_rules.specs.declared.events.KvsEvent.TheVariants as event
-use Rattle.kvs_rules.specs.Log.{Asked, Happened, Log, Moment, asks_now, is_asked, same_command}
+use Rattle.kvs_rules.specs.Log.{Asked, Happened, Resumed, Log, Moment, asks_now, is_asked, same_command}
 use Rattle.kvs_rules.specs.Namespaces.{Request, Setting, name_opened, number_landed}
 use Rattle.kvs_rules.specs.Answers.{IsLegalAnswer, IsLegalMoment}
 use Rattle.kvs_rules.specs.Brokers.{number_heard}
@@ -41,35 +41,39 @@ other-than-plain set by other plain content same = true≢false (sym content ∙
 
 -- such a moment is about no command that asks something else
 plain-aside : (set : Setting) (m : Moment) → IsOfContents set m → (by : By) → IsPlain set by → IsAside by m
-plain-aside set (Asked other floor) h by plain = aside-asked by other floor (other-than-plain set by other plain h)
+plain-aside set (Asked other floors) h by plain = aside-asked by other floors (other-than-plain set by other plain h)
 plain-aside set (Happened (event.Answered other number given)) h by plain = aside-answered by other number given (other-than-plain set by other plain h)
 plain-aside set (Happened (event.Got broker r)) h by plain = record { asks = refl; answers = refl; lands = refl; denies = refl }
 plain-aside set (Happened (event.Dropped broker r)) h by plain = record { asks = refl; answers = refl; lands = refl; denies = refl }
 plain-aside set (Happened _) h by plain = absurd h
+plain-aside set (Resumed number) h by plain = absurd h
 
 -- nor about one that has not asked by then
 strange-aside : (set : Setting) (log : Log) (m : Moment) → IsLegalMoment set log m → IsOfContents set m → (by : By) → is_asked by (log ++ m ∷ []) ≡ false → is_asked by log ≡ false → IsAside by m
-strange-aside set log (Asked other floor) legal h by now was =
-    aside-asked by other floor (λ same. true≢false (sym (any_push (asks_now by) log (Asked other floor) ∙ ap (λ x. is_asked by log || x) (subst (λ x. same_command by x ≡ true) same (same-self by)) ∙ or-true (is_asked by log)) ∙ now))
+strange-aside set log (Asked other floors) legal h by now was =
+    aside-asked by other floors (λ same. true≢false (sym (any_push (asks_now by) log (Asked other floors) ∙ ap (λ x. is_asked by log || x) (subst (λ x. same_command by x ≡ true) same (same-self by)) ∙ or-true (is_asked by log)) ∙ now))
 strange-aside set log (Happened (event.Answered other number given)) legal h by now was =
     aside-answered by other number given (λ same. true≢false (sym legal.waits.asked ∙ ap (λ b. is_asked b log) (sym same) ∙ was))
 strange-aside set log (Happened (event.Got broker r)) legal h by now was = record { asks = refl; answers = refl; lands = refl; denies = refl }
 strange-aside set log (Happened (event.Dropped broker r)) legal h by now was = record { asks = refl; answers = refl; lands = refl; denies = refl }
 strange-aside set log (Happened _) legal h by now was = absurd h
+strange-aside set log (Resumed number) legal h by now was = absurd h
 
 off : (set : Setting) (m : Moment) → IsOfContents set m → (name : Name) → IsElsewhere name m
-off set (Asked other floor) h name = record { groups = refl; number = refl; removed = refl; silent = λ b. refl }
+off set (Asked other floors) h name = record { groups = refl; number = refl; removed = refl; silent = λ b. refl }
 off set (Happened (event.Answered other number given)) h name = record { groups = refl; number = refl; removed = refl; silent = λ b. refl }
 off set (Happened (event.Got broker r)) h name = record { groups = refl; number = refl; removed = refl; silent = λ b. refl }
 off set (Happened (event.Dropped broker r)) h name = record { groups = refl; number = refl; removed = refl; silent = λ b. refl }
 off set (Happened _) h name = absurd h
+off set (Resumed number) h name = absurd h
 
 opens-none : (set : Setting) (m : Moment) → IsOfContents set m → name_opened m ≡ None
-opens-none set (Asked other floor) h = refl
+opens-none set (Asked other floors) h = refl
 opens-none set (Happened (event.Answered other number given)) h = refl
 opens-none set (Happened (event.Got broker r)) h = refl
 opens-none set (Happened (event.Dropped broker r)) h = refl
 opens-none set (Happened _) h = absurd h
+opens-none set (Resumed number) h = absurd h
 
 -- no fence is told then that its count differs
 upheld : (set : Setting) (log : Log) (m : Moment) → IsLegalMoment set log m → IsOfContents set m → (entered : Entrants) → Upholds entered m

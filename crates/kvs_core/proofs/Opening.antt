@@ -39,7 +39,7 @@ use Rattle.kvs_space.proofs.Finding.{found-none, set-all, set-kept}
 use Rattle.kvs_core.proofs.Carried.{space-plain, IsAwaited, all-joined, each-map, map-append, other-commands, waiting}
 use Rattle.kvs_core.proofs.Delivering.{heard-head, heard-legal, heard-rows, named-apart}
 use Rattle.kvs_core.proofs.Turns.{arrived-comes, asks-once, fence-not-create, nobody-set, turns-happened, turns-quiet, unrivalled-else}
-use Rattle.kvs_core.proofs.Heads.{IsElsewhere, IsHead, agrees-of, removed-kept, rows-of, space-kept, untouched-kept}
+use Rattle.kvs_core.proofs.Heads.{IsElsewhere, IsHead, agrees-of, head-of, owned-then, removed-kept, rows-of, space-kept, untouched-kept}
 use Rattle.kvs_core.proofs.Heard.{no-space}
 use Rattle.kvs_core.proofs.Landing.{any-kept, last-stands, primary-there}
 use Rattle.kvs_requests.proofs.Later.{Grows, IsAside, differs, heard-push, need-kept, row-kept, told-silent}
@@ -241,7 +241,9 @@ module _ {v : CoreValue} (s : IsSound v) (i : ℕ) (within : i < length v.rows) 
     first-head = record {
       size_is = a.size;
       fanout_is = a.fanout;
-      grant_is = a.grant;
+      base_is = a.base;
+      links_are = a.links;
+      owned = owned-then (head-of a) m (λ space. tt);
       names = map-append (λ x. x.name) v.spaces (between ∷ []) ∙ ap (λ ns. ns ++ new.name ∷ []) a.names ∙ ap (λ n. (primary ∷ opened_names log) ++ n ∷ []) name ∙ sym (ap (λ ns. primary ∷ ns) (filter_map-append name_opened log (m ∷ [])));
       each = All-push (SpaceAgrees set₀ (log ++ m ∷ []) v.size) v.spaces between (λ k d l. space-kept (a.spaces k d l) m (off (get_or v.spaces k d).name (other-name k d l)) (others k d l)) first-here;
       untold = λ space e. untouched-kept log m space (off space (λ q. true≢false (sym (opened-now space q) ∙ e))) (a.untold space (was_unopened log (m ∷ []) space e));

@@ -3,7 +3,7 @@ use Rattle.std.specs.Prelude.{slice_index, unwrap_or}
 use Rattle.std.proofs.Common.{◌≡◌, ℕ, zero, suc, ◌-◌, ◌<◌, ◌==◌, ◌&&◌, List, [], ◌∷◌, Bool, true, false, cond, Option, Some, None, refl, sym, ap, ◌∙◌, subst, get_or, length, arith}
 use Rattle.std.specs.Str.{bytes_eq}
 use Rattle.kvs_rules.specs.declared.events.KvsEvent.TheVariants as event
-use Rattle.kvs_rules.specs.Log.{Log, Asked, Happened}
+use Rattle.kvs_rules.specs.Log.{Log, Asked, Happened, Resumed}
 use Rattle.kvs_rules.specs.Namespaces.{Setting, landed, primary}
 use Rattle.kvs_rules.specs.Brokers.{heard, number_heard}
 use Rattle.kvs_rules.specs.Sequence.{latest}
@@ -18,7 +18,8 @@ use Rattle.kvs_core.proofs.Landing.{primary-there}
 -- a broker has heard some number of `primary`, whatever happens
 some-heard : (broker first : ℕ) (log : Log) → (n : ℕ) × (latest (number_heard broker primary) (Some first) log ≡ Some n)
 some-heard broker first [] = (first, refl)
-some-heard broker first (Asked by floor ∷ log) = some-heard broker first log
+some-heard broker first (Asked by floors ∷ log) = some-heard broker first log
+some-heard broker first (Resumed number ∷ log) = some-heard broker number log
 some-heard broker first (Happened (event.Heard other named number) ∷ log) = at ((broker == other) && bytes_eq primary named) (some-heard broker number log) (some-heard broker first log)
   where
     at : (b : Bool) → (n : ℕ) × (latest (number_heard broker primary) (Some number) log ≡ Some n) → (n : ℕ) × (latest (number_heard broker primary) (Some first) log ≡ Some n) →

@@ -215,7 +215,7 @@ module _ {v : CoreValue} (s : IsSound v) (i : ℕ) (within : i < length v.rows) 
     opened-here = ap (λ x. is_opened log x.name) read-space ∙ opened-there (head-of a) k old inside
 
     first-head : IsHead v.size v.fanout v.grant (set v.spaces k between) set₀ (log ++ Happened (event.Landed old.name (suc (landed log old.name)) (Some row.by ∷ []) []) ∷ [])
-    first-head = head-then (head-of a) (set v.spaces k between) m (names-same v.spaces k inside old between read-space refl) refl
+    first-head = head-then (head-of a) (set v.spaces k between) m (λ space. tt) (names-same v.spaces k inside old between read-space refl) refl
         (set-all (SpaceAgrees set₀ (log ++ m ∷ []) v.size) v.spaces k between space-gone
         (λ j d l ne. space-kept (a.spaces j d l) m (off (get_or v.spaces j d).name (λ q. other-names v.spaces s.apart k inside j d l ne (q ∙ ap (λ x. x.name) (read-at v.spaces k inside old between read-space refl d)))) (others j d l)))
         (λ space e. off space (λ q. true≢false (sym opened-here ∙ ap (is_opened log) (sym q) ∙ e)))
