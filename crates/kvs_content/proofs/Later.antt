@@ -16,6 +16,7 @@ use Rattle.kvs_content.specs.declared.wants.WantStage.{WantStage}
 use Rattle.kvs_content.specs.declared.wants.WantStage.TheVariants as wanted
 use Rattle.kvs_content.specs.declared.offers.OfferStage.{OfferStage}
 use Rattle.kvs_content.specs.declared.offers.OfferStage.TheVariants as offered
+use Rattle.kvs_rules.proofs.Contents.{content_stays}
 use Rattle.kvs_content.proofs.Lists.{either-left}
 use Rattle.kvs_content.specs.Agrees.{IsBlob, IsRefused, IsMissing, GiftAgrees, IsLoading, OfferAgrees, OfferStageAgrees, WantAgrees, WantStageAgrees}
 
@@ -35,7 +36,7 @@ module _ (log more : Log) where
 
   module _ (set : Setting) where
     pub content-later : (bytes : List ℕ) → IsContent set log bytes → IsContent set (log ++ more) bytes
-    content-later bytes h = record { by = h.by; asked = asked-later h.by h.asked; request = h.request; made = h.made; stores = h.stores }
+    content-later bytes h = content_stays set log more bytes h
 
     pub clash-later : (r : BlobRef) → IsClash set log r → IsClash set (log ++ more) r
     clash-later r h = record {
