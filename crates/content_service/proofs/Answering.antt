@@ -13,7 +13,8 @@ use Rattle.kvs_rules.specs.declared.events.KvsEvent.{KvsEvent}
 use Rattle.kvs_rules.specs.declared.events.KvsEvent.TheVariants as event
 use Rattle.kvs_rules.specs.Log.{Happened, Log, before_asked, same_command}
 use Rattle.kvs_rules.specs.Namespaces.{Setting, Request}
-use Rattle.kvs_rules.specs.Brokers.{IsContent, has_got, holds}
+use Rattle.kvs_rules.specs.declared.events.KvsAsk.{KvsAsk}
+use Rattle.kvs_rules.specs.Brokers.{IsContent, has_got, holds, texts_of}
 use Rattle.kvs_rules.specs.Answers.{HasGrounds, IsClash, IsDroppedSince, IsStoredAt}
 use Rattle.kvs_content.specs.declared.outcomes.Load.{Load}
 use Rattle.kvs_content.specs.declared.outcomes.Load.TheVariants as load
@@ -52,7 +53,7 @@ same-wants v w e by other = ap (loads_of other) e ∙ waits-none other by (loads
 -- ---- a store
 
 pub stored-content : {v : ContentValue} {set : Setting} {log : Log} {by : By} {broker : ℕ} {request : Request} {bytes : List ℕ} → IsAsking v set log by broker request (content.Store bytes) → IsContent set log bytes
-stored-content {by = by} {request = request} h = record { by = by; asked = h.come; request = request; made = h.made; stores = h.asks }
+stored-content {by = by} {request = request} {bytes = bytes} h = inl (record { by = by; asked = h.come; request = request; made = h.made; among = subst (λ (a : KvsAsk). Contains (texts_of a) bytes) (sym h.asks) (0, omega arith, refl) })
 
 pub stored-served : (v w : ContentValue) (by : By) (broker : ℕ) (bytes : List ℕ) (r : BlobRef) (events : List KvsEvent)
     → IsSoundContent w → AreAlike v w → w.wants ≡ v.wants → r ≡ reference_of v.hash bytes → Each (GetsOrDrops broker) events

@@ -58,15 +58,15 @@ beside a i k d li lk ne e = elim (cases_lt k i) [
 
 -- ---- asking
 
-asked-otherwise : (by : By) (floor : ℕ) → IsOtherwise (Asked by floor)
-asked-otherwise by floor = record { gets = λ b r. refl; holds = λ b r. refl }
+asked-otherwise : (by : By) (floors : Name → ℕ) → IsOtherwise (Asked by floors)
+asked-otherwise by floors = record { gets = λ b r. refl; holds = λ b r. refl }
 
-module _ (v : ContentServiceValue) (sound : IsSound v) (set : Setting) (log : Log) (a : AgreesService v set log) (by : By) (floor : ℕ) (fresh : is_asked by log ≡ false) where
+module _ (v : ContentServiceValue) (sound : IsSound v) (set : Setting) (log : Log) (a : AgreesService v set log) (by : By) (floors : Name → ℕ) (fresh : is_asked by log ≡ false) where
   abbrev log-asked : Log
-  log-asked = log ++ Asked by floor ∷ []
+  log-asked = log ++ Asked by floors ∷ []
 
   kept-asked : (broker : ℕ) (r : BlobRef) → broker < set.size → IsKept v.content set log broker r → IsKept v.content set log-asked broker r
-  kept-asked broker r l k = kept-stays log (Asked by floor) (asked-otherwise by floor) set v.content broker r k
+  kept-asked broker r l k = kept-stays log (Asked by floors) (asked-otherwise by floors) set v.content broker r k
 
   stored-asked : (broker : ℕ) (r : BlobRef) → IsStoredAt set log-asked broker r → IsStoredAt set log broker r
   stored-asked broker r s = record {
@@ -74,12 +74,12 @@ module _ (v : ContentServiceValue) (sound : IsSound v) (set : Setting) (log : Lo
     request = s.request;
     made = s.made;
     there = s.there;
-    told = elim (Contains-append_cases log (Asked by floor ∷ []) _ s.told) [
+    told = elim (Contains-append_cases log (Asked by floors ∷ []) _ s.told) [
       | inl c ↦ c
       | inr c ↦ absurd (only c)
     ];
   } where
-    only : {x : By} {number : Option ℕ} {given : KvsAnswer} → Contains (Asked by floor ∷ []) (Happened (event.Answered x number given)) → ⊥
+    only : {x : By} {number : Option ℕ} {given : KvsAnswer} → Contains (Asked by floors ∷ []) (Happened (event.Answered x number given)) → ⊥
     only (zero, l, is) = let no : ⊥ = cc in no
     only (suc k, l, is) = omega arith
 
@@ -96,8 +96,8 @@ module _ (v : ContentServiceValue) (sound : IsSound v) (set : Setting) (log : Lo
 
     new-agrees : RowAgrees v.content set log-asked row-new
     new-agrees = record {
-      asked = list_any-append (asks_now by) log (Asked by floor ∷ []) ∙ ap (λ t. is_asked by log || (t || false)) (same-self by) ∙ or-true (is_asked by log);
-      unanswered = push (answers_now by) log (Asked by floor) false (a.strange by about fresh) refl;
+      asked = list_any-append (asks_now by) log (Asked by floors ∷ []) ∙ ap (λ t. is_asked by log || (t || false)) (same-self by) ∙ or-true (is_asked by log);
+      unanswered = push (answers_now by) log (Asked by floors) false (a.strange by about fresh) refl;
       request = record { broker = broker; namespace = space; ask = asked };
       made = made;
       about = known;
@@ -108,7 +108,7 @@ module _ (v : ContentServiceValue) (sound : IsSound v) (set : Setting) (log : Lo
     rows-now : (k : ℕ) (d : Row) → k < length (v.rows ++ row-new ∷ []) → RowAgrees v.content set log-asked (get_or (v.rows ++ row-new ∷ []) k d)
     rows-now k d l = elim (cases_lt k (length v.rows)) [
       | inl lt ↦ subst (RowAgrees v.content set log-asked) (sym (get_or_append_left v.rows (row-new ∷ []) d k lt))
-          (row-later v.content v.content set log (Asked by floor ∷ []) set.size kept-asked (get_or v.rows k d) (home-within sound a k d lt) refl (a.rows k d lt))
+          (row-later v.content v.content set log (Asked by floors ∷ []) set.size kept-asked (get_or v.rows k d) (home-within sound a k d lt) refl (a.rows k d lt))
       | inr ge ↦
           let n = length-append v.rows (row-new ∷ []) in
           let e : k ≡ length v.rows = omega arith in
@@ -123,18 +123,18 @@ module _ (v : ContentServiceValue) (sound : IsSound v) (set : Setting) (log : Lo
             let n = length-append v.rows (row-new ∷ []) in
             (length v.rows, omega arith, λ d. ap (λ (r : Row). r.by) (get_or_push v.rows row-new d (length v.rows) refl) ∙ sym (command_is b by e))
         cases false e =
-            let at = a.open_rows b content (record { asked = before (asks_now b) log (Asked by floor) true o.asked e; unanswered = before (answers_now b) log (Asked by floor) false o.unanswered refl }) in
+            let at = a.open_rows b content (record { asked = before (asks_now b) log (Asked by floors) true o.asked e; unanswered = before (answers_now b) log (Asked by floors) false o.unanswered refl }) in
             let n = length-append v.rows (row-new ∷ []) in
             (at.0, (let l = at.1 in omega arith), λ d. ap (λ (r : Row). r.by) (get_or_append_left v.rows (row-new ∷ []) d at.0 at.1) ∙ at.2 d)
 
     pub asked-agrees : (spent : Bool) → AgreesService (record { spent = spent; size = v.size; content = v.content; rows = v.rows ++ row-new ∷ [] }) set log-asked
     asked-agrees spent = record {
-      content = content-stays log (Asked by floor) (asked-otherwise by floor) set v.content a.content;
+      content = content-stays log (Asked by floors) (asked-otherwise by floors) set v.content a.content;
       rows = rows-now;
       apart = all_pairs_push (λ one two. one.by ≢ two.by) v.rows row-new a.apart (λ k d l e. other k d l e);
       open_rows = open-now;
       kept = λ b r l s. kept-asked b r l (a.kept b r l (stored-asked b r s));
-      strange = λ b content e. push (answers_now b) log (Asked by floor) false (a.strange b content (left-false (is_asked b log) _ (sym (list_any-append (asks_now b) log (Asked by floor ∷ [])) ∙ e))) refl;
-      unlanded = λ b content. push (lands_now b) log (Asked by floor) false (a.unlanded b content) refl;
-      undenied = λ b content. push (denies_now b) log (Asked by floor) false (a.undenied b content) refl;
+      strange = λ b content e. push (answers_now b) log (Asked by floors) false (a.strange b content (left-false (is_asked b log) _ (sym (list_any-append (asks_now b) log (Asked by floors ∷ [])) ∙ e))) refl;
+      unlanded = λ b content. push (lands_now b) log (Asked by floors) false (a.unlanded b content) refl;
+      undenied = λ b content. push (denies_now b) log (Asked by floors) false (a.undenied b content) refl;
     }

@@ -4,7 +4,7 @@ use Rattle.fl_digest.specs.declared.BlobRef.{BlobRef}
 use Rattle.cache_node.proofs.Same.{same_true}
 use Rattle.kvs_txn.specs.declared.txn.By.{By}
 use Rattle.kvs_rules.specs.declared.events.KvsEvent.TheVariants as event
-use Rattle.kvs_rules.specs.Log.{Asked, Happened, Log, Moment, asks_now, before_asked, is_asked}
+use Rattle.kvs_rules.specs.Log.{Asked, Happened, Resumed, Log, Moment, asks_now, before_asked, is_asked}
 use Rattle.kvs_rules.specs.Sequence.{latest, until}
 use Rattle.kvs_rules.specs.Brokers.{drops_now, gets_now, held_from, holds}
 use Rattle.kvs_rules.specs.Answers.{IsDroppedSince}
@@ -17,7 +17,8 @@ module _ (broker : ℕ) (r : BlobRef) where
       let at : broker ≡ b = same-number broker b (and-left (broker == b) _ e) in
       let named : r ≡ x = same_true r x (and-right (broker == b) _ e) in
       ap (λ c. Happened (event.Dropped c x)) (sym at) ∙ ap (λ y. Happened (event.Dropped broker y)) (sym named)
-  drops-is (Asked by floor) e = absurd (true≢false (sym e))
+  drops-is (Asked by floors) e = absurd (true≢false (sym e))
+  drops-is (Resumed number) e = absurd (true≢false (sym e))
   drops-is (Happened _) e = absurd (true≢false (sym e))
 
   further : (m : Moment) (xs : Log) → Contains xs (Happened (event.Dropped broker r)) → Contains (m ∷ xs) (Happened (event.Dropped broker r))
@@ -39,7 +40,8 @@ module _ (broker : ℕ) (r : BlobRef) where
 
   -- the moment at which a command asks drops nothing
   asking-keeps : (by : By) (m : Moment) → asks_now by m ≡ true → (first : Bool) → unwrap_or (held_from broker r m) first ≡ first
-  asking-keeps by (Asked other floor) e first = refl
+  asking-keeps by (Asked other floors) e first = refl
+  asking-keeps by (Resumed number) e first = absurd (true≢false (sym e))
   asking-keeps by (Happened x) e first = absurd (true≢false (sym e))
 
   since : (by : By) (xs : Log) (first : Bool) → is_asked by xs ≡ true → latest (held_from broker r) first (until (asks_now by) xs) ≡ true → latest (held_from broker r) first xs ≡ false → IsDroppedSince xs by broker r

@@ -13,7 +13,7 @@ use Rattle.kvs_rules.specs.declared.events.KvsAsk.TheVariants as ask
 use Rattle.kvs_rules.specs.declared.events.KvsAnswer.TheVariants as answer
 use Rattle.kvs_rules.specs.declared.events.KvsEvent.TheVariants as event
 use Rattle.kvs_rules.specs.Landings.{AreMembers, IsAdvance, IsManagers, IsOpening, IsRemoval, IsUsers, names_of, names_of_group}
-use Rattle.kvs_rules.specs.Log.{Asked, Happened, Log, Moment, answers_now, asks_now, denies_now, is_author, lands_now, same_command}
+use Rattle.kvs_rules.specs.Log.{Asked, Happened, Resumed, Log, Moment, answers_now, asks_now, denies_now, is_author, lands_now, same_command}
 use Rattle.kvs_rules.specs.Namespaces.{Asks, Request, Setting}
 use Rattle.kvs_rules.specs.Answers.{IsLegalAfter, IsLegalMoment, IsStoredAt}
 use Rattle.kvs_content.specs.Agrees.{IsKept}
@@ -74,7 +74,8 @@ module _ (set : Setting) (by : By) (content : asks_content set by ≡ true) wher
 
   -- no legal landing and no legal denial names it
   unnamed : (log : Log) (m : Moment) → IsLegalMoment set log m → (lands_now by m ≡ false) × (denies_now by m ≡ false)
-  unnamed log (Asked other floor) h = (refl, refl)
+  unnamed log (Asked other floors) h = (refl, refl)
+  unnamed log (Resumed number) h = (refl, refl)
   unnamed log (Happened (event.Landed space number authors groups)) h = (named h.form, refl)
     where
       one : (other : By) (asked : KvsAsk) → Asks set space other asked → is_content asked ≡ false → authors ≡ Some other ∷ [] → list_any (is_author by) authors ≡ false
@@ -93,7 +94,8 @@ module _ (set : Setting) (by : By) (content : asks_content set by ≡ true) wher
 -- ---- what such a moment leaves
 
 otherwise : (set : Setting) (m : Moment) → IsOthers set m → IsOtherwise m
-otherwise set (Asked by floor) h = record { gets = λ b r. refl; holds = λ b r. refl }
+otherwise set (Asked by floors) h = record { gets = λ b r. refl; holds = λ b r. refl }
+otherwise set (Resumed number) h = record { gets = λ b r. refl; holds = λ b r. refl }
 otherwise set (Happened (event.Landed space number authors groups)) h = record { gets = λ b r. refl; holds = λ b r. refl }
 otherwise set (Happened (event.Denied space authors group refusal)) h = record { gets = λ b r. refl; holds = λ b r. refl }
 otherwise set (Happened (event.Heard broker space number)) h = record { gets = λ b r. refl; holds = λ b r. refl }
@@ -109,7 +111,8 @@ aside set m h by content = at m h
     apart other e = differs by other (λ same. true≢false (sym content ∙ ap (asks_content set) same ∙ e))
 
     at : (m : Moment) → IsOthers set m → (asks_now by m ≡ false) × (answers_now by m ≡ false)
-    at (Asked other floor) e = (apart other e, refl)
+    at (Asked other floors) e = (apart other e, refl)
+    at (Resumed number) e = (refl, refl)
     at (Happened (event.Landed space number authors groups)) e = (refl, refl)
     at (Happened (event.Denied space authors group refusal)) e = (refl, refl)
     at (Happened (event.Heard broker space number)) e = (refl, refl)

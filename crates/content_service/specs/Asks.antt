@@ -7,7 +7,7 @@ use Rattle.kvs_rules.specs.declared.events.KvsAsk.TheVariants as ask
 use Rattle.kvs_rules.specs.declared.events.KvsAnswer.{KvsAnswer}
 use Rattle.kvs_rules.specs.declared.events.KvsAnswer.TheVariants as answer
 use Rattle.kvs_rules.specs.declared.events.KvsEvent.TheVariants as event
-use Rattle.kvs_rules.specs.Log.{Moment, Asked, Happened}
+use Rattle.kvs_rules.specs.Log.{Moment, Asked, Happened, Resumed}
 use Rattle.kvs_rules.specs.Namespaces.{Setting}
 
 -- whether what is asked is about contents
@@ -35,7 +35,8 @@ IsContentAnswer _ = ⊥
 -- the moment is not about contents: no broker gets or drops one, and no command asks or is told
 -- something of them
 abbrev pub IsOthers : Setting → Moment → Type 0
-IsOthers set (Asked by floor) = asks_content set by ≡ false
+IsOthers set (Asked by floors) = asks_content set by ≡ false
+IsOthers set (Resumed number) = Unit {0}
 IsOthers set (Happened (event.Answered by number given)) = asks_content set by ≡ false
 IsOthers set (Happened (event.Got broker reference)) = ⊥
 IsOthers set (Happened (event.Dropped broker reference)) = ⊥

@@ -103,11 +103,12 @@ impl ContentService {
         ensures ready { OnOk result (self.new.spent ≡ false) }
         ensures size { OnOk result (self.new.size ≡ self.old.size) }
         ensures spent { OnErr result (self.new.spent ≡ true) }
-        ensures agrees { OnOk result ((set : Setting) (log : Log) (space : Name) (floor : ℕ)
+        ensures agrees { OnOk result ((set : Setting) (log : Log) (space : Name)
+            (floors : Name → ℕ)
             → AgreesService self.old set log
             → set.asks by ≡ Some (record { broker = broker; namespace = space; ask = ask })
             → is_asked by log ≡ false
-            → AgreesService self.new set (log ++ Asked by floor ∷ [])) }
+            → AgreesService self.new set (log ++ Asked by floors ∷ [])) }
     {
         self.spent = true;
         let stage = Stage::Entered {
