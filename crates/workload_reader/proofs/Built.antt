@@ -10,7 +10,7 @@ use Rattle.outcomes.specs.Outcomes.{first_of}
 use Rattle.kvs_txn.specs.Keys.{components}
 use Rattle.workload.specs.Limits.{most_members, most_severity, most_urgency, most_value}
 use Rattle.workload.specs.Words.{first_word, behind_word, is_number_within, number_value}
-use Rattle.workload_reader.specs.Verbs.{faults_of, is_past_key, is_past_value, name_and_number, one_content, one_key, key_and_text, two_keys, raising, urging, submission, said}
+use Rattle.workload_reader.specs.Verbs.{faults_of, is_past_key, is_past_value, name_and_number, one_content, one_key, key_and_text, own_link, two_keys, raising, urging, submission, said}
 use Rattle.workload_reader.specs.Submits.{options_of, urgency_in}
 use Rattle.workload_reader.specs.Reading.{first_fault, spelled}
 use Rattle.workload.specs.Laws.{IsBuilt, IsKeyPath}
@@ -39,10 +39,10 @@ key_and_text_built number tail none =
     let tests = none_applies (faults_of number (key_and_text command.Put tail)) none in
     (key_within (first_word tail) tests.1.1.1.0, value_within (behind_word tail) tests.1.1.1.1.0)
 
-two_keys_built : (number : ℕ) (tail : List ℕ) → first_of (faults_of number (two_keys command.Symlink tail)) ≡ None
+two_keys_built : (number : ℕ) (tail : List ℕ) → first_of (faults_of number (two_keys own_link tail)) ≡ None
     → IsKeyPath (components (first_word tail)) × IsKeyPath (components (first_word (behind_word tail)))
 two_keys_built number tail none =
-    let tests = none_applies (faults_of number (two_keys command.Symlink tail)) none in
+    let tests = none_applies (faults_of number (two_keys own_link tail)) none in
     (key_within (first_word tail) tests.1.1.1.0, key_within (first_word (behind_word tail)) tests.1.1.1.1.0)
 
 number_within : (word : List ℕ) → not (is_number_within 1 most_members word) ≡ false → (1 ≤ number_value word) × (number_value word ≤ most_members)
@@ -87,7 +87,7 @@ verb_built work number tail verb.Put text none = key_and_text_built number tail 
 verb_built work number tail verb.Append text none = key_and_text_built number tail none
 verb_built work number tail verb.Unlink text none = one_key_built number tail none
 verb_built work number tail verb.Mkdir text none = one_key_built number tail none
-verb_built work number tail verb.Symlink text none = two_keys_built number tail none
+verb_built work number tail verb.Symlink text none = let keys = two_keys_built number tail none in (keys.0, keys.1, refl)
 verb_built work number tail verb.Commit text none = tt
 verb_built work number tail verb.Fence text none = fence_built number tail none
 verb_built work number tail verb.Get text none = one_key_built number tail none

@@ -50,7 +50,7 @@ every_verb : with_lines empty (lines_of (codes "actor a 0\na append k hello\na u
   lines = record { actor = 0; command = command.Append (codes "k" ∷ []) (codes "hello") }
       ∷ record { actor = 0; command = command.Unlink (codes "k" ∷ []) }
       ∷ record { actor = 0; command = command.Mkdir (codes "d" ∷ codes "e" ∷ []) }
-      ∷ record { actor = 0; command = command.Symlink (codes "l" ∷ []) (codes "d" ∷ codes "e" ∷ []) }
+      ∷ record { actor = 0; command = command.Symlink (codes "l" ∷ []) (record { path = codes "d" ∷ codes "e" ∷ []; namespace = None }) }
       ∷ record { actor = 0; command = command.Ls [] }
       ∷ record { actor = 0; command = command.Readlink (codes "l" ∷ []) }
       ∷ [];

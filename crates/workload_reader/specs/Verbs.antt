@@ -114,6 +114,10 @@ two_keys made tail = record {
   command = made (components (first_word tail)) (components (first_word (behind_word tail)));
 }
 
+-- a link to a path of its own namespace
+abbrev pub own_link : List (List ℕ) → List (List ℕ) → Command
+own_link path target = command.Symlink path (record { path = target; namespace = None })
+
 -- a verb behind which nothing stands
 abbrev pub alone : Command → List ℕ → Saying
 alone made tail = record {
@@ -282,7 +286,7 @@ said work verb.Put tail = key_and_text command.Put tail
 said work verb.Append tail = key_and_text command.Append tail
 said work verb.Unlink tail = one_key command.Unlink tail
 said work verb.Mkdir tail = one_key command.Mkdir tail
-said work verb.Symlink tail = two_keys command.Symlink tail
+said work verb.Symlink tail = two_keys own_link tail
 said work verb.Commit tail = alone command.Commit tail
 said work verb.Fence tail = name_and_number 1 most_members command.Fence tail
 said work verb.Get tail = one_key command.Get tail

@@ -4,13 +4,13 @@ ghost use Rattle.outcomes.specs.Outcomes.{Reads, first_of};
 ghost use Rattle.kvs_txn.specs.Keys.{components};
 ghost use Rattle.workload.specs.Limits.{most_actors};
 ghost use Rattle.workload.specs.Words.{first_word, behind_word};
-ghost use Rattle.workload_reader.specs.Verbs.{faults_of, verb_of, said, one_key, one_name, key_and_text, two_keys, is_past_key, is_past_value, lasting};
+ghost use Rattle.workload_reader.specs.Verbs.{faults_of, verb_of, said, one_key, one_name, key_and_text, own_link, two_keys, is_past_key, is_past_value, lasting};
 
 use crate::contents::{content_drop, content_flush, content_load, content_store};
 use crate::faults::{LineFault, Which};
 use crate::jobs::{advance, cancel, info, jobs, raise, result_of, shutdown, state, urgency, why};
 use crate::submits::submit;
-use kvs_txn::{Path, PathFault};
+use kvs_txn::{Path, PathFault, Target};
 use lists::Bytes;
 use std::alloc::Global;
 use workload::limits::{MOST_MEMBERS, MOST_VALUE};
@@ -153,7 +153,7 @@ fn key_and_text(alloc: Global, line: u64, tail: &str) -> Result<(Path, Bytes), L
 
 /// The two keys behind a verb.
 fn two_keys(alloc: Global, line: u64, tail: &str) -> Result<(Path, Path), LineFault>
-    ensures { Reads lasting (first_of (faults_of line (two_keys Command.Symlink tail.now)))
+    ensures { Reads lasting (first_of (faults_of line (two_keys own_link tail.now)))
         (λ r. (r.0 ≡ components (first_word tail.now))
         × (r.1 ≡ components (first_word (behind_word tail.now)))) result }
 {
@@ -210,7 +210,13 @@ fn symlink(alloc: Global, work: &Workload, line: u64, tail: &str) -> Result<Comm
         (λ c. c ≡ (said work.now Verb.Symlink tail.now).command) result }
 {
     let (path, target) = two_keys(alloc, line, tail)?;
-    Ok(Command::Symlink { path, target })
+    Ok(Command::Symlink {
+        path,
+        target: Target {
+            path: target,
+            namespace: None,
+        },
+    })
 }
 
 /// The command `commit`, behind which no word stands.
