@@ -7,6 +7,7 @@ use Rattle.std.proofs.lemmas.Bool.{eqb-true}
 use Rattle.std.proofs.lemmas.List.Elements.{filter_map-append}
 use Rattle.std.proofs.lemmas.List.Sums.{sum_by-cons}
 use Rattle.kvs_txn.specs.declared.txn.By.{By}
+use Rattle.kvs_model.specs.Store.{Name}
 use Rattle.kvs_rules.specs.Log as service
 use Rattle.kvs_rules.specs.Sequence.{EachAfter}
 use Rattle.kvs_rules.proofs.Sequences.{each_along}
@@ -70,7 +71,7 @@ module _ (set : Setup) (passes : ℕ → Bool) where
   ends_not (_ ∷ c) = ends_not c
 
   -- neither a landing nor a denial stands there
-  none_carried : (test : service.Moment → Bool) → ((by : By) (floor : ℕ) → test (service.Asked by floor) ≡ false) → (work : Workload) (c base : List Entry) → list_any test (moments_after work top base (as_one passes c)) ≡ false
+  none_carried : (test : service.Moment → Bool) → ((by : By) (floors : Name → ℕ) → test (service.Asked by floors) ≡ false) → (work : Workload) (c base : List Entry) → list_any test (moments_after work top base (as_one passes c)) ≡ false
   none_carried test asked work [] base = refl
   none_carried test asked work (entry.Issued actor command ∷ c) base = by (passes actor) (none_carried test asked work c (base ++ entry.Issued actor command ∷ [])) (none_carried test asked work c base)
     where
@@ -157,7 +158,7 @@ module _ (set : Setup) (passes : ℕ → Bool) where
       by : (b : Bool) → IfSome (kept_if b (entry.Replied actor command reply.NotReached None)) (IsLegalEntry one (as_one passes c))
       by true = record {
         goes_on = ends_not c;
-        grounds = (refl, (none_carried (service.lands_now (record { actor = actor; command = command })) (λ by floor. refl) one.work c [], none_carried (service.denies_now (record { actor = actor; command = command })) (λ by floor. refl) one.work c []));
+        grounds = (refl, (none_carried (service.lands_now (record { actor = actor; command = command })) (λ by floors. refl) one.work c [], none_carried (service.denies_now (record { actor = actor; command = command })) (λ by floors. refl) one.work c []));
       }
       by false = tt
   entry_so c _ l = tt

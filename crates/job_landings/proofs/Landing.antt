@@ -174,7 +174,7 @@ module _ (inst : Instance) (valid : IsInstance inst) (log : Log) (v : CommandsVa
   module _ (before : List KvsEvent) (space : Name) (number : ℕ) (authors : List (Option By)) (groups : List Group) (behind : List KvsEvent)
       (earlier : posts_landed before ≡ []) (lands : posts_in groups ≡ group_of post ∷ []) (later : posts_landed behind ≡ [])
       (legal : IsLegalAfter inst.service (service_of log) (map service.Happened (before ++ event.Landed space number authors groups ∷ behind)))
-      (has : HasJobs inst.service jobs (service_of log)) where
+      (has : HasJobs inst.service (ap (λ b. b.number) valid.text) jobs (service_of log)) where
     abbrev landing : KvsEvent
     landing = event.Landed space number authors groups
 
@@ -212,8 +212,8 @@ module _ (inst : Instance) (valid : IsInstance inst) (log : Log) (v : CommandsVa
     pub there_carries : Carries inst post number authors groups
     there_carries = carries inst valid at_service post space number authors groups parts.1.0 lands
 
-    has_at : HasJobs inst.service jobs at_service
-    has_at = users_leave inst.service jobs before (service_of log) users_before parts.0 has
+    has_at : HasJobs inst.service (ap (λ b. b.number) valid.text) jobs at_service
+    has_at = users_leave inst.service (ap (λ b. b.number) valid.text) jobs before (service_of log) users_before parts.0 has
 
     desk_at : (st : Store) → newest_store inst.service (service_of at) primary ≡ Some st → IsDeskOf inst at st (desk_of v inst log jobs)
     desk_at st standing =
@@ -234,7 +234,7 @@ module _ (inst : Instance) (valid : IsInstance inst) (log : Log) (v : CommandsVa
   Whole events = LandsPost inst post events × EachAfter (IsLegalMoment inst) log (map happening events)
 
   at_event : (events before : List KvsEvent) (here : KvsEvent) (behind : List KvsEvent) → events ≡ before ++ here ∷ behind → posts_landed before ≡ [] → posts_in (groups_in here) ≡ group_of post ∷ [] → posts_landed behind ≡ []
-      → number_of_post events ≡ Rattle.job_landings.specs.Landings.number_in here → IsLegalAfter inst.service (service_of log) (map service.Happened events) → HasJobs inst.service jobs (service_of log) → Whole events
+      → number_of_post events ≡ Rattle.job_landings.specs.Landings.number_in here → IsLegalAfter inst.service (service_of log) (map service.Happened events) → HasJobs inst.service (ap (λ b. b.number) valid.text) jobs (service_of log) → Whole events
   at_event events before (event.Landed space number authors groups) behind split earlier lands later numbered legal has =
       let legal_split = subst (λ es. IsLegalAfter inst.service (service_of log) (map service.Happened es)) split legal in (
         record {
@@ -257,4 +257,4 @@ module _ (inst : Instance) (valid : IsInstance inst) (log : Log) (v : CommandsVa
       → IsLegalAfter inst.service (service_of log) (map service.Happened events) → posts_landed events ≡ group_of post ∷ [] → Whole events
   lands_as_due events st sound standing are legal one =
       let s = split_at_post events (group_of post) one in
-      at_event events s.before s.here s.behind s.split s.earlier s.lands s.later (number_is events (group_of post) s) legal (has_jobs inst.service jobs (service_of log) st sound standing are)
+      at_event events s.before s.here s.behind s.split s.earlier s.lands s.later (number_is events (group_of post) s) legal (has_jobs inst.service (ap (λ b. b.number) valid.text) jobs (service_of log) st sound standing are)

@@ -134,5 +134,5 @@ module _ (inst : Instance) (valid : IsInstance inst) (log : service.Log) where
   event_beside (event.Dropped broker reference) users legal = λ by some. record { issues = refl; replies = refl; decides = refl; groups = λ g here. absurd (among_from [] g here) }
   event_beside (event.Answered by number given) users legal = λ other some. record { issues = refl; replies = refl; decides = refl; groups = λ g here. absurd (among_from [] g here) }
 
-  pub asked_beside : (by : By) (floor : ℕ) → IsBeside inst (Served (service.Asked by floor))
-  asked_beside by floor other some = record { issues = refl; replies = refl; decides = refl; groups = λ g here. absurd (among_from [] g here) }
+  pub asked_beside : (by : By) (floors : Name → ℕ) → IsBeside inst (Served (service.Asked by floors))
+  asked_beside by floors other some = record { issues = refl; replies = refl; decides = refl; groups = λ g here. absurd (among_from [] g here) }

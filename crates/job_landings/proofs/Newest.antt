@@ -4,15 +4,15 @@ use Rattle.std.specs.Prelude.{option_and_then}
 use Rattle.std.specs.List.{AllByRecursion as Each, cons_option}
 use Rattle.std.proofs.lemmas.List.{length-append}
 use Rattle.kvs_core.specs.Posted.{LandsUsers}
-use Rattle.kvs_model.specs.History.{after, after_groups, first_store, landed_on}
+use Rattle.kvs_model.specs.History.{after, after_groups, landed_on}
 use Rattle.kvs_model.specs.Operation.{effect}
 use Rattle.kvs_model.specs.Store.{Store}
 use Rattle.kvs_rules.proofs.Logs.{along, landed_push, number_or_not, own_number}
 use Rattle.kvs_rules.proofs.Stores.{after_push, landings_push}
 use Rattle.kvs_rules.specs.Answers.{IsLegalAfter, IsLegalEvent, IsLegalLog, IsLegalMoment}
 use Rattle.kvs_rules.specs.Landings.{IsAdvance, IsLegalLanding, IsUser}
-use Rattle.kvs_rules.specs.Log.{Asked, Happened, Log, Moment}
-use Rattle.kvs_rules.specs.Namespaces.{Setting, groups_landed, landed, landings, newest_store, number_landed, primary}
+use Rattle.kvs_rules.specs.Log.{Asked, Happened, Log, Moment, Resumed}
+use Rattle.kvs_rules.specs.Namespaces.{Setting, above_first, groups_landed, landed, landings, newest_store, number_landed, primary, store_after}
 use Rattle.kvs_rules.specs.declared.events.KvsEvent.{KvsEvent}
 use Rattle.kvs_rules.specs.declared.events.KvsEvent.TheVariants as event
 use Rattle.kvs_txn.specs.declared.answers.Refusal.{Refusal}
@@ -31,7 +31,8 @@ same_one x y e = cc
 -- ---- as many landings are counted as there are
 
 no_groups : (m : Moment) → number_landed primary m ≡ None → groups_landed primary m ≡ None
-no_groups (Asked by floor) e = refl
+no_groups (Asked by floors) e = refl
+no_groups (Resumed number) e = refl
 no_groups (Happened (event.Landed other number authors [])) e = refl
 no_groups (Happened (event.Landed other number authors (g ∷ gs))) e = apart (bytes_eq primary other) e
   where
@@ -50,7 +51,11 @@ number_same log m e = landed_push log m primary ∙ ap (λ o. unwrap_or o (lande
 landings_same : (log : Log) (m : Moment) → number_landed primary m ≡ None → landings (log ++ m ∷ []) primary ≡ landings log primary
 landings_same log m e = landings_push log m primary ∙ ap (λ o. landings log primary ++ cons_option o []) (no_groups m e) ∙ append-nil _
 
-module _ (set : Setting) where
+module _ (set : Setting) (none : set.base.number ≡ 0) where
+  -- the store of `primary` at a number is that after so many landings
+  newest_is : (log : Log) (number : ℕ) → store_after set log primary number ≡ after scope.Primary (landings log primary) number set.base.store
+  newest_is log number = ap (λ k. option_and_then (λ count. after scope.Primary (landings log primary) count set.base.store) (above_first k number)) none
+
   -- a landing in `primary` is an advance
   pub advances : (log : Log) (number : ℕ) (authors : List (Option By)) (groups : List Group) → IsLegalLanding set log primary number authors groups → IsAdvance set log primary number authors groups
   advances log number authors groups legal = elim legal.form [
@@ -80,10 +85,16 @@ module _ (set : Setting) where
       let long : length (ls ++ (g ∷ gs) ∷ []) ≡ suc (length ls) = length-append ls ((g ∷ gs) ∷ []) ∙ (omega arith) in
       number_next log number authors (g ∷ gs) h a ∙ sym long ∙ ap length (sym more)
 
+  resumed_counts : (log : Log) (number : ℕ) → log ≡ [] → number ≡ set.base.number → IsCounted (log ++ Resumed number ∷ [])
+  resumed_counts log number first is = subst (λ l. IsCounted (l ++ Resumed number ∷ [])) (sym first) (is ∙ none)
+
   counted_push : (log : Log) (m : Moment) → IsLegalLog set log → IsLegalMoment set log m → IsCounted log → IsCounted (log ++ m ∷ [])
   counted_push log m before legal h = elim (number_or_not primary m) [
     | inl none ↦ number_same log m none ∙ h ∙ ap length (sym (landings_same log m none))
-    | inr l ↦ subst (λ x. IsCounted (log ++ x ∷ [])) (sym l.is) (counted_next log l.number l.authors l.groups h (advances log l.number l.authors l.groups (subst (IsLegalMoment set log) l.is legal)))
+    | inr (inl l) ↦ subst (λ x. IsCounted (log ++ x ∷ [])) (sym l.is) (counted_next log l.number l.authors l.groups h (advances log l.number l.authors l.groups (subst (IsLegalMoment set log) l.is legal)))
+    | inr (inr r) ↦
+        let first : IsLegalMoment set log (Resumed r.number) = subst (IsLegalMoment set log) r.is legal in
+        subst (λ x. IsCounted (log ++ x ∷ [])) (sym r.is) (resumed_counts log r.number first.0 first.1)
   ]
 
   counted : (log : Log) → IsLegalLog set log → IsCounted log
@@ -104,7 +115,9 @@ module _ (set : Setting) where
   passes jobs log m e h = record {
     counted = number_same log m e ∙ h.counted ∙ ap length (sym (landings_same log m e));
     store = h.store;
-    stands = ap₂ (λ ls k. after scope.Primary ls k (first_store set.grant)) (landings_same log m e) (number_same log m e) ∙ h.stands;
+    stands = newest_is (log ++ m ∷ []) (landed (log ++ m ∷ []) primary)
+        ∙ ap₂ (λ ls k. after scope.Primary ls k set.base.store) (landings_same log m e) (number_same log m e)
+        ∙ sym (newest_is log (landed log primary)) ∙ h.stands;
     are = h.are;
   }
 
@@ -129,13 +142,14 @@ module _ (set : Setting) where
       let ls = landings log primary in
       let more : landings (log ++ m ∷ []) primary ≡ ls ++ (g ∷ gs) ∷ [] = landings_push log m primary in
       let old : h.store ≡ a.old = same_one h.store a.old (sym h.stands ∙ a.standing) in
-      let stood : after scope.Primary ls (length ls) (first_store set.grant) ≡ Some h.store = ap (λ k. after scope.Primary ls k (first_store set.grant)) (sym h.counted) ∙ h.stands in
+      let stood : after scope.Primary ls (length ls) set.base.store ≡ Some h.store = ap (λ k. after scope.Primary ls k set.base.store) (sym h.counted) ∙ sym (newest_is log (landed log primary)) ∙ h.stands in
       let made : after_groups scope.Primary (g ∷ gs) h.store ≡ Some a.new = ap (after_groups scope.Primary (g ∷ gs)) old ∙ a.made in
       record {
         counted = counted_next log number authors (g ∷ gs) h.counted a;
         store = a.new;
-        stands = ap₂ (λ l k. after scope.Primary l k (first_store set.grant)) more (number_next log number authors (g ∷ gs) h.counted a)
-            ∙ after_push scope.Primary ls (g ∷ gs) (first_store set.grant) h.store stood ∙ made;
+        stands = newest_is (log ++ m ∷ []) (landed (log ++ m ∷ []) primary)
+            ∙ ap₂ (λ l k. after scope.Primary l k set.base.store) more (number_next log number authors (g ∷ gs) h.counted a)
+            ∙ after_push scope.Primary ls (g ∷ gs) set.base.store h.store stood ∙ made;
         are = groups_leave jobs (g ∷ gs) h.store a.new users h.are made;
       }
 
@@ -145,7 +159,8 @@ module _ (set : Setting) where
   event_leaves : (jobs : List StoredJob) (log : Log) (e : KvsEvent) → LandsUsers e → IsLegalEvent set log e → HasJobs jobs log → HasJobs jobs (log ++ Happened e ∷ [])
   event_leaves jobs log e users legal h = elim (number_or_not primary (Happened e)) [
     | inl none ↦ passes jobs log (Happened e) none h
-    | inr l ↦
+    | inr (inr r) ↦ let e : Happened e ≡ Resumed r.number = r.is in absurd (cc)
+    | inr (inl l) ↦
         let is = event_lands e l.number l.authors l.groups l.is in
         subst (λ x. HasJobs jobs (log ++ x ∷ [])) (sym l.is)
         (advanced jobs log l.number l.authors l.groups (subst LandsUsers is users) h (advances log l.number l.authors l.groups (subst (IsLegalEvent set log) is legal)))

@@ -9,7 +9,9 @@ ghost use Rattle.kvs_core.specs.Steps.{can_step, can_take};
 ghost use Rattle.kvs_requests.specs.Rows.{IsKnownAsk};
 ghost use Rattle.kvs_rules.specs.Answers.{IsLegalAnswer};
 ghost use Rattle.kvs_rules.specs.Log.{Asked as AskedAt, Happened, Log, is_asked};
-ghost use Rattle.kvs_rules.specs.Namespaces.{Setting as Service};
+ghost use Rattle.kvs_model.specs.Store.{Name};
+ghost use Rattle.kvs_rules.specs.Namespaces.{Setting as Service, fresh};
+ghost use Rattle.kvs_rules.specs.OneStore.{AsksOwn};
 ghost use Rattle.kvs_rules.specs.declared.events.KvsEvent.TheVariants as event;
 ghost use Rattle.resource_set.specs.Valid.{IsR};
 ghost use Rattle.resource_set.specs.Writing.{r_text};
@@ -127,7 +129,8 @@ impl Manager {
           jobs = [];
         }) }
         ensures agrees { IfOk result (λ v. (set : Service) → set.size ≡ setting.size
-            → set.fanout ≡ setting.fanout → set.grant ≡ r_text grant.now → Agrees v.core set []) }
+            → set.fanout ≡ setting.fanout → set.base ≡ fresh (r_text grant.now) → AsksOwn set
+            → Agrees v.core set []) }
     {
         stores_stay_stores();
         let text = Bytes::from_vec(resource_set::print(alloc, grant)?);
@@ -162,8 +165,9 @@ impl Manager {
         ensures spent { OnErr result (self.new.spent ≡ true) }
         ensures agrees { OnOk result ((set : Service) (log : Log) → Agrees self.old.core set log
             → set.asks by ≡ Some (record { broker = broker; namespace = namespace; ask = ask })
+            → (floors : Name → ℕ) → floors namespace ≡ floor
             → is_asked by log ≡ false → AsksAtRest set self.old.core
-            → Agrees self.new.core set (log ++ AskedAt by floor ∷ [])) }
+            → Agrees self.new.core set (log ++ AskedAt by floors ∷ [])) }
     {
         self.spent = true;
         // the core's newest store is the one that its log leaves

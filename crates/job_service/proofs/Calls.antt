@@ -56,6 +56,7 @@ use Rattle.job_deeds.specs.resource_set.Writing.{r_text}
 use Rattle.job_deeds.specs.resource_set.declared.node.Resources.{Resources}
 use Rattle.job_deeds.specs.tap.declared.Ask.{Ask}
 use Rattle.run_limits.specs.Limits.{most_seconds, most_submits}
+use Rattle.kvs_rules.specs.OneStore.{AsksOwn}
 use Rattle.job_service.specs.Agrees.{AgreesJobs, IsAgreed, IsNewAsk, IsServedBy, IsBookOf}
 use Rattle.job_service.specs.Children.{IsBearing}
 use Rattle.job_service.specs.Due.{IsEventDue, IsFoundBeside, Owes}
@@ -163,11 +164,11 @@ module _ (v : JobServiceValue) (inst : Instance) (log : Log) (a : AgreesJobs v i
       (subst (IsLegalLog inst.service) (sym same) (legal_joined inst.service [] (service_of log) (m ∷ []) a.legal legal))
       f
 
-  pub asked_agrees : (spent : Bool) (manager : ManagerValue) (by : By) (broker floor : ℕ) (space : Name) (asked : KvsAsk) → Keeps v.manager manager → IsNewAsk v inst log by broker space asked
-      → Agrees manager.core inst.service (service_of log ++ service.Asked by floor ∷ []) → AgreesJobs (with_parts v spent manager v.commands v.refused v.found v.submitted) inst (log ++ Served (service.Asked by floor) ∷ [])
-  asked_agrees spent manager by broker floor space asked keeps new core =
-      served spent manager (service.Asked by floor) keeps (((record { broker = broker; namespace = space; ask = asked }, new.asks), new.new), tt) core
-      (served_facts v.commands v.refused v.second inst log (service.Asked by floor) (asked_beside inst a.kind.valid (service_of log) by floor) facts)
+  pub asked_agrees : (spent : Bool) (manager : ManagerValue) (by : By) (broker : ℕ) (floors : Name → ℕ) (space : Name) (asked : KvsAsk) → Keeps v.manager manager → IsNewAsk v inst log by broker space asked
+      → Agrees manager.core inst.service (service_of log ++ service.Asked by floors ∷ []) → AgreesJobs (with_parts v spent manager v.commands v.refused v.found v.submitted) inst (log ++ Served (service.Asked by floors) ∷ [])
+  asked_agrees spent manager by broker floors space asked keeps new core =
+      served spent manager (service.Asked by floors) keeps (((record { broker = broker; namespace = space; ask = asked }, new.asks), new.new), tt) core
+      (served_facts v.commands v.refused v.second inst log (service.Asked by floors) (asked_beside inst a.kind.valid (service_of log) by floors) facts)
 
   pub taken_agrees : (spent : Bool) (manager : ManagerValue) (by : By) (number : Option ℕ) (given : KvsAnswer) → Keeps v.manager manager → IsLegalAnswer inst.service (service_of log) by number given
       → Agrees manager.core inst.service (service_of log ++ service.Happened (event.Answered by number given) ∷ []) → AgreesJobs (with_parts v spent manager v.commands v.refused v.found v.submitted) inst (log ++ Served (service.Happened (event.Answered by number given)) ∷ [])
@@ -228,14 +229,14 @@ module _ (v : JobServiceValue) (inst : Instance) (log : Log) (a : AgreesJobs v i
 
 module _ (spent : Bool) (terms : Terms) (birth size fanout : ℕ) (grant : Resources) (manager : ManagerValue) (commands : CommandsValue)
     (book : manager.book ≡ record { grant = grant; policy = terms.policy; jobs = [] }) (posted : manager.posted ≡ None) (set : (inst : Instance) → AgreesCommands commands inst [])
-    (core : (s : Rattle.kvs_rules.specs.Namespaces.Setting) → s.size ≡ size → s.fanout ≡ fanout → s.grant ≡ r_text grant → Agrees manager.core s []) where
+    (core : (s : Rattle.kvs_rules.specs.Namespaces.Setting) → s.size ≡ size → s.fanout ≡ fanout → s.base ≡ Rattle.kvs_rules.specs.Namespaces.fresh (r_text grant) → AsksOwn s → Agrees manager.core s []) where
   abbrev begun : JobServiceValue
   begun = record { spent = spent; terms = terms; birth = birth; second = birth; manager = manager; commands = commands; refused = []; found = None; bearing = None; submitted = 0; span = 0 }
 
   -- an instance without commands
   abbrev plain : Instance
   plain = record {
-    service = record { settled = false; size = size; fanout = fanout; hash = Sha1; grant = r_text grant; asks = λ by. None };
+    service = record { settled = false; size = size; fanout = fanout; hash = Sha1; base = Rattle.kvs_rules.specs.Namespaces.fresh (r_text grant); asks = λ by. None };
     birth = birth;
     start = birth;
     grant = grant;
@@ -303,7 +304,7 @@ module _ (spent : Bool) (terms : Terms) (birth size fanout : ℕ) (grant : Resou
       birth = of.birth;
       book = record { grant = ap (λ b. b.grant) book ∙ sym of.grant; policy = ap (λ b. b.policy) book ∙ sym of.served.policy };
     };
-    core = core inst.service of.size of.fanout (of.valid.text ∙ ap r_text of.grant);
+    core = core inst.service of.size of.fanout (of.valid.text ∙ ap (λ g. Rattle.kvs_rules.specs.Namespaces.fresh (r_text g)) of.grant) of.links;
     legal = tt;
     commands = set inst;
     second = of.served.built.start ∙ of.birth;
@@ -340,6 +341,7 @@ module _ (spent : Bool) (terms : Terms) (birth size fanout : ℕ) (grant : Resou
       grant = refl;
       size = refl;
       fanout = refl;
+      links = λ by request e. cc;
     });
   }
 

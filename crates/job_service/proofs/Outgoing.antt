@@ -32,7 +32,8 @@ use Rattle.job_service.proofs.Owing.{found-due}
 -- ---- a command that asks nothing of the service is never answered by it
 
 unasked_now : (set : Setting) (by : By) → set.asks by ≡ None → (log : service.Log) (m : service.Moment) → IsLegalMoment set log m → service.answers_now by m ≡ false
-unasked_now set by none log (service.Asked other floor) legal = refl
+unasked_now set by none log (service.Asked other floors) legal = refl
+unasked_now set by none log (service.Resumed number) legal = refl
 unasked_now set by none log (service.Happened (event.Answered other number answer)) legal =
     false_from_ne_true _ (λ t. let wrong : None ≡ Some legal.request = sym none ∙ ap set.asks (command_is by other t) ∙ legal.made in cc)
 unasked_now set by none log (service.Happened (event.Landed space number authors groups)) legal = refl

@@ -4,6 +4,7 @@ use Rattle.kvs_core.specs.Agrees.{Agrees}
 use Rattle.kvs_core.specs.Requests.{AsksAtRest}
 use Rattle.kvs_rules.specs.Answers.{IsLegalLog}
 use Rattle.kvs_rules.specs.Log.{is_asked}
+use Rattle.kvs_rules.specs.OneStore.{AsksOwn}
 use Rattle.kvs_rules.specs.declared.events.KvsAsk.{KvsAsk}
 use Rattle.job_deeds.specs.kvs_model.Store.{Name}
 use Rattle.job_deeds.specs.kvs_txn.declared.txn.By.{By}
@@ -48,7 +49,7 @@ pub record IsOf (inst : Instance) (v : JobServiceValue) : Type 0 where
   pub book : IsBookOf inst v.manager.book
 
 -- an instance with so many brokers in such a tree, with this grant, that is born at this second and
--- serves its jobs on these terms
+-- serves its jobs on these terms; none of its commands asks for a link into another namespace
 pub record IsServedBy (inst : Instance) (brokers children : ℕ)
     (resources : Resources) (now : ℕ) (terms : Terms) : Type 0 where
   pub valid : IsInstance inst
@@ -59,6 +60,7 @@ pub record IsServedBy (inst : Instance) (brokers children : ℕ)
   pub grant : inst.grant ≡ resources
   pub size : inst.service.size ≡ brokers
   pub fanout : inst.service.fanout ≡ children
+  pub links : AsksOwn inst.service
 
 -- no moment answers the command, and no landing and no denial names it
 pub record IsUntold (by : By) (log : Log) : Type 0 where

@@ -21,6 +21,7 @@ ghost use Rattle.job_book.specs.Contract.{r_at, seconds_left};
 ghost use Rattle.job_book.specs.Seconds.{IsSoonest};
 ghost use Rattle.job_clock.specs.Standing.{IsLiving, IsTop};
 ghost use Rattle.job_deeds.specs.kvs_txn.declared.txn.By.{By as Command};
+ghost use Rattle.job_deeds.specs.kvs_model.Store.{Name};
 ghost use Rattle.job_deeds.specs.manager_rules.Jobs.{StoredJob, is_live};
 ghost use Rattle.job_deeds.specs.manager_rules.Terms.{AreBuilt};
 ghost use Rattle.job_deeds.specs.manager_rules.Times.{IsEndDue, IsIdle, seconds_ahead};
@@ -171,7 +172,8 @@ impl JobService {
         ensures spent { OnErr result (self.new.spent ≡ true) }
         ensures agrees { OnOk result ((inst : Instance) (log : Log) → AgreesJobs self.old inst log
             → IsNewAsk self.old inst log by broker namespace ask
-            → AgreesJobs self.new inst (log ++ Served (AskedAt by floor) ∷ [])) }
+            → (floors : Name → ℕ) → floors namespace ≡ floor
+            → AgreesJobs self.new inst (log ++ Served (AskedAt by floors) ∷ [])) }
     {
         self.spent = true;
         self.manager.ask(by, broker, namespace, floor, ask)?;

@@ -22,6 +22,7 @@ use Rattle.answers.proofs.Carried.{lands_so}
 use Rattle.answers.proofs.JobLogs.{service_kept}
 use Rattle.answers.proofs.Services.{log_push, service_legal}
 use Rattle.run_laws.specs.Jobs.{store_of}
+use Rattle.kvs_model.proofs.Histories.{IsStore-first_store}
 use Rattle.run_laws.proofs.Newest.{Newest, goes_on, newest_of, same_one}
 
 -- a landing whose transactions are due makes one store of another
@@ -40,8 +41,8 @@ module _ (set : Setup) where
   kept : (c : List Entry) → store_of set c ≡ newest_store (setting_of set) (log_of set.work top c) primary
   kept c = ap (λ l. newest_store (setting_of set) l primary) (service_kept set.work c)
 
-  newest_in : (c : List Entry) → IsLegal set c → Newest (setting_of set) (log_of set.work top c)
-  newest_in c legal = newest_of (setting_of set) (log_of set.work top c) (service_legal set c legal)
+  newest_in : (c : List Entry) → IsLegal set c → Newest (setting_of set) refl (log_of set.work top c)
+  newest_in c legal = newest_of (setting_of set) refl (IsStore-first_store set.grant) (log_of set.work top c) (service_legal set c legal)
 
   pub stands : (c : List Entry) → IsLegal set c → Stands set c
   stands c legal = let n = newest_in c legal in record { store = n.store; is = n.is; standing = kept c ∙ n.stands }
@@ -63,7 +64,7 @@ module _ (set : Setup) where
     moves None is st new was now = inl (same_one new st (sym now ∙ ap (λ l. newest_store (setting_of set) l primary) (append-nil log) ∙ was))
     moves (Some m) is st new was now =
         let n = newest_in c legal in
-        let next = goes_on (setting_of set) log m (next_legal m is) n in
+        let next = goes_on (setting_of set) refl log m (next_legal m is) n in
         let old : n.store ≡ st = same_one n.store st (sym n.stands ∙ was) in
         let made : next.newest.store ≡ new = same_one next.newest.store new (sym next.newest.stands ∙ now) in
         elim next.how [

@@ -2,6 +2,7 @@
 use Rattle.std.proofs.Common.{ℕ, None, refl, false, true≢false, sym, arith}
 use Rattle.job_service.specs.fl_digest.declared.Hash.{Hash}
 use Rattle.job_service.specs.instance_rules.Log.{Instance}
+use Rattle.job_service.specs.kvs_rules.Namespaces.{fresh}
 use Rattle.job_service.specs.job_rules.Fits.{IsGrant}
 use Rattle.job_service.specs.resource_set.Writing.{r_text}
 use Rattle.job_service.specs.resource_set.declared.node.Resources.{Resources}
@@ -13,7 +14,7 @@ use Rattle.job_service.specs.manager_rules.Terms.{AreBuilt}
 module _ (size fanout : ℕ) (hash : Hash) (grant : Resources) (birth : ℕ) (terms : Terms) where
   abbrev pub plain : Instance
   plain = record {
-    service = record { settled = false; size = size; fanout = fanout; hash = hash; grant = r_text grant; asks = λ by. None };
+    service = record { settled = false; size = size; fanout = fanout; hash = hash; base = fresh (r_text grant); asks = λ by. None };
     birth = birth;
     start = birth;
     grant = grant;
@@ -49,6 +50,7 @@ module _ (size fanout : ℕ) (hash : Hash) (grant : Resources) (birth : ℕ) (te
       grant = refl;
       size = refl;
       fanout = refl;
+      links = λ by request e. cc;
     };
     hash = refl;
   }

@@ -96,23 +96,23 @@ module _ (v : ServicesValue) where
 
   -- a command asks the core
   pub core-asked : ContentsStay → (new : JobServiceValue) (by : By) (broker : ℕ) (space : Name) (floor : ℕ) (asked : KvsAsk) → is_content asked ≡ false
-      → ((inst : Instance) (log : Log) → AgreesJobs v.jobs inst log → IsNewAsk v.jobs inst log by broker space asked → AgreesJobs new inst (log ++ Served (Asked by floor) ∷ []))
+      → ((inst : Instance) (log : Log) → AgreesJobs v.jobs inst log → IsNewAsk v.jobs inst log by broker space asked → (floors : Name → ℕ) → floors space ≡ floor → AgreesJobs new inst (log ++ Served (Asked by floors) ∷ []))
       → AgreesOnce v (with_jobs v new) by floor broker space asked
-  core-asked stay new by broker space floor asked plain agrees inst log a fresh =
-      joined new v.contents inst log (log ++ Served (Asked by floor) ∷ []) (service_of log ++ Asked by floor ∷ []) (served_is log (Asked by floor)) a (agrees inst log a.jobs fresh)
-      (stay v.contents inst.service (service_of log) (Asked by floor) a.contents ((request, fresh.asks), fresh.new) (asks_so inst.service by request false fresh.asks plain))
+  core-asked stay new by broker space floor asked plain agrees inst log a fresh floors seen =
+      joined new v.contents inst log (log ++ Served (Asked by floors) ∷ []) (service_of log ++ Asked by floors ∷ []) (served_is log (Asked by floors)) a (agrees inst log a.jobs fresh floors seen)
+      (stay v.contents inst.service (service_of log) (Asked by floors) a.contents ((request, fresh.asks), fresh.new) (asks_so inst.service by request false fresh.asks plain))
     where
       request : Request
       request = record { broker = broker; namespace = space; ask = asked }
 
   -- a command asks the contents
   pub contents-asked : CoreStays → (new : ContentServiceValue) (by : By) (broker : ℕ) (asked : KvsAsk) → is_content asked ≡ true
-      → ((set : Setting) (log : service.Log) (space : Name) (floor : ℕ) → AgreesService v.contents set log → set.asks by ≡ Some (record { broker = broker; namespace = space; ask = asked }) → is_asked by log ≡ false → AgreesService new set (log ++ Asked by floor ∷ []))
+      → ((set : Setting) (log : service.Log) (space : Name) (floors : Name → ℕ) → AgreesService v.contents set log → set.asks by ≡ Some (record { broker = broker; namespace = space; ask = asked }) → is_asked by log ≡ false → AgreesService new set (log ++ Asked by floors ∷ []))
       → (space : Name) (floor : ℕ) → AgreesOnce v (with_contents v new) by floor broker space asked
-  contents-asked stays new by broker asked about agrees space floor inst log a fresh =
-      joined v.jobs new inst log (log ++ Served (Asked by floor) ∷ []) (service_of log ++ Asked by floor ∷ []) (served_is log (Asked by floor)) a
-      (moment_leaves stays v.jobs inst log (Asked by floor) (asked_beside inst a.jobs.kind.valid (service_of log) by floor) (same_asks inst.service by ∙ asks_so inst.service by request true fresh.asks about) ((request, fresh.asks), fresh.new) a.jobs)
-      (agrees inst.service (service_of log) space floor a.contents fresh.asks fresh.new)
+  contents-asked stays new by broker asked about agrees space floor inst log a fresh floors seen =
+      joined v.jobs new inst log (log ++ Served (Asked by floors) ∷ []) (service_of log ++ Asked by floors ∷ []) (served_is log (Asked by floors)) a
+      (moment_leaves stays v.jobs inst log (Asked by floors) (asked_beside inst a.jobs.kind.valid (service_of log) by floors) (same_asks inst.service by ∙ asks_so inst.service by request true fresh.asks about) ((request, fresh.asks), fresh.new) a.jobs)
+      (agrees inst.service (service_of log) space floors a.contents fresh.asks fresh.new)
     where
       request : Request
       request = record { broker = broker; namespace = space; ask = asked }

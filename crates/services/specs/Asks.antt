@@ -40,12 +40,13 @@ pub record MayAsk (v : ServicesValue) (by : By) (broker : ℕ)
   pub new : IsNewAsk v.jobs inst log by broker space asked
 
 -- after whatever log agrees the services agree with what the command asks there, which has asked
--- nothing before
+-- nothing before and whose actor has seen this number of the namespace
 abbrev pub AgreesOnce : ServicesValue → ServicesValue → By → ℕ → ℕ → Name → KvsAsk → Type 0
 AgreesOnce old new by floor broker space asked = (inst : Instance) (log : Log)
     → AgreesServices old inst log
     → IsNewAsk old.jobs inst log by broker space asked
-    → AgreesServices new inst (log ++ Served (Asked by floor) ∷ [])
+    → (floors : Name → ℕ) → floors space ≡ floor
+    → AgreesServices new inst (log ++ Served (Asked by floors) ∷ [])
 
 -- after whatever log agrees the command may be told so, and the services agree with that
 pub record Tells (old new : ServicesValue) (by : By)

@@ -1,21 +1,22 @@
 -- The store that the landings of `primary` leave along a legal log.
-use Rattle.std.proofs.Common.{◌≡◌, ◌∙◌, ◌⊎◌, inl, inr, ℕ, suc, Bool, true, false, cond, List, [], ◌∷◌, ◌++◌, length, length-append, unwrap_or, Option, Some, None, ap, refl, sym, subst, arith, append-nil, true≢false, bytes_eq}
+use Rattle.std.proofs.Common.{◌≡◌, ◌∙◌, ◌⊎◌, inl, inr, ℕ, suc, Bool, true, false, cond, List, [], ◌∷◌, ◌++◌, length, length-append, unwrap_or, option_and_then, Option, Some, None, ap, refl, sym, subst, arith, append-nil, true≢false, bytes_eq}
 use Rattle.std.specs.List.{cons_option}
 use Rattle.kvs_txn.specs.declared.txn.By.{By}
 use Rattle.kvs_txn.specs.declared.txn.Group.{Group}
 use Rattle.kvs_model.specs.Store.{Name, Store}
 use Rattle.kvs_model.specs.History.{after, after_groups}
 use Rattle.kvs_rules.specs.declared.events.KvsEvent.TheVariants as event
-use Rattle.kvs_rules.specs.Log.{Moment, Asked, Happened, Log}
-use Rattle.kvs_rules.specs.Namespaces.{Setting, begun_at, groups_landed, landed, landings, newest_store, number_landed, primary, scope_of}
+use Rattle.kvs_rules.specs.Log.{Moment, Asked, Happened, Resumed, Log}
+use Rattle.kvs_rules.specs.Namespaces.{Setting, above_first, begun_at, store_after, groups_landed, landed, landings, newest_store, number_landed, primary, scope_of}
 use Rattle.kvs_rules.specs.Landings.{IsAdvance, IsLegalLanding, IsOpening, IsRemoval}
 use Rattle.kvs_rules.specs.Answers.{IsLegalLog, IsLegalMoment}
-use Rattle.kvs_rules.proofs.Logs.{LandsIn, along, landed_push, number_or_not, own_number}
+use Rattle.kvs_rules.proofs.Logs.{LandsIn, ResumesIn, along, landed_push, number_or_not, own_number}
 use Rattle.kvs_rules.proofs.Stores.{after_push, landings_push}
 
 -- a moment that gives no number in the namespace has no transactions there
 no_groups : (space : Name) (m : Moment) → number_landed space m ≡ None → groups_landed space m ≡ None
-no_groups space (Asked by floor) e = refl
+no_groups space (Asked by floors) e = refl
+no_groups space (Resumed number) e = refl
 no_groups space (Happened (event.Landed other number authors [])) e = refl
 no_groups space (Happened (event.Landed other number authors (g ∷ gs))) e = apart (bytes_eq space other) e
   where
@@ -28,7 +29,11 @@ no_groups space (Happened (event.Got broker reference)) e = refl
 no_groups space (Happened (event.Dropped broker reference)) e = refl
 no_groups space (Happened (event.Answered by number answer)) e = refl
 
-module _ (set : Setting) where
+module _ (set : Setting) (none : set.base.number ≡ 0) where
+  -- the store of `primary` at a number is that after so many landings
+  newest_is : (log : Log) (number : ℕ) → store_after set log primary number ≡ after (scope_of primary) (landings log primary) number (begun_at set primary)
+  newest_is log number = ap (λ k. option_and_then (λ count. after (scope_of primary) (landings log primary) count (begun_at set primary)) (above_first k number)) none
+
   -- the store of all landings of `primary`, which are as many as the last one's number says
   pub record Left (log : Log) : Type 0 where
     pub store : Store
@@ -45,7 +50,7 @@ module _ (set : Setting) where
       let more : landings (log ++ m ∷ []) primary ≡ landings log primary ++ (g ∷ gs) ∷ [] = landings_push log m primary in
       let counted : landed (log ++ m ∷ []) primary ≡ suc (length (landings log primary)) = landed_push log m primary ∙ ap (λ o. unwrap_or o (landed log primary)) (own_number primary number authors (g ∷ gs)) ∙ a.next ∙ ap suc n.counted in
       let long : length (landings log primary ++ (g ∷ gs) ∷ []) ≡ suc (length (landings log primary)) = length-append (landings log primary) ((g ∷ gs) ∷ []) ∙ (omega arith) in
-      let stood : after (scope_of primary) (landings log primary) (landed log primary) (begun_at set primary) ≡ Some a.old = a.standing in
+      let stood : after (scope_of primary) (landings log primary) (landed log primary) (begun_at set primary) ≡ Some a.old = sym (newest_is log (landed log primary)) ∙ a.standing in
       let old : n.store ≡ a.old = same_of n.store a.old (sym n.stands ∙ ap (λ k. after (scope_of primary) (landings log primary) k (begun_at set primary)) (sym n.counted) ∙ stood) in
       let made : after_groups (scope_of primary) (g ∷ gs) n.store ≡ Some a.new = ap (after_groups (scope_of primary) (g ∷ gs)) old ∙ a.made in
       record {
@@ -76,16 +81,23 @@ module _ (set : Setting) where
         stands = subst (λ ls. after (scope_of primary) ls (length ls) (begun_at set primary) ≡ Some n.store) (sym same) n.stands;
       }
 
+  -- the service resumes where nothing has landed
+  resumed : (log : Log) (number : ℕ) → log ≡ [] → number ≡ set.base.number → Left (log ++ Resumed number ∷ [])
+  resumed log number first is = subst (λ l. Left (l ++ Resumed number ∷ [])) (sym first) (record { store = begun_at set primary; counted = is ∙ none; stands = refl })
+
   step : (log : Log) (m : Moment) → IsLegalLog set log → IsLegalMoment set log m → Left log → Left (log ++ m ∷ [])
   step log m legal g n = by (number_or_not primary m)
     where
-      by : (number_landed primary m ≡ None) ⊎ LandsIn primary m → Left (log ++ m ∷ [])
+      by : (number_landed primary m ≡ None) ⊎ LandsIn primary m ⊎ ResumesIn primary m → Left (log ++ m ∷ [])
       by (inl e) = moved log m e n
-      by (inr l) = subst (λ x. Left (log ++ x ∷ [])) (sym l.is) (landed_left log l.number l.authors l.groups (subst (IsLegalMoment set log) l.is g) n)
+      by (inr (inr r)) =
+          let first : IsLegalMoment set log (Resumed r.number) = subst (IsLegalMoment set log) r.is g in
+          subst (λ x. Left (log ++ x ∷ [])) (sym r.is) (resumed log r.number first.0 first.1)
+      by (inr (inl l)) = subst (λ x. Left (log ++ x ∷ [])) (sym l.is) (landed_left log l.number l.authors l.groups (subst (IsLegalMoment set log) l.is g) n)
 
   pub left : (log : Log) → IsLegalLog set log → Left log
   left log h = along set Left step [] log tt h (record { store = begun_at set primary; counted = refl; stands = refl })
 
   -- the newest store of `primary` is the one that all its landings leave
   pub newest_left : (log : Log) (legal : IsLegalLog set log) → newest_store set log primary ≡ Some (left log legal).store
-  newest_left log legal = ap (λ k. after (scope_of primary) (landings log primary) k (begun_at set primary)) (left log legal).counted ∙ (left log legal).stands
+  newest_left log legal = newest_is log (landed log primary) ∙ ap (λ k. after (scope_of primary) (landings log primary) k (begun_at set primary)) (left log legal).counted ∙ (left log legal).stands

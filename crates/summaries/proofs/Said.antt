@@ -1,5 +1,5 @@
 -- What a legal chronicle says of `primary`.
-use Rattle.std.proofs.Common.{◌≡◌, ◌∙◌, List, ap, ap₂, sym, length}
+use Rattle.std.proofs.Common.{◌≡◌, ◌∙◌, List, ap, ap₂, refl, sym, length}
 use Rattle.std.specs.Prelude.{ℕ, IsSome, Some, is_some}
 use Rattle.kvs_txn.specs.declared.txn.Group.{Group}
 use Rattle.kvs_txn.specs.declared.txn.Scope.TheVariants as scope
@@ -16,17 +16,17 @@ use Rattle.summaries.proofs.Primary.{left, newest_left}
 
 -- the store of `primary` at the end of a legal chronicle
 pub store_at : (set : Setup) (c : List Entry) → IsLegal set c → Store
-store_at set c legal = (left (setting_of set) (log_of set.work top c) (service_legal set c legal)).store
+store_at set c legal = (left (setting_of set) refl (log_of set.work top c) (service_legal set c legal)).store
 
 pub left_at : (set : Setup) (c : List Entry) (legal : IsLegal set c) (grant : List ℕ) (ls : List (List Group)) → set.grant ≡ grant → ls ≡ landings (log_of set.work top c) primary → store_left grant ls ≡ Some (store_at set c legal)
 unfolding store_at
 left_at set c legal grant ls is found =
     ap₂ (λ g l. after scope.Primary l (length l) (first_store g)) (sym is) found
-    ∙ (left (setting_of set) (log_of set.work top c) (service_legal set c legal)).stands
+    ∙ (left (setting_of set) refl (log_of set.work top c) (service_legal set c legal)).stands
 
 pub newest_at : (set : Setup) (c : List Entry) (legal : IsLegal set c) → newest_store (setting_of set) (log_of set.work top c) primary ≡ Some (store_at set c legal)
 unfolding store_at
-newest_at set c legal = newest_left (setting_of set) (log_of set.work top c) (service_legal set c legal)
+newest_at set c legal = newest_left (setting_of set) refl (log_of set.work top c) (service_legal set c legal)
 
 pub some_left : (set : Setup) (c : List Entry) (legal : IsLegal set c) (grant : List ℕ) (ls : List (List Group)) → set.grant ≡ grant → ls ≡ landings (log_of set.work top c) primary → IsSome (store_left grant ls)
 some_left set c legal grant ls is found = ap is_some (left_at set c legal grant ls is found)

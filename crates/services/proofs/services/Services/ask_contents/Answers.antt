@@ -15,9 +15,9 @@ invariant_of-self-2 c = λ _.
     contents-fit v fit c.request.new.self c.in_ok-request.ensures.ready c.in_ok-request.ensures.size
     (record {
       set = may.inst.service;
-      log = service_of may.log ++ Asked c.args.by 0 ∷ [];
+      log = service_of may.log ++ Asked c.args.by (λ _. 0) ∷ [];
       fanout = may.agrees.fanout;
-      agrees = c.in_ok-request.ensures.agrees may.inst.service (service_of may.log) space 0 may.agrees.contents may.new.asks may.new.new;
+      agrees = c.in_ok-request.ensures.agrees may.inst.service (service_of may.log) space (λ _. 0) may.agrees.contents may.new.asks may.new.new;
     })
 
 pub returns-clause-agrees : goal.returns-clause-agrees

@@ -1,4 +1,4 @@
-use Rattle.std.proofs.Common.{◌∙◌, ◌++◌, ◌∷◌, [], ap, sym, subst}
+use Rattle.std.proofs.Common.{◌∙◌, ◌++◌, ◌∷◌, [], ap, refl, sym, subst}
 use Rattle.job_service.specs.kvs_rules.Log.{Asked}
 use Rattle.job_service.specs.instance_rules.Log.{Served}
 use Rattle.services.specs.Asks.{AgreesOnce, MayAsk}
@@ -19,9 +19,9 @@ invariant_of-self-2 c = λ _.
     jobs-fit v fit c.ask.new.self c.in_ok-ask.ensures.ready c.in_ok-ask.ensures.counts.size
     (record {
       inst = may.inst;
-      log = may.log ++ Served (Asked c.args.by c.args.floor) ∷ [];
+      log = may.log ++ Served (Asked c.args.by (λ _. c.args.floor)) ∷ [];
       fanout = may.agrees.fanout;
-      agrees = c.in_ok-ask.ensures.agrees may.inst may.log may.agrees.jobs may.new;
+      agrees = c.in_ok-ask.ensures.agrees may.inst may.log may.agrees.jobs may.new (λ _. c.args.floor) refl;
     })
 
 pub returns-clause-agrees : goal.returns-clause-agrees
