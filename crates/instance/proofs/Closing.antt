@@ -75,9 +75,9 @@ happened_not : (by : By) (b : Bool) (x : KvsEvent) → answers_now by (Happened 
 happened_not by true x e = e
 happened_not by false x e = refl
 
-asked_not : (by : By) (b : Bool) (other : By) (floored : ℕ) → answers_of by (cond b (Some (Asked other floored)) None) ≡ false
-asked_not by true other floored = refl
-asked_not by false other floored = refl
+asked_not : (by : By) (b : Bool) (other : By) (floors : Name → ℕ) → answers_of by (cond b (Some (Asked other floors)) None) ≡ false
+asked_not by true other floors = refl
+asked_not by false other floors = refl
 
 answered_so : (by other : By) (number : Option ℕ) (o : Option KvsAnswer) (b : Bool) → answers_of by (cond b (option_map (λ x. Happened (event.Answered other number x)) o) None) ≡ true → same_command by other ≡ true
 answered_so by other number None true h = absurd (true≢false (sym h))
@@ -323,8 +323,8 @@ module _ (v : Own) (h : DoesAgree v) where
         let (request, made) = open_asks v.instance.services inst now h.agrees by (subst (IsOpen by) (sym served) (record { asked = asked; unanswered = unanswered })) in
         elim (quiet.answered by request (record { asked = asked; unanswered = unanswered }) made) [
           | inl above ↦
-              let within = asked_within v.set v.chronicle h.legal by request made asked in
-              absurd (omega (arith, above, within))
+              let within = asked_within v.set v.chronicle h.legal by above.0 asked in
+              absurd (omega (arith, above.1, within))
           | inr short ↦ (request, made, short.0, left_asks (setting_of v.set) log request.namespace request.ask short.1)
         ]
 

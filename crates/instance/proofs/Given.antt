@@ -19,6 +19,7 @@ use Rattle.services.specs.job_commands.Agrees.{HasUniqueLabels}
 use Rattle.services.specs.answers.Chronicle.{Setup}
 use Rattle.services.specs.answers.Commands.{broker_of, command_at}
 use Rattle.services.specs.answers.Jobs.{IsSetup, instance_of, job_ask_at, job_ask_of}
+use Rattle.services.proofs.answers_proofs.OwnLinks.{built_asks_own}
 use Rattle.services.proofs.answers_proofs.JobLogs.{built_instance, is_instance}
 use Rattle.services.proofs.answers_proofs.Services.{eqb_is}
 use Rattle.services.specs.Agrees.{IsGiven}
@@ -236,5 +237,6 @@ is_given set size fanout hash grant birth terms brokers children hashed text res
     grant = resources;
     size = brokers;
     fanout = children;
+    links = built_asks_own set built;
   };
 }

@@ -109,17 +109,17 @@ asks_so set by (Some x) seat asks home subject =
     ap (option_map (λ a. record { broker = broker_of set.work by.actor; namespace = subject_at set.work by; ask = a })) asks
     ∙ ap₂ (λ b n. Some (record { broker = b; namespace = n; ask = x })) (sym home) subject
 
-moment_so : (set : Setup) (c : List Entry) (by : By) (asked : Option KvsAsk) (space : Name) (floored : ℕ) → ask_at set.work by ≡ asked → subject_at set.work by ≡ space → floor set.work c by.actor space ≡ floored →
-    moment_of set.work top c (entry.Issued by.actor by.command) ≡ option_map (λ a. Asked by floored) asked
-moment_so set c by None space floored asks subject e = ap (λ o. cond (is_some o && true) (Some (asked_at set.work c by)) None) asks
-moment_so set c by (Some x) space floored asks subject e =
+moment_so : (set : Setup) (c : List Entry) (by : By) (asked : Option KvsAsk) (floors : Name → ℕ) → ask_at set.work by ≡ asked → ((space : Name) → floor set.work c by.actor space ≡ floors space) →
+    moment_of set.work top c (entry.Issued by.actor by.command) ≡ option_map (λ a. Asked by floors) asked
+moment_so set c by None floors asks e = ap (λ o. cond (is_some o && true) (Some (asked_at set.work c by)) None) asks
+moment_so set c by (Some x) floors asks e =
     ap (λ o. cond (is_some o && true) (Some (asked_at set.work c by)) None) asks
-    ∙ ap (λ n. Some (Asked by n)) (ap (floor set.work c by.actor) subject ∙ e)
+    ∙ ap (λ (f : Name → ℕ). Some (Asked by f)) (λ i. λ space. e space i)
 
 -- the moment is its command's own
-own_moment : (by other : By) (floored : ℕ) (asked : Option KvsAsk) → same_command other by ≡ false → asks_of other (option_map (λ a. Asked by floored) asked) ≡ false
-own_moment by other floored None e = refl
-own_moment by other floored (Some x) e = e
+own_moment : (by other : By) (floors : Name → ℕ) (asked : Option KvsAsk) → same_command other by ≡ false → asks_of other (option_map (λ a. Asked by floors) asked) ≡ false
+own_moment by other floors None e = refl
+own_moment by other floors (Some x) e = e
 
 time_kept : (old new : JobServiceValue) → new.span ≡ old.span → (asked : JobAsk) → HasTime old asked → HasTime new asked
 time_kept old new same (ask_of_jobs.Advance seconds) time = subst (λ n. n + seconds ≤ most_seconds) (sym same) time
@@ -176,7 +176,7 @@ module _ (v : Own) (h : DoesAgree v) (a : ℕ) (seat : Seat) (is : IsIssuing v a
       space = space_after cmd seat.space;
     }
 
-    abbrev seen : ℕ
+    abbrev seen : Name → ℕ
     seen = seat_floor begun_seat
 
     subject : subject_at v.set.work by ≡ subject_of cmd seat.space
@@ -233,7 +233,7 @@ module _ (v : Own) (h : DoesAgree v) (a : ℕ) (seat : Seat) (is : IsIssuing v a
       o = option_map (λ x. Asked by seen) asked
 
       log_issued : log_of v.set.work top (v.chronicle ++ e ∷ []) ≡ log ++ cons_option o []
-      log_issued = log_push v.set.work top v.chronicle e ∙ ap (λ m. log ++ cons_option m []) (moment_so v.set v.chronicle by asked (subject_of cmd seat.space) seen (asking asked eq) subject (mine.1.floored (subject_of cmd seat.space)))
+      log_issued = log_push v.set.work top v.chronicle e ∙ ap (λ m. log ++ cons_option m []) (moment_so v.set v.chronicle by asked seen (asking asked eq) mine.1.floored)
 
       job_at : job_ask_at v.set.work by ≡ asked_in job
       job_at = ap (option_and_then job_ask_of) at ∙ sym jeq
@@ -260,7 +260,7 @@ module _ (v : Own) (h : DoesAgree v) (a : ℕ) (seat : Seat) (is : IsIssuing v a
           on ordered.Nothing is =
               ap (λ p. now ++ cons_option p [])
               (other_issued v.set.work v.chronicle by (job_at ∙ ap asked_in is)
-              ∙ ap (option_map Served) (moment_so v.set v.chronicle by asked (subject_of cmd seat.space) seen (asking asked eq) subject (mine.1.floored (subject_of cmd seat.space))))
+              ∙ ap (option_map Served) (moment_so v.set v.chronicle by asked seen (asking asked eq) mine.1.floored))
               ∙ ap (λ l. now ++ l) (served_one o)
               ∙ sym (append-nil asked_now)
               ∙ ap (λ j. asked_now ++ orders_of by j) (sym is)

@@ -1,5 +1,5 @@
 -- What a reply leaves of a world.
-use Rattle.std.proofs.Common.{◌≡◌, ◌≢◌, ℕ, ◌+◌, ◌-◌, ◌<◌, ◌==◌, inl, inr, max, List, [], ◌∷◌, ◌++◌, length, Bool, true, false, ◌&&◌, ◌||◌, cond, refl, sym, ap, ap₂, ◌∙◌, subst, arith, map, append-nil, append_assoc, Option, Some, None, is_some, eq-eqb, ne_eqb, true≢false, set, get_or, bytes_eq}
+use Rattle.std.proofs.Common.{◌≡◌, ◌≢◌, ℕ, ◌+◌, ◌-◌, ◌<◌, ◌==◌, inl, inr, max, List, [], ◌∷◌, ◌++◌, length, Bool, true, false, ◌&&◌, ◌||◌, cond, refl, sym, ap, ap₂, ◌∙◌, subst, arith, map, append-nil, append_assoc, Option, Some, None, is_some, eq-eqb, ne_eqb, true≢false, set, get_or}
 use Rattle.std.specs.Prelude.{IsSome, slice_get, nat_lt}
 use Rattle.std.specs.Option.{option_map, option_map_or}
 use Rattle.std.specs.List.{cons_option}
@@ -29,7 +29,7 @@ use Rattle.services.specs.answers.declared.chronicle.Entry.TheVariants as entry
 use Rattle.services.specs.answers.declared.chronicle.Reply.{Reply}
 use Rattle.services.specs.answers.declared.chronicle.Reply.TheVariants as reply
 use Rattle.services.specs.answers.declared.steps.Step.TheVariants as step
-use Rattle.services.specs.answers.Chronicle.{Setup, top, issues, issues_of, is_issued, is_replied, replies_to, answer_of}
+use Rattle.services.specs.answers.Chronicle.{Setup, top, issues, issues_of, is_issued, is_replied, replies_to, answer_of, uses_of}
 use Rattle.services.specs.workload.declared.work.Command.TheVariants as command
 use Rattle.services.specs.answers.Commands.{command_at, subject_at}
 use Rattle.services.specs.answers.Entering.{reply_of}
@@ -45,7 +45,9 @@ use Rattle.services.proofs.answers_proofs.Floors.{floor_push}
 use Rattle.instance.specs.declared.seats.Seat.{Seat}
 use Rattle.instance.specs.declared.seats.Waiting.{Waiting}
 use Rattle.instance.specs.declared.seats.Waiting.TheVariants as waiting
-use Rattle.instance.specs.Floors.{Floors, floor_in, risen_in}
+use Rattle.instance.specs.Floors.{Floors, floor_in, seen_in}
+use Rattle.services.specs.answers.Floors.{number_in, roots_named}
+use Rattle.instance.proofs.Seeing.{none_seen}
 use Rattle.instance.specs.Replies.{IsGiven}
 use Rattle.instance.specs.Seats.{is_free, last_command, has_come, raised, with_floors}
 use Rattle.instance.specs.Steps.{can_answer}
@@ -65,7 +67,8 @@ answered_back answer.Committed = refl
 answered_back answer.Fenced = refl
 answered_back (answer.Refused refusal) = refl
 answered_back (answer.CountDiffers kept) = refl
-answered_back (answer.Read found) = refl
+answered_back (answer.Read found uses) = refl
+answered_back (answer.NoTarget space uses) = refl
 answered_back (answer.Root reference) = refl
 answered_back answer.Reached = refl
 answered_back answer.NoNamespace = refl
@@ -86,7 +89,8 @@ goes_on answer.Committed = refl
 goes_on answer.Fenced = refl
 goes_on (answer.Refused refusal) = refl
 goes_on (answer.CountDiffers kept) = refl
-goes_on (answer.Read found) = refl
+goes_on (answer.Read found uses) = refl
+goes_on (answer.NoTarget space uses) = refl
 goes_on (answer.Root reference) = refl
 goes_on answer.Reached = refl
 goes_on answer.NoNamespace = refl
@@ -107,7 +111,8 @@ rests set c by number answer.Committed h = h
 rests set c by number answer.Fenced h = h
 rests set c by number (answer.Refused refusal) h = h
 rests set c by number (answer.CountDiffers kept) h = h
-rests set c by number (answer.Read found) h = h
+rests set c by number (answer.Read found uses) h = h
+rests set c by number (answer.NoTarget space uses) h = h
 rests set c by number (answer.Root reference) h = h
 rests set c by number answer.Reached h = h
 rests set c by number answer.NoNamespace h = h
@@ -331,28 +336,27 @@ stands_replied set log c services a issued given number o p some r unasked h = r
 
 -- the floors of the actors
 own_floor : (set : Setup) (c : List Entry) (a k : ℕ) (given : Reply) (number : Option ℕ) (floors : Floors) (subject : Name) → subject_at set.work (command_of a k) ≡ subject →
-    ((space : Name) → floor set.work c a space ≡ floor_in floors space) → (space : Name) → floor set.work (c ++ entry.Replied a k given number ∷ []) a space ≡ risen_in floors subject number space
-own_floor set c a k given None floors subject about floored space = floor_push set.work c (entry.Replied a k given None) a space ∙ floored space
-own_floor set c a k given (Some n) floors subject about floored space =
-    floor_push set.work c (entry.Replied a k given (Some n)) a space
-    ∙ ap (λ b. cond b (max (floor set.work c a space) n) (floor set.work c a space)) (ap₂ (λ x y. x && bytes_eq space y) (eq-eqb a a refl) about)
-    ∙ ap (λ f. cond (bytes_eq space subject) (max f n) f) (floored space)
+    ((space : Name) → floor set.work c a space ≡ floor_in floors space) → (space : Name) → floor set.work (c ++ entry.Replied a k given number ∷ []) a space ≡ seen_in floors subject number (uses_of given) space
+own_floor set c a k given number floors subject about floored space =
+    let named : Name → ℕ = λ about. number_in space (cons_option (option_map (λ n. record { namespace = about; number = n }) number) (uses_of given)) in
+    floor_push set.work c (entry.Replied a k given number) a space
+    ∙ ap (λ b. cond b (max (floor set.work c a space) (named (subject_at set.work (command_of a k)))) (floor set.work c a space)) (eq-eqb a a refl)
+    ∙ ap₂ (λ f about. max f (named about)) (floored space) about
 
 others_floor : (set : Setup) (c : List Entry) (a b k : ℕ) (given : Reply) (number : Option ℕ) → b ≢ a → (space : Name) → floor set.work (c ++ entry.Replied a k given number ∷ []) b space ≡ floor set.work c b space
-others_floor set c a b k given None other space = floor_push set.work c (entry.Replied a k given None) b space
-others_floor set c a b k given (Some n) other space =
-    floor_push set.work c (entry.Replied a k given (Some n)) b space
-    ∙ ap (λ t. cond (t && bytes_eq space (subject_at set.work (command_of a k))) (max (floor set.work c b space) n) (floor set.work c b space)) (ne_eqb b a other)
+others_floor set c a b k given number other space =
+    floor_push set.work c (entry.Replied a k given number) b space
+    ∙ ap (λ t. cond t (max (floor set.work c b space) (number_in space (roots_named set.work (command_of a k) given number))) (floor set.work c b space)) (ne_eqb b a other)
 
 -- the actor's seat behind the reply
 abbrev pub replied_seat : Seat → Floors → Seat
 replied_seat seat floors = record { broker = seat.broker; next = seat.next; last = seat.last; issued = seat.issued; waiting = waiting.Nothing; staged = seat.staged; space = seat.space; subject = seat.subject; floors = floors }
 
 -- how far the actor has seen then
-abbrev pub HasSeen : Seat → Option ℕ → Floors → Type 0
-HasSeen seat number floors = (space : Name) → floor_in floors space ≡ risen_in seat.floors seat.subject number space
+abbrev pub HasSeen : Seat → Reply → Option ℕ → Floors → Type 0
+HasSeen seat given number floors = (space : Name) → floor_in floors space ≡ seen_in seat.floors seat.subject number (uses_of given) space
 
-seat_replied : (set : Setup) (log later : Log) (c : List Entry) (a : ℕ) (seat : Seat) (given : Reply) (number : Option ℕ) (floors : Floors) → HasSeen seat number floors → 0 < seat.issued →
+seat_replied : (set : Setup) (log later : Log) (c : List Entry) (a : ℕ) (seat : Seat) (given : Reply) (number : Option ℕ) (floors : Floors) → HasSeen seat given number floors → 0 < seat.issued →
     IsSeat set log c a seat → IsSeat set later (c ++ entry.Replied a (seat.issued - 1) given number ∷ []) a (replied_seat seat floors)
 seat_replied set log later c a seat given number floors seen some h = record {
   home = h.home;
@@ -450,7 +454,7 @@ module _ (v : Own) (a : ℕ) (c : List Entry) (seats : List Seat) (r : IsReady v
 
   -- the reply, with its grounds
   module _ (h : DoesAgree v) (services : ServicesValue) (given : Reply) (number : Option ℕ) (kept : KeepsCounts v.instance.services.jobs services.jobs) (found : IsThere v.set log c services (command_of a (seat.issued - 1)) given number)
-      (floors : Floors) (seen : HasSeen seat number floors) where
+      (floors : Floors) (seen : HasSeen seat given number floors) where
     abbrev e : Entry
     e = entry.Replied a (seat.issued - 1) given number
 
@@ -529,7 +533,7 @@ pub record IsAnswering (v : Own) (a : ℕ) (seat : Seat) (services : ServicesVal
   pub said : IsGiven v.instance.services services (last_command a seat) seat.waiting given number
 
 pub answer_follows : (v : Own) → DoesAgree v → (a : ℕ) (seat : Seat) (services : ServicesValue) (given : Reply) (number : Option ℕ) → IsAnswering v a seat services given number →
-    (floors : Floors) → HasSeen seat number floors → (es : List Entry) → es ≡ entry.Replied a (seat.issued - 1) given number ∷ [] →
+    (floors : Floors) → HasSeen seat given number floors → (es : List Entry) → es ≡ entry.Replied a (seat.issued - 1) given number ∷ [] →
     Follows v.set v.chronicle (step.Answer a) (replied a v.instance.seats seat services floors) es
 unfolding ready_now
 answer_follows v h a seat services given number is floors seen es eq =
@@ -706,7 +710,7 @@ module _ (v : Own) (h : DoesAgree v) (a : ℕ) (seat : Seat) (to : ℕ) (sits : 
     pub tell_follows : (es : List Entry) → es ≡ told ∷ entry.Replied a (later.issued - 1) reply.Told None ∷ [] → Follows v.set v.chronicle (step.Answer a) (replied a (raised v.instance.seats to floors) later v.instance.services later.floors) es
     unfolding ready_told
     tell_follows es eq =
-        reply_follows v a (v.chronicle ++ told ∷ []) (raised v.instance.seats to floors) ready_told later sits_on engaged_on h v.instance.services reply.Told None (record { size = refl; submitted = refl; span = refl }) told_there later.floors (λ space. refl) es eq
+        reply_follows v a (v.chronicle ++ told ∷ []) (raised v.instance.seats to floors) ready_told later sits_on engaged_on h v.instance.services reply.Told None (record { size = refl; submitted = refl; span = refl }) told_there later.floors (λ space. none_seen later.floors space) es eq
 
 -- an actor that can be replied to has a seat
 pub actor_within : (v : Own) (a : ℕ) → can_answer v.instance a ≡ true → a < length v.instance.seats

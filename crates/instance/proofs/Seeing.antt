@@ -1,5 +1,5 @@
 -- On how far an actor has seen.
-use Rattle.std.proofs.Common.{◌≡◌, ◌⊎◌, inl, inr, ℕ, max, List, [], ◌∷◌, Bool, true, false, ◌||◌, cond, refl, sym, ap, ap₂, ◌∙◌, arith, Some, true≢false}
+use Rattle.std.proofs.Common.{◌≡◌, ◌⊎◌, inl, inr, ℕ, zero, suc, ◌+◌, ◌<◌, max, List, [], ◌∷◌, length, take, get_or, add-one, Option, None, Bool, true, false, ◌||◌, cond, refl, sym, ap, ap₂, ◌∙◌, arith, Some, true≢false}
 use Rattle.std.specs.Prelude.{unwrap_or}
 use Rattle.std.specs.BTreeMap.{is_at}
 use Rattle.std.specs.Cmp.Lexicographic.{slice_cmp}
@@ -10,7 +10,9 @@ use Rattle.std.specs.Str.{bytes_eq}
 use Rattle.std.proofs.lemmas.Map.Text.{is_eq-slice_cmp}
 use Rattle.std.proofs.lemmas.Slice.Eq.{bytes_eq-Decides}
 use Rattle.services.specs.kvs_model.Store.{Name}
-use Rattle.instance.specs.Floors.{Floors, floor_in}
+use Rattle.services.specs.answers.Floors.{number_in}
+use Rattle.services.specs.kvs_txn.declared.answers.Numbered.{Numbered}
+use Rattle.instance.specs.Floors.{Floors, floor_in, risen_in, seen_in}
 
 pub name_is : (a b : Name) → bytes_eq a b ≡ true → a ≡ b
 name_is a b h = (bytes_eq-Decides a b).0 h
@@ -88,3 +90,53 @@ joining_on old other now new key rest number is risen q h = by (bytes_eq q key) 
 pub joined_all : (old other now : Floors) (rest : List Name) → rest ≡ [] → (q : Name) → IsJoining old other now rest q → floor_in now q ≡ max (floor_in old q) (floor_in other q)
 joined_all old other now rest none q (inl h) = h
 joined_all old other now rest none q (inr h) = absurd (true≢false (sym h.0 ∙ ap (list_any (bytes_eq q)) none))
+
+-- ---- what a reply names
+
+pub none_seen : (floors : Floors) (space : Name) → floor_in floors space ≡ max (floor_in floors space) 0
+none_seen floors space = omega arith
+
+more_seen : (f u n : ℕ) (b : Bool) → cond b (max (max f u) n) (max f u) ≡ max f (cond b (max n u) u)
+more_seen f u n true = omega arith
+more_seen f u n false = refl
+
+-- the roots up to one more
+number_next : (roots : List Numbered) (i : ℕ) (root : Numbered) (space : Name) → i < length roots → root ≡ get_or roots i root
+    → number_in space (take (suc i) roots) ≡ cond (bytes_eq space root.namespace) (max (number_in space (take i roots)) root.number) (number_in space (take i roots))
+number_next [] i root space l is = absurd (omega arith)
+number_next (r ∷ roots) zero root space l is =
+    ap (λ (x : Numbered). cond (bytes_eq space x.namespace) (max x.number 0) 0) (sym is) ∙ by (bytes_eq space root.namespace)
+  where
+    by : (b : Bool) → cond b (max root.number 0) 0 ≡ cond b (max 0 root.number) 0
+    by true = omega arith
+    by false = refl
+number_next (r ∷ roots) (suc i) root space l is =
+    ap (λ n. cond (bytes_eq space r.namespace) (max r.number n) n) (number_next roots i root space (omega arith) is)
+    ∙ by (bytes_eq space r.namespace) (bytes_eq space root.namespace) (number_in space (take i roots))
+  where
+    by : (a b : Bool) (n : ℕ) → cond a (max r.number (cond b (max n root.number) n)) (cond b (max n root.number) n) ≡ cond b (max (cond a (max r.number n) n) root.number) (cond a (max r.number n) n)
+    by true true n = omega arith
+    by true false n = refl
+    by false true n = refl
+    by false false n = refl
+
+pub root_seen : (old mid new : Floors) (roots : List Numbered) (i : ℕ) (root : Numbered) → i < length roots → root ≡ get_or roots i root → (space : Name)
+    → floor_in mid space ≡ max (floor_in old space) (number_in space (take i roots)) → floor_in new space ≡ risen_in mid root.namespace (Some root.number) space
+    → floor_in new space ≡ max (floor_in old space) (number_in space (take (i + 1) roots))
+root_seen old mid new roots i root l is space before raised =
+    raised
+    ∙ ap (λ f. cond (bytes_eq space root.namespace) (max f root.number) f) before
+    ∙ by (bytes_eq space root.namespace) (floor_in old space) (number_in space (take i roots))
+    ∙ ap (max (floor_in old space)) (sym (rw add-one (number_next roots i root space l is)))
+  where
+    by : (b : Bool) (f u : ℕ) → cond b (max (max f u) root.number) (max f u) ≡ max f (cond b (max u root.number) u)
+    by true f u = omega arith
+    by false f u = refl
+
+pub seen_besides : (old mid : Floors) (subject : Name) (number : Option ℕ) (uses : List Numbered) (space : Name) → floor_in mid space ≡ max (floor_in old space) (number_in space uses) → risen_in mid subject number space ≡ seen_in old subject number uses space
+seen_besides old mid subject None uses space h = h
+seen_besides old mid subject (Some n) uses space h =
+    ap (λ f. cond (bytes_eq space subject) (max f n) f) h ∙ more_seen (floor_in old space) (number_in space uses) n (bytes_eq space subject)
+
+pub seen_alone : (old : Floors) (subject : Name) (number : Option ℕ) (space : Name) → risen_in old subject number space ≡ seen_in old subject number [] space
+seen_alone old subject number space = seen_besides old old subject number [] space (none_seen old space)

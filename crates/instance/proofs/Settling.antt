@@ -49,7 +49,7 @@ module _ (v : Own) (h : DoesAgree v) (rest : CanDoNothing v.instance) (promise :
         let waits : IsOpen by (log_of v.set.work top v.chronicle) = record { asked = asked; unanswered = unanswered } in
         let (request, made) = open_asks v.instance.services (instance_of v.set) now h.agrees by (subst (IsOpen by) (sym served) waits) in
         elim ((quiet_so v h rest promise).answered by request waits made) [
-          | inl above ↦ let within = asked_within v.set v.chronicle h.legal by request made asked in absurd (omega (arith, above, within))
+          | inl above ↦ let within = asked_within v.set v.chronicle h.legal by above.0 asked in absurd (omega (arith, above.1, within))
           | inr left ↦ inl (record {
             request = request;
             asks = made;

@@ -49,12 +49,12 @@ abbrev pub space_after : Command → Name → Name
 space_after c own = unwrap_or (used_name c) own
 
 -- the moment at which a command asks, if it asks
-abbrev pub moment_asked : By → ℕ → Option KvsAsk → Log
-moment_asked by floor asked = cons_option (option_map (λ a. Asked by floor) asked) []
+abbrev pub moment_asked : By → (Name → ℕ) → Option KvsAsk → Log
+moment_asked by floors asked = cons_option (option_map (λ a. Asked by floors) asked) []
 
--- how far the actor at this seat has seen the namespace that its last command is about
-abbrev pub seat_floor : Seat → ℕ
-seat_floor seat = floor_in seat.floors seat.subject
+-- how far the actor at this seat has seen each namespace
+abbrev pub seat_floor : Seat → Name → ℕ
+seat_floor seat = floor_in seat.floors
 
 -- the setting says that the last command of the actor at this seat asks this, if it asks
 abbrev pub IsTheAsk : Setting → By → Seat → Option KvsAsk → Type 0

@@ -1,5 +1,5 @@
 //! An instance.
-ghost use Rattle.std.specs.Prelude.{◌≡◌, ◌<◌, ◌≤◌, ◌+◌, ◌^◌, [], ◌∷◌, ℕ, true, false, All, List, None, map, slice_get, slice_index_or, IfOk, IfSome, OnErr, OnOk};
+ghost use Rattle.std.specs.Prelude.{◌≡◌, ◌<◌, ◌≤◌, ◌+◌, ◌^◌, [], ◌∷◌, ℕ, true, false, All, List, None, map, max, unwrap_or, slice_get, slice_index_or, IfOk, IfSome, OnErr, OnOk};
 ghost use Rattle.services.specs.workload.Laws.{HasOwnLabels, IsBuilt, IsWithin, KeepsTallies};
 ghost use Rattle.services.specs.answers.declared.chronicle.Entry.{Entry as EntryValue};
 ghost use Rattle.services.specs.answers.Chronicle.{Setup, top};
@@ -19,7 +19,10 @@ ghost use Rattle.instance.specs.Agrees.{AgreesOwn, AreLinesOf};
 ghost use Rattle.instance.specs.Closings.{closings, numbers_in};
 ghost use Rattle.instance.specs.Family.{bearing, is_due};
 ghost use Rattle.instance.specs.First.{AreFirstSeats};
-ghost use Rattle.instance.specs.Floors.{floor_in, risen_in};
+ghost use Rattle.instance.specs.Floors.{floor_in, risen_in, seen_in};
+ghost use Rattle.std.specs.Option.{option_copied};
+ghost use Rattle.services.specs.answers.Chronicle.{uses_of};
+ghost use Rattle.services.specs.answers.Floors.{number_in};
 ghost use Rattle.instance.specs.Makes.{Ends, Makes, MakesOf, MayIssueOf};
 ghost use Rattle.instance.specs.Order.{answers, issues};
 ghost use Rattle.instance.specs.Replies.{IsGiven};
@@ -39,7 +42,7 @@ use services::Services;
 use services::answers::{Chronicle, Entry, Reply, Step};
 use services::kvs_core::{Core, CoreFault, KvsEvents, Setting};
 use services::kvs_rules::KvsStep;
-use services::kvs_txn::{Author, By, Txn};
+use services::kvs_txn::{Author, By, NumberList, Numbered, Txn};
 use services::laws::shutdowns_leave_services;
 use services::lists::{Bytes, ListOf};
 use services::manager_rules::Terms;
@@ -146,15 +149,57 @@ fn reply_to(services: &mut Services, by: By, waiting: Waiting) -> Result<Given, 
     })
 }
 
+/// The further roots that a reply names, if it may name some.
+fn uses_in(given: &Reply) -> Option<&NumberList>
+    ensures { unwrap_or (option_copied result) [] ≡ uses_of given.now }
+{
+    match given {
+        Reply::Read { found: _, uses } => Some(uses),
+        Reply::NoTarget { namespace: _, uses } => Some(uses),
+        _ => None,
+    }
+}
+
+/// Raises the floors of an actor to these roots.
+fn see_roots(floors: &mut Floors, roots: &[Numbered]) -> Result<(), AllocError>
+    ensures { OnOk result ((space : Name) → floor_in floors.new space
+        ≡ max (floor_in floors.old space) (number_in space roots.now)) }
+{
+    for root in roots {
+        floors.raise(&root.namespace, root.number)?;
+    }
+    Ok(())
+}
+
 /// Raises the floor of an actor in the namespace that its open command is about to the number of
 /// the reply, if it has one.
-fn see(floors: &mut Floors, subject: &Bytes, number: Option<u64>) -> Result<(), AllocError>
+fn see_number(floors: &mut Floors, subject: &Bytes, number: Option<u64>) -> Result<(), AllocError>
     ensures { OnOk result ((space : Name)
         → floor_in floors.new space ≡ risen_in floors.old subject.now number space) }
 {
     match number {
         Some(number) => floors.raise(subject, number),
         None => Ok(()),
+    }
+}
+
+/// Raises the floors of an actor to all roots that the reply names: that of its number, in the
+/// namespace that the open command is about, and those that it used besides.
+fn see(
+    floors: &mut Floors,
+    subject: &Bytes,
+    number: Option<u64>,
+    given: &Reply,
+) -> Result<(), AllocError>
+    ensures { OnOk result ((space : Name) → floor_in floors.new space
+        ≡ seen_in floors.old subject.now number (uses_of given.now) space) }
+{
+    match uses_in(given) {
+        None => see_number(floors, subject, number),
+        Some(uses) => {
+            see_roots(floors, uses.as_slice())?;
+            see_number(floors, subject, number)
+        }
     }
 }
 
@@ -262,7 +307,7 @@ impl Instance {
         let given = reply_to(&mut self.services, by, seat.waiting)?;
         let Given { reply, number } = given;
         seat.waiting = Waiting::Nothing;
-        see(&mut seat.floors, &seat.subject, number)?;
+        see(&mut seat.floors, &seat.subject, number, &reply)?;
         let replied = Entry::Replied {
             actor,
             command,
