@@ -7,7 +7,7 @@ use Rattle.std.proofs.lemmas.List.Concat.{flat_map-append}
 use Rattle.std.proofs.lemmas.List.Elements.{Contains-append_left, Contains-append_right, Contains-push}
 use Rattle.answers.proofs.Floors.{asked_so, some_none}
 use Rattle.answers.proofs.JobLogs.{about_primary, service_kept}
-use Rattle.answers.proofs.Reaching.{reaches}
+use Rattle.answers.proofs.Reaching.{all_reached, reaches}
 use Rattle.answers.proofs.Services.{service_legal}
 use Rattle.job_rules.proofs.Among.{any_from}
 use Rattle.kvs_rules.proofs.Asking.{contains_stands}
@@ -15,18 +15,26 @@ use Rattle.kvs_rules.proofs.Sequences.{each_at, each_parts}
 use Rattle.kvs_rules.proofs.Stores.{made_newest}
 use Rattle.instance_rules.specs.Log.{Submitted, service_of}
 use Rattle.instance_rules.specs.Replies.{IsLegalReply}
-use Rattle.kvs_model.specs.Store.{Name, Store}
+use Rattle.std.specs.List.{AllByRecursion as Each}
+use Rattle.std.specs.Prelude.{Result, Ok, Err}
+use Rattle.kvs_model.proofs.Histories.{IsStore-first_store}
+use Rattle.kvs_model.specs.Store.{IsStore, Name, Path, Store}
+use Rattle.kvs_model.specs.Walk.{walk}
+use Rattle.kvs_txn.specs.declared.answers.Found.{Found}
+use Rattle.kvs_txn.specs.declared.answers.Numbered.{Numbered}
+use Rattle.kvs_txn.specs.declared.answers.Query.{Query}
+use Rattle.answers.specs.Floors.{floor}
 use Rattle.kvs_rules.specs.Answers as service_rules
-use Rattle.kvs_rules.specs.Answers.{InFreshStore, IsLegalLog, IsLegalMoment}
+use Rattle.kvs_rules.specs.Answers.{InFreshStore, IsFreshRoot, IsLegalLog, IsLegalMoment, WalkTells}
 use Rattle.kvs_rules.specs.Brokers.{HasHeard, heard}
 use Rattle.kvs_rules.specs.Landings.{IsAdvance, IsLegalLanding, names_of, names_of_group}
 use Rattle.kvs_rules.specs.Log.{Happened, Log, Moment, before_asked}
-use Rattle.kvs_rules.specs.Namespaces.{Request, Setting, primary, store_after}
+use Rattle.kvs_rules.specs.Namespaces.{Request, Setting, family_at, primary, store_after}
 use Rattle.kvs_rules.specs.declared.events.KvsAsk.{KvsAsk}
 use Rattle.kvs_rules.specs.declared.events.KvsEvent.TheVariants as event
 use Rattle.kvs_txn.specs.declared.txn.By.{By}
 use Rattle.kvs_txn.specs.declared.txn.Group.{Group}
-use Rattle.answers.specs.Chronicle.{Setup, top}
+use Rattle.answers.specs.Chronicle.{Setup, before_issue, top, uses_of}
 use Rattle.answers.specs.Commands.{ask_at, broker_of, subject_at}
 use Rattle.answers.specs.Jobs.{instance_of, log_in}
 use Rattle.answers.specs.Legal.{HasReplyGrounds, IsLegal, IsLegalEntry}
@@ -39,7 +47,7 @@ use Rattle.run_laws.proofs.Newest.{newest_of}
 use Rattle.hierarchy.specs.Births.{birth_in, has_living_home, is_at, label_of, lives, numbers}
 use Rattle.hierarchy.specs.Legal.{HasHomeFor, IsLegalRun, IsLegalRunEntry, is_end}
 use Rattle.hierarchy.specs.Own.{only_if, own_entry, own_of, setup_in}
-use Rattle.hierarchy.specs.Promises.{AtHome, CommittersHaveHeard, EventsAreDue, IsHeardOf, IsNoOlder, IsPublished, ReadsAreFresh, RootsArePlain, SeesStore, is_committed}
+use Rattle.hierarchy.specs.Promises.{AtHome, CommittersHaveHeard, EventsAreDue, IsHeardOf, IsNoOlder, IsPublished, MaySee, ReadsAreFresh, RootsArePlain, SeesStore, SeesWalk, is_committed}
 use Rattle.hierarchy.proofs.OneEntry.{lives_same, own_more}
 use Rattle.hierarchy.proofs.Owning.{alive, setup_kept}
 
@@ -56,11 +64,11 @@ advances set log space number authors groups l some = elim l.form [
   ]
 ]
 
-published : (set : Setting) (log : Log) → IsLegalLog set log → (space : Name) (number : ℕ) (authors : List (Option By)) (groups : List Group) → IsLegalLanding set log space number authors groups → groups ≢ []
+published : (set : Setting) → IsStore set.base.store → (log : Log) → IsLegalLog set log → (space : Name) (number : ℕ) (authors : List (Option By)) (groups : List Group) → IsLegalLanding set log space number authors groups → groups ≢ []
     → IsPublished set log space number authors groups
-published set log legal space number authors groups l some =
+published set sound log legal space number authors groups l some =
     let a = advances set log space number authors groups l some in
-    record { named = a.named; once = l.fresh; whole = a.kinds; next = a.next; old = a.old; standing = a.standing; new = a.new; made = a.made; newest = made_newest set space log legal number authors groups a }
+    record { named = a.named; once = l.fresh; whole = a.kinds; next = a.next; old = a.old; standing = a.standing; new = a.new; made = a.made; newest = made_newest set space sound log legal number authors groups a }
 
 -- ---- what a reply says
 
@@ -109,6 +117,28 @@ module _ (s : Setup) (own : List Entry) (by : By) where
       standing = subst (λ space. store_after (setting_of s) log space n ≡ Some h.store) about h.standing;
       held = h.held;
     }
+
+    may_see : (root : Numbered) → IsFreshRoot (setting_of s) log by r.broker root → floor s.work (before_issue by own) by.actor root.namespace ≤ root.number → MaySee s own by root
+    may_see root h seen = record {
+      seen = seen;
+      known = subst (λ b. unwrap_or (heard (before_asked by log) b root.namespace) 0 ≤ root.number) at_broker h.fresh.known;
+    }
+
+    all_seen : (roots : List Numbered) → Each (IsFreshRoot (setting_of s) log by r.broker) roots → Each (λ root. floor s.work (before_issue by own) by.actor root.namespace ≤ root.number) roots → Each (MaySee s own by) roots
+    all_seen [] h seen = tt
+    all_seen (root ∷ roots) h seen = (may_see root h.0 seen.0, all_seen roots h.1 seen.1)
+
+    sees_walk : IsLegal s own → (given : Reply) (asked : Query) (path : Path) (told : Result Found Name) (number : Option ℕ) → HasReplyGrounds s own by number given
+        → IsSomeAnd number (WalkTells (setting_of s) log by r asked path (uses_of given) told) → IsSomeAnd number (SeesWalk s own by asked path (uses_of given) told)
+    sees_walk legal given asked path told None g h = absurd h
+    sees_walk legal given asked path told (Some n) g h =
+        let reached = all_reached s own legal by (Some n) given g in
+        let roots : Name → List Numbered = λ space. record { namespace = space; number = n } ∷ uses_of given in
+        let shown : Each (IsFreshRoot (setting_of s) log by r.broker) (roots (subject_at s.work by)) = subst (λ space. Each (IsFreshRoot (setting_of s) log by r.broker) (roots space)) about h.fresh in
+        record {
+          roots = all_seen (roots (subject_at s.work by)) shown reached;
+          tells = subst (λ space. walk (family_at (setting_of s) log (roots space)) space asked path ≡ told) about h.tells;
+        }
 
     heard_of : (number : Option ℕ) → IsSomeAnd number (service_rules.IsCarriedOut log by r) → IsSomeAnd number (IsHeardOf s own by)
     heard_of None h = absurd h
@@ -220,7 +250,7 @@ module _ (set : Setup) (c : List Entry) (legal : IsLegalRun set c) where
       let s = setup_in set past i in
       let own = own_of set past i in
       let o = landed_in set past i space number authors groups l in
-      (l.grounds, published (setting_of s) (log_of s.work top own) (service_legal s own o.before) space number authors groups o.now.grounds.0.1 some)
+      (l.grounds, published (setting_of s) (IsStore-first_store s.grant) (log_of s.work top own) (service_legal s own o.before) space number authors groups o.now.grounds.0.1 some)
 
   pub all_due : EventsAreDue set c
   all_due past more i space number authors groups split here =
@@ -229,7 +259,7 @@ module _ (set : Setup) (c : List Entry) (legal : IsLegalRun set c) where
       let own = own_of set past i in
       let o = landed_in set past i space number authors groups l in
       let log : IsLegalLog (setting_of s) (service_of (log_in s.work own)) = subst (IsLegalLog (setting_of s)) (sym (service_kept s.work own)) (service_legal s own o.before) in
-      let newest = newest_of (setting_of s) (service_of (log_in s.work own)) log in
+      let newest = newest_of (setting_of s) refl (IsStore-first_store s.grant) (service_of (log_in s.work own)) log in
       (l.grounds, (newest.store, newest.stands, o.now.grounds.2 here newest.store newest.stands))
 
   pub all_heard : CommittersHaveHeard set c
@@ -249,9 +279,9 @@ module _ (set : Setup) (c : List Entry) (legal : IsLegalRun set c) where
       living_home _ number is g = absurd (true≢false (sym is))
 
   pub all_fresh : ReadsAreFresh set c
-  all_fresh past more actor command (reply.Read found) number split =
+  all_fresh past more actor command (reply.Read found uses) number split =
       let by : By = record { actor = actor; command = command } in
-      let given : Reply = reply.Read found in
+      let given : Reply = reply.Read found uses in
       let l = at past (entry.Replied actor command given number) more split in
       let h = replied_in set past actor command given number l l.grounds in
       let s = setup_in set past h.home in
@@ -261,7 +291,21 @@ module _ (set : Setup) (c : List Entry) (legal : IsLegalRun set c) where
       record {
         home = h.home;
         theirs = h.theirs;
-        held = (h.living, (g.0, g.1, asks s own by a.request a.made ∙ ap Some g.2, sees s own by a.request a.made h.own.before given _ number h.own.now.grounds g.3));
+        held = (h.living, (g.0, g.1, asks s own by a.request a.made ∙ ap Some g.2, sees_walk s own by a.request a.made h.own.before given g.0 g.1 (Ok found) number h.own.now.grounds g.3));
+      }
+  all_fresh past more actor command (reply.NoTarget space uses) number split =
+      let by : By = record { actor = actor; command = command } in
+      let given : Reply = reply.NoTarget space uses in
+      let l = at past (entry.Replied actor command given number) more split in
+      let h = replied_in set past actor command given number l l.grounds in
+      let s = setup_in set past h.home in
+      let own = own_of set past h.home in
+      let a = h.own.now.grounds.1 in
+      let g = a.grounds in
+      record {
+        home = h.home;
+        theirs = h.theirs;
+        held = (h.living, (g.0, g.1, asks s own by a.request a.made ∙ ap Some g.2, sees_walk s own by a.request a.made h.own.before given g.0 g.1 (Err space) number h.own.now.grounds g.3.0));
       }
   all_fresh past more actor command (reply.Root reference) number split =
       let by : By = record { actor = actor; command = command } in

@@ -1,6 +1,6 @@
 -- What a run promises: a record with a field for each of its sentences, and what each of them says.
 -- What happens in an instance is said of what that instance is given and of its own chronicle.
-use Rattle.std.specs.Prelude.{◌≡◌, ◌≢◌, ℕ, suc, ◌≤◌, ◌⊎◌, List, [], ◌∷◌, ◌++◌, Bool, true, false, Option, Some, IfSome, IsNone, IsSome, IsSomeAnd, IsTrue, Contains, count_by, unwrap_or}
+use Rattle.std.specs.Prelude.{◌≡◌, ◌≢◌, ℕ, suc, ◌≤◌, ◌⊎◌, List, [], ◌∷◌, ◌++◌, Bool, true, false, Option, Some, IfSome, IsNone, IsSome, IsSomeAnd, IsTrue, Contains, Result, Ok, Err, count_by, unwrap_or}
 use Rattle.std.specs.List.{AllByRecursion as Each}
 use Rattle.instance_rules.specs.Desks.{AreDueFrom}
 use Rattle.instance_rules.specs.Family.{AreNested}
@@ -11,9 +11,11 @@ use Rattle.kvs_model.specs.Walk.{walk}
 use Rattle.kvs_rules.specs.Brokers.{HasHeard, heard}
 use Rattle.kvs_rules.specs.Landings.{AreFresh, IsManagers, IsUsers, commands_of, names_of}
 use Rattle.kvs_rules.specs.Log.{Happened, Log, before_asked}
-use Rattle.kvs_rules.specs.Namespaces.{Setting, is_primary, landed, newest_store, scope_of, store_after}
+use Rattle.kvs_rules.specs.Namespaces.{Setting, family_at, is_primary, landed, newest_store, scope_of, store_after}
 use Rattle.kvs_rules.specs.declared.events.KvsAsk.TheVariants as ask
 use Rattle.kvs_rules.specs.declared.events.KvsEvent.TheVariants as event
+use Rattle.kvs_txn.specs.declared.answers.Found.{Found}
+use Rattle.kvs_txn.specs.declared.answers.Numbered.{Numbered}
 use Rattle.kvs_txn.specs.declared.answers.Query.{Query}
 use Rattle.kvs_txn.specs.declared.txn.By.{By}
 use Rattle.kvs_txn.specs.declared.txn.Group.{Group}
@@ -89,11 +91,30 @@ pub record SeesStore (s : Setup) (own : List Entry) (by : By) (P : Store
       (subject_at s.work by) number ≡ Some store
   pub held : P store
 
--- a read tells what stands there, a `getroot` the reference of the whole store
+-- a root that may be shown to the command: no less than what its actor had seen of the namespace
+-- or was told at the issue, nor than what its broker had heard then
+pub record MaySee (s : Setup) (own : List Entry) (by : By) (root : Numbered) : Type 0 where
+  pub seen : floor s.work (before_issue by own) by.actor root.namespace ≤ root.number
+  pub known : unwrap_or (heard (before_asked by (log_of s.work top own))
+      (broker_of s.work by.actor) root.namespace) 0 ≤ root.number
+
+-- a walk in such roots tells this
+pub record SeesWalk (s : Setup) (own : List Entry) (by : By) (asked : Query) (path : Path)
+    (uses : List Numbered) (told : Result Found Name) (number : ℕ) : Type 0 where
+  pub roots : Each (MaySee s own by) (record { namespace = subject_at s.work by; number = number } ∷ uses)
+  pub tells : walk (family_at (setting_of s) (log_of s.work top own)
+      (record { namespace = subject_at s.work by; number = number } ∷ uses))
+      (subject_at s.work by) asked path ≡ told
+
+-- a read tells what stands there, or where a link leads to no namespace, and a `getroot` the
+-- reference of the whole store
 abbrev pub SeesNoOlder : Setup → List Entry → By → Reply → Option ℕ → Type 0
-SeesNoOlder set c by (reply.Read found) number = AtHome set c by.actor (λ s own.
+SeesNoOlder set c by (reply.Read found uses) number = AtHome set c by.actor (λ s own.
     (query : Query) × (path : Path) × (ask_at s.work by ≡ Some (ask.Read query path))
-    × IsSomeAnd number (SeesStore s own by (λ st. walk st query path ≡ found)))
+    × IsSomeAnd number (SeesWalk s own by query path uses (Ok found)))
+SeesNoOlder set c by (reply.NoTarget space uses) number = AtHome set c by.actor (λ s own.
+    (query : Query) × (path : Path) × (ask_at s.work by ≡ Some (ask.Read query path))
+    × IsSomeAnd number (SeesWalk s own by query path uses (Err space)))
 SeesNoOlder set c by (reply.Root reference) number = AtHome set c by.actor (λ s own.
     IsSomeAnd number (SeesStore s own by (λ st. reference ≡ root_reference s.hash st)))
 SeesNoOlder set c by given number =
