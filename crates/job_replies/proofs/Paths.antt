@@ -11,7 +11,7 @@ use Rattle.job_replies.specs.Jobs.{key_by}
 use Rattle.job_manager.specs.Managed.{IsManaged}
 use Rattle.job_manager.specs.Value.{ManagerValue}
 use Rattle.kvs_core.specs.Posted.{newest_of}
-use Rattle.job_deeds.specs.kvs_model.Walk.{walk}
+use Rattle.job_deeds.specs.kvs_model.OneStore.{own_walk}
 use Rattle.job_deeds.specs.kvs_txn.declared.answers.Found.{Found}
 use Rattle.job_deeds.specs.kvs_txn.declared.answers.Query.TheVariants as query
 use Rattle.job_replies.proofs.Reading.{AreUnlinked, read-there, text_in}
@@ -34,8 +34,8 @@ keys-unlinked st s plain key.R id = key-unlinked st s plain id (codes "R")
 keys-unlinked st s plain key.Eventlog id = key-unlinked st s plain id (codes "eventlog")
 
 -- what a reader finds in the newest store under a key of a job is what stands there
-pub newest-text : (manager : ManagerValue) → IsManaged manager → (k : Key) (id : ℕ) (path : Path) (st : Store) (found : Found) → path ≡ key_by k id → st ≡ newest_of manager.core → walk st query.Get path ≡ found →
+pub newest-text : (manager : ManagerValue) → IsManaged manager → (k : Key) (id : ℕ) (path : Path) (st : Store) (found : Found) → path ≡ key_by k id → st ≡ newest_of manager.core → own_walk st query.Get path ≡ found →
     value_at (newest_of manager.core) (key_by k id) ≡ text_in found
 newest-text manager m k id path st found at is read =
     sym (read-there (newest_of manager.core) m.store (key_by k id) (keys-unlinked (newest_of manager.core) m.store m.jobs.plain k id))
-    ∙ ap text_in (ap₂ (λ s p. walk s query.Get p) (sym is) (sym at) ∙ read)
+    ∙ ap text_in (ap₂ (λ s p. own_walk s query.Get p) (sym is) (sym at) ∙ read)

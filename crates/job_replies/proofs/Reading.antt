@@ -1,12 +1,15 @@
 -- What a reader finds at a path on which no link stands.
 use Rattle.std.proofs.Common.{◌≡◌, ◌≢◌, ◌∙◌, ℕ, List, [], ◌∷◌, ◌++◌, Option, Some, None, false, true, refl, sym, ap, subst, append_assoc, append-nil}
-use Rattle.std.specs.Prelude.{IsSome, option_and_then}
+use Rattle.std.specs.Prelude.{IsSome, option_and_then, option_map}
 use Rattle.job_deeds.specs.kvs_txn.declared.answers.Found.{Found}
 use Rattle.job_deeds.specs.kvs_txn.declared.answers.Found.TheVariants as found
 use Rattle.job_deeds.specs.kvs_txn.declared.answers.Query.TheVariants as query
 use Rattle.job_deeds.specs.kvs_model.Operation.{is_link}
 use Rattle.job_deeds.specs.kvs_model.Store.{Name, Path, Node, Value, Directory, Link, Store, IsStore, node_at}
-use Rattle.job_deeds.specs.kvs_model.Walk.{Stop, at_end, behind_link, follow, found_along, found_from, go_on, past_link, stop_from, walk}
+use Rattle.job_deeds.specs.kvs_model.Walk.{Stop, at_end, behind_link, follow, found_from, found_in, go_on, stop_from}
+use Rattle.job_deeds.specs.kvs_model.OneStore.{own_next, own_walk}
+use Rattle.std.specs.Option.{option_map_or}
+use Rattle.job_deeds.specs.kvs_txn.declared.words.Target.{Target}
 use Rattle.job_deeds.specs.manager_rules.Keys.{bytes_of, value_at}
 
 -- the text that is found, if one is
@@ -96,11 +99,11 @@ along st s place (name ∷ rest) free = at (node_at st place) refl (ap (λ p. is
         true_false t = cc
 
 -- a reader finds there what stands there
-pub read-there : (st : Store) → IsStore st → (path : Path) → AreUnlinked st [] path → text_in (walk st query.Get path) ≡ value_at st path
-unfolding walk
+pub read-there : (st : Store) → IsStore st → (path : Path) → AreUnlinked st [] path → text_in (own_walk st query.Get path) ≡ value_at st path
+unfolding own_walk
 read-there st s path free =
     let read = along st s [] path free in
-    ap (λ o. text_in (found_along st query.Get (at_end path o (λ further. follow (past_link st) 9 further)))) read.ends ∙ read.reads
+    ap (λ (o : Option Target). text_in (option_map_or (found_in st query.Get) (at_end path (option_map (λ (t : Target). t.path) o) (λ further. follow (own_next query.Get st) 9 further)) found.Loop)) read.ends ∙ read.reads
 
 -- a reader who finds no value finds no text
 pub no-text : (f : Found) → ((bytes : List ℕ) → f ≡ found.Value bytes → ⊥) → text_in f ≡ None
