@@ -1,5 +1,5 @@
 //! Transactions and what readers find, with answers that are known from the rules.
-use kvs_txn::{Author, Cause, Found, Kind, Op, Path, Query, Scope, Txn};
+use kvs_txn::{Author, Cause, Found, Kind, Op, Path, Query, Scope, Target, Txn};
 use lists::Bytes;
 use plain_store::{ApplyFault, Store};
 use std::alloc::Global;
@@ -21,7 +21,10 @@ fn op_of(alloc: Global, verb: &str, rest: &str) -> Result<Op, Fail> {
         "mkdir" => Ok(Op::Mkdir { path }),
         _ => Ok(Op::Link {
             path,
-            target: Path::read(alloc, value)?,
+            target: Target {
+                path: Path::read(alloc, value)?,
+                namespace: None,
+            },
         }),
     }
 }
@@ -36,6 +39,7 @@ fn name_of(cause: Cause) -> &'static str {
         Cause::RootOp => "RootOp",
         Cause::Clash => "Clash",
         Cause::ValueFull => "ValueFull",
+        Cause::OtherSpace => "OtherSpace",
     }
 }
 
@@ -74,7 +78,7 @@ fn found(alloc: Global, store: &Store, query: Query, path: &str) -> Result<Vec<u
         }
         Found::Target(target) => {
             text.extend_from_slice(b"target ")?;
-            text.extend_from_slice(target.print(alloc)?.as_slice())?;
+            text.extend_from_slice(target.path.print(alloc)?.as_slice())?;
         }
         Found::Nothing => text.extend_from_slice(b"Nothing")?,
         Found::IsDir => text.extend_from_slice(b"IsDir")?,

@@ -2,7 +2,7 @@
 use crate::drawn::{key, land, land_kept, value, word};
 use blob_store::BlobStore;
 use fl_digest::{BlobRef, Hash};
-use kvs_txn::{Author, Found, Kind, Listed, Op, Path, Query, Scope, Txn};
+use kvs_txn::{Author, Found, Kind, Listed, Op, Path, Query, Scope, Target, Txn};
 use lists::Bytes;
 use plain_store::{ApplyFault, Store};
 use rand_core::SeedableRng;
@@ -61,7 +61,10 @@ fn operation(alloc: Global, draws: &mut Pcg32) -> Result<Op, Fail> {
         7 => Op::Mkdir { path },
         _ => Op::Link {
             path,
-            target: key(alloc, draws, &KEYS)?,
+            target: Target {
+                path: key(alloc, draws, &KEYS)?,
+                namespace: None,
+            },
         },
     })
 }
@@ -115,7 +118,9 @@ fn is_at(
         },
         Kind::Link => match (store.look(Query::Link, path)?, object) {
             (Found::Target(target), Object::Symlink(other)) => {
-                target.as_slice() == other.as_slice()
+                target.path.as_slice() == other.path.as_slice()
+                    && target.namespace.is_none()
+                    && other.namespace.is_none()
             }
             _ => false,
         },

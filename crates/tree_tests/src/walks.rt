@@ -4,7 +4,7 @@ use crate::drawn::{key, land, value, word};
 use blob_store::BlobStore;
 use cache_node::CacheNode;
 use fl_digest::{BlobRef, Hash, RefList};
-use kvs_txn::{Author, Found, Kind, Op, Path, Query, Scope, Txn};
+use kvs_txn::{Author, Found, Kind, Op, Path, Query, Scope, Target, Txn};
 use lists::{Bytes, Copied};
 use plain_store::Store;
 use rand_core::SeedableRng;
@@ -109,7 +109,10 @@ fn operation_of(alloc: Global, verb: &str, key: &str, text: &str) -> Result<Op, 
         "mkdir" => Op::Mkdir { path },
         _ => Op::Link {
             path,
-            target: Path::read(alloc, text)?,
+            target: Target {
+                path: Path::read(alloc, text)?,
+                namespace: None,
+            },
         },
     })
 }
@@ -254,7 +257,7 @@ fn shown(alloc: Global, found: &Found) -> Result<Bytes, Fail> {
         }
         Found::Target(target) => {
             text.add(b"target ".as_slice())?;
-            text.add(target.print(alloc)?.as_slice())?;
+            text.add(target.path.print(alloc)?.as_slice())?;
         }
         Found::Nothing => text.add(b"Nothing".as_slice())?,
         Found::IsDir => text.add(b"IsDir".as_slice())?,
@@ -373,7 +376,10 @@ fn operation(alloc: Global, draws: &mut Pcg32) -> Result<Op, Fail> {
         4 => Op::Mkdir { path },
         _ => Op::Link {
             path,
-            target: key(alloc, draws, &KEYS)?,
+            target: Target {
+                path: key(alloc, draws, &KEYS)?,
+                namespace: None,
+            },
         },
     })
 }

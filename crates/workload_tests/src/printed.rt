@@ -118,7 +118,10 @@ fn prints_in_order(alloc: Global) -> Result<bool, AllocError> {
 /// Whether replies of the last numbers there are, of none in the way, and of a clash print so.
 fn print_at_their_ends(alloc: Global) -> Result<bool, AllocError> {
     let last = Reply::Advanced { second: u64::MAX };
-    let empty = Reply::Read(Found::Value(Bytes::new(alloc)));
+    let empty = Reply::Read {
+        found: Found::Value(Bytes::new(alloc)),
+        uses: ListOf::new(alloc),
+    };
     let alone = Reply::Busy(ListOf::new(alloc));
     let clash = Reply::Refused(Refusal {
         op: 1,
