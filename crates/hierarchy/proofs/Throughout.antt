@@ -27,7 +27,7 @@ module _ (set : Setup) (c : List Entry) (fits : HasTime set) (valid : AreValid s
     past_legal = (each_parts (IsLegalRunEntry set) [] past more (subst (IsLegalRun set) split legal)).0
 
     -- and what it rests on holds there
-    past_kept : (i : ℕ) → lives past i ≡ true → IsKept set past i
+    pub past_kept : (i : ℕ) → lives past i ≡ true → IsKept set past i
     past_kept i h =
         let born = (and_parts (is_born past i) _ h).0 in
         let there : is_born c i ≡ true = subst (λ d. is_born d i ≡ true) (sym split) (born_kept past more i born) in
