@@ -31,7 +31,6 @@ use Rattle.job_commands.specs.declared.ask.Named.{Named}
 use Rattle.job_commands.specs.declared.child.Child.{Child}
 use Rattle.job_commands.specs.declared.row.Row.{Row}
 use Rattle.job_commands.specs.declared.row.Stage.{Stage}
-use Rattle.resource_set.specs.Writing.{r_text}
 use Rattle.job_commands.specs.declared.row.Stage.TheVariants as stage
 
 -- ---- lists
