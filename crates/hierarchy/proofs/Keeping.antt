@@ -288,7 +288,7 @@ module _ (set : Setup) (c : List Entry) (legal : IsLegalRun set c) where
       record {
         home = h.home;
         theirs = h.theirs;
-        held = (h.living, (g.0, g.1, asks s own by a.request a.made ∙ ap Some g.2, sees_walk s own by a.request a.made h.own.before given g.0 g.1 (Err space) number h.own.now.grounds g.3.0));
+        held = (h.living, (g.0, g.1, asks s own by a.request a.made ∙ ap Some g.2, sees_walk s own by a.request a.made h.own.before given g.0 g.1 (Err space) number h.own.now.grounds g.3));
       }
   all_fresh past more actor command (reply.Root reference) number split =
       let by : By = record { actor = actor; command = command } in
