@@ -1,14 +1,16 @@
 -- A worked scene of EASY backfill: one host with two cores, of which one is held until second 10, a first in the queue that asks for both, and behind it a long job and a short one.
-use Rattle.std.proofs.Common.{◌≡◌, ◌≢◌, ℕ, suc, zero, ◌+◌, ◌-◌, ◌<◌, ◌≤◌, ◌⊎◌, inl, inr, Bool, true, false, List, [], ◌∷◌, map, Some, None, codes, refl, sym, ap, ◌∙◌, subst, arith}
+use Rattle.std.proofs.Common.{◌≡◌, ◌≢◌, ℕ, suc, zero, ◌+◌, ◌-◌, ◌<◌, ◌≤◌, ◌⊎◌, inl, inr, Bool, true, false, List, [], ◌∷◌, map, Some, None, is_none, codes, refl, sym, ap, ap₂, ◌∙◌, subst, arith}
 use Rattle.std.specs.Prelude.{nat_lt, Contains, Ok, cond, if◌then◌else◌}
 use Rattle.std.specs.BTreeMap.{is_at}
+use Rattle.std.specs.Fmt.{digits}
 use Rattle.std.specs.List.{AllByRecursion, cons_option, join_with_byte, range_with_len}
 use Rattle.std.specs.List.Sorted.{IsStrictlyIncreasing}
 use Rattle.std.specs.Ordering.{nat_cmp}
 use Rattle.std.specs.Str.{IsUtf8}
 use Rattle.std.proofs.lemmas.Bool.Decides.{nat_tests}
 use Rattle.std.proofs.lemmas.List.Elements.{All-cons, All-nil}
-use Rattle.json.proofs.Printed.Utf8.{are_ascii, IsUtf8-are_ascii}
+use Rattle.json.specs.Print.{escape_byte}
+use Rattle.json.proofs.Printed.Utf8.{IsUtf8-are_ascii}
 use Rattle.fl_json.specs.Reading.{reading}
 use Rattle.fl_json.proofs.Canonical.{canonical_reading}
 use Rattle.event_log.proofs.JsonTexts.{text_back}
@@ -18,6 +20,8 @@ use Rattle.idset.specs.Text.{first_fault, spelled}
 use Rattle.idset.specs.declared.ranges.IdRange.{IdRange}
 use Rattle.idset.proofs.Rereads.{read_again, sound_again}
 use Rattle.idset.proofs.Sets.{is_set, no_ids, one_range, runs_in}
+use Rattle.hostlist.specs.Printing.{canonical, group_text}
+use Rattle.hostlist.proofs.RoundTrip.{canonical_spells}
 use Rattle.job_queue.specs.Queue as queue
 use Rattle.job_rules.specs.declared.hold.Hold.{Hold}
 use Rattle.job_rules.specs.Fits.{AreWithin, IsGrant, IsSpec, first_fit, free_of, nodes_of}
@@ -33,7 +37,6 @@ use Rattle.resource_set.specs.Units.{AreHosts}
 use Rattle.resource_set.specs.Writing.{AreNamesSpelled, IsEntrySpelled, IsSpelled, data_of, entries_of, r_text}
 use Rattle.resource_set.specs.declared.node.Node.{Node}
 use Rattle.resource_set.specs.declared.node.Resources.{Resources}
-use Rattle.resource_set.proofs.Ascii.{canonical_utf8, printed_utf8}
 use Rattle.resource_set.proofs.Again.{data_flat, data_valid, told_again}
 use Rattle.manager_rules.specs.declared.policy.Policy.{Policy}
 use Rattle.manager_rules.specs.declared.policy.Policy.TheVariants.{Easy, FirstFit}
@@ -49,7 +52,6 @@ use Rattle.manager_rules.specs.Sound.{holds_of}
 use Rattle.manager_rules.specs.Whys.{IsSaidOf}
 use Rattle.manager_rules.proofs.Reserving.{same_second}
 use Rattle.manager_rules.proofs.Rules.{first_is_one, same_job}
-use Rattle.manager_rules.proofs.Texts.{text_utf8 as data_utf8}
 
 -- ---- the scene
 
@@ -258,23 +260,14 @@ one_id_spelled id small =
 entries_spelled : AllByRecursion IsEntrySpelled (entries_of given.nodes)
 entries_spelled = (record { ranks = one_id_spelled 0 (omega arith); cores = one_id_spelled 1 (omega arith); gpus = no_id_spelled }, tt)
 
--- its texts are UTF-8
+-- its one host has a name, which the hostlist spells again
+names_spelled : AreNamesSpelled given.nodes
+names_spelled some = let again = canonical_spells (codes "node0" ∷ []) refl in ap₂ (λ fault hosts. if is_none fault then Some hosts else None) again.fault again.hosts
+
+-- the text is ASCII, and so UTF-8
 text_utf8 : IsUtf8 (r_text given)
-unfolding data_of printed
-text_utf8 =
-    let key : (word : List ℕ) → are_ascii word ≡ true → IsUtf8 word = IsUtf8-are_ascii in
-    let core = printed_utf8 (1 ∷ []) (one_id_spelled 1 (omega arith)) in
-    let rank = printed_utf8 (0 ∷ []) (one_id_spelled 0 (omega arith)) in
-    let name = canonical_utf8 (codes "node0" ∷ []) refl in
-    data_utf8 (data_of given) (
-      key _ refl,
-      (
-        key _ refl,
-        ((key _ refl, (key _ refl, core, tt), (key _ refl, rank, tt)), tt),
-        (key _ refl, omega arith, (key _ refl, (name, tt), (key _ refl, omega arith, tt))),
-      ),
-      (key _ refl, omega arith, tt),
-    )
+unfolding data_of printed canonical group_text escape_byte digits
+text_utf8 = IsUtf8-are_ascii (r_text given) refl
 
 -- it is the canonical text of a valid value, and so it is read as that value
 text_read : reading (r_text given) ≡ Ok (data_of given)
@@ -282,36 +275,36 @@ text_read =
     let valid = data_valid given (omega arith) (omega arith) in
     canonical_reading (data_of given) valid text_utf8 (text_back (data_of given) valid (data_flat given))
 
--- a premise here, which printing ensures of each R that it prints: the list of its one host spells the host's name again
-module _ (names_spelled : AreNamesSpelled given.nodes) where
-  -- so the value tells the R
-  written : told (r_text given) ≡ Ok given
-  written = told_again (r_text given) (data_of given) given text_read refl (are_hosts (1 ∷ [])) entries_spelled names_spelled
+-- and that value tells the R
+written : told (r_text given) ≡ Ok given
+written = told_again (r_text given) (data_of given) given text_read refl (are_hosts (1 ∷ [])) entries_spelled names_spelled
 
-  passes : Passes (scene Easy) short given
-  passes = record {
-    easy = refl;
-    head = first;
-    known = (1, omega arith, refl);
-    first = is_first;
-    full = finds_none Easy;
-    leaves = record {
-      waits = refl;
-      behind = λ e. cc;
-      ranked = omega arith;
-      fit = record { nodes = refl; start = refl; end = refl; free = given_within; written = written };
-      second = 10;
-      reserved = reserved_then;
-      kept = reserved_still;
-    };
-    next = none_before;
-  }
+-- ---- so the short one passes, may take that core and is ready
 
-  may_take : MayTake (scene Easy) short given
-  may_take = inr passes
+passes : Passes (scene Easy) short given
+passes = record {
+  easy = refl;
+  head = first;
+  known = (1, omega arith, refl);
+  first = is_first;
+  full = finds_none Easy;
+  leaves = record {
+    waits = refl;
+    behind = λ e. cc;
+    ranked = omega arith;
+    fit = record { nodes = refl; start = refl; end = refl; free = given_within; written = written };
+    second = 10;
+    reserved = reserved_then;
+    kept = reserved_still;
+  };
+  next = none_before;
+}
 
-  short_is_ready : IsSaidOf (scene Easy) short Ready
-  short_is_ready = inr (given, passes)
+may_take : MayTake (scene Easy) short given
+may_take = inr passes
+
+short_is_ready : IsSaidOf (scene Easy) short Ready
+short_is_ready = inr (given, passes)
 
 -- under first fit it may not take that core
 waits_under_first_fit : (r : Resources) → MayTake (scene FirstFit) short r → ⊥
