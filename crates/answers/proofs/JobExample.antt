@@ -47,7 +47,7 @@ abbrev no_resources : Resources
 no_resources = record { nodes = []; starttime = 0; expiration = 0 }
 
 abbrev setup : Setup
-setup = record { settled = true; size = 1; fanout = 2; hash = hash.Sha1; grant = codes "grant"; resources = no_resources; terms = plain_terms; birth = 0; work = work }
+setup = record { settled = true; size = 1; fanout = 2; hash = hash.Sha1; grant = codes "grant"; resources = no_resources; base = None; terms = plain_terms; birth = 0; work = work }
 
 abbrev e1 : Entry
 e1 = entry.Issued 0 0

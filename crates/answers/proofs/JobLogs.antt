@@ -1,11 +1,11 @@
 -- The log of the top instance has the log of its service in it, and the issues of its job commands.
-use Rattle.std.proofs.Common.{◌≡◌, ℕ, zero, suc, ◌==◌, ◌&&◌, ◌||◌, List, [], ◌∷◌, ◌++◌, Bool, true, false, cond, Option, Some, None, is_some, option_map, filter_map, refl, sym, ap, ap₂, ◌∙◌, arith, true≢false}
+use Rattle.std.proofs.Common.{◌≡◌, ℕ, zero, suc, ◌≤◌, ◌==◌, ◌&&◌, ◌||◌, List, [], ◌∷◌, ◌++◌, Bool, true, false, cond, Option, Some, None, is_some, option_map, filter_map, refl, sym, ap, ap₂, ◌∙◌, subst, arith, true≢false}
 use Rattle.std.specs.Prelude.{Contains, slice_get}
 use Rattle.std.specs.Option.{option_and_then, option_map_or}
 use Rattle.std.specs.List.{AllByRecursion as Each, cons_option, list_any}
 use Rattle.kvs_model.specs.Store.{Name}
 use Rattle.kvs_rules.specs.Log.{same_command}
-use Rattle.kvs_rules.specs.Namespaces.{primary, fresh}
+use Rattle.kvs_rules.specs.Namespaces.{Base, fresh, primary}
 use Rattle.kvs_rules.specs.Sequence.{until}
 use Rattle.kvs_rules.proofs.Asking.{command_is}
 use Rattle.kvs_txn.specs.declared.txn.By.{By}
@@ -22,9 +22,9 @@ use Rattle.workload.specs.declared.work.Command.{Command}
 use Rattle.workload.specs.declared.work.Command.TheVariants as command
 use Rattle.workload.specs.declared.work.Line.{Line}
 use Rattle.workload.specs.declared.work.Workload.{Workload}
-use Rattle.answers.specs.Chronicle.{Setup, top, before_issue, is_issued, issues}
+use Rattle.answers.specs.Chronicle.{Checkpoint, Setup, top, before_issue, is_issued, issues}
 use Rattle.answers.specs.Commands.{ask_of, broker_of, command_at, namespace_at, subject_at, subject_of}
-use Rattle.answers.specs.Services.{asked_at, moment_of, moments_after, log_of, request_of}
+use Rattle.answers.specs.Services.{asked_at, base_of, moment_of, moments_after, log_of, request_of}
 use Rattle.answers.specs.Jobs.{HasNoAdvance, IsSetup, IsWithoutJobs, instance_of, job_ask_of, job_ask_at, job_reply_of, happening_of, happenings_after, log_in}
 
 -- what the service has of a moment, if there is one
@@ -258,21 +258,25 @@ unwatched work by label = on (command_at work by)
     on (Some c) e = cc
 
 -- on terms that are built, the top instance asks for nothing else
-pub built_instance : (set : Setup) → AreBuilt set.terms → IsBuilt (instance_of set)
-built_instance set h = record {
+pub built_instance : (set : Setup) → set.base ≡ None → AreBuilt set.terms → IsBuilt (instance_of set)
+built_instance set anew h = record {
   policy = h.policy;
   limits = h.limits;
   unwatched = λ by label asks. unwatched set.work by label asks;
-  start = refl;
+  start = ap (λ o. option_map_or (λ (kept : Checkpoint). kept.second) o set.birth) anew;
 }
+
+-- its service begins with the grant's text
+pub begins_anew : (set : Setup) → set.base ≡ None → base_of set ≡ fresh set.grant
+begins_anew set anew = ap (λ o. option_map_or (λ (kept : Checkpoint). let base : Base = record { number = kept.number; store = kept.store } in base) o (fresh set.grant)) anew
 
 -- the top instance keeps what an instance does
 pub is_instance : (set : Setup) → IsSetup set → IsInstance (instance_of set)
 is_instance set h = record {
   answers = λ ask. (omega arith, omega arith);
-  since = omega arith;
+  since = subst (λ o. set.birth ≤ option_map_or (λ (kept : Checkpoint). kept.second) o set.birth) (sym h.anew) (omega arith);
   grant = h.grant;
-  text = ap fresh h.text;
+  text = begins_anew set h.anew ∙ ap fresh h.text;
   apart = λ by some. asks_no_service set.work by some;
   asks = h.asks;
 }

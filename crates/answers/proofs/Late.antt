@@ -38,7 +38,7 @@ abbrev no_resources : Resources
 no_resources = record { nodes = []; starttime = 0; expiration = 0 }
 
 abbrev given : Workload → Setup
-given work = record { settled = true; size = 1; fanout = 2; hash = hash.Sha1; grant = codes "grant"; resources = no_resources; terms = plain_terms; birth = 0; work = work }
+given work = record { settled = true; size = 1; fanout = 2; hash = hash.Sha1; grant = codes "grant"; resources = no_resources; base = None; terms = plain_terms; birth = 0; work = work }
 
 abbrev first : By
 first = record { actor = 0; command = 0 }

@@ -128,7 +128,11 @@ no_groups (Happened (event.Answered by number given)) e = refl
 same_one : (x y : Store) → Some x ≡ Some y → x ≡ y
 same_one x y e = cc
 
-module _ (set : Setup) (without : IsWithoutJobs set.work) where
+-- of what begins anew
+module _ (given : Setup) (without : IsWithoutJobs given.work) where
+  abbrev set : Setup
+  set = record given { base = None }
+
   none_asked : (by : By) (ask : JobAsk) → job_ask_at set.work by ≡ Some ask → ⊥
   none_asked by ask e = let never : ◌≡◌ {A = Option JobAsk} None (Some ask) = sym (asks_nothing set.work without by) ∙ e in cc
 

@@ -23,7 +23,7 @@ use Rattle.workload.specs.declared.work.InfoKey.TheVariants as key
 use Rattle.workload.specs.declared.work.Needed.{Needed}
 use Rattle.workload.specs.declared.work.Workload.{Workload}
 use Rattle.answers.specs.Commands.{broker_of, command_at}
-use Rattle.answers.specs.Chronicle.{Setup, top}
+use Rattle.answers.specs.Chronicle.{Checkpoint, Setup, top}
 use Rattle.answers.specs.Services.{moment_of, setting_of}
 
 -- ---- commands and replies
@@ -80,12 +80,16 @@ job_reply_of _ = None
 
 -- ---- the instance and its log
 
--- the instance that is given this: it serves its jobs on the run's terms, from its birth on
+-- the second at which it begins: that of its birth, or the one at which the run goes on
+abbrev pub start_of : Setup → ℕ
+start_of set = option_map_or (λ (kept : Checkpoint). kept.second) set.base set.birth
+
+-- the instance that is given this: it serves its jobs on the run's terms
 abbrev pub instance_of : Setup → Instance
 instance_of set = record {
   service = setting_of set;
   birth = set.birth;
-  start = set.birth;
+  start = start_of set;
   grant = set.resources;
   answer = priority_by set.terms.weights;
   policy = set.terms.policy;
@@ -127,9 +131,10 @@ abbrev pub IsLegalHappening : Setup → List Entry → Entry → Type 0
 IsLegalHappening set c e = IfSome (happening_of set.work c e)
     (IsLegalMoment (instance_of set) (log_in set.work c))
 
--- what an instance is given fits together: the text is that of the resources, and the numbers and
--- texts of commands on jobs are within their ranges
+-- what an instance is given fits together, and it begins anew: the text is that of the resources, and
+-- the numbers and texts of commands on jobs are within their ranges
 pub record IsSetup (set : Setup) : Type 0 where
+  pub anew : set.base ≡ None
   pub text : set.grant ≡ r_text set.resources
   pub grant : IsGrant set.resources.nodes
   pub asks : (by : By) (ask : JobAsk) → job_ask_at set.work by ≡ Some ask → (by.actor < 2 ^ 32)

@@ -29,6 +29,7 @@ setup_of terms o work = record {
   hash = o.hash;
   grant = grant_text o.size work;
   resources = first_resources o.size work;
+  base = None;
   terms = terms;
   birth = 0;
   work = work;

@@ -22,7 +22,7 @@ use Rattle.workload.specs.declared.work.Command.TheVariants as command
 use Rattle.workload.specs.declared.work.Workload.{Workload}
 use Rattle.answers.specs.Chronicle.{Setup, before_issue, is_issued, is_replied, issues}
 use Rattle.answers.specs.Commands.{command_at}
-use Rattle.answers.specs.Jobs.{instance_of, job_ask_at, job_ask_of, log_in, second_of}
+use Rattle.answers.specs.Jobs.{instance_of, job_ask_at, job_ask_of, log_in, second_of, start_of}
 use Rattle.answers.specs.declared.chronicle.Entry.{Entry}
 use Rattle.answers.specs.declared.chronicle.Entry.TheVariants as entry
 use Rattle.answers.proofs.JobLogs.{issued_alike, log_before_issue}
@@ -112,13 +112,13 @@ module _ (actors : List Actor) (label : Option (List ℕ)) (i : ℕ) (by : By) (
 module _ (set : Setup) where
   -- an issue lets time go on to a second within what is issued, in the run and in each living instance
   record AreWithin (c : List Entry) : Type 0 where
-    present : second_in set c ≤ set.birth + seconds_issued set.work c
-    issued : (by : By) → is_issued by c ≡ true → second_in set (before_issue by c) + seconds_at set.work by ≤ set.birth + seconds_issued set.work c
+    present : second_in set c ≤ start_of set + seconds_issued set.work c
+    issued : (by : By) → is_issued by c ≡ true → second_in set (before_issue by c) + seconds_at set.work by ≤ start_of set + seconds_issued set.work c
     own : (i : ℕ) → lives c i ≡ true → (by : By) → is_issued by (own_of set c i) ≡ true
-        → second_of (setup_in set c i) (before_issue by (own_of set c i)) + seconds_at (setup_in set c i).work by ≤ set.birth + seconds_issued set.work c
+        → second_of (setup_in set c i) (before_issue by (own_of set c i)) + seconds_at (setup_in set c i).work by ≤ start_of set + seconds_issued set.work c
 
   module _ (c : List Entry) (h : AreWithin c) where
-    target_within : (i : ℕ) → lives c i ≡ true → (target : ℕ) → HasTarget (living_in set c i) target → target ≤ set.birth + seconds_issued set.work c
+    target_within : (i : ℕ) → lives c i ≡ true → (target : ℕ) → HasTarget (living_in set c i) target → target ≤ start_of set + seconds_issued set.work c
     target_within i there target t =
         let s = setup_in set c i in
         let mine = own_of set c i in
@@ -140,7 +140,7 @@ module _ (set : Setup) where
     if_within true o most low = low
     if_within false o most low = tt
 
-    left_within : (e : Entry) → Among e c → IfSome (left_by set c e) (λ target. target ≤ set.birth + seconds_issued set.work c)
+    left_within : (e : Entry) → Among e c → IfSome (left_by set c e) (λ target. target ≤ start_of set + seconds_issued set.work c)
     left_within (entry.Issued actor number) there =
         let by : By = record { actor = actor; command = number } in
         let this : issues by (entry.Issued actor number) ≡ true = ap₂ (λ a b. a && b) (eq-eqb actor actor refl) (eq-eqb number number refl) in
@@ -148,28 +148,28 @@ module _ (set : Setup) where
         (asked_within (command_at set.work by) (second_in set (before_issue by c)) _ (h.issued by (any_at (issues by) c (entry.Issued actor number) there this)))
     left_within _ there = tt
 
-    lefts_within : (xs : List Entry) → ((e : Entry) → Among e xs → Among e c) → All (λ target. target ≤ set.birth + seconds_issued set.work c) (filter_map (left_by set c) xs)
-    lefts_within [] part = All-nil (λ target. target ≤ set.birth + seconds_issued set.work c)
+    lefts_within : (xs : List Entry) → ((e : Entry) → Among e xs → Among e c) → All (λ target. target ≤ start_of set + seconds_issued set.work c) (filter_map (left_by set c) xs)
+    lefts_within [] part = All-nil (λ target. target ≤ start_of set + seconds_issued set.work c)
     lefts_within (e ∷ xs) part = more (left_by set c e) (left_within e (part e (inl refl))) (lefts_within xs (λ x there. part x (inr there)))
       where
-        more : (o : Option ℕ) → IfSome o (λ target. target ≤ set.birth + seconds_issued set.work c) → All (λ target. target ≤ set.birth + seconds_issued set.work c) (filter_map (left_by set c) xs)
-            → All (λ target. target ≤ set.birth + seconds_issued set.work c) (cons_option o (filter_map (left_by set c) xs))
+        more : (o : Option ℕ) → IfSome o (λ target. target ≤ start_of set + seconds_issued set.work c) → All (λ target. target ≤ start_of set + seconds_issued set.work c) (filter_map (left_by set c) xs)
+            → All (λ target. target ≤ start_of set + seconds_issued set.work c) (cons_option o (filter_map (left_by set c) xs))
         more None low rest = rest
-        more (Some target) low rest = All-cons (λ target. target ≤ set.birth + seconds_issued set.work c) target (filter_map (left_by set c) xs) low rest
+        more (Some target) low rest = All-cons (λ target. target ≤ start_of set + seconds_issued set.work c) target (filter_map (left_by set c) xs) low rest
 
-    wanted_within : (target : ℕ) → IsTarget (family_of set c) (left_in set c) target → target ≤ set.birth + seconds_issued set.work c
+    wanted_within : (target : ℕ) → IsTarget (family_of set c) (left_in set c) target → target ≤ start_of set + seconds_issued set.work c
     wanted_within target (inl (l, here, t)) =
         let m = member set c l here in
         target_within l.number m.lives_so target (subst (λ x. HasTarget x target) m.is t)
-    wanted_within target (inr left) = All-contains (λ target. target ≤ set.birth + seconds_issued set.work c) (left_in set c) target (lefts_within c (λ e there. there)) left
+    wanted_within target (inr left) = All-contains (λ target. target ≤ start_of set + seconds_issued set.work c) (left_in set c) target (lefts_within c (λ e there. there)) left
 
-    tick_within : (second : ℕ) → MayTick (family_of set c) (second_in set c) (left_in set c) second → second ≤ set.birth + seconds_issued set.work c
+    tick_within : (second : ℕ) → MayTick (family_of set c) (second_in set c) (left_in set c) second → second ≤ start_of set + seconds_issued set.work c
     tick_within second may =
         let low : second ≤ may.target = target_kept (family_of set c) (second_in set c) (left_in set c) second may may.target may.wanted may.unreached in
         let high = wanted_within may.target may.wanted in
         omega (arith, low, high)
 
-    now_within : (e : Entry) → IsLegalRunEntry set c e → unwrap_or (ticks e) (second_in set c) ≤ set.birth + seconds_issued set.work c
+    now_within : (e : Entry) → IsLegalRunEntry set c e → unwrap_or (ticks e) (second_in set c) ≤ start_of set + seconds_issued set.work c
     now_within (entry.Ticked second) l = tick_within second l.grounds
     now_within _ l = h.present
 
@@ -179,7 +179,7 @@ module _ (set : Setup) where
     longer = sum_by_push (seconds_by set.work) xs e
 
     own_within : (i : ℕ) → lives xs i ≡ true → (by : By) (o : Option Entry) → own_entry set.work.actors (label_of xs i) i e ≡ o → is_issued by (own_of set xs i ++ cons_option o []) ≡ true
-        → second_of (setup_in set xs i) (before_issue by (own_of set xs i ++ cons_option o [])) + seconds_at (setup_in set xs i).work by ≤ set.birth + seconds_issued set.work (xs ++ e ∷ [])
+        → second_of (setup_in set xs i) (before_issue by (own_of set xs i ++ cons_option o [])) + seconds_at (setup_in set xs i).work by ≤ start_of set + seconds_issued set.work (xs ++ e ∷ [])
     own_within i there by None is issued =
         let same : own_of set xs i ++ [] ≡ own_of set xs i = append-nil (own_of set xs i) in
         let base : second_of (setup_in set xs i) (before_issue by (own_of set xs i ++ [])) ≡ second_of (setup_in set xs i) (before_issue by (own_of set xs i)) = ap (λ l. second_of (setup_in set xs i) (before_issue by l)) same in
@@ -188,7 +188,7 @@ module _ (set : Setup) where
     own_within i there by (Some f) is issued = at (is_issued by (own_of set xs i)) refl (sym (issued_more by (own_of set xs i) f) ∙ issued)
       where
         at : (b : Bool) → is_issued by (own_of set xs i) ≡ b → (is_issued by (own_of set xs i) || issues by f) ≡ true
-            → second_of (setup_in set xs i) (before_issue by (own_of set xs i ++ f ∷ [])) + seconds_at (setup_in set xs i).work by ≤ set.birth + seconds_issued set.work (xs ++ e ∷ [])
+            → second_of (setup_in set xs i) (before_issue by (own_of set xs i ++ f ∷ [])) + seconds_at (setup_in set xs i).work by ≤ start_of set + seconds_issued set.work (xs ++ e ∷ [])
         at true was any =
             let base : second_of (setup_in set xs i) (before_issue by (own_of set xs i ++ f ∷ [])) ≡ second_of (setup_in set xs i) (before_issue by (own_of set xs i))
             = ap (second_of (setup_in set xs i)) (until-append (issues by) (own_of set xs i) (f ∷ []) was) in
@@ -220,14 +220,14 @@ module _ (set : Setup) where
               let o = own_entry set.work.actors (label_of xs i) i e in
               let same = setup_kept set xs (e ∷ []) i (alive xs i was).0 in
               let pushed : own_of set (xs ++ e ∷ []) i ≡ own_of set xs i ++ cons_option o [] = own_push set xs e i was v.stays in
-              subst (λ s. second_of s (before_issue by (own_of set (xs ++ e ∷ []) i)) + seconds_at s.work by ≤ set.birth + seconds_issued set.work (xs ++ e ∷ [])) (sym same)
-              (subst (λ l. second_of (setup_in set xs i) (before_issue by l) + seconds_at (setup_in set xs i).work by ≤ set.birth + seconds_issued set.work (xs ++ e ∷ [])) (sym pushed)
+              subst (λ s. second_of s (before_issue by (own_of set (xs ++ e ∷ []) i)) + seconds_at s.work by ≤ start_of set + seconds_issued set.work (xs ++ e ∷ [])) (sym same)
+              (subst (λ l. second_of (setup_in set xs i) (before_issue by l) + seconds_at (setup_in set xs i).work by ≤ start_of set + seconds_issued set.work (xs ++ e ∷ [])) (sym pushed)
               (own_within xs e before h i was by o refl (ap (is_issued by) (sym pushed) ∙ issued)))
           | inr new ↦ absurd (true≢false (sym issued ∙ ap (is_issued by) (own_born set xs e i new.0 new.1)))
         ];
   }
     where
-      target : (by : By) (b : Bool) → is_issued by xs ≡ b → (is_issued by xs || issues by e) ≡ true → second_in set (before_issue by (xs ++ e ∷ [])) + seconds_at set.work by ≤ set.birth + seconds_issued set.work (xs ++ e ∷ [])
+      target : (by : By) (b : Bool) → is_issued by xs ≡ b → (is_issued by xs || issues by e) ≡ true → second_in set (before_issue by (xs ++ e ∷ [])) + seconds_at set.work by ≤ start_of set + seconds_issued set.work (xs ++ e ∷ [])
       target by true was any =
           let same : second_in set (before_issue by (xs ++ e ∷ [])) ≡ second_in set (before_issue by xs) = ap (second_in set) (until-append (issues by) xs (e ∷ []) was) in
           let low = h.issued by was in
@@ -248,19 +248,19 @@ module _ (set : Setup) where
     own = λ i there by none. absurd (true≢false (sym none ∙ ap (is_issued by) (own_none set i)));
   })
 
-  pub time_issued : (c : List Entry) → IsLegalRun set c → second_in set c ≤ set.birth + seconds_issued set.work c
+  pub time_issued : (c : List Entry) → IsLegalRun set c → second_in set c ≤ start_of set + seconds_issued set.work c
   time_issued c l = (all_within c l).present
 
-  pub next_issued : (c : List Entry) (second : ℕ) → IsLegalRun set c → MayTick (family_of set c) (second_in set c) (left_in set c) second → second ≤ set.birth + seconds_issued set.work c
+  pub next_issued : (c : List Entry) (second : ℕ) → IsLegalRun set c → MayTick (family_of set c) (second_in set c) (left_in set c) second → second ≤ start_of set + seconds_issued set.work c
   next_issued c second l may = tick_within c (all_within c l) second may
 
-  pub time_within : (c : List Entry) → IsLegalRun set c → second_in set c ≤ set.birth + seconds_in set.work.lines
+  pub time_within : (c : List Entry) → IsLegalRun set c → second_in set c ≤ start_of set + seconds_in set.work.lines
   time_within c l =
       let a = time_issued c l in
       let b = issued_in_run set c l in
       omega (arith, a, b)
 
-  pub next_within : (c : List Entry) (second : ℕ) → IsLegalRun set c → MayTick (family_of set c) (second_in set c) (left_in set c) second → second ≤ set.birth + seconds_in set.work.lines
+  pub next_within : (c : List Entry) (second : ℕ) → IsLegalRun set c → MayTick (family_of set c) (second_in set c) (left_in set c) second → second ≤ start_of set + seconds_in set.work.lines
   next_within c second l may =
       let a = next_issued c second l may in
       let b = issued_in_run set c l in

@@ -35,7 +35,7 @@ grant = record {
 }
 
 abbrev setup : Setup
-setup = record { settled = true; size = 8; fanout = 2; hash = hash.Sha1; grant = codes "grant"; resources = record { nodes = []; starttime = 0; expiration = 0 }; terms = plain_terms; birth = 0; work = work }
+setup = record { settled = true; size = 8; fanout = 2; hash = hash.Sha1; grant = codes "grant"; resources = record { nodes = []; starttime = 0; expiration = 0 }; base = None; terms = plain_terms; birth = 0; work = work }
 
 -- the child is born at the second 2, and shuts down at the second 5
 abbrev born : List Entry

@@ -28,6 +28,7 @@ use Rattle.answers.specs.Jobs.{instance_of, log_in, second_of}
 use Rattle.answers.specs.Legal.{IsLegal, IsLegalEntry}
 use Rattle.answers.specs.declared.chronicle.Entry.{Entry}
 use Rattle.run_laws.specs.Jobs.{store_of}
+use Rattle.resource_set.specs.Writing.{r_text}
 use Rattle.run_laws.proofs.Moves.{entry_moves, stands}
 use Rattle.run_laws.proofs.Newest.{same_one}
 use Rattle.hierarchy.proofs.Units.{HoldsFor, post_holds, user_holds}
@@ -85,14 +86,14 @@ module _ (set : Setup) (valid : IsInstance (instance_of set)) (own : List Entry)
   -- it does so after one more entry
   pub entry_holds : HoldsAt set own id r → HoldsAt set (own ++ e ∷ []) id r
   entry_holds h =
-      let s = stands set own legal in
-      let next = stands set (own ++ e ∷ []) (each_push (IsLegalEntry set) own e legal fits) in
+      let s = stands set (r_text set.resources) valid.text own legal in
+      let next = stands set (r_text set.resources) valid.text (own ++ e ∷ []) (each_push (IsLegalEntry set) own e legal fits) in
       let same : h.store ≡ s.store = same_one h.store s.store (sym h.standing ∙ s.standing) in
       let held : HoldsFor s.store id r = subst (λ x. HoldsFor x id r) same h.holds in
       record {
         store = next.store;
         standing = next.standing;
-        holds = elim (entry_moves set own legal e fits s.store next.store s.standing next.standing) [
+        holds = elim (entry_moves set (r_text set.resources) valid.text own legal e fits s.store next.store s.standing next.standing) [
           | inl one ↦ subst (λ x. HoldsFor x id r) (sym one) held
           | inr d ↦ groups_hold (instance_of set) valid (log_in set.work own) timed id r shut child d.groups s.store next.store s.is (sound s.store s.standing) d.due d.made held
         ];

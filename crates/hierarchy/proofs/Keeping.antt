@@ -13,7 +13,8 @@ use Rattle.job_rules.proofs.Among.{any_from}
 use Rattle.kvs_rules.proofs.Asking.{contains_stands}
 use Rattle.kvs_rules.proofs.Sequences.{each_at, each_parts}
 use Rattle.kvs_rules.proofs.Stores.{made_newest}
-use Rattle.instance_rules.specs.Log.{Submitted, service_of}
+use Rattle.instance_rules.specs.Log.{IsInstance, Submitted, service_of}
+use Rattle.resource_set.specs.Writing.{r_text}
 use Rattle.instance_rules.specs.Replies.{IsLegalReply}
 use Rattle.std.specs.List.{AllByRecursion as Each}
 use Rattle.std.specs.Prelude.{Result, Ok, Err}
@@ -29,7 +30,7 @@ use Rattle.kvs_rules.specs.Answers.{InFreshStore, IsFreshRoot, IsLegalLog, IsLeg
 use Rattle.kvs_rules.specs.Brokers.{HasHeard, heard}
 use Rattle.kvs_rules.specs.Landings.{IsAdvance, IsLegalLanding, names_of, names_of_group}
 use Rattle.kvs_rules.specs.Log.{Happened, Log, Moment, before_asked}
-use Rattle.kvs_rules.specs.Namespaces.{Request, Setting, family_at, primary, store_after}
+use Rattle.kvs_rules.specs.Namespaces.{Base, Request, Setting, family_at, fresh, primary, store_after}
 use Rattle.kvs_rules.specs.declared.events.KvsAsk.{KvsAsk}
 use Rattle.kvs_rules.specs.declared.events.KvsEvent.TheVariants as event
 use Rattle.kvs_txn.specs.declared.txn.By.{By}
@@ -38,7 +39,7 @@ use Rattle.answers.specs.Chronicle.{Setup, before_issue, top, uses_of}
 use Rattle.answers.specs.Commands.{ask_at, broker_of, subject_at}
 use Rattle.answers.specs.Jobs.{instance_of, log_in}
 use Rattle.answers.specs.Legal.{HasReplyGrounds, IsLegal, IsLegalEntry}
-use Rattle.answers.specs.Services.{log_of, request_of, setting_of}
+use Rattle.answers.specs.Services.{base_of, log_of, request_of, setting_of}
 use Rattle.answers.specs.declared.chronicle.Entry.{Entry}
 use Rattle.answers.specs.declared.chronicle.Entry.TheVariants as entry
 use Rattle.answers.specs.declared.chronicle.Reply.{Reply}
@@ -244,24 +245,6 @@ module _ (set : Setup) (c : List Entry) (legal : IsLegalRun set c) where
   at : (past : List Entry) (e : Entry) (more : List Entry) → c ≡ past ++ e ∷ more → IsLegalRunEntry set past e
   at past e more split = each_at (IsLegalRunEntry set) past e more (subst (IsLegalRun set) split legal)
 
-  pub all_plain : RootsArePlain set c
-  all_plain past more i space number authors groups split some =
-      let l = at past (entry.Landed i space number authors groups) more split in
-      let s = setup_in set past i in
-      let own = own_of set past i in
-      let o = landed_in set past i space number authors groups l in
-      (l.grounds, published (setting_of s) (IsStore-first_store s.grant) (log_of s.work top own) (service_legal s own o.before) space number authors groups o.now.grounds.0.1 some)
-
-  pub all_due : EventsAreDue set c
-  all_due past more i space number authors groups split here =
-      let l = at past (entry.Landed i space number authors groups) more split in
-      let s = setup_in set past i in
-      let own = own_of set past i in
-      let o = landed_in set past i space number authors groups l in
-      let log : IsLegalLog (setting_of s) (service_of (log_in s.work own)) = subst (IsLegalLog (setting_of s)) (sym (service_kept s.work own)) (service_legal s own o.before) in
-      let newest = newest_of (setting_of s) refl (IsStore-first_store s.grant) (service_of (log_in s.work own)) log in
-      (l.grounds, (newest.store, newest.stands, o.now.grounds.2 here newest.store newest.stands))
-
   pub all_heard : CommittersHaveHeard set c
   all_heard past more actor command given number split is =
       let by : By = record { actor = actor; command = command } in
@@ -305,7 +288,7 @@ module _ (set : Setup) (c : List Entry) (legal : IsLegalRun set c) where
       record {
         home = h.home;
         theirs = h.theirs;
-        held = (h.living, (g.0, g.1, asks s own by a.request a.made ∙ ap Some g.2, sees_walk s own by a.request a.made h.own.before given g.0 g.1 (Err space) number h.own.now.grounds g.3.0));
+        held = (h.living, (g.0, g.1, asks s own by a.request a.made ∙ ap Some g.2, sees_walk s own by a.request a.made h.own.before given g.0 g.1 (Err space) number h.own.now.grounds g.3));
       }
   all_fresh past more actor command (reply.Root reference) number split =
       let by : By = record { actor = actor; command = command } in
@@ -319,3 +302,33 @@ module _ (set : Setup) (c : List Entry) (legal : IsLegalRun set c) where
         held = (h.living, sees (setup_in set past h.home) (own_of set past h.home) by a.request a.made h.own.before given _ number h.own.now.grounds a.grounds.1);
       }
   all_fresh past more actor command given number split = numbered set past actor command given number (at past (entry.Replied actor command given number) more split)
+
+-- ---- what is said of landings, where what each living instance is given is within its ranges
+
+first_is : (s : Setup) → base_of s ≡ fresh (r_text s.resources) → IsStore (base_of s).store
+first_is s begins = subst (λ (b : Base). IsStore b.store) (sym begins) (IsStore-first_store (r_text s.resources))
+
+module _ (set : Setup) (c : List Entry) (legal : IsLegalRun set c)
+    (valid : (past more : List Entry) → c ≡ past ++ more → (i : ℕ) → lives past i ≡ true → IsInstance (instance_of (setup_in set past i))) where
+  follows : (past : List Entry) (e : Entry) (more : List Entry) → c ≡ past ++ e ∷ more → IsLegalRunEntry set past e
+  follows past e more split = each_at (IsLegalRunEntry set) past e more (subst (IsLegalRun set) split legal)
+
+  pub all_plain : RootsArePlain set c
+  all_plain past more i space number authors groups split some =
+      let l = follows past (entry.Landed i space number authors groups) more split in
+      let s = setup_in set past i in
+      let own = own_of set past i in
+      let o = landed_in set past i space number authors groups l in
+      let v = valid past (entry.Landed i space number authors groups ∷ more) split i l.grounds in
+      (l.grounds, published (setting_of s) (first_is s v.text) (log_of s.work top own) (service_legal s own o.before) space number authors groups o.now.grounds.0.1 some)
+
+  pub all_due : EventsAreDue set c
+  all_due past more i space number authors groups split here =
+      let l = follows past (entry.Landed i space number authors groups) more split in
+      let s = setup_in set past i in
+      let own = own_of set past i in
+      let o = landed_in set past i space number authors groups l in
+      let v = valid past (entry.Landed i space number authors groups ∷ more) split i l.grounds in
+      let log : IsLegalLog (setting_of s) (service_of (log_in s.work own)) = subst (IsLegalLog (setting_of s)) (sym (service_kept s.work own)) (service_legal s own o.before) in
+      let newest = newest_of (setting_of s) (ap (λ (b : Base). b.number) v.text) (first_is s v.text) (service_of (log_in s.work own)) log in
+      (l.grounds, (newest.store, newest.stands, o.now.grounds.2 here newest.store newest.stands))

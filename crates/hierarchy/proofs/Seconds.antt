@@ -14,7 +14,7 @@ use Rattle.instance_rules.proofs.Ends.{goes_on}
 use Rattle.workload.specs.declared.work.Actor.{Actor}
 use Rattle.workload.specs.declared.work.Workload.{Workload}
 use Rattle.answers.specs.Chronicle.{Setup, top}
-use Rattle.answers.specs.Jobs.{happening_of, instance_of, job_ask_at, job_reply_of, log_in, second_of}
+use Rattle.answers.specs.Jobs.{happening_of, instance_of, job_ask_at, job_reply_of, log_in, second_of, start_of}
 use Rattle.answers.specs.Services.{moment_of}
 use Rattle.answers.specs.declared.chronicle.Entry.{Entry}
 use Rattle.answers.specs.declared.chronicle.Entry.TheVariants as entry
@@ -73,7 +73,7 @@ second_push s own e =
   where
     pushed : (log : Log) (o : Option Moment) → now_of (instance_of s) (log ++ cons_option o []) ≡ unwrap_or (tick_of o) (now_of (instance_of s) log)
     pushed log None = ap (now_of (instance_of s)) (append-nil log)
-    pushed log (Some m) = latest_push ticked s.birth log m
+    pushed log (Some m) = latest_push ticked (start_of s) log m
 
 second_more : (s : Setup) (own : List Entry) (o : Option Entry) → second_of s (own ++ cons_option o []) ≡ unwrap_or (ticks_of o) (second_of s own)
 second_more s own None = ap (second_of s) (append-nil own)
@@ -139,7 +139,7 @@ module _ (set : Setup) where
 
   -- a child begins at the second of its birth, which is the present one
   child_begins : (c : List Entry) (e : Entry) → IsLegalRunEntry set c e → (i : ℕ) → begins i e ≡ true
-      → (option_map_or (child_setup set) (birth_in e) (record set { work = work_for set.work None set.size })).birth ≡ unwrap_or (ticks e) (second_in set c)
+      → start_of (option_map_or (child_setup set) (birth_in e) (record set { work = work_for set.work None set.size })) ≡ unwrap_or (ticks e) (second_in set c)
   child_begins c (entry.Born child parent job label second grant) l i b = l.grounds.now
   child_begins c _ l i b = absurd (true≢false (sym b))
 
@@ -152,7 +152,7 @@ module _ (set : Setup) where
         | inl was ↦ second_own xs e i was v.stays ∙ ap (λ n. unwrap_or (ticks e) n) (old i was) ∙ sym present
         | inr new ↦
             ap (second_of (setup_in set (xs ++ e ∷ []) i)) (own_born set xs e i new.0 new.1)
-            ∙ ap (λ o. (option_map_or (child_setup set) o (record set { work = work_for set.work None set.size })).birth) (born_is xs e i new.0 new.1)
+            ∙ ap (λ o. start_of (option_map_or (child_setup set) o (record set { work = work_for set.work None set.size }))) (born_is xs e i new.0 new.1)
             ∙ child_begins xs e l i new.1 ∙ sym present
       ]
 

@@ -1,5 +1,5 @@
 -- What holds all the way through a legal run.
-use Rattle.std.proofs.Common.{◌≡◌, ◌∙◌, ℕ, List, [], ◌∷◌, ◌++◌, None, true, false, refl, sym, ap, subst}
+use Rattle.std.proofs.Common.{◌≡◌, ◌∙◌, ℕ, List, [], ◌∷◌, ◌++◌, None, true, sym, ap, subst}
 use Rattle.std.specs.Option.{option_map_or}
 use Rattle.std.proofs.lemmas.Bool.{and_parts}
 use Rattle.std.proofs.lemmas.List.{append_assoc}
@@ -10,7 +10,7 @@ use Rattle.run_laws.specs.Times.{HasTime}
 use Rattle.answers.specs.Chronicle.{Setup}
 use Rattle.answers.specs.Jobs.{instance_of}
 use Rattle.answers.specs.declared.chronicle.Entry.{Entry}
-use Rattle.hierarchy.specs.Births.{birth_of, is_born, is_gone, lives}
+use Rattle.hierarchy.specs.Births.{is_born, lives}
 use Rattle.hierarchy.specs.Laws.{AreValid, IsKept}
 use Rattle.hierarchy.specs.Legal.{IsLegalRun, IsLegalRunEntry}
 use Rattle.hierarchy.specs.Own.{child_setup, own_of, setup_in, work_for}
@@ -27,7 +27,7 @@ module _ (set : Setup) (c : List Entry) (fits : HasTime set) (valid : AreValid s
     past_legal = (each_parts (IsLegalRunEntry set) [] past more (subst (IsLegalRun set) split legal)).0
 
     -- and what it rests on holds there
-    past_kept : (i : ℕ) → lives past i ≡ true → IsKept set past i
+    pub past_kept : (i : ℕ) → lives past i ≡ true → IsKept set past i
     past_kept i h =
         let born = (and_parts (is_born past i) _ h).0 in
         let there : is_born c i ≡ true = subst (λ d. is_born d i ≡ true) (sym split) (born_kept past more i born) in

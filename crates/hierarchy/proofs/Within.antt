@@ -242,17 +242,17 @@ module _ (s : Setup) (within : IsWithin s.size s.work) (built : All (λ l. IsBui
           let few : length s.work.actors ≤ most_actors = within.actors in
           (omega arith, subst (λ o. IfSome o IsInRange) h (in_range c (subst IsBuilt st.is sound)))
 
-  given_instance : s.grant ≡ r_text s.resources → IsGrant s.resources.nodes → IsInstance (instance_of s)
-  given_instance text grant = is_instance s (record { text = text; grant = grant; asks = asked })
+  given_instance : s.base ≡ None → s.grant ≡ r_text s.resources → IsGrant s.resources.nodes → IsInstance (instance_of s)
+  given_instance anew text grant = is_instance s (record { anew = anew; text = text; grant = grant; asks = asked })
 
 pub enough_brokers : (b : Birth) → 1 ≤ length b.grant.nodes → (1 ≤ brokers_for b) × (brokers_for b ≤ most_brokers)
 enough_brokers b h = (omega arith, omega arith)
 
 pub child_instance : (set : Setup) (b : Birth) → IsWithin set.size set.work → All (λ l. IsBuilt l.command) set.work.lines → 1 ≤ length b.grant.nodes → IsGrant b.grant.nodes → IsInstance (instance_of (child_setup set b))
 child_instance set b h bs some grant =
-    given_instance (child_setup set b) (within set.work (Some b.label) (brokers_for b) set.size (enough_brokers b some).0 h) (built set.work (Some b.label) (brokers_for b) bs) refl grant
+    given_instance (child_setup set b) (within set.work (Some b.label) (brokers_for b) set.size (enough_brokers b some).0 h) (built set.work (Some b.label) (brokers_for b) bs) refl refl grant
 
-pub top_instance : (set : Setup) → IsWithin set.size set.work → All (λ l. IsBuilt l.command) set.work.lines → 1 ≤ set.size → IsGrant set.resources.nodes → set.grant ≡ r_text set.resources
+pub top_instance : (set : Setup) → IsWithin set.size set.work → All (λ l. IsBuilt l.command) set.work.lines → 1 ≤ set.size → IsGrant set.resources.nodes → set.base ≡ None → set.grant ≡ r_text set.resources
     → IsInstance (instance_of (record set { work = work_for set.work None set.size }))
-top_instance set h bs some grant text =
-    given_instance (record set { work = work_for set.work None set.size }) (within set.work None set.size set.size some h) (built set.work None set.size bs) text grant
+top_instance set h bs some grant anew text =
+    given_instance (record set { work = work_for set.work None set.size }) (within set.work None set.size set.size some h) (built set.work None set.size bs) anew text grant

@@ -38,6 +38,7 @@ child_setup set b = record set {
   size = brokers_for b;
   grant = r_text b.grant;
   resources = b.grant;
+  base = None;
   birth = b.second;
   work = work_for set.work (Some b.label) (brokers_for b);
 }

@@ -8,7 +8,7 @@ ghost use Rattle.run_laws.specs.Times.{HasTime, KeepsTime, seconds_issued};
 ghost use Rattle.workload.specs.Tallies.{seconds_in};
 ghost use Rattle.answers.specs.declared.chronicle.Entry.{Entry};
 ghost use Rattle.answers.specs.Chronicle.{Setup};
-ghost use Rattle.answers.specs.Jobs.{instance_of, log_in, second_of};
+ghost use Rattle.answers.specs.Jobs.{instance_of, log_in, second_of, start_of};
 ghost use Rattle.answers.specs.Legal.{IsLegal, IsSettled};
 ghost use Rattle.answers.specs.Runs.{IsFamilySettled, IsInTime, family_of as alone_in};
 ghost use Rattle.answers.specs.Whole.{IsWhole};
@@ -73,15 +73,15 @@ pub fn children_stay_nested()
 /// it. So the seconds of all have their place in 64 bits, where those of the lines have.
 pub fn time_stays_within_the_run()
     ensures issued { (set : Setup) (c : List Entry) → IsLegalRun set c
-        → second_in set c ≤ set.birth + seconds_issued set.work c }
+        → second_in set c ≤ start_of set + seconds_issued set.work c }
     ensures within { (set : Setup) (c : List Entry) → IsLegalRun set c
-        → second_in set c ≤ set.birth + seconds_in set.work.lines }
+        → second_in set c ≤ start_of set + seconds_in set.work.lines }
     ensures next { (set : Setup) (c : List Entry) (second : ℕ) → IsLegalRun set c
         → MayTick (family_of set c) (second_in set c) (left_in set c) second
-        → second ≤ set.birth + seconds_issued set.work c }
+        → second ≤ start_of set + seconds_issued set.work c }
     ensures reaches { (set : Setup) (c : List Entry) (second : ℕ) → IsLegalRun set c
         → MayTick (family_of set c) (second_in set c) (left_in set c) second
-        → second ≤ set.birth + seconds_in set.work.lines }
+        → second ≤ start_of set + seconds_in set.work.lines }
     ensures shared { (set : Setup) (c : List Entry) (i : ℕ) → IsLegalRun set c
         → IsTrue (lives c i) → second_of (setup_in set c i) (own_of set c i) ≡ second_in set c }
     ensures births { (set : Setup) (c : List Entry) → IsLegalRun set c

@@ -52,6 +52,6 @@ pub fn what_is_given_is_an_instance()
         → IsGrant b.grant.nodes → IsInstance (instance_of (child_setup set b)) }
     ensures top { (set : Setup) → IsWithin set.size set.work
         → All (λ l. IsBuilt l.command) set.work.lines → 1 ≤ set.size
-        → IsGrant set.resources.nodes → set.grant ≡ r_text set.resources
+        → IsGrant set.resources.nodes → set.base ≡ None → set.grant ≡ r_text set.resources
         → IsInstance (instance_of (record set { work = work_for set.work None set.size })) }
 {}

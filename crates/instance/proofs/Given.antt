@@ -127,8 +127,9 @@ module _ (set : Setup) (within : IsWithin set.size set.work) (built : All (λ l.
       let sound = line_at (λ l. IsBuilt l.command) set.work.lines asked.line.place asked.line.line built asked.line.there in
       subst (λ o. IfSome o IsInRange) asked.asks (in_range asked.command (subst IsBuilt asked.line.is sound))
 
-  pub is_setup : set.grant ≡ r_text set.resources → IsGrant set.resources.nodes → IsSetup set
-  is_setup text grant = record {
+  pub is_setup : set.base ≡ None → set.grant ≡ r_text set.resources → IsGrant set.resources.nodes → IsSetup set
+  is_setup anew text grant = record {
+    anew = anew;
     text = text;
     grant = grant;
     asks = λ by ask e. (let low = actor_known by ask e in let few = within.actors in omega arith, ask_in_range by ask e);
@@ -218,16 +219,16 @@ unique_labels set own a b label urgency other needs named text more asks_a asks_
 
 -- ---- the whole
 
-pub is_given : (set : Setup) (size fanout : ℕ) (hash : Hash) (grant : Resources) (birth : ℕ) (terms : Terms) → set.size ≡ size → set.fanout ≡ fanout → set.hash ≡ hash → set.grant ≡ r_text grant → set.resources ≡ grant → set.terms ≡ terms → set.birth ≡ birth
+pub is_given : (set : Setup) (size fanout : ℕ) (hash : Hash) (grant : Resources) (birth : ℕ) (terms : Terms) → set.size ≡ size → set.fanout ≡ fanout → set.hash ≡ hash → set.grant ≡ r_text grant → set.resources ≡ grant → set.base ≡ None → set.terms ≡ terms → set.birth ≡ birth
     → AreBuilt terms → IsGrant grant.nodes → IsWithin set.size set.work → All (λ a. a.rank < set.size) set.work.actors → All (λ l. IsBuilt l.command) set.work.lines → HasOwnLabels set.work.lines → IsGiven (instance_of set) size fanout hash grant birth terms
-is_given set size fanout hash grant birth terms brokers children hashed text resources same born offered granted within ranks built own = record {
+is_given set size fanout hash grant birth terms brokers children hashed text resources anew same born offered granted within ranks built own = record {
   hash = hashed;
   served = record {
-    valid = is_instance set (is_setup set within built (text ∙ ap r_text (sym resources)) (subst (λ (r : Resources). IsGrant r.nodes) (sym resources) granted));
+    valid = is_instance set (is_setup set within built anew (text ∙ ap r_text (sym resources)) (subst (λ (r : Resources). IsGrant r.nodes) (sym resources) granted));
     unique = unique_labels set own;
     ranks = in_ranks set within built ranks;
     served = record {
-      built = built_instance set (subst AreBuilt (sym same) offered);
+      built = built_instance set anew (subst AreBuilt (sym same) offered);
       answer = ap (λ t. priority_by t.weights) same;
       policy = ap (λ t. t.policy) same;
       limits = ap (λ t. t.limits) same;

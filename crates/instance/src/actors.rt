@@ -262,7 +262,7 @@ impl Instance {
         ensures ready { IfOk result (λ v. v.spent ≡ false) }
         ensures agrees { IfOk result (λ v. (set : Setup) → set.size ≡ setting.size
             → set.fanout ≡ setting.fanout → set.hash ≡ setting.hash → set.grant ≡ r_text grant.now
-            → set.resources ≡ grant.now → set.terms ≡ terms → set.birth ≡ birth
+            → set.resources ≡ grant.now → set.base ≡ None → set.terms ≡ terms → set.birth ≡ birth
             → set.work ≡ work.now → AgreesOwn v set []) }
     {
         let services = Services::new(alloc, setting, grant, birth, terms)?;

@@ -4,3 +4,4 @@ pub mod Growing
 pub mod Sounds
 pub mod Lines
 pub mod Times
+pub mod Views

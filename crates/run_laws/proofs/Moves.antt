@@ -1,6 +1,6 @@
 -- How the store of `primary` goes on along a legal chronicle: by landings whose transactions of the
 -- manager are due.
-use Rattle.std.proofs.Common.{◌≡◌, ◌⊎◌, inl, inr, List, [], ◌∷◌, ◌++◌, Option, Some, None, refl, sym, ap, ◌∙◌, subst, append-nil}
+use Rattle.std.proofs.Common.{◌≡◌, ℕ, ◌⊎◌, inl, inr, List, [], ◌∷◌, ◌++◌, Option, Some, None, refl, sym, ap, ◌∙◌, subst, append-nil}
 use Rattle.std.specs.List.{cons_option}
 use Rattle.kvs_model.specs.History.{after_groups}
 use Rattle.kvs_model.specs.Store.{IsStore, Store}
@@ -8,7 +8,7 @@ use Rattle.kvs_rules.proofs.Logs.{legal_parts}
 use Rattle.kvs_rules.proofs.Sequences.{each_push}
 use Rattle.kvs_rules.specs.Answers.{IsLegalLog, IsLegalMoment}
 use Rattle.kvs_rules.specs.Log as service
-use Rattle.kvs_rules.specs.Namespaces.{newest_store, primary}
+use Rattle.kvs_rules.specs.Namespaces.{Base, fresh, newest_store, primary}
 use Rattle.kvs_txn.specs.declared.txn.Group.{Group}
 use Rattle.kvs_txn.specs.declared.txn.Scope.TheVariants as scope
 use Rattle.instance_rules.specs.Desks.{AreDueFrom}
@@ -17,7 +17,7 @@ use Rattle.answers.specs.declared.chronicle.Entry.TheVariants as entry
 use Rattle.answers.specs.Chronicle.{Setup, top}
 use Rattle.answers.specs.Jobs.{instance_of, log_in}
 use Rattle.answers.specs.Legal.{IsLegal, IsLegalEntry}
-use Rattle.answers.specs.Services.{log_of, moment_of, setting_of}
+use Rattle.answers.specs.Services.{base_of, log_of, moment_of, setting_of}
 use Rattle.answers.proofs.Carried.{lands_so}
 use Rattle.answers.proofs.JobLogs.{service_kept}
 use Rattle.answers.proofs.Services.{log_push, service_legal}
@@ -37,22 +37,24 @@ pub record Stands (set : Setup) (c : List Entry) : Type 0 where
   pub is : IsStore store
   pub standing : store_of set c ≡ Some store
 
-module _ (set : Setup) where
+module _ (set : Setup) (grant : List ℕ) (begins : base_of set ≡ fresh grant) where
+  none : (base_of set).number ≡ 0
+  none = ap (λ (b : Base). b.number) begins
+
   kept : (c : List Entry) → store_of set c ≡ newest_store (setting_of set) (log_of set.work top c) primary
   kept c = ap (λ l. newest_store (setting_of set) l primary) (service_kept set.work c)
 
-  newest_in : (c : List Entry) → IsLegal set c → Newest (setting_of set) refl (log_of set.work top c)
-  newest_in c legal = newest_of (setting_of set) refl (IsStore-first_store set.grant) (log_of set.work top c) (service_legal set c legal)
+  newest_in : (c : List Entry) → IsLegal set c → Newest (setting_of set) none (log_of set.work top c)
+  newest_in c legal = newest_of (setting_of set) none (subst (λ (b : Base). IsStore b.store) (sym begins) (IsStore-first_store grant)) (log_of set.work top c) (service_legal set c legal)
 
   pub stands : (c : List Entry) → IsLegal set c → Stands set c
   stands c legal = let n = newest_in c legal in record { store = n.store; is = n.is; standing = kept c ∙ n.stands }
 
   module _ (c : List Entry) (legal : IsLegal set c) (e : Entry) (fits : IsLegalEntry set c e) where
-    log : service.Log
+    abbrev log : service.Log
     log = log_of set.work top c
 
-    next_legal : (m : service.Moment) → moment_of set.work top c e ≡ Some m → IsLegalMoment (setting_of set) log m
-    unfolding log
+    pub next_legal : (m : service.Moment) → moment_of set.work top c e ≡ Some m → IsLegalMoment (setting_of set) log m
     next_legal m is =
         let whole : IsLegalLog (setting_of set) (log_of set.work top (c ++ e ∷ [])) = service_legal set (c ++ e ∷ []) (each_push (IsLegalEntry set) c e legal fits) in
         let pushed : log_of set.work top (c ++ e ∷ []) ≡ log ++ m ∷ [] = log_push set.work top c e ∙ ap (λ o. log ++ cons_option o []) is in
@@ -60,11 +62,10 @@ module _ (set : Setup) where
 
     moves : (o : Option service.Moment) → moment_of set.work top c e ≡ o → (st new : Store) → newest_store (setting_of set) log primary ≡ Some st
         → newest_store (setting_of set) (log ++ cons_option o []) primary ≡ Some new → (new ≡ st) ⊎ LandsDue set c st new
-    unfolding log
     moves None is st new was now = inl (same_one new st (sym now ∙ ap (λ l. newest_store (setting_of set) l primary) (append-nil log) ∙ was))
     moves (Some m) is st new was now =
         let n = newest_in c legal in
-        let next = goes_on (setting_of set) refl log m (next_legal m is) n in
+        let next = goes_on (setting_of set) none log m (next_legal m is) n in
         let old : n.store ≡ st = same_one n.store st (sym n.stands ∙ was) in
         let made : next.newest.store ≡ new = same_one next.newest.store new (sym next.newest.stands ∙ now) in
         elim next.how [
@@ -81,6 +82,5 @@ module _ (set : Setup) where
 
     -- an entry leaves the store as it is, or lands what is due
     pub entry_moves : (st new : Store) → store_of set c ≡ Some st → store_of set (c ++ e ∷ []) ≡ Some new → (new ≡ st) ⊎ LandsDue set c st new
-    unfolding log
     entry_moves st new was now = moves (moment_of set.work top c e) refl st new (sym (kept c) ∙ was)
         (ap (λ l. newest_store (setting_of set) l primary) (sym (log_push set.work top c e)) ∙ sym (kept (c ++ e ∷ [])) ∙ now)

@@ -1,10 +1,13 @@
 -- Along a legal chronicle the store of `primary` stays sound, and the logs of its jobs only grow.
 use Rattle.std.proofs.Common.{◌≡◌, ℕ, ◌<◌, ◌^◌, inl, inr, List, [], ◌∷◌, ◌++◌, refl, sym, ◌∙◌, subst, arith, append-nil, append_assoc}
-use Rattle.std.specs.Prelude.{IsSome}
+use Rattle.std.specs.Prelude.{IsSome, None, Some}
 use Rattle.event_log.specs.declared.event.Event.{Event}
 use Rattle.kvs_model.specs.History.{first_store}
+use Rattle.kvs_model.specs.Store.{Store}
 use Rattle.kvs_rules.proofs.Sequences.{each_along, each_both, each_left, each_parts, each_push}
+use Rattle.kvs_rules.specs.Namespaces.{Base, newest_store, primary}
 use Rattle.kvs_rules.specs.Sequence.{EachAfter}
+use Rattle.resource_set.specs.Writing.{r_text}
 use Rattle.manager_rules.specs.Jobs.{IsLogged}
 use Rattle.manager_rules.specs.Sound.{IsSoundStore}
 use Rattle.manager_rules.proofs.Others.{first_jobs}
@@ -15,18 +18,23 @@ use Rattle.answers.specs.declared.chronicle.Entry.{Entry}
 use Rattle.answers.specs.Chronicle.{Setup}
 use Rattle.answers.specs.Jobs.{instance_of, log_in, second_of}
 use Rattle.answers.specs.Legal.{IsLegal, IsLegalEntry}
+use Rattle.answers.specs.Services.{setting_of}
+use Rattle.answers.proofs.JobLogs.{begins_anew}
 use Rattle.run_laws.specs.Jobs.{HasLog, JobsStaySound, LogsOnlyGrow, store_of}
 use Rattle.run_laws.specs.Times.{KeepsTime}
 use Rattle.run_laws.proofs.Growing.{Grows, groups_grow, unchanged}
 use Rattle.run_laws.proofs.Moves.{entry_moves, stands}
 use Rattle.run_laws.proofs.Newest.{same_one}
 
-pub stands_there : (set : Setup) (c : List Entry) → IsLegal set c → IsSome (store_of set c)
-stands_there set c legal = let s = stands set c legal in subst IsSome (sym s.standing) refl
+pub stands_there : (set : Setup) (c : List Entry) → set.base ≡ None → IsLegal set c → IsSome (store_of set c)
+stands_there set c anew legal = let s = stands set set.grant (begins_anew set anew) c legal in subst IsSome (sym s.standing) refl
 
 module _ (set : Setup) (valid : IsInstance (instance_of set)) where
   is_one : IsInstance (instance_of set)
   is_one = valid
+
+  abbrev grant : List ℕ
+  grant = r_text set.resources
 
   -- an entry may follow, and its second has its place
   Fits : List Entry → Entry → Type 0
@@ -43,20 +51,23 @@ module _ (set : Setup) (valid : IsInstance (instance_of set)) where
   IsSoundAt : List Entry → Type 0
   IsSoundAt c = IsSound (instance_of set) (log_in set.work c)
 
+  IsFirst : Base → Type 0
+  IsFirst base = (st : Store) → newest_store (record (setting_of set) { base = base }) [] primary ≡ Some st → IsSoundStore set.resources.nodes st
+
   begins : IsSoundAt []
-  unfolding IsSoundAt
-  begins st e = subst (IsSoundStore set.resources.nodes) (same_one (first_store set.grant) st e) (record {
+  unfolding IsSoundAt IsFirst
+  begins = subst IsFirst (sym valid.text) (λ st e. subst (IsSoundStore set.resources.nodes) (same_one (first_store grant) st e) (record {
     jobs = [];
-    are = first_jobs set.grant;
+    are = first_jobs grant;
     sound = record { served = tt; apart = record { rising = λ k w. absurd (omega (arith, w)); within = tt; apart = tt } };
-  })
+  }))
 
   sound_step : (c : List Entry) (e : Entry) → EachAfter Fits [] c → Fits c e → IsSoundAt c → IsSoundAt (c ++ e ∷ [])
   unfolding Fits IsSoundAt
   sound_step c e before fits h st now =
       let legal = legal_of c before in
-      let s = stands set c legal in
-      elim (entry_moves set c legal e fits.0 s.store st s.standing now) [
+      let s = stands set grant valid.text c legal in
+      elim (entry_moves set grant valid.text c legal e fits.0 s.store st s.standing now) [
         | inl same ↦ subst (IsSoundStore set.resources.nodes) (sym same) (h s.store s.standing)
         | inr l ↦ groups_keep (instance_of set) is_one (log_in set.work c) fits.1 l.groups s.store st s.is (h s.store s.standing) l.due l.made
       ]
@@ -78,10 +89,10 @@ module _ (set : Setup) (valid : IsInstance (instance_of set)) where
     unfolding Fits IsSoundAt
     entry_grows c e before fits log (st, was, l) =
         let legal = legal_of c before in
-        let s = stands set c legal in
-        let next = stands set (c ++ e ∷ []) (each_push (IsLegalEntry set) c e legal fits.0) in
+        let s = stands set grant valid.text c legal in
+        let next = stands set grant valid.text (c ++ e ∷ []) (each_push (IsLegalEntry set) c e legal fits.0) in
         let same : s.store ≡ st = same_one s.store st (sym s.standing ∙ was) in
-        let grown : Grows next.store id log = elim (entry_moves set c legal e fits.0 s.store next.store s.standing next.standing) [
+        let grown : Grows next.store id log = elim (entry_moves set grant valid.text c legal e fits.0 s.store next.store s.standing next.standing) [
           | inl one ↦ unchanged next.store id log (subst (λ x. IsLogged x id log) (sym (one ∙ same)) l)
           | inr d ↦ groups_grow (instance_of set) is_one (log_in set.work c) fits.1 id small d.groups s.store next.store s.is (sound_at c before s.store s.standing) d.due d.made log (subst (λ x. IsLogged x id log) (sym same) l)
         ] in

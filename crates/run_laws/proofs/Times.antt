@@ -21,7 +21,7 @@ use Rattle.answers.specs.declared.chronicle.Entry.{Entry}
 use Rattle.answers.specs.declared.chronicle.Entry.TheVariants as entry
 use Rattle.answers.specs.Chronicle.{Setup, before_issue, is_issued, issues, top}
 use Rattle.answers.specs.Commands.{command_at}
-use Rattle.answers.specs.Jobs.{happening_of, happenings_after, instance_of, job_ask_at, job_ask_of, job_reply_of, living_of, log_in, second_of}
+use Rattle.answers.specs.Jobs.{happening_of, happenings_after, instance_of, job_ask_at, job_ask_of, job_reply_of, living_of, log_in, second_of, start_of}
 use Rattle.answers.specs.Legal.{IsLegal, IsLegalEntry}
 use Rattle.answers.specs.Runs.{ComesInTime, IsInTime, family_of}
 use Rattle.answers.specs.Services.{moment_of}
@@ -84,7 +84,7 @@ second_push set c e =
   where
     pushed : (log : Log) (o : Option Moment) → now_of (instance_of set) (log ++ cons_option o []) ≡ unwrap_or (tick_of o) (now_of (instance_of set) log)
     pushed log None = ap (now_of (instance_of set)) (append-nil log)
-    pushed log (Some m) = latest_push ticked set.birth log m
+    pushed log (Some m) = latest_push ticked (start_of set) log m
 
 -- ---- open advances
 
@@ -115,10 +115,10 @@ issued_seconds work by _ h = absurd (true≢false (sym h))
 module _ (set : Setup) where
   -- the second is within what is issued, and so is that of each issue with its own seconds
   record IsWithin (c : List Entry) : Type 0 where
-    present : second_of set c ≤ set.birth + seconds_issued set.work c
-    targets : (by : By) → is_issued by c ≡ true → second_of set (before_issue by c) + seconds_at set.work by ≤ set.birth + seconds_issued set.work c
+    present : second_of set c ≤ start_of set + seconds_issued set.work c
+    targets : (by : By) → is_issued by c ≡ true → second_of set (before_issue by c) + seconds_at set.work by ≤ start_of set + seconds_issued set.work c
 
-  target_within : (c : List Entry) → IsWithin c → (target : ℕ) → HasTarget (living_of set c) target → target ≤ set.birth + seconds_issued set.work c
+  target_within : (c : List Entry) → IsWithin c → (target : ℕ) → HasTarget (living_of set c) target → target ≤ start_of set + seconds_issued set.work c
   target_within c h target t =
       let asks : is_some (job_ask_at set.work t.by) ≡ true = ap is_some t.asks in
       let issued : is_issued t.by c ≡ true = sym (issued_alike set.work t.by asks c) ∙ t.waits.issued in
@@ -128,17 +128,17 @@ module _ (set : Setup) where
       let low = h.targets t.by issued in
       omega (arith, began, long, is, low)
 
-  wanted_within : (c : List Entry) → IsWithin c → (target : ℕ) → IsTarget (family_of set c) [] target → target ≤ set.birth + seconds_issued set.work c
+  wanted_within : (c : List Entry) → IsWithin c → (target : ℕ) → IsTarget (family_of set c) [] target → target ≤ start_of set + seconds_issued set.work c
   wanted_within c h target (inl (l, here, t)) = target_within c h target (subst (λ x. HasTarget x target) (only (living_of set c) l here) t)
   wanted_within c h target (inr none) = absurd (omega (arith, none.1))
 
-  tick_within : (c : List Entry) (second : ℕ) → IsWithin c → MayTick (family_of set c) (second_of set c) [] second → second ≤ set.birth + seconds_issued set.work c
+  tick_within : (c : List Entry) (second : ℕ) → IsWithin c → MayTick (family_of set c) (second_of set c) [] second → second ≤ start_of set + seconds_issued set.work c
   tick_within c second h may =
       let low : second ≤ may.target = target_kept (family_of set c) (second_of set c) [] second may may.target may.wanted may.unreached in
       let high = wanted_within c h may.target may.wanted in
       omega (arith, low, high)
 
-  now_within : (c : List Entry) (e : Entry) → ComesInTime set c e → IsWithin c → unwrap_or (ticks e) (second_of set c) ≤ set.birth + seconds_issued set.work c
+  now_within : (c : List Entry) (e : Entry) → ComesInTime set c e → IsWithin c → unwrap_or (ticks e) (second_of set c) ≤ start_of set + seconds_issued set.work c
   now_within c (entry.Ticked second) timely h = tick_within c second h timely
   now_within c _ timely h = h.present
 
@@ -158,7 +158,7 @@ module _ (set : Setup) where
       or_false true = refl
       or_false false = refl
 
-      target : (by : By) (b : Bool) → is_issued by c ≡ b → (is_issued by c || issues by e) ≡ true → second_of set (before_issue by (c ++ e ∷ [])) + seconds_at set.work by ≤ set.birth + seconds_issued set.work (c ++ e ∷ [])
+      target : (by : By) (b : Bool) → is_issued by c ≡ b → (is_issued by c || issues by e) ≡ true → second_of set (before_issue by (c ++ e ∷ [])) + seconds_at set.work by ≤ start_of set + seconds_issued set.work (c ++ e ∷ [])
       target by true was any =
           let same : second_of set (before_issue by (c ++ e ∷ [])) ≡ second_of set (before_issue by c) = ap (second_of set) (until-append (issues by) c (e ∷ []) was) in
           let low = h.targets by was in
@@ -173,10 +173,10 @@ module _ (set : Setup) where
   all_within : (c : List Entry) → IsInTime set c → IsWithin c
   all_within c timely = each_along (ComesInTime set) IsWithin time_step [] c tt timely (record { present = omega arith; targets = λ by none. absurd (true≢false (sym none)) })
 
-  pub time_issued : (c : List Entry) → IsLegal set c → IsInTime set c → second_of set c ≤ set.birth + seconds_issued set.work c
+  pub time_issued : (c : List Entry) → IsLegal set c → IsInTime set c → second_of set c ≤ start_of set + seconds_issued set.work c
   time_issued c legal timely = (all_within c timely).present
 
-  pub time_within : (c : List Entry) → IsLegal set c → IsInTime set c → second_of set c ≤ set.birth + seconds_in set.work.lines
+  pub time_within : (c : List Entry) → IsLegal set c → IsInTime set c → second_of set c ≤ start_of set + seconds_in set.work.lines
   time_within c legal timely =
       let a = time_issued c legal timely in
       let b = issued_within set c legal in
@@ -187,12 +187,12 @@ module _ (set : Setup) where
     kept_after : (past more : List Entry) → IsLegal set (past ++ more) → IsInTime set (past ++ more) → EachAfter (λ c e. second_of set c < 2 ^ 64) past more
     kept_after past [] legal timely = tt
     kept_after past (e ∷ more) legal timely =
-        let first : second_of set past ≤ set.birth + seconds_in set.work.lines = time_within past (each_parts (IsLegalEntry set) [] past (e ∷ more) legal).0 (each_parts (ComesInTime set) [] past (e ∷ more) timely).0 in
+        let first : second_of set past ≤ start_of set + seconds_in set.work.lines = time_within past (each_parts (IsLegalEntry set) [] past (e ∷ more) legal).0 (each_parts (ComesInTime set) [] past (e ∷ more) timely).0 in
         let split : past ++ (e ∷ more) ≡ (past ++ e ∷ []) ++ more = sym (append_assoc past (e ∷ []) more) in
         (omega (arith, first, fits), kept_after (past ++ e ∷ []) more (subst (IsLegal set) split legal) (subst (IsInTime set) split timely))
 
     pub keeps_time : (c : List Entry) → IsLegal set c → IsInTime set c → KeepsTime set c
     keeps_time c legal timely = kept_after [] c legal timely
 
-pub has_time : (set : Setup) → set.birth ≡ 0 → KeepsTallies set.work.lines → HasTime set
+pub has_time : (set : Setup) → start_of set ≡ 0 → KeepsTallies set.work.lines → HasTime set
 has_time set first h = let low = h.seconds in omega (arith, first, low)

@@ -10,7 +10,7 @@ use Rattle.answers.specs.declared.chronicle.Entry.{Entry}
 use Rattle.answers.specs.declared.chronicle.Entry.TheVariants as entry
 use Rattle.answers.specs.Chronicle.{Setup}
 use Rattle.answers.specs.Commands.{command_at}
-use Rattle.answers.specs.Jobs.{second_of}
+use Rattle.answers.specs.Jobs.{second_of, start_of}
 
 -- the seconds that a command lets pass, if it is an advance
 abbrev pub seconds_at : Workload → By → ℕ
@@ -28,7 +28,7 @@ seconds_issued work c = sum_by (seconds_by work) c
 
 -- the second after all advances has its place in 64 bits
 abbrev pub HasTime : Setup → Type 0
-HasTime set = set.birth + seconds_in set.work.lines < 2 ^ 64
+HasTime set = start_of set + seconds_in set.work.lines < 2 ^ 64
 
 -- whenever something happens the second has its place in 64 bits
 abbrev pub KeepsTime : Setup → List Entry → Type 0

@@ -2,7 +2,7 @@
 //! the top instance landed, and the reference of the root that its last landing left.
 #![tactic(auto)]
 
-ghost use Rattle.std.specs.Prelude.{◌≡◌, ◌++◌, IfOk, OnOk};
+ghost use Rattle.std.specs.Prelude.{◌≡◌, ◌++◌, IfOk, None, OnOk};
 ghost use Rattle.answers.specs.Chronicle.{Setup};
 ghost use Rattle.answers.specs.Text.{answers_text};
 ghost use Rattle.summaries.specs.Summary.{last_lines, IsSummary, IsTopLegal};
@@ -48,8 +48,8 @@ pub fn summary(
     answers: &[u8],
     chronicle: &Chronicle,
 ) -> Result<Vec<u8>, AllocError>
-    requires { (set : Setup) × (set.grant ≡ grant.now) × IsTopLegal set chronicle.now }
-    ensures { (set : Setup) → set.grant ≡ grant.now → set.hash ≡ hash
+    requires { (set : Setup) × (set.base ≡ None) × (set.grant ≡ grant.now) × IsTopLegal set chronicle.now }
+    ensures { (set : Setup) → set.base ≡ None → set.grant ≡ grant.now → set.hash ≡ hash
         → IsTopLegal set chronicle.now → answers.now ≡ answers_text set.work chronicle.now
         → IfOk result (λ text. IsSummary set chronicle.now text.items) }
 {

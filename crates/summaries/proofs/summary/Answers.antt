@@ -23,26 +23,26 @@ pub root_after-requires : goal.root_after-requires
 root_after-requires c =
     let set = c.requires.0 in
     let all = c.args.chronicle.now in
-    let legal = c.requires.2 in
-    some_left (setup_in set all top) (own_of set all top) legal.legal c.args.grant.now (map (λ groups. groups.now) c.deref.result.now) c.requires.1
+    let legal = c.requires.3 in
+    some_left (setup_in set all top) c.requires.1 (own_of set all top) legal.legal c.args.grant.now (map (λ groups. groups.now) c.deref.result.now) c.requires.2
     (found_in set all legal _ (ap (map (λ groups. groups.now)) c.deref.ensures.value ∙ c.in_ok-landings.ensures set.work))
 
 pub returns : goal.returns
-returns c = λ set grant hash legal answers.
+returns c = λ set anew grant hash legal answers.
     let all = c.args.chronicle.now in
     let top_set = setup_in set all top in
     let own = own_of set all top in
-    let st = store_at top_set own legal.legal in
+    let st = store_at top_set anew own legal.legal in
     let found : map (λ groups. groups.now) c.deref.result.now ≡ landings (top_log set all) primary = found_in set all legal _ (ap (map (λ groups. groups.now)) c.deref.ensures.value ∙ c.in_ok-landings.ensures set.work) in
     let words : map (λ w. w.now) c.deref-2.result.now ≡ first_words (answers_text set.work all) = ap (map (λ w. w.now)) c.deref-2.ensures.value ∙ c.in_ok-first_words.ensures ∙ ap first_words answers in
     let many : c.len.result ≡ length c.deref.result.now = cc (c.len.ensures, c.deref.ensures.len) in
     let count : c.len.result ≡ length (landings (top_log set all) primary) = many ∙ sym (length-map c.deref.result.now (λ groups. groups.now)) ∙ ap length found in
-    let root : c.in_ok-root.root ≡ root_reference set.hash st = c.in_ok-root.ensures st (left_at top_set own legal.legal c.args.grant.now (map (λ groups. groups.now) c.deref.result.now) grant found) ∙ ap (λ h. root_reference h st) (sym hash) in
+    let root : c.in_ok-root.root ≡ root_reference set.hash st = c.in_ok-root.ensures st (left_at top_set anew own legal.legal c.args.grant.now (map (λ groups. groups.now) c.deref.result.now) grant found) ∙ ap (λ h. root_reference h st) (sym hash) in
     record {
       rows = c.in_ok-rows.rows.entries;
       tally = subst (λ ws. IsTally ws c.in_ok-rows.rows.entries) words c.in_ok-rows.ensures;
       store = st;
-      newest = newest_at top_set own legal.legal;
+      newest = newest_at top_set anew own legal.legal;
       printed =
           c.into_vec.ensures
           ∙ c.in_ok-add_last_lines.ensures

@@ -23,6 +23,7 @@ summary-requires c =
     let run = c.in_ok-text.ensures.run in
     let chronicle = c.in_ok-text.field-0.ended.chronicle in (
       set,
+      refl,
       sym c.in_ok-grant.ensures,
       top_legal set chronicle (c.births_are_numbered.ensures.top set chronicle run.legal) (c.a_whole_run_is_legal_in_all.ensures set chronicle run.legal run.whole),
     )
@@ -32,6 +33,6 @@ returns-clause-summary c =
     let set = setup_of c.args.terms generated_options c.args.work in
     let run = c.in_ok-text.ensures.run in
     let chronicle = c.in_ok-text.field-0.ended.chronicle in
-    c.in_ok-text-2.ensures set (sym c.in_ok-grant.ensures) refl
+    c.in_ok-text-2.ensures set refl (sym c.in_ok-grant.ensures) refl
     (top_legal set chronicle (c.births_are_numbered.ensures.top set chronicle run.legal) (c.a_whole_run_is_legal_in_all.ensures set chronicle run.legal run.whole))
     (c.deref.ensures.value ∙ run.printed ∙ append-nil _)

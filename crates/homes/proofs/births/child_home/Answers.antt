@@ -43,4 +43,4 @@ returns c = λ set b fanout hash terms work parent job label second grant.
     let long : length c.as_slice.result.now ≡ length c.args.grant.now.nodes = ap length c.as_slice.ensures in
     let size : c.min-size.result ≡ min (length c.args.grant.now.nodes) 32 = omega arith in
     child_is set b c.args.origin c.args.work.now c.args.grant.now c.min-size.result c.in_ok-own.own c.in_ok-instance.instance work parent job label grant size c.in_ok-own.ensures c.in_ok-instance.ensures.ready
-    (λ size given. c.in_ok-instance.ensures.agrees (child_setup set b) size fanout hash (ap r_text grant) grant terms second given)
+    (λ size given. c.in_ok-instance.ensures.agrees (child_setup set b) size fanout hash (ap r_text grant) grant refl terms second given)

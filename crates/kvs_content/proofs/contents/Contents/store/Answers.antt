@@ -81,3 +81,8 @@ returns-clause-kept c = λ set log a content.
       | inl clean ↦ inr (inl (clean-got c.args.self.now set log a c.args.broker c.requires.within c.of-reference.result clean))
       | inr dirty ↦ inl dirty
     ])
+
+pub returns-clause-follows : goal.returns-clause-follows
+returns-clause-follows c = λ set log a content.
+    let named = c.of-reference.ensures ∙ ap (reference_of c.self.inside.hash) c.as_slice.ensures ∙ ap (λ (v : ContentValue). reference_of v.hash c.args.bytes) c.self.view_is ∙ ap (λ h. reference_of h c.args.bytes) (sym a.hash) in
+    subst (λ es. Follows c.args.self.now c.offer.new.self es set log) (sym c.new-events.ensures) (c.in_ok-offer.ensures.follows set log a (named, content))
