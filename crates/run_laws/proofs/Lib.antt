@@ -5,3 +5,4 @@ pub mod Sounds
 pub mod Lines
 pub mod Times
 pub mod Views
+mod Examples
