@@ -133,9 +133,12 @@ pub fn passer(alloc: Global, desk: &Desk<'_>, grant: &Resources) -> Result<Optio
     let Some(first) = desk.head else {
         return Ok(None);
     };
+    // live jobs hold units of the grant, no two of them one in common
+    desk.graph.keeps();
     let head = &desk.rows[place_in(desk.rows, first)];
     if desk.graph.has_room(&head.spec) {
         return Ok(None);
     }
-    first_leaving(alloc, desk, grant, head)
+    let found = first_leaving(alloc, desk, grant, head)?;
+    Ok(found)
 }
