@@ -15,7 +15,7 @@ use Rattle.manager_rules.specs.declared.policy.Policy.{Policy}
 use Rattle.manager_rules.specs.declared.policy.Policy.TheVariants.{FirstFit, Easy}
 use Rattle.manager_rules.specs.Deeds.{Takes}
 use Rattle.manager_rules.specs.Dependencies.{IsHead}
-use Rattle.manager_rules.specs.Due.{FindsNone, IsBefore, LeavesReserved, Passes}
+use Rattle.manager_rules.specs.Due.{FindsNone, IsBefore, IsFirstFit, LeavesReserved, Passes}
 use Rattle.manager_rules.specs.Jobs.{StoredJob, ids_of}
 use Rattle.manager_rules.specs.Scene.{Scene}
 use Rattle.manager_rules.proofs.Rules.{one_takes, same_job}
@@ -25,6 +25,7 @@ use Rattle.job_deeds.specs.Waiting.{waits_with}
 use Rattle.job_deeds.specs.declared.decisions.Desk.{Desk}
 use Rattle.job_deeds.proofs.Fitting.{one_head}
 use Rattle.job_deeds.proofs.Heads.{head_none, in_queue}
+use Rattle.job_deeds.proofs.Offers.{one_fit}
 
 -- the id of the first is that of a job
 pub head_known : (jobs : List StoredJob) (id : ℕ) → IsHead jobs id → Contains (ids_of jobs) id
@@ -68,6 +69,26 @@ module _ (s : Scene) (rising : IsStrictlyIncreasing (ids_of s.jobs)) where
         next = λ k q there before leaves. each_at (λ y. IsBefore y h.0 → Leaves s head y → ⊥) s.jobs k h.5 (among_from s.jobs k there) before (q, leaves);
       },
     )
+
+-- ---- by the one that passes
+
+module _ (s : Scene) (rising : IsStrictlyIncreasing (ids_of s.jobs)) (o : Option ℕ) (is : IsPasserOf s o) (j : StoredJob) (known : Contains s.jobs j) where
+  -- the job of its id passes with some units, and with those that it finds
+  pub passer_ready : o ≡ Some j.id → (r : Resources) × Passes s j r
+  passer_ready e =
+      let p = subst (IsPasserOf s) e is in
+      (p.1, subst (λ k. Passes s k p.1) (same_job s rising p.0 j p.2 known p.3) p.4)
+
+  pub passer_takes : o ≡ Some j.id → (r : Resources) → IsFirstFit s j r → Passes s j r
+  passer_takes e r fit = let p = passer_ready e in subst (Passes s j) (one_fit s j p.0 r p.1.leaves.fit fit) p.1
+
+  -- a job that passes is the one
+  pub passer_of : ((id : ℕ) → s.old id ≡ false) → (r : Resources) → Passes s j r → o ≡ Some j.id
+  passer_of young r p = by o is
+    where
+      by : (o : Option ℕ) → IsPasserOf s o → o ≡ Some j.id
+      by None is = absurd (is j r known p)
+      by (Some id) is = ap Some (sym is.3 ∙ one_passer s rising is.0 j is.1 r is.2 known (young is.0.id) (young j.id) is.4 p)
 
 -- ---- at a desk
 
