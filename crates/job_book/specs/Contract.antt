@@ -24,10 +24,10 @@ use Rattle.job_deeds.specs.manager_rules.Limits.{no_limits}
 use Rattle.job_deeds.specs.manager_rules.Whys.{IsWhy}
 use Rattle.job_deeds.specs.manager_rules.declared.asked.Asked.{Asked}
 use Rattle.job_deeds.specs.manager_rules.declared.due.Due.{Due}
-use Rattle.job_deeds.specs.manager_rules.declared.policy.Policy.TheVariants.{FirstFit}
 use Rattle.job_deeds.specs.manager_rules.declared.terms.Limits.{Limits}
 use Rattle.job_deeds.specs.manager_rules.declared.why.Why.{Why}
-use Rattle.job_deeds.specs.Choices.{SaysAs}
+use Rattle.job_deeds.specs.Choices.{IsSeen, SaysAs}
+use Rattle.job_deeds.specs.declared.decisions.Desk.{Desk}
 use Rattle.job_book.specs.Value.{BookValue, scene_of}
 
 -- ---- submissions
@@ -76,6 +76,11 @@ Gains old id spec event new =
     → new ≡ with_new old (new_job id spec needs userid urgency)
 
 -- ---- due events
+
+-- what a book looks at, with any answers and limits, is seen from a desk
+abbrev pub IsSeenIn : BookValue → ℕ → List Asked → Desk → Type 0
+IsSeenIn book now asked desk =
+    (answer : Ask → ℕ) (limits : Limits) → IsSeen desk (scene_of book now asked answer limits)
 
 -- the event is due, whatever function the tap answers as and however new jobs are limited
 abbrev pub IsDueIn : BookValue → ℕ → List Asked → (Ask → ℕ → Type 0) → Due → Type 0
@@ -132,10 +137,9 @@ NoBirth book asked = (id : ℕ) → BirthIn book asked id → ⊥
 abbrev pub seconds_left : ℕ → BookValue → List ℕ
 seconds_left now book = filter (λ second. nat_lt now second) (flat_map seconds_of book.jobs)
 
--- what every book keeps: nobody passes the first in the queue
+-- what every book keeps
 pub record IsKept (book : BookValue) : Type 0 where
   pub grant : IsR book.grant
-  pub policy : book.policy ≡ FirstFit
   pub sets : IsGrant book.grant.nodes
   pub rising : IsStrictlyIncreasing (ids_of book.jobs)
   pub small : Each (λ j. j.id < 2 ^ 64) book.jobs

@@ -9,8 +9,8 @@ ghost use Rattle.job_deeds.specs.manager_rules.Dependencies.{job_at};
 ghost use Rattle.job_deeds.specs.manager_rules.Jobs.{ids_of};
 ghost use Rattle.job_deeds.specs.manager_rules.Scene.{IsAsked};
 ghost use Rattle.job_deeds.specs.manager_rules.Times.{IsLeast};
-ghost use Rattle.job_deeds.specs.manager_rules.declared.policy.Policy.TheVariants.{FirstFit};
-ghost use Rattle.job_book.specs.Contract.{BeginsAsOne, Explains, Finds, Gains, IsFirstBirth, IsKept, IsNewJob, KnowsNeeds, NoBirth, WasDue, after_event, r_at, seconds_left};
+ghost use Rattle.job_deeds.specs.Choices.{IsDesk};
+ghost use Rattle.job_book.specs.Contract.{BeginsAsOne, Explains, Finds, Gains, IsFirstBirth, IsKept, IsNewJob, IsSeenIn, KnowsNeeds, NoBirth, WasDue, after_event, r_at, seconds_left};
 
 use crate::active::{Active, enter, entry_of, first_bearing, follow, place_of_active};
 use crate::seconds::next_of_rows;
@@ -22,12 +22,12 @@ use job_deeds::job_spec::JobSpec;
 use job_deeds::job_states::{Job, ReplayFault, begin};
 use job_deeds::job_texts::needs_of;
 use job_deeds::lists::Copied;
-use job_deeds::manager_rules::{Due, JobList, OpenList, Policy, Why};
+use job_deeds::manager_rules::{Asked, Due, JobList, OpenList, Policy, Why};
 use job_deeds::resource_set::Resources;
 use job_deeds::tap::{Ask, Tap};
 use job_deeds::{
-    Desk, Row, change_at, choice, due, find, hold, is_over, next_of, place_in, place_of, rank,
-    reason,
+    Desk, Row, change_at, choice, due, find, hold, is_over, next_of, passer, place_in, place_of,
+    rank, reason,
 };
 use std::alloc::{AllocError, Global};
 use std::marker::Model;
@@ -68,7 +68,6 @@ impl Book {
     /// A book of a grant, without jobs, by this policy.
     pub fn new(alloc: Global, grant: &Resources, policy: Policy) -> Result<Book, AllocError>
         requires grant { IsR grant.now }
-        requires policy { policy ≡ FirstFit }
         ensures { IfOk result (λ b. b ≡ record {
           grant = grant.now;
           policy = policy;
@@ -111,6 +110,26 @@ impl Book {
         Ok(())
     }
 
+    /// What the jobs are decided by at this second.
+    fn desk<'a>(&'a self, now: u64, asked: &'a [Asked]) -> Result<Desk<'a>, AllocError>
+        ensures rows { IfOk result (λ desk. desk.rows.now ≡ self.now.jobs) }
+        ensures asked { IfOk result (λ desk. desk.asked.now ≡ asked.now) }
+        ensures desk { IfOk result IsDesk }
+        ensures seen { IfOk result (IsSeenIn self.now now asked.now) }
+    {
+        let desk = Desk {
+            second: now,
+            graph: &self.graph,
+            policy: self.policy,
+            rows: &self.rows,
+            head: self.queue.head(),
+            passer: None,
+            asked,
+        };
+        let passer = passer(*self.rows.allocator(), &desk, &self.grant)?;
+        Ok(Desk { passer, ..desk })
+    }
+
     /// An event that is due at this second (Flux RFC 21, 26 and 27), if there is one: of the job
     /// with the least id that has one, a command's before the manager's own.
     pub fn due<F: Fn(&Ask) -> u32>(
@@ -125,14 +144,7 @@ impl Book {
         ensures { IfOk result (Finds self.now now asked.now (FnReturnsAt F.Fn tap.now)) }
     {
         let alloc = *self.rows.allocator();
-        let desk = Desk {
-            second: now,
-            graph: &self.graph,
-            policy: self.policy,
-            rows: &self.rows,
-            head: self.queue.head(),
-            asked: asked.as_slice(),
-        };
+        let desk = self.desk(now, asked.as_slice())?;
         let mut near = 0;
         for index in 0..self.active.len() {
             if sleeps(self.active[index], now, desk.asked) {
@@ -167,18 +179,11 @@ impl Book {
     }
 
     /// Why a job doesn't run at this second: no such job, its state, that it is held, the job
-    /// before it, or those whose resources are in its way.
+    /// before it, those whose resources are in its way, or that its resources are due.
     pub fn why(&self, job: u64, now: u64) -> Result<Why, AllocError>
         ensures { IfOk result (Explains self.now now job) }
     {
-        let desk = Desk {
-            second: now,
-            graph: &self.graph,
-            policy: self.policy,
-            rows: &self.rows,
-            head: self.queue.head(),
-            asked: &[],
-        };
+        let desk = self.desk(now, &[])?;
         match find(desk.rows, job) {
             Some(row) => reason(*self.rows.allocator(), &desk, row),
             None => Ok(Why::NoJob),

@@ -7,10 +7,9 @@ use Rattle.job_states.specs.declared.job.State.{State}
 use Rattle.job_states.specs.declared.job.State.TheVariants as state
 use Rattle.job_spec.specs.declared.spec.Depend.{Depend}
 use Rattle.manager_rules.specs.Deeds.{Deed, Validates, Adds, Removes, Loses, Depends, Restarts, Prioritizes, NeverFits, Takes, Starts, Finishes, Expires, Stops, Releases, Frees, Cleans, Carries}
-use Rattle.manager_rules.proofs.Plain.{none_restarts, takes_first}
-use Rattle.manager_rules.specs.declared.policy.Policy.TheVariants.{FirstFit}
-use Rattle.manager_rules.specs.Dependencies.{IsHead, first_unadded, is_lost, is_met, open_needs}
-use Rattle.manager_rules.specs.Due.{IsFirstFit, IsOver, MayDo, status_now}
+use Rattle.manager_rules.proofs.Plain.{none_restarts}
+use Rattle.manager_rules.specs.Dependencies.{first_unadded, is_lost, is_met, open_needs}
+use Rattle.manager_rules.specs.Due.{IsFirstFit, IsOver, MayDo, MayTake, status_now}
 use Rattle.manager_rules.specs.Jobs.{StoredJob}
 use Rattle.manager_rules.specs.Scene.{Scene, has_living_child, priority_of}
 use Rattle.resource_set.specs.declared.node.Resources.{Resources}
@@ -119,24 +118,24 @@ none_held_back s j at added met lost some Frees own m = apart j.job.state state.
 none_held_back s j at added met lost some Cleans own m = apart j.job.state state.Depend state.Cleanup refl at m.0
 none_held_back s j at added met lost some (Carries asked) own m = own
 
-pub none_waiting : (s : Scene) (j : StoredJob) → j.job.state ≡ state.Sched → j.job.priority ≡ Some (priority_of s j) → (fits.NeverFits j.spec s.grant.nodes → ⊥) → ((r : Resources) → IsHead s.jobs j.id → IsFirstFit s j r → ⊥) → s.policy ≡ FirstFit → s.old j.id ≡ false → (deed : Deed) → IsOwn deed → MayDo s j deed → ⊥
-none_waiting s j at ranked fit free policy young Validates own m = apart j.job.state state.Sched state.New refl at m
-none_waiting s j at ranked fit free policy young (Adds need) own m = apart j.job.state state.Sched state.Depend refl at m.0
-none_waiting s j at ranked fit free policy young (Removes need) own m = apart j.job.state state.Sched state.Depend refl at m.0
-none_waiting s j at ranked fit free policy young (Loses need) own m = apart j.job.state state.Sched state.Depend refl at m.0
-none_waiting s j at ranked fit free policy young Depends own m = apart j.job.state state.Sched state.Depend refl at m.0
-none_waiting s j at ranked fit free policy young (Prioritizes priority) own m = elim m.1 [
+pub none_waiting : (s : Scene) (j : StoredJob) → j.job.state ≡ state.Sched → j.job.priority ≡ Some (priority_of s j) → (fits.NeverFits j.spec s.grant.nodes → ⊥) → ((r : Resources) → MayTake s j r → IsFirstFit s j r → ⊥) → s.old j.id ≡ false → (deed : Deed) → IsOwn deed → MayDo s j deed → ⊥
+none_waiting s j at ranked fit free young Validates own m = apart j.job.state state.Sched state.New refl at m
+none_waiting s j at ranked fit free young (Adds need) own m = apart j.job.state state.Sched state.Depend refl at m.0
+none_waiting s j at ranked fit free young (Removes need) own m = apart j.job.state state.Sched state.Depend refl at m.0
+none_waiting s j at ranked fit free young (Loses need) own m = apart j.job.state state.Sched state.Depend refl at m.0
+none_waiting s j at ranked fit free young Depends own m = apart j.job.state state.Sched state.Depend refl at m.0
+none_waiting s j at ranked fit free young (Prioritizes priority) own m = elim m.1 [
   | inl e ↦ apart j.job.state state.Sched state.Priority refl at e
   | inr e ↦ e.1 (ranked ∙ ap Some (sym m.0))
 ]
-none_waiting s j at ranked fit free policy young Restarts own m = none_restarts s j young m
-none_waiting s j at ranked fit free policy young NeverFits own m = fit m.1
-none_waiting s j at ranked fit free policy young (Takes r) own m = free r ((takes_first s j policy r).0 m.1) m.2
-none_waiting s j at ranked fit free policy young Starts own m = apart j.job.state state.Sched state.Run refl at m.0
-none_waiting s j at ranked fit free policy young (Finishes status) own m = apart j.job.state state.Sched state.Run refl at m.0
-none_waiting s j at ranked fit free policy young Expires own m = apart j.job.state state.Sched state.Run refl at m.0
-none_waiting s j at ranked fit free policy young Stops own m = apart j.job.state state.Sched state.Cleanup refl at m.0
-none_waiting s j at ranked fit free policy young Releases own m = apart j.job.state state.Sched state.Cleanup refl at m.0
-none_waiting s j at ranked fit free policy young Frees own m = apart j.job.state state.Sched state.Cleanup refl at m.0
-none_waiting s j at ranked fit free policy young Cleans own m = apart j.job.state state.Sched state.Cleanup refl at m.0
-none_waiting s j at ranked fit free policy young (Carries asked) own m = own
+none_waiting s j at ranked fit free young Restarts own m = none_restarts s j young m
+none_waiting s j at ranked fit free young NeverFits own m = fit m.1
+none_waiting s j at ranked fit free young (Takes r) own m = free r m.1 m.2
+none_waiting s j at ranked fit free young Starts own m = apart j.job.state state.Sched state.Run refl at m.0
+none_waiting s j at ranked fit free young (Finishes status) own m = apart j.job.state state.Sched state.Run refl at m.0
+none_waiting s j at ranked fit free young Expires own m = apart j.job.state state.Sched state.Run refl at m.0
+none_waiting s j at ranked fit free young Stops own m = apart j.job.state state.Sched state.Cleanup refl at m.0
+none_waiting s j at ranked fit free young Releases own m = apart j.job.state state.Sched state.Cleanup refl at m.0
+none_waiting s j at ranked fit free young Frees own m = apart j.job.state state.Sched state.Cleanup refl at m.0
+none_waiting s j at ranked fit free young Cleans own m = apart j.job.state state.Sched state.Cleanup refl at m.0
+none_waiting s j at ranked fit free young (Carries asked) own m = own

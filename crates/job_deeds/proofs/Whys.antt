@@ -11,9 +11,7 @@ use Rattle.graph_match.specs.Answers.{AreFirstFit, IsBlocked}
 use Rattle.job_rules.proofs.Lying.{never_first, read_is}
 use Rattle.job_rules.specs.Fits.{IsGrant, NeverFits}
 use Rattle.job_spec.specs.Sound.{IsSpec}
-use Rattle.manager_rules.proofs.Plain.{behind_first}
-use Rattle.manager_rules.specs.declared.policy.Policy.TheVariants.{FirstFit}
-use Rattle.manager_rules.specs.Dependencies.{IsHead, job_at}
+use Rattle.manager_rules.specs.Dependencies.{job_at}
 use Rattle.manager_rules.specs.Scene.{Scene}
 use Rattle.manager_rules.specs.Sound.{holds_of}
 use Rattle.manager_rules.specs.declared.why.Why.{Why}
@@ -74,13 +72,9 @@ said_is_why s j id c e NoJob said = absurd said
 pub said_why : (s : Scene) (j : StoredJob) (id : ℕ) → job_at s.jobs id ≡ Some j → (why : Why) → IsSaidOf s j why → IsWhy s id why
 said_why s j id e why said = let found = found_job s.jobs id j e in said_is_why s j id (contains_from s.jobs j found.0) found.1 why said
 
--- ---- where nobody passes the first
+-- ---- of the first in the queue
 
 module _ (desk : Desk) (s : Scene) (seen : IsSeen desk s) (j : StoredJob) where
-  pub said_behind : desk.policy ≡ FirstFit → j.job.state ≡ state.Sched → j.job.priority ≢ Some 0 → (head : ℕ) → IsHead desk.rows.now head → head ≢ j.id → IsSaidOf s j (Behind head)
-  said_behind policy waits ranked head first other =
-      (behind_first s j (seen.policy ∙ policy) head).1 (waits, ranked, subst (λ js. IsHead js head) (sym seen.jobs) first, other)
-
   pub said_ready : (r : Resources) → IsFirst s.jobs j → AreFirstFit desk.graph.now j.spec desk.second r → IsSaidOf s j Ready
   said_ready r first fit = inl (first, λ none. no_some _ r.nodes none (subst (λ g. AreFirstFit g j.spec desk.second r) seen.graph fit).nodes)
     where

@@ -1,6 +1,7 @@
 -- what the calls promise
 pub mod Actions
 pub mod Waiting
+pub mod Passing
 pub mod Choices
 pub mod Landing
 -- what lies below, for the crates that stand on this one

@@ -1,5 +1,5 @@
 //! What is due for a job, whatever its state.
-ghost use Rattle.std.specs.Prelude.{◌≡◌, ◌↔◌, All, IfOk, IsTrue, Some};
+ghost use Rattle.std.specs.Prelude.{◌≡◌, ◌↔◌, ◌⊎◌, All, Contains, IfOk, IsTrue, Some};
 ghost use Rattle.std.specs.Fn.{FnReturnsAt};
 ghost use Rattle.resource_set.specs.Valid.{IsR};
 ghost use Rattle.job_rules.specs.Fits.{CanFit, NeverFits, free_of};
@@ -33,6 +33,8 @@ pub struct Desk<'a> {
     /// By rising ids.
     pub rows: &'a [Row],
     pub head: Option<u64>,
+    /// The one that passes the first in the queue.
+    pub passer: Option<u64>,
     pub asked: &'a [Asked],
 }
 
@@ -45,36 +47,38 @@ fn take(alloc: Global, r: Resources) -> Result<Option<Action<'static>>, AllocErr
     Ok(Some(Action::Take(r, Bytes::from_vec(text))))
 }
 
-/// Whether this job goes first.
-fn goes_first(head: Option<u64>, id: u64) -> bool
-    ensures { IsTrue result ↔ (head ≡ Some id) }
+/// Whether a job goes first, or passes the one that does.
+fn may_go(head: Option<u64>, passer: Option<u64>, id: u64) -> bool
+    ensures { IsTrue result ↔ ((head ≡ Some id) ⊎ (passer ≡ Some id)) }
 {
-    head == Some(id)
+    head == Some(id) || passer == Some(id)
 }
 
-/// Whether a job goes first, and there is room for it.
+/// Whether a job may go, and there is room for it.
 fn goes_now(desk: &Desk<'_>, row: &Row) -> bool
     requires { IsSpec row.now.spec }
-    ensures { IsTrue result ↔ ((desk.now.head ≡ Some row.now.id)
+    ensures { IsTrue result ↔ (((desk.now.head ≡ Some row.now.id)
+        ⊎ (desk.now.passer ≡ Some row.now.id))
         × CanFit row.now.spec desk.now.graph.now.grant
         (free_of desk.now.graph.now.grant desk.now.graph.now.live)) }
 {
-    goes_first(desk.head, row.id) && desk.graph.has_room(&row.spec)
+    may_go(desk.head, desk.passer, row.id) && desk.graph.has_room(&row.spec)
 }
 
-/// The resources of a job that goes first, where they are free.
+/// The resources of a job that may go, where they are free.
 fn first_fit(
     alloc: Global,
     desk: &Desk<'_>,
     row: &Row,
 ) -> Result<Option<Action<'static>>, AllocError>
     requires desk { IsDesk desk.now }
+    requires known { Contains desk.now.rows.now row.now }
     requires spec { IsSpec row.now.spec }
     requires waits { row.now.job.state ≡ state.Sched }
     requires fits { NeverFits row.now.spec desk.now.graph.now.grant → ⊥ }
     requires room { CanFit row.now.spec desk.now.graph.now.grant
         (free_of desk.now.graph.now.grant desk.now.graph.now.live) }
-    requires first { desk.now.head ≡ Some row.now.id }
+    requires goes { (desk.now.head ≡ Some row.now.id) ⊎ (desk.now.passer ≡ Some row.now.id) }
     ensures found { IfOk result (λ found. (s : Scene) → IsSeen desk.now s
         → Finds s row.now found) }
     ensures told { IfOk result AreTold }
@@ -92,13 +96,14 @@ fn first_fit(
 }
 
 /// What is due for a job that waits for resources with the priority that is defined for it. Where
-/// the first one has no room, the jobs in its way aren't asked for.
+/// one that may go has no room, the jobs in its way aren't asked for.
 fn of_ranked(
     alloc: Global,
     desk: &Desk<'_>,
     row: &Row,
 ) -> Result<Option<Action<'static>>, AllocError>
     requires desk { IsDesk desk.now }
+    requires known { Contains desk.now.rows.now row.now }
     requires spec { IsSpec row.now.spec }
     requires waits { row.now.job.state ≡ state.Sched }
     ensures found { IfOk result (λ found. (s : Scene) → IsSeen desk.now s
@@ -117,7 +122,7 @@ fn of_ranked(
 }
 
 /// What is due for a job in SCHED: another priority, an exception where it never fits, and its
-/// resources where it goes first.
+/// resources where it may go.
 fn of_sched<F: Fn(&Ask) -> u32>(
     alloc: Global,
     desk: &Desk<'_>,
@@ -125,6 +130,7 @@ fn of_sched<F: Fn(&Ask) -> u32>(
     tap: &Tap<F>,
 ) -> Result<Option<Action<'static>>, AllocError>
     requires desk { IsDesk desk.now }
+    requires known { Contains desk.now.rows.now row.now }
     requires spec { IsSpec row.now.spec }
     requires waits { row.now.job.state ≡ state.Sched }
     requires callable { F.IsAlwaysCallable tap.now }
@@ -148,6 +154,7 @@ fn own<F: Fn(&Ask) -> u32>(
     tap: &Tap<F>,
 ) -> Result<Option<Action<'static>>, AllocError>
     requires desk { IsDesk desk.now }
+    requires known { Contains desk.now.rows.now row.now }
     requires spec { IsSpec row.now.spec }
     requires callable { F.IsAlwaysCallable tap.now }
     requires once { AnswersOnce (λ ask n. FnReturnsAt F.Fn tap.now ask n) }
@@ -174,6 +181,7 @@ pub fn choice<'a, F: Fn(&Ask) -> u32>(
     tap: &Tap<F>,
 ) -> Result<Option<Action<'a>>, AllocError>
     requires desk { IsDesk desk.now }
+    requires known { Contains desk.now.rows.now row.now }
     requires spec { IsSpec row.now.spec }
     requires asked { All IsAsked desk.now.asked.now }
     requires callable { F.IsAlwaysCallable tap.now }

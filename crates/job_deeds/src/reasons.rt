@@ -2,11 +2,10 @@
 ghost use Rattle.std.specs.Prelude.{◌≡◌, Contains, IfOk};
 ghost use Rattle.job_rules.specs.Fits.{IsGrant};
 ghost use Rattle.job_spec.specs.Sound.{IsSpec};
-ghost use Rattle.manager_rules.specs.declared.policy.Policy.TheVariants.{FirstFit};
 ghost use Rattle.manager_rules.specs.Scene.{Scene};
 ghost use Rattle.manager_rules.specs.Whys.{IsFirst, IsSaidOf};
-ghost use Rattle.job_deeds.specs.Choices.{IsSeen};
-ghost use Rattle.job_deeds.specs.Waiting.{IsFirstOf, IsRanked};
+ghost use Rattle.job_deeds.specs.Choices.{IsDesk, IsSeen};
+ghost use Rattle.job_deeds.specs.Waiting.{IsRanked};
 
 use crate::decisions::Desk;
 use crate::row::Row;
@@ -30,10 +29,9 @@ fn of_first(alloc: Global, desk: &Desk<'_>, row: &Row) -> Result<Why, AllocError
     }
 }
 
-/// Why a job of these doesn't run, where nobody passes the first.
+/// Why a job of these doesn't run.
 pub fn reason(alloc: Global, desk: &Desk<'_>, row: &Row) -> Result<Why, AllocError>
-    requires first { IsFirstOf desk.now.rows.now desk.now.head }
-    requires policy { desk.now.policy ≡ FirstFit }
+    requires desk { IsDesk desk.now }
     requires known { Contains desk.now.rows.now row.now }
     requires ranked { IsRanked row.now }
     requires spec { IsSpec row.now.spec }
@@ -49,8 +47,11 @@ pub fn reason(alloc: Global, desk: &Desk<'_>, row: &Row) -> Result<Why, AllocErr
     let Some(first) = desk.head else {
         unreachable!();
     };
-    if first != row.id {
-        return Ok(Why::Behind(first));
+    if first == row.id {
+        return of_first(alloc, desk, row);
     }
-    of_first(alloc, desk, row)
+    if desk.passer == Some(row.id) {
+        return Ok(Why::Ready);
+    }
+    Ok(Why::Behind(first))
 }

@@ -17,7 +17,6 @@ ghost use Rattle.resource_set.specs.Valid.{IsR};
 ghost use Rattle.resource_set.specs.Writing.{r_text};
 ghost use Rattle.store_laws.specs.Posts.{is_manager};
 ghost use Rattle.manager_rules.specs.Posts.{Does, Submits};
-ghost use Rattle.manager_rules.specs.declared.policy.Policy.TheVariants.{FirstFit};
 ghost use Rattle.job_manager.specs.Follows.{Follows, Keeps, Places, after_post};
 ghost use Rattle.job_manager.specs.Managed.{IsManaged, WasDuePost};
 ghost use Rattle.job_manager.specs.Posts.{is_posted_for, post_of, told};
@@ -119,7 +118,6 @@ impl Manager {
         requires size { (1 ≤ setting.size) × (setting.size ≤ 32) }
         requires fanout { (1 ≤ setting.fanout) × (setting.fanout ≤ 32) }
         requires grant { IsR grant.now }
-        requires policy { policy ≡ FirstFit }
         ensures ready { IfOk result (λ v. v.spent ≡ false) }
         ensures size { IfOk result (λ v. v.core.size ≡ setting.size) }
         ensures posted { IfOk result (λ v. v.posted ≡ None) }

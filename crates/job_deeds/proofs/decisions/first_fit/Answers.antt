@@ -1,12 +1,17 @@
-use Rattle.std.proofs.Common.{◌≡◌, None, Ok, inl, sym, subst}
+use Rattle.std.proofs.Common.{◌≡◌, None, Ok, inl, inr, sym, subst}
+use Rattle.std.specs.Prelude.{Contains}
+use Rattle.std.specs.List.Sorted.{IsStrictlyIncreasing}
 use Rattle.graph_match.specs.Answers.{Answers, AreFirstFit}
 use Rattle.job_rules.proofs.Lying.{read_is}
 use Rattle.job_rules.proofs.Sets.{free_is, none_exactly}
 use Rattle.job_rules.specs.Fits.{NeverFits, first_fit, free_of, nodes_of}
 use Rattle.manager_rules.specs.Dependencies.{IsHead}
+use Rattle.manager_rules.specs.Due.{MayTake}
+use Rattle.manager_rules.specs.Jobs.{ids_of}
 use Rattle.resource_set.specs.Reading.{told}
 use Rattle.job_deeds.specs.Actions.{Finds}
 use Rattle.job_deeds.proofs.Fitting.{is_head, seen_fit, taken_are_r}
+use Rattle.job_deeds.proofs.Passes.{passer_takes}
 use Rattle.job_deeds.proofs.decisions.first_fit.Goals as goal
 
 pub take-requires : goal.take-requires
@@ -20,9 +25,13 @@ returns-clause-found c = λ s seen.
     let fit = subst (Answers desk.graph.now c.row.inside.spec desk.second) c.in-Units.is c.in_ok-r.ensures in
     let here = subst (λ j. AreFirstFit desk.graph.now j.spec desk.second c.in-Units.r) c.row.view_is fit in
     let taking = c.in_ok-found-in-Units.ensures in
-    let head = is_head desk.rows.now desk.head c.args.row.now.id c.requires.desk.head c.requires.first in
-    subst (Finds s c.args.row.now) (sym taking.is)
-    (c.requires.waits, inl (subst (λ js. IsHead js c.args.row.now.id) (sym seen.jobs) head), seen_fit desk s seen c.args.row.now c.in-Units.r here (subst (λ t. told t ≡ Ok c.in-Units.r) taking.canonical taking.again), seen.old c.args.row.now.id)
+    let j = c.args.row.now in
+    let fits_here = seen_fit desk s seen j c.in-Units.r here (subst (λ t. told t ≡ Ok c.in-Units.r) taking.canonical taking.again) in
+    let may : MayTake s j c.in-Units.r = elim c.requires.goes [
+      | inl e ↦ inl (subst (λ js. IsHead js j.id) (sym seen.jobs) (is_head desk.rows.now desk.head j.id c.requires.desk.head e))
+      | inr e ↦ inr (passer_takes s (subst (λ js. IsStrictlyIncreasing (ids_of js)) (sym seen.jobs) c.requires.desk.rising) desk.passer (c.requires.desk.passer s seen) j (subst (λ js. Contains js j) (sym seen.jobs) c.requires.known) e c.in-Units.r fits_here)
+    ] in
+    subst (Finds s j) (sym taking.is) (c.requires.waits, may, fits_here, seen.old j.id)
 
 pub unreachable-requires : goal.unreachable-requires
 unreachable-requires c =

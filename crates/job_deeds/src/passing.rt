@@ -1,0 +1,144 @@
+//! The job that passes the first in the queue (EASY backfill).
+ghost use Rattle.std.specs.Prelude.{◌≡◌, ◌≢◌, ◌<◌, ◌↔◌, ℕ, Contains, IfOk, IsTrue};
+ghost use Rattle.job_rules.specs.Fits.{IsGrant};
+ghost use Rattle.job_spec.specs.Sound.{IsSpec};
+ghost use Rattle.manager_rules.specs.Scene.{Scene};
+ghost use Rattle.job_deeds.specs.Choices.{IsLook, IsSeen};
+ghost use Rattle.job_deeds.specs.Passing.{IsFirstLeaving, IsOffer, IsPasserOf, Leaves, leases_of};
+ghost use Rattle.job_deeds.specs.Waiting.{waits_with};
+
+use crate::decisions::Desk;
+use crate::row::{Row, place_in};
+use crate::waiting::rank;
+use backfill::{Hold, passes};
+use graph_match::Fit;
+use lists::Copied;
+use manager_rules::Policy;
+use resource_set::Resources;
+use std::alloc::{AllocError, Global};
+
+/// What live jobs hold until their resources end.
+fn leases(alloc: Global, rows: &[Row]) -> Result<Vec<Hold>, AllocError>
+    ensures { IfOk result (λ live. live.items ≡ leases_of rows.now) }
+{
+    let mut live = Vec::new(alloc);
+    for row in rows {
+        if let Some(r) = &row.r {
+            live.push(Hold {
+                id: row.id,
+                units: r.copy()?,
+                until: r.expiration,
+            })?;
+        }
+    }
+    Ok(live)
+}
+
+/// What a job would hold that starts now. Where it has no room, the jobs in its way aren't asked
+/// for.
+fn offer(desk: &Desk<'_>, row: &Row) -> Result<Option<Hold>, AllocError>
+    requires spec { IsSpec row.now.spec }
+    requires grant { IsGrant desk.now.graph.now.grant }
+    ensures { IfOk result (IsOffer desk.now.graph.now desk.now.second row.now) }
+{
+    if !desk.graph.has_room(&row.spec) {
+        return Ok(None);
+    }
+    match desk.graph.fit(&row.spec, desk.second)? {
+        Fit::Units(units) => Ok(Some(Hold {
+            id: row.id,
+            until: units.expiration,
+            units,
+        })),
+        Fit::Busy(_) => Ok(None),
+        Fit::Never => Ok(None),
+    }
+}
+
+/// Whether a job behind the first leaves the second that is reserved for it.
+fn leaves(
+    alloc: Global,
+    desk: &Desk<'_>,
+    grant: &Resources,
+    live: &[Hold],
+    head: &Row,
+    row: &Row,
+) -> Result<bool, AllocError>
+    requires look { IsLook desk.now grant.now }
+    requires live { live.now ≡ leases_of desk.now.rows.now }
+    requires head { IsSpec head.now.spec }
+    requires known { Contains desk.now.rows.now row.now }
+    requires behind { row.now.id ≢ head.now.id }
+    requires ranked { 0 < waits_with row.now }
+    ensures { IfOk result (λ leaves. (s : Scene) → IsSeen desk.now s
+        → IsTrue leaves ↔ Leaves s head.now row.now) }
+{
+    // live jobs hold units of the grant, no two of them one in common
+    desk.graph.keeps();
+    let Some(offer) = offer(desk, row)? else {
+        return Ok(false);
+    };
+    if !passes(alloc, grant, live, &head.spec, &offer, desk.second)? {
+        return Ok(false);
+    }
+    // the text of the units is read again
+    let _text = resource_set::print(alloc, &offer.units)?;
+    Ok(true)
+}
+
+/// Whether a job stands behind the first, and before all that wait with this priority.
+fn goes_before(row: &Row, head: u64, most: u32) -> bool
+    ensures { IsTrue result ↔ ((most < waits_with row.now) × (row.now.id ≢ head)) }
+{
+    most < rank(&row.job) && row.id != head
+}
+
+/// The first job behind the first in the queue that leaves the second that is reserved for it. The
+/// ids rise, so of those that wait with the same priority the first is met first.
+fn first_leaving(
+    alloc: Global,
+    desk: &Desk<'_>,
+    grant: &Resources,
+    head: &Row,
+) -> Result<Option<u64>, AllocError>
+    requires look { IsLook desk.now grant.now }
+    requires head { IsSpec head.now.spec }
+    ensures { IfOk result (λ id. (s : Scene) → IsSeen desk.now s
+        → (most : ℕ) × IsFirstLeaving s head.now desk.now.rows.now most id) }
+{
+    let live = leases(alloc, desk.rows)?;
+    let mut first = None;
+    let mut most = 0;
+    for row in desk.rows {
+        if !goes_before(row, head.id, most) {
+            continue;
+        }
+        if leaves(alloc, desk, grant, &live, head, row)? {
+            first = Some(row.id);
+            most = rank(&row.job);
+        }
+    }
+    Ok(first)
+}
+
+/// The job that passes the first in the queue at this second, if one does. Where the policy lets
+/// none pass, or the first finds room, the other jobs aren't looked at.
+pub fn passer(alloc: Global, desk: &Desk<'_>, grant: &Resources) -> Result<Option<u64>, AllocError>
+    requires { IsLook desk.now grant.now }
+    ensures { IfOk result (λ id. (s : Scene) → IsSeen desk.now s → IsPasserOf s id) }
+{
+    if desk.policy == Policy::FirstFit {
+        return Ok(None);
+    }
+    let Some(first) = desk.head else {
+        return Ok(None);
+    };
+    // live jobs hold units of the grant, no two of them one in common
+    desk.graph.keeps();
+    let head = &desk.rows[place_in(desk.rows, first)];
+    if desk.graph.has_room(&head.spec) {
+        return Ok(None);
+    }
+    let found = first_leaving(alloc, desk, grant, head)?;
+    Ok(found)
+}
