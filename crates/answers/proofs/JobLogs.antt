@@ -260,8 +260,7 @@ unwatched work by label = on (command_at work by)
 -- on terms that are built, the top instance asks for nothing else
 pub built_instance : (set : Setup) → set.base ≡ None → AreBuilt set.terms → IsBuilt (instance_of set)
 built_instance set anew h = record {
-  policy = h.policy;
-  limits = h.limits;
+  limits = h;
   unwatched = λ by label asks. unwatched set.work by label asks;
   start = ap (λ o. option_map_or (λ (kept : Checkpoint). kept.second) o set.birth) anew;
 }

@@ -19,6 +19,10 @@ use Rattle.world.specs.manager_rules.declared.terms.Terms.{Terms}
 abbrev pub is_settled : Options → Bool
 is_settled o = not (is_some o.shuffle)
 
+-- the terms on which a run serves its jobs: with `--backfill` jobs may pass the first in the queue
+abbrev pub terms_of : Terms → Options → Terms
+terms_of terms o = if o.backfill then record terms { policy = Easy } else terms
+
 -- what a run of the workload is given: its options, its grant and the terms on which its jobs are
 -- served
 abbrev pub setup_of : Terms → Options → Workload → Setup
@@ -30,7 +34,7 @@ setup_of terms o work = record {
   grant = grant_text o.size work;
   resources = first_resources o.size work;
   base = None;
-  terms = terms;
+  terms = terms_of terms o;
   birth = 0;
   work = work;
 }

@@ -11,14 +11,14 @@ ghost use Rattle.world.specs.hierarchy.Stretches.{AreRunStretches};
 ghost use Rattle.world.specs.manager_rules.Terms.{AreBuilt};
 ghost use Rattle.world.specs.Choice.{order_of};
 ghost use Rattle.world.specs.declared.order.Order.TheVariants as order;
-ghost use Rattle.flux.specs.Runs.{is_settled, schedule_of, setup_of};
+ghost use Rattle.flux.specs.Runs.{is_settled, schedule_of, setup_of, terms_of};
 
 use run_options::Options;
 use std::alloc::{AllocError, Global};
 use world::answers::{Chronicle, print_answers, print_journal};
 use world::hierarchy::a_true_run_keeps_its_promises;
 use world::kvs_core::CoreFault;
-use world::manager_rules::Terms;
+use world::manager_rules::{Policy, Terms};
 use world::run_laws::time_stays_within;
 use world::workload::Workload;
 use world::{Ended, Schedule, Setting, World};
@@ -37,6 +37,23 @@ fn schedule_of(options: Options) -> Schedule
     match options.shuffle {
         Some(seed) => Schedule::Shuffled(seed),
         None => Schedule::Settled,
+    }
+}
+
+/// The terms on which a run serves its jobs: where its options ask for backfill, jobs may pass the
+/// first in the queue.
+fn terms_of(terms: Terms, options: Options) -> Terms
+    requires { AreBuilt terms }
+    ensures value { result ≡ terms_of terms options }
+    ensures built { AreBuilt result }
+{
+    if options.backfill {
+        Terms {
+            policy: Policy::Easy,
+            ..terms
+        }
+    } else {
+        terms
     }
 }
 
@@ -95,6 +112,7 @@ fn begun(alloc: Global, terms: Terms, options: Options, work: Workload) -> Resul
         fanout: options.fanout,
         hash: options.hash,
     };
+    let terms = terms_of(terms, options);
     World::new(alloc, setting, terms, work, schedule_of(options))
 }
 

@@ -40,7 +40,7 @@ module _ (size fanout : ℕ) (hash : Hash) (grant : Resources) (birth : ℕ) (te
       unique = λ a b label urgency other needs named text more ea eb. cc;
       ranks = λ by some. absurd (true≢false (sym some));
       served = record {
-        built = record { policy = built.policy; limits = built.limits; start = refl; unwatched = λ by label e. cc };
+        built = record { limits = built; start = refl; unwatched = λ by label e. cc };
         answer = refl;
         policy = refl;
         limits = refl;

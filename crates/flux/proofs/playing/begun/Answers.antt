@@ -9,11 +9,11 @@ use Rattle.flux.specs.Runs.{is_settled, schedule_of, setup_of}
 use Rattle.flux.proofs.playing.begun.Goals as goal
 
 -- the order is as settled as the options
-settled_so : (size fanout : ℕ) (hash : Hash) (shuffle : Option ℕ) (journal : Bool) →
-    let o : Options = record { size = size; fanout = fanout; hash = hash; shuffle = shuffle; journal = journal } in
+settled_so : (size fanout : ℕ) (hash : Hash) (shuffle : Option ℕ) (journal backfill : Bool) →
+    let o : Options = record { size = size; fanout = fanout; hash = hash; shuffle = shuffle; journal = journal; backfill = backfill } in
     is_settled_order (order_of (schedule_of o)) ≡ is_settled o
-settled_so size fanout hash None journal = refl
-settled_so size fanout hash (Some seed) journal = refl
+settled_so size fanout hash None journal backfill = refl
+settled_so size fanout hash (Some seed) journal backfill = refl
 
 pub returns-clause-set : goal.returns-clause-set
 returns-clause-set c =
@@ -21,4 +21,4 @@ returns-clause-set c =
     let given : Setup = setup_of c.args.terms o c.args.work in
     IfOk-weaker c.new.result _ (λ world. world.set ≡ setup_of c.args.terms o c.args.work)
     (λ world is. is ∙ ap (λ (b : Bool). (let s : Setup = record given { settled = b } in s))
-    (ap (λ (how : Schedule). is_settled_order (order_of how)) c.schedule_of.ensures ∙ settled_so o.size o.fanout o.hash o.shuffle o.journal)) c.new.ensures.set
+    (ap (λ (how : Schedule). is_settled_order (order_of how)) c.schedule_of.ensures ∙ settled_so o.size o.fanout o.hash o.shuffle o.journal o.backfill)) c.new.ensures.set

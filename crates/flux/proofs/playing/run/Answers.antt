@@ -12,11 +12,11 @@ use Rattle.flux.specs.Runs.{is_settled, schedule_of, setup_of}
 use Rattle.flux.proofs.playing.run.Goals as goal
 
 -- a run that is to be settled draws nothing
-calm_order : (size fanout : ℕ) (hash : Hash) (shuffle : Option ℕ) (journal : Bool) →
-    let o : Options = record { size = size; fanout = fanout; hash = hash; shuffle = shuffle; journal = journal } in
+calm_order : (size fanout : ℕ) (hash : Hash) (shuffle : Option ℕ) (journal backfill : Bool) →
+    let o : Options = record { size = size; fanout = fanout; hash = hash; shuffle = shuffle; journal = journal; backfill = backfill } in
     IsTrue (is_settled o) → order_of (schedule_of o) ≡ order.Settled
-calm_order size fanout hash None journal calm = refl
-calm_order size fanout hash (Some seed) journal calm = cc
+calm_order size fanout hash None journal backfill calm = refl
+calm_order size fanout hash (Some seed) journal backfill calm = cc
 
 pub returns-in-Ok-output-clause-run : goal.returns-in-Ok-output-clause-run
 returns-in-Ok-output-clause-run c =
@@ -29,7 +29,7 @@ returns-in-Ok-output-clause-run c =
       legal = subst (λ s. IsLegalRun s c.finish.result.chronicle) set (subst (IsLegalRun w.set) (sym told) c.chronicle.ensures.legal);
       whole = subst (λ s. IsWholeRun s c.finish.result.chronicle) set (subst (IsWholeRun w.set) (sym told) whole);
       at_rest = λ calm.
-          let there : IsSettledRun w.set w.chronicle = c.in-Ok.ensures.settled (c.in_ok-world.ensures.order ∙ calm_order o.size o.fanout o.hash o.shuffle o.journal calm) in
+          let there : IsSettledRun w.set w.chronicle = c.in-Ok.ensures.settled (c.in_ok-world.ensures.order ∙ calm_order o.size o.fanout o.hash o.shuffle o.journal o.backfill calm) in
           subst (λ s. IsSettledRun s c.finish.result.chronicle) set (subst (IsSettledRun w.set) (sym told) there);
       printed = c.in-Ok-output.ensures c.args.terms
           ∙ ap₂ (λ work chronicle. output_text o.journal (setup_of c.args.terms o work) chronicle) (c.work.ensures ∙ ap (λ s. s.work) set) (c.chronicle.ensures.value ∙ sym told);
