@@ -1,5 +1,5 @@
 -- What a run promises.
-use Rattle.std.specs.Prelude.{ℕ, List, Option, Some, None, Bool, not, is_some}
+use Rattle.std.specs.Prelude.{ℕ, List, Option, Some, None, Bool, not, is_some, if◌then◌else◌}
 use Rattle.run_options.specs.declared.Options.{Options}
 use Rattle.world.specs.workload.declared.work.Workload.{Workload}
 use Rattle.world.specs.answers.Chronicle.{Setup}
@@ -12,6 +12,7 @@ use Rattle.world.specs.homes.Grant.{first_resources, grant_text}
 use Rattle.flux_commands.specs.declared.faults.Run.{Run}
 use Rattle.flux_commands.specs.Asked.{IsSpelled}
 use Rattle.flux_commands.specs.Sides.{Side}
+use Rattle.world.specs.manager_rules.declared.policy.Policy.TheVariants.{Easy}
 use Rattle.world.specs.manager_rules.declared.terms.Terms.{Terms}
 
 -- a run makes every step that can be made before the next command is issued, unless its words ask

@@ -1,8 +1,9 @@
-use Rattle.std.proofs.Common.{◌≡◌, ◌∙◌, ℕ, Bool, Option, Some, None, refl, ap}
+use Rattle.std.proofs.Common.{◌≡◌, ◌∙◌, ℕ, Bool, Option, Some, None, refl, ap, ap₂}
 use Rattle.std.proofs.lemmas.Result.{IfOk-weaker}
 use Rattle.run_options.specs.declared.Options.{Options}
 use Rattle.world.specs.answers.Chronicle.{Setup}
 use Rattle.world.specs.fl_digest.declared.Hash.{Hash}
+use Rattle.world.specs.manager_rules.declared.terms.Terms.{Terms}
 use Rattle.world.specs.Choice.{is_settled as is_settled_order, order_of}
 use Rattle.world.specs.declared.order.Schedule.{Schedule}
 use Rattle.flux.specs.Runs.{is_settled, schedule_of, setup_of}
@@ -20,5 +21,5 @@ returns-clause-set c =
     let o = c.args.options in
     let given : Setup = setup_of c.args.terms o c.args.work in
     IfOk-weaker c.new.result _ (λ world. world.set ≡ setup_of c.args.terms o c.args.work)
-    (λ world is. is ∙ ap (λ (b : Bool). (let s : Setup = record given { settled = b } in s))
+    (λ world is. is ∙ ap₂ (λ (t : Terms) (b : Bool). (let s : Setup = record given { settled = b; terms = t } in s)) c.terms_of-terms.ensures.value
     (ap (λ (how : Schedule). is_settled_order (order_of how)) c.schedule_of.ensures ∙ settled_so o.size o.fanout o.hash o.shuffle o.journal o.backfill)) c.new.ensures.set
