@@ -184,6 +184,8 @@ impl Book {
         ensures { IfOk result (Explains self.now now job) }
     {
         let desk = self.desk(now, &[])?;
+        // live jobs hold units of the grant, no two of them one in common
+        desk.graph.keeps();
         match find(desk.rows, job) {
             Some(row) => reason(*self.rows.allocator(), &desk, row),
             None => Ok(Why::NoJob),

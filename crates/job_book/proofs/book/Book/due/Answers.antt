@@ -10,7 +10,7 @@ use Rattle.job_deeds.specs.manager_rules.Due.{MayDo}
 use Rattle.job_deeds.specs.manager_rules.Jobs.{ids_of}
 use Rattle.job_deeds.specs.Actions.{deed_of}
 use Rattle.job_book.specs.Active.{active_of}
-use Rattle.job_deeds.specs.Choices.{Chooses}
+use Rattle.job_deeds.specs.Choices.{Chooses, IsSeen}
 use Rattle.job_deeds.specs.Waiting.{IsFirstOf}
 use Rattle.job_book.specs.Kept.{allotted}
 use Rattle.job_book.specs.Value.{scene_of}
@@ -20,26 +20,14 @@ use Rattle.job_deeds.proofs.Finding.{each_next, each_past}
 use Rattle.job_book.proofs.Queues.{first_of}
 use Rattle.job_book.proofs.book.Book.due.Goals as goal
 
-pub choice-requires-clause-desk : goal.choice-requires-clause-desk
-choice-requires-clause-desk g c = record {
-  rising = subst (λ js. IsStrictlyIncreasing (ids_of js)) (sym c.deref.ensures.value) c.self.invariant.0.kept.rising;
-  head = subst (λ js. IsFirstOf js c.head.result) (sym c.deref.ensures.value) (first_of c.self.inside.rows.items c.self.inside.queue.0 c.self.invariant.0.kept.rising c.self.invariant.1 c.head.result c.head.ensures.first c.head.ensures.none);
-  policy = c.self.invariant.0.kept.policy;
-  named = subst (λ a. AreHostNames (host_names a.grant)) (sym c.self.invariant.0.graph) c.self.invariant.0.kept.grant.named;
-}
+pub choice-requires-clause-known : goal.choice-requires-clause-known
+choice-requires-clause-known g c = subst (Contains c.in_ok-desk.desk.rows.now) c.index-desk-at.is (c.place_of_active-at.result, c.place_of_active-at.ensures.within, sym c.index-desk-at.is)
 
 pub returns-in-Some : goal.returns-in-Some
 returns-in-Some g c = λ answer limits says.
     let s = scene_of c.args.self.now c.args.now c.args.asked.now answer limits in
-    let jobs = c.deref.ensures.value ∙ ap (λ v. v.jobs) c.self.view_is in
-    let chosen = c.in_ok-action.ensures.found s (record {
-      second = refl;
-      jobs = sym jobs;
-      asked = sym c.as_slice.ensures;
-      policy = ap (λ v. v.policy) (sym c.self.view_is);
-      old = λ id. refl;
-      graph = c.self.invariant.0.graph ∙ ap allotted c.self.view_is;
-    }) says in
+    let jobs = c.in_ok-desk.ensures.rows in
+    let chosen = c.in_ok-action.ensures.found s (subst (λ list. IsSeen c.in_ok-desk.desk (scene_of c.args.self.now c.args.now list answer limits)) c.as_slice.ensures (c.in_ok-desk.ensures.seen answer limits)) says in
     record {
       j = c.index-desk-at.result;
       known = subst (λ js. Contains js c.index-desk-at.result) jobs (c.place_of_active-at.result, c.place_of_active-at.ensures.within, sym c.index-desk-at.is);
@@ -51,16 +39,9 @@ returns-in-Some g c = λ answer limits says.
 pub loop-index-preserved : goal.loop-index-preserved
 loop-index-preserved g c = λ answer limits says.
     let s = scene_of c.args.self.now c.args.now c.args.asked.now answer limits in
-    let jobs = c.deref.ensures.value ∙ ap (λ v. v.jobs) c.self.view_is in
+    let jobs = c.in_ok-desk.ensures.rows in
     let job = c.index-desk-at.result in
-    let chosen = c.in_ok-action.ensures.found s (record {
-      second = refl;
-      jobs = sym jobs;
-      asked = sym c.as_slice.ensures;
-      policy = ap (λ v. v.policy) (sym c.self.view_is);
-      old = λ id. refl;
-      graph = c.self.invariant.0.graph ∙ ap allotted c.self.view_is;
-    }) says in
+    let chosen = c.in_ok-action.ensures.found s (subst (λ list. IsSeen c.in_ok-desk.desk (scene_of c.args.self.now c.args.now list answer limits)) c.as_slice.ensures (c.in_ok-desk.ensures.seen answer limits)) says in
     let within : c.loop-index.index < length c.self.inside.active.items = omega (arith, c.loop-index-test.true, c.len-index-end.ensures) in
     let short : c.loop-index.index < length (active_of c.args.self.now.jobs) = subst (λ n. c.loop-index.index < n) (active_length c.self.inside.rows.items c.self.inside.active.items c.self.invariant.2 ∙ ap (λ v. length (active_of v.jobs)) c.self.view_is) within in
     each_next (λ j. (deed : Deed) → MayDo s j deed → ⊥) (active_of c.args.self.now.jobs) c.loop-index.index job (c.loop-index.invariant answer limits says) short
@@ -86,4 +67,4 @@ loop-index-preserved-then-sleeps g c = λ answer limits says.
     each_past (λ j. (deed : Deed) → MayDo s j deed → ⊥) (active_of c.args.self.now.jobs) at (c.loop-index.invariant answer limits says) short
     (λ d. subst (λ js. (deed : Deed) → MayDo s (get_or (active_of js) at d) deed → ⊥) (ap (λ v. v.jobs) c.self.view_is)
     (sleeps_at s rows list at entry d c.self.invariant.2 c.self.invariant.3 within c.index.ensures (c.if-sleeps.ensures.early refl)
-    (subst (λ asked. list_any (is_about entry.id) asked ≡ false) c.as_slice.ensures (c.if-sleeps.ensures.quiet refl))))
+    (subst (λ asked. list_any (is_about entry.id) asked ≡ false) (c.in_ok-desk.ensures.asked ∙ c.as_slice.ensures) (c.if-sleeps.ensures.quiet refl))))
