@@ -1,12 +1,10 @@
-use Rattle.std.proofs.Common.{◌≡◌, None, Some, refl, sym, ap, ◌∙◌, subst}
+use Rattle.std.proofs.Common.{◌≡◌, None, Some, sym, ap, ◌∙◌, subst}
 use Rattle.std.specs.Prelude.{Contains, option_map}
 use Rattle.job_deeds.proofs.job_rules_proofs.Among.{contains_from}
 use Rattle.job_deeds.specs.job_spec.Sound.{IsSpec}
 use Rattle.job_deeds.specs.manager_rules.Dependencies.{job_at}
-use Rattle.job_book.specs.Kept.{allotted}
-use Rattle.job_deeds.specs.Waiting.{IsFirstOf, IsRanked}
+use Rattle.job_deeds.specs.Waiting.{IsRanked}
 use Rattle.job_book.proofs.Held.{each_found}
-use Rattle.job_book.proofs.Queues.{first_of}
 use Rattle.job_deeds.proofs.Whys.{found_job, no_job}
 use Rattle.job_book.proofs.Explained.{explained}
 use Rattle.job_book.proofs.book.Book.why.Goals.{In-Some}
