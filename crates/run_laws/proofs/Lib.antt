@@ -5,4 +5,7 @@ pub mod Sounds
 pub mod Lines
 pub mod Times
 pub mod Views
+pub mod Over
+pub mod Heads
+pub mod Ticks
 mod Examples
