@@ -8,4 +8,6 @@ pub mod Views
 pub mod Over
 pub mod Heads
 pub mod Ticks
+pub mod Landings
+pub mod Reserved
 mod Examples

@@ -1,9 +1,10 @@
 -- What is INACTIVE holds nothing: it was cleaned once it had no resources, or no more.
-use Rattle.std.proofs.Common.{◌≡◌, ℕ, Bool, true, false, ◌&&◌, List, [], ◌∷◌, Option, Some, None, inl, inr, refl, sym, ap, ◌∙◌, subst, true≢false}
-use Rattle.std.specs.Prelude.{◌==◌, nat_lt, Contains, IfSome, if◌then◌else◌}
+use Rattle.std.proofs.Common.{◌≡◌, ℕ, Bool, true, false, ◌&&◌, List, [], ◌∷◌, Option, Some, inl, inr, refl, sym, ap, ◌∙◌, subst, true≢false}
+use Rattle.std.specs.Prelude.{◌==◌, nat_lt, not, Contains, IfSome, if◌then◌else◌}
 use Rattle.std.specs.List.{list_any, AllByRecursion as Each}
+use Rattle.std.proofs.lemmas.Bool.{eqb-true}
 use Rattle.job_states.specs.Changes.{change_of}
-use Rattle.job_states.specs.Table.{is_state, made, stands_in, submitted_job}
+use Rattle.job_states.specs.Table.{is_state, made, stands_in}
 use Rattle.job_states.specs.declared.job.Change.{Change}
 use Rattle.job_states.specs.declared.job.Change.TheVariants as change
 use Rattle.job_states.specs.declared.job.Job.{Job}
@@ -21,7 +22,7 @@ use Rattle.manager_rules.specs.Sound.{AreInTime}
 use Rattle.manager_rules.proofs.Allowed.{writes}
 use Rattle.manager_rules.proofs.Reserving.{of_its_job}
 
--- whether the job is over and live
+-- a job that is INACTIVE isn't live
 abbrev pub IsOverJob : Job → Type 0
 IsOverJob job = job.state ≡ state.Inactive → is_live job ≡ false
 
@@ -33,7 +34,7 @@ IsOver j = IsOverJob j.job
 no_more : (b c : Bool) → (b ≡ false) → (b && c) ≡ false
 no_more b c e = rw e refl
 
-freed_none : (b c : Bool) → c ≡ true → (b && Rattle.std.specs.Prelude.not c) ≡ false
+freed_none : (b c : Bool) → c ≡ true → (b && not c) ≡ false
 freed_none true c e = rw e refl
 freed_none false c e = refl
 
@@ -81,7 +82,7 @@ events_over : (due : Due) (jobs : List StoredJob) → Each (λ k. k.id ≡ due.j
 events_over due [] one h = tt
 events_over due (k ∷ jobs) one h = (
   elim (k.id == due.job) as (λ b. (k.id == due.job) ≡ b → IsOver (if b then event_done due k else k)) [
-    | true ↦ λ t. one.0 (Rattle.std.proofs.lemmas.Bool.eqb-true k.id due.job t)
+    | true ↦ λ t. one.0 (eqb-true k.id due.job t)
     | false ↦ λ t. h.0
   ] refl,
   events_over due jobs one.1 h.1,

@@ -1,11 +1,10 @@
 -- Where nothing is due, what live jobs hold is held now and ends at seconds ahead: so time goes on at
 -- most to the second that is reserved for the first in the queue.
-use Rattle.std.proofs.Common.{◌≡◌, ◌≢◌, ℕ, zero, suc, ◌+◌, ◌<◌, ◌≤◌, ◌^◌, ◌⊎◌, inl, inr, Bool, true, false, ◌||◌, ◌&&◌, not, List, [], ◌∷◌, ◌++◌, Option, Some, None, Ok, refl, sym, ap, ap₂, ◌∙◌, subst, arith, true≢false, lit<}
-use Rattle.std.specs.Prelude.{◌==◌, nat_lt, nat_le, Contains, All, IsSomeAnd, option_and_then, option_map, filter, flat_map, if◌then◌else◌}
+use Rattle.std.proofs.Common.{◌≡◌, ◌≢◌, ℕ, zero, suc, ◌<◌, ◌≤◌, ◌^◌, ◌⊎◌, inl, inr, Bool, true, false, ◌||◌, not, List, [], ◌∷◌, ◌++◌, Option, Some, None, refl, sym, ap, ap₂, ◌∙◌, subst, arith, true≢false}
+use Rattle.std.specs.Prelude.{◌==◌, nat_lt, Contains, All, IsSomeAnd, option_and_then, option_map, flat_map, if◌then◌else◌}
 use Rattle.std.specs.List.{cons_option, AllByRecursion as Each}
-use Rattle.std.specs.List.Sorted.{IsStrictlyIncreasing}
 use Rattle.std.specs.Option.{option_map_or}
-use Rattle.std.proofs.lemmas.Bool.{and_parts, cases_lt, eq-eqb, eqb-true, lt-ltb, le-ltb, ltb-true}
+use Rattle.std.proofs.lemmas.Bool.{and_parts, cases_lt, lt-ltb, le-ltb}
 use Rattle.std.proofs.lemmas.Bool.Decides.{nat_tests}
 use Rattle.job_rules.specs.declared.hold.Hold.{Hold}
 use Rattle.job_rules.specs.Fits.{AreWithin, CanFit, IsGrant, IsSpec, end_of, first_fit, free_of, nodes_of, sooner}
@@ -13,7 +12,6 @@ use Rattle.job_rules.specs.Worths.{wanted}
 use Rattle.job_rules.proofs.Among.{Among, all_at, among_flattened, among_from, among_kept, among_right, contains_from, each_at}
 use Rattle.job_rules.proofs.Counts.{enough}
 use Rattle.job_rules.proofs.Sets.{free_is, none_exactly}
-use Rattle.job_spec.specs.declared.spec.JobSpec.{JobSpec}
 use Rattle.job_states.specs.declared.job.State.{State}
 use Rattle.job_states.specs.declared.job.State.TheVariants as state
 use Rattle.job_states.specs.Table.{is_state}
@@ -22,12 +20,12 @@ use Rattle.resource_set.specs.declared.node.Node.{Node}
 use Rattle.resource_set.specs.declared.node.Resources.{Resources}
 use Rattle.manager_rules.specs.Deeds.{Deed, Takes, Starts, Finishes, Expires, Stops, Releases, Frees, due_of}
 use Rattle.manager_rules.specs.Dependencies.{IsHead}
-use Rattle.manager_rules.specs.Due.{IsDue, IsFirstFit, IsOver as EndsBy, MayDo, status_now}
+use Rattle.manager_rules.specs.Due.{IsDue, IsOver as EndsBy, MayDo, status_now}
 use Rattle.manager_rules.specs.declared.due.Due.{Due}
 use Rattle.manager_rules.specs.Jobs.{StoredJob, is_live}
 use Rattle.manager_rules.specs.Reserved.{FitsAt, IsReserved, held_by, hold_at, holds_at, is_held_at}
 use Rattle.manager_rules.specs.Scene.{Scene, has_living_child}
-use Rattle.manager_rules.specs.Sound.{AreInTime, HoldsInTime, IsUnserved, hold_of, holds_of}
+use Rattle.manager_rules.specs.Sound.{AreInTime, HoldsInTime, IsUnserved, hold_of, holds_of, is_early}
 use Rattle.manager_rules.specs.Times.{IsEndDue, command_seconds, expiry_seconds, seconds_ahead, seconds_of}
 use Rattle.manager_rules.proofs.Rules.{same_job}
 use Rattle.run_laws.specs.Reserved.{TellsWhatFits}
@@ -163,8 +161,8 @@ module _ (s : Scene) (idle : (due : Due) → IsDue s due → ⊥) (stays : (id :
     pub is_running : IsRunning j r
     is_running = by j.job.state refl
       where
-        early : (where_ : State) → j.job.state ≡ where_ → Rattle.manager_rules.specs.Sound.is_early where_ ≡ true → IsRunning j r
-        early where_ is e = absurd (served (own.early (ap Rattle.manager_rules.specs.Sound.is_early is ∙ e)))
+        early : (where_ : State) → j.job.state ≡ where_ → is_early where_ ≡ true → IsRunning j r
+        early where_ is e = absurd (served (own.early (ap is_early is ∙ e)))
 
         by : (where_ : State) → j.job.state ≡ where_ → IsRunning j r
         by state.New is = early state.New is refl

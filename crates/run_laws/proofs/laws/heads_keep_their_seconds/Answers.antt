@@ -1,7 +1,5 @@
-use Rattle.run_laws.proofs.Heads.{head_waits}
-use Rattle.run_laws.proofs.Over.{deed_over}
-use Rattle.run_laws.proofs.Ticks.{no_further}
+use Rattle.run_laws.proofs.Reserved.{all_along, all_keep}
 use Rattle.run_laws.proofs.laws.heads_keep_their_seconds.Goals as goal
 
 pub returns : goal.returns
-returns c = ?
+returns c = λ set d valid timely legal tells ends. all_along set d (all_keep set valid tells d legal timely ends)
