@@ -29,3 +29,5 @@ pub mod Inside
 pub mod Marks
 pub mod Throughout
 pub mod Keeping
+pub mod Having
+pub mod Heads
