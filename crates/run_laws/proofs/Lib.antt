@@ -10,4 +10,5 @@ pub mod Heads
 pub mod Ticks
 pub mod Landings
 pub mod Reserved
+pub mod Written
 mod Examples

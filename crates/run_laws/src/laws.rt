@@ -1,5 +1,9 @@
 //! The laws, each the contract of a function.
-ghost use Rattle.std.specs.Prelude.{◌≡◌, ◌+◌, ◌≤◌, IsSome, List, None};
+ghost use Rattle.std.specs.Prelude.{◌≡◌, ◌+◌, ◌<◌, ◌≤◌, ◌^◌, IsSome, List, None};
+ghost use Rattle.hostlist.specs.Names.{AreHostNames};
+ghost use Rattle.job_rules.specs.Fits.{IsGrant};
+ghost use Rattle.resource_set.specs.Units.{host_names};
+ghost use Rattle.resource_set.specs.declared.node.Resources.{Resources};
 ghost use Rattle.workload.specs.Laws.{KeepsTallies};
 ghost use Rattle.workload.specs.Tallies.{seconds_in};
 ghost use Rattle.answers.specs.declared.chronicle.Entry.{Entry};
@@ -59,10 +63,12 @@ pub fn what_roots_tell_of_jobs_goes_on()
 
 /// While one job stays the first in its instance's queue, the second that is reserved for it never
 /// rises, and no tick goes above it before that job's alloc, under both policies: where the text of
-/// the resources that first fit finds tells them, and children of ending jobs go before time goes
-/// on.
+/// the resources that first fit finds tells them, as it does where hosts have names of hosts, and
+/// children of ending jobs go before time goes on.
 pub fn heads_keep_their_seconds()
-    ensures { (set : Setup) (c : List Entry) → IsInstance (instance_of set)
+    ensures kept { (set : Setup) (c : List Entry) → IsInstance (instance_of set)
         → KeepsTime set c → IsLegal set c → TellsWhatFits set.resources → EndsComeFirst set c
         → HeadsKeepTheirSeconds set c }
+    ensures told { (grant : Resources) → IsGrant grant.nodes → AreHostNames (host_names grant.nodes)
+        → grant.expiration < 2 ^ 64 → TellsWhatFits grant }
 {}
