@@ -9,7 +9,7 @@ use Rattle.workload.specs.declared.work.Actor.{Actor}
 use Rattle.answers.specs.Chronicle.{Setup, top}
 use Rattle.answers.specs.declared.chronicle.Entry.{Entry}
 use Rattle.answers.specs.declared.chronicle.Entry.TheVariants as entry
-use Rattle.run_laws.specs.Reserved.{TellsWhatFits}
+use Rattle.run_laws.specs.Reserved.{IsNamed}
 use Rattle.run_laws.specs.Times.{HasTime}
 use Rattle.run_laws.proofs.Moves.{silent_store}
 use Rattle.run_laws.proofs.Reserved.{KeepsSecond, all_along, all_keep, silent_keeps}
@@ -20,21 +20,22 @@ use Rattle.hierarchy.specs.Own.{only_if, own_entry, own_of, setup_in}
 use Rattle.hierarchy.specs.Promises.{HeadsKeepTheirSecondsInAll}
 use Rattle.hierarchy.proofs.Bearing.{own_none}
 use Rattle.hierarchy.proofs.Having.{ends_first}
+use Rattle.hierarchy.proofs.Named.{all_named}
 use Rattle.hierarchy.proofs.Owning.{alive, lived, own_push, setup_kept}
 use Rattle.hierarchy.proofs.Throughout.{end_begins_none, past_kept, past_legal}
 
 -- entry by entry of a chronicle
 abbrev Keeps : Setup → List Entry → Type 0
-Keeps s own = TellsWhatFits s.resources → EachAfter (KeepsSecond s) [] own
+Keeps s own = IsNamed s.resources → EachAfter (KeepsSecond s) [] own
 
 -- an end is no moment of a service, and takes no time
 with_end : (s : Setup) (own : List Entry) (actors : List Actor) (label : Option (List ℕ)) (i : ℕ) (e : Entry) → is_end e ≡ true → Keeps s own → Keeps s (own ++ cons_option (own_entry actors label i e) [])
-with_end s own actors label i (entry.Gone child parent job shut) ends h tells = by (parent == i)
+with_end s own actors label i (entry.Gone child parent job shut) ends h known = by (parent == i)
   where
     by : (b : Bool) → EachAfter (KeepsSecond s) [] (own ++ cons_option (only_if b (entry.Gone child top job shut)) [])
-    by true = each_push (KeepsSecond s) own (entry.Gone child top job shut) (h tells) (silent_keeps s own (entry.Gone child top job shut) (silent_store s own (entry.Gone child top job shut) refl) refl)
-    by false = subst (EachAfter (KeepsSecond s) []) (sym (append-nil own)) (h tells)
-with_end s own actors label i _ ends h tells = absurd (true≢false (sym ends))
+    by true = each_push (KeepsSecond s) own (entry.Gone child top job shut) (h known) (silent_keeps s own (entry.Gone child top job shut) (silent_store s own (entry.Gone child top job shut) refl) refl)
+    by false = subst (EachAfter (KeepsSecond s) []) (sym (append-nil own)) (h known)
+with_end s own actors label i _ ends h known = absurd (true≢false (sym ends))
 
 module _ (set : Setup) (c : List Entry) (fits : HasTime set) (valid : AreValid set c) (legal : IsLegalRun set c) where
   KeepIn : List Entry → Type 0
@@ -42,7 +43,7 @@ module _ (set : Setup) (c : List Entry) (fits : HasTime set) (valid : AreValid s
 
   first : KeepIn []
   unfolding KeepIn
-  first more split i h tells = subst (EachAfter (KeepsSecond (setup_in set [] i)) []) (sym (own_none set i)) tt
+  first more split i h known = subst (EachAfter (KeepsSecond (setup_in set [] i)) []) (sym (own_none set i)) tt
 
   behind_end : (xs : List Entry) (e : Entry) → is_end e ≡ true → (i : ℕ) → lives (xs ++ e ∷ []) i ≡ true
       → (lives xs i ≡ true → Keeps (setup_in set xs i) (own_of set xs i)) → Keeps (setup_in set (xs ++ e ∷ []) i) (own_of set (xs ++ e ∷ []) i)
@@ -59,14 +60,16 @@ module _ (set : Setup) (c : List Entry) (fits : HasTime set) (valid : AreValid s
     where
       by : (b : Bool) → is_end e ≡ b → (lives xs i ≡ true → Keeps (setup_in set xs i) (own_of set xs i)) → Keeps (setup_in set (xs ++ e ∷ []) i) (own_of set (xs ++ e ∷ []) i)
       by true ends before_it = behind_end xs e ends i h before_it
-      by false other before_it = λ tells.
+      by false other before_it = λ known.
           let kept = past_kept set c fits valid legal (xs ++ e ∷ []) more split i h in
-          all_keep (setup_in set (xs ++ e ∷ []) i) kept.valid tells (own_of set (xs ++ e ∷ []) i) (l.own other i h) kept.timely
+          all_keep (setup_in set (xs ++ e ∷ []) i) kept.valid known (own_of set (xs ++ e ∷ []) i) (l.own other i h) kept.timely
           (ends_first set (xs ++ e ∷ []) (past_legal set c fits valid legal (xs ++ e ∷ []) more split) i h)
 
   all_steps : (past : List Entry) → IsLegalRun set past → KeepIn past
   all_steps past l = each_along (IsLegalRunEntry set) KeepIn (λ xs e before fit again. step xs e before fit again) [] past tt l first
 
-  pub all_reserved : HeadsKeepTheirSecondsInAll set c
+  pub all_reserved : IsNamed set.resources → HeadsKeepTheirSecondsInAll set c
   unfolding KeepIn
-  all_reserved past more split i h tells = all_along (setup_in set past i) (own_of set past i) (all_steps past (past_legal set c fits valid legal past more split) more split i h tells)
+  all_reserved named past more split i h =
+      let before = past_legal set c fits valid legal past more split in
+      all_along (setup_in set past i) (own_of set past i) (all_steps past before more split i h (all_named set c fits valid legal named past before more split i h))

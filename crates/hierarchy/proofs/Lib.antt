@@ -30,4 +30,5 @@ pub mod Marks
 pub mod Throughout
 pub mod Keeping
 pub mod Having
+pub mod Named
 pub mod Heads

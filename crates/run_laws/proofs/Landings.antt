@@ -1,6 +1,6 @@
 -- What a landing whose transactions of the manager are due leaves of the jobs, transaction by
--- transaction: what is INACTIVE holds nothing, and the reserved second of the first in the queue
--- doesn't rise.
+-- transaction: what each due post keeps of each job, and the reserved second of the first in the
+-- queue doesn't rise.
 use Rattle.std.proofs.Common.{◌≡◌, ℕ, ◌<◌, ◌≤◌, ◌^◌, ◌⊎◌, inl, inr, true, false, List, [], ◌∷◌, ◌++◌, Option, Some, None, Result, Ok, Err, refl, sym, ap, ◌∙◌, subst, arith, true≢false}
 use Rattle.std.specs.Prelude.{◌==◌, nat_lt, Contains, IfSome, option_and_then, if◌then◌else◌}
 use Rattle.std.specs.List.{cons_option, AllByRecursion as Each}
@@ -32,10 +32,10 @@ use Rattle.manager_rules.specs.Dependencies.{IsHead}
 use Rattle.manager_rules.specs.Due.{MayDo}
 use Rattle.manager_rules.specs.Jobs.{AreJobsOf, IsStored, StoredJob}
 use Rattle.manager_rules.specs.Keys.{spec_path, value_at}
-use Rattle.manager_rules.specs.Posts.{Desk, Does, IsDuePost, Post, Submission, Submits, begun_with, event_done, job_after, job_of, jobs_after, with_event, with_job}
+use Rattle.manager_rules.specs.Posts.{Desk, Does, IsDesk, IsDuePost, Post, Submission, Submits, begun_with, event_done, job_after, job_of, jobs_after, with_event, with_job}
 use Rattle.manager_rules.specs.Reserved.{IsReserved, hold_at, holds_at}
 use Rattle.manager_rules.specs.Scene.{IsScene, Scene}
-use Rattle.manager_rules.specs.Sound.{IsSound, IsSoundStore}
+use Rattle.manager_rules.specs.Sound.{AreInTime, IsSound, IsSoundStore}
 use Rattle.manager_rules.proofs.Allowed.{writes}
 use Rattle.manager_rules.proofs.Posting.{posts_land, read_from}
 use Rattle.manager_rules.proofs.Reserving.{gives, held_before, never_rises, no_later, same_reserved}
@@ -48,10 +48,9 @@ use Rattle.instance_rules.specs.Log.{Instance, IsInstance, Log, now_of}
 use Rattle.instance_rules.proofs.Sounds.{desk_kept, groups_keep, store_after_group}
 use Rattle.run_laws.specs.Reserved.{IsFirstIn, WaitsIn}
 use Rattle.run_laws.proofs.Heads.{head_waits}
-use Rattle.run_laws.proofs.Over.{IsOver, event_over, submission_over}
 
 -- what live jobs hold lies on hosts in rank order
-hosts_of : (grant : List Node) (jobs : List StoredJob) → IsSound grant jobs → (j : StoredJob) → Contains jobs j → IfSome j.r (λ r. AreHosts r.nodes)
+pub hosts_of : (grant : List Node) (jobs : List StoredJob) → IsSound grant jobs → (j : StoredJob) → Contains jobs j → IfSome j.r (λ r. AreHosts r.nodes)
 hosts_of grant jobs sound j known = of j.r (each_at (λ k. IfSome k.r (λ r. AreWithin r.nodes grant)) jobs j (jobs_within grant jobs sound.apart.within) (among_from jobs j known))
   where
     of : (o : Option Resources) → IfSome o (λ r. AreWithin r.nodes grant) → IfSome o (λ r. AreHosts r.nodes)
@@ -179,9 +178,14 @@ module _ (s : Scene) (scene : IsScene s) (whole : IsGrant s.grant.nodes) (sound 
 
 -- ---- transaction by transaction
 
--- the jobs of the store are over, where they are INACTIVE
-abbrev pub AreOver : Store → Type 0
-AreOver st = (jobs : List StoredJob) → AreJobsOf st jobs → Each IsOver jobs
+-- P of each job of the store
+abbrev pub AllJobs : (StoredJob → Type 0) → Store → Type 0
+AllJobs P st = (jobs : List StoredJob) → AreJobsOf st jobs → Each P jobs
+
+-- where P holds of each job, it does after each post that is due in a grant
+abbrev pub KeptByPosts : Resources → (StoredJob → Type 0) → Type 0
+KeptByPosts given P = (d : Desk) → IsDesk d → d.scene.grant ≡ given → AreInTime d.scene.jobs → IsSound d.scene.grant.nodes d.scene.jobs → (post : Post) → IsDuePost d post
+    → Each P d.scene.jobs → Each P (jobs_after post d.scene.jobs)
 
 module _ (inst : Instance) (valid : IsInstance inst) (log : Log) (timed : now_of inst log < 2 ^ 64) where
   -- a user's transaction leaves the jobs
@@ -240,22 +244,19 @@ module _ (inst : Instance) (valid : IsInstance inst) (log : Log) (timed : now_of
   sound_here : (st : Store) (d : Desk) → IsSoundStore inst.grant.nodes st → IsDeskOf inst log st d → IsSound d.scene.grant.nodes d.scene.jobs
   sound_here st d h is = subst (λ g. IsSound g.nodes d.scene.jobs) (sym is.grant) (subst (IsSound inst.grant.nodes) (jobs_are_one st h.jobs d.scene.jobs h.are is.jobs) h.sound)
 
-  -- ---- what is INACTIVE holds nothing
+  -- ---- each job
 
-  over_posted : (st new : Store) → IsSoundStore inst.grant.nodes st → (d : Desk) → IsDeskOf inst log st d → (post : Post) → IsDuePost d post → AreOver st → Each IsOver (jobs_after post d.scene.jobs)
-  over_posted st new h d is (Submits x) due over = submission_over (change_of x.event) x d.scene.jobs (over d.scene.jobs is.jobs)
-  over_posted st new h d is (Does x) due over =
-      subst (λ y. Each IsOver (with_event y d.scene.jobs)) (sym due.is)
-      (event_over d.scene (desk_kept inst valid log timed st d is).scene (in_time st d.scene.jobs is.jobs) due.j due.known (hosts_of d.scene.grant.nodes d.scene.jobs (sound_here st d h is) due.j due.known) due.deed due.may (over d.scene.jobs is.jobs))
+  module _ (P : StoredJob → Type 0) (keeps : KeptByPosts inst.grant P) where
+    jobs_step : (st new : Store) → IsStore st → IsSoundStore inst.grant.nodes st → Moves st new → Unit {0} → AllJobs P st → AllJobs P new
+    unfolding Moves LeavesJobs
+    jobs_step st new is h (inl leaves) known all jobs are = subst (Each P) (jobs_are_one new h.jobs jobs (leaves h.jobs h.are) are) (all h.jobs h.are)
+    jobs_step st new is h (inr p) known all jobs are =
+        subst (Each P) (jobs_are_one new (jobs_after p.post p.desk.scene.jobs) jobs p.lands are)
+        (keeps p.desk (desk_kept inst valid log timed st p.desk p.is) p.is.grant (in_time st p.desk.scene.jobs p.is.jobs) (sound_here st p.desk h p.is) p.post p.due (all p.desk.scene.jobs p.is.jobs))
 
-  over_step : (st new : Store) → IsStore st → IsSoundStore inst.grant.nodes st → Moves st new → Unit {0} → AreOver st → AreOver new
-  unfolding Moves LeavesJobs
-  over_step st new is h (inl leaves) known over jobs are = subst (Each IsOver) (jobs_are_one new h.jobs jobs (leaves h.jobs h.are) are) (over h.jobs h.are)
-  over_step st new is h (inr p) known over jobs are = subst (Each IsOver) (jobs_are_one new (jobs_after p.post p.desk.scene.jobs) jobs p.lands are) (over_posted st new h p.desk p.is p.post p.due over)
-
-  pub landing_over : (groups : List Group) (st new : Store) → IsStore st → IsSoundStore inst.grant.nodes st → AreDueFrom inst log groups st → after_groups scope.Primary groups st ≡ Some new → AreOver st → AreOver new
-  unfolding Along
-  landing_over groups st new is h due e over = walk AreOver (λ mid. Unit {0}) over_step groups st new is h due e (λ done left mid split at_. tt) over
+    pub landing_jobs : (groups : List Group) (st new : Store) → IsStore st → IsSoundStore inst.grant.nodes st → AreDueFrom inst log groups st → after_groups scope.Primary groups st ≡ Some new → AllJobs P st → AllJobs P new
+    unfolding Along
+    landing_jobs groups st new is h due e all = walk (AllJobs P) (λ mid. Unit {0}) jobs_step groups st new is h due e (λ done left mid split at_. tt) all
 
   -- ---- the first in the queue
 

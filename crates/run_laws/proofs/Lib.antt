@@ -10,5 +10,6 @@ pub mod Heads
 pub mod Ticks
 pub mod Landings
 pub mod Reserved
+pub mod EachJob
 pub mod Written
 mod Examples

@@ -1,22 +1,19 @@
 -- Along a legal chronicle the second that is reserved for the first in the queue never rises.
 use Rattle.std.proofs.Common.{◌≡◌, ℕ, ◌<◌, ◌≤◌, ◌^◌, inl, inr, List, [], ◌∷◌, ◌++◌, Some, None, unwrap_or, refl, sym, ap, ◌∙◌, subst, arith, append-nil, append_assoc}
 use Rattle.std.specs.Prelude.{All, Contains}
-use Rattle.std.specs.List.{AllByRecursion as Each}
 use Rattle.job_rules.specs.Fits.{IsGrant, IsSpec}
 use Rattle.job_rules.proofs.Among.{among_from, each_at}
-use Rattle.kvs_model.specs.History.{first_store}
 use Rattle.kvs_model.specs.Store.{IsStore, Store}
-use Rattle.kvs_rules.proofs.Sequences.{each_along, each_both, each_left, each_parts, each_push}
-use Rattle.kvs_rules.specs.Namespaces.{Base, newest_store, primary}
+use Rattle.kvs_rules.proofs.Sequences.{each_both, each_left, each_parts, each_push}
+use Rattle.kvs_rules.specs.Namespaces.{primary}
 use Rattle.kvs_rules.specs.Sequence.{EachAfter}
 use Rattle.resource_set.specs.Writing.{r_text}
 use Rattle.manager_rules.specs.Dependencies.{IsHead}
-use Rattle.manager_rules.specs.Jobs.{AreJobsOf, IsStored}
+use Rattle.manager_rules.specs.Jobs.{IsStored}
 use Rattle.manager_rules.specs.Keys.{spec_path, value_at}
 use Rattle.manager_rules.specs.Posts.{Desk, Does}
 use Rattle.manager_rules.specs.Reserved.{IsReserved}
 use Rattle.manager_rules.specs.Sound.{IsSoundStore}
-use Rattle.manager_rules.proofs.Others.{first_jobs}
 use Rattle.manager_rules.proofs.Posting.{read_from}
 use Rattle.manager_rules.proofs.Soundness.{in_time}
 use Rattle.manager_rules.proofs.Unique.{jobs_are_one}
@@ -29,17 +26,18 @@ use Rattle.answers.specs.declared.chronicle.Entry.TheVariants as entry
 use Rattle.answers.specs.Chronicle.{Setup}
 use Rattle.answers.specs.Jobs.{instance_of, log_in, second_of}
 use Rattle.answers.specs.Legal.{IsLegal, IsLegalEntry}
-use Rattle.answers.specs.Services.{setting_of}
 use Rattle.run_laws.specs.Jobs.{store_of}
-use Rattle.run_laws.specs.Reserved.{EndsComeFirst, EndsFirst, HeadsKeepTheirSeconds, StaysFirst, TellsWhatFits, WaitsFirst, WaitsIn}
+use Rattle.run_laws.specs.Reserved.{EndsComeFirst, EndsFirst, HeadsKeepTheirSeconds, IsNamed, StaysFirst, WaitsFirst, WaitsIn}
 use Rattle.run_laws.specs.Times.{KeepsTime}
-use Rattle.run_laws.proofs.Landings.{AreOver, WaitsOn, landing_over, landing_waits}
+use Rattle.run_laws.proofs.EachJob.{apart, jobs_at}
+use Rattle.run_laws.proofs.Landings.{AllJobs, WaitsOn, landing_waits}
 use Rattle.run_laws.proofs.Moves.{entry_lands, silent_store, stands}
 use Rattle.run_laws.proofs.Newest.{same_one}
-use Rattle.run_laws.proofs.Over.{IsOver}
+use Rattle.run_laws.proofs.Over.{IsOver, posts_over}
 use Rattle.run_laws.proofs.Sounds.{stay_sound}
-use Rattle.run_laws.proofs.Ticks.{no_further}
+use Rattle.run_laws.proofs.Ticks.{TellsWhatFits, no_further}
 use Rattle.run_laws.proofs.Times.{second_push, ticks}
+use Rattle.run_laws.proofs.Written.{tells_what_fits}
 
 -- ---- entry by entry
 
@@ -69,7 +67,7 @@ pub silent_keeps : (set : Setup) (c : List Entry) (e : Entry) → store_of set (
 silent_keeps set c e same still id second (st, was, w) stays =
     (second, omega arith, (st, same ∙ was, subst (λ n. WaitsIn set.resources.nodes n id second st) (sym (second_push set c e ∙ ap (λ o. unwrap_or o (second_of set c)) still)) w))
 
-module _ (set : Setup) (valid : IsInstance (instance_of set)) (tells : TellsWhatFits set.resources) where
+module _ (set : Setup) (valid : IsInstance (instance_of set)) (named : IsNamed set.resources) where
   abbrev grant : List ℕ
   grant = r_text set.resources
 
@@ -79,42 +77,16 @@ module _ (set : Setup) (valid : IsInstance (instance_of set)) (tells : TellsWhat
 
   timely_of : (c : List Entry) → EachAfter Fits [] c → IsLegal set c × KeepsTime set c
   unfolding Fits
-  timely_of c fits =
-      let both = each_left (λ d e. IsLegalEntry set d e × (second_of set d < 2 ^ 64)) (EndsFirst set) [] c fits in
-      (each_left (IsLegalEntry set) (λ d e. second_of set d < 2 ^ 64) [] c both, right_of [] c both)
-    where
-      right_of : (base xs : List Entry) → EachAfter (λ d e. IsLegalEntry set d e × (second_of set d < 2 ^ 64)) base xs → EachAfter (λ d e. second_of set d < 2 ^ 64) base xs
-      right_of base [] h = tt
-      right_of base (x ∷ xs) h = (h.0.1, right_of (base ++ x ∷ []) xs h.1)
+  timely_of c fits = apart set c (each_left (λ d e. IsLegalEntry set d e × (second_of set d < 2 ^ 64)) (EndsFirst set) [] c fits)
+
+  tells : TellsWhatFits set.resources
+  tells = tells_what_fits set.resources valid.grant named
 
   sound_at : (c : List Entry) → EachAfter Fits [] c → (st : Store) → store_of set c ≡ Some st → IsSoundStore set.resources.nodes st
   sound_at c fits = let t = timely_of c fits in stay_sound set valid c t.0 t.1 c [] (sym (append-nil c))
 
-  -- ---- what is INACTIVE holds nothing
-
-  AreOverAt : List Entry → Type 0
-  AreOverAt c = (st : Store) → store_of set c ≡ Some st → AreOver st
-
-  BeginOver : Base → Type 0
-  BeginOver base = (st : Store) → newest_store (record (setting_of set) { base = base }) [] primary ≡ Some st → AreOver st
-
-  over_first : AreOverAt []
-  unfolding AreOverAt BeginOver
-  over_first = subst BeginOver (sym valid.text) (λ st e jobs are.
-      subst (Each IsOver) (jobs_are_one st [] jobs (subst (λ x. AreJobsOf x []) (same_one (first_store grant) st e) (first_jobs grant)) are) tt)
-
-  over_step : (c : List Entry) (e : Entry) → EachAfter Fits [] c → Fits c e → AreOverAt c → AreOverAt (c ++ e ∷ [])
-  unfolding Fits AreOverAt
-  over_step c e before fits h st now =
-      let legal = (timely_of c before).0 in
-      let s = stands set grant valid.text c legal in
-      elim (entry_lands set grant valid.text c legal e fits.0.0 s.store st s.standing now) [
-        | inl same ↦ subst AreOver (sym same) (h s.store s.standing)
-        | inr l ↦ landing_over (instance_of set) valid (log_in set.work c) fits.0.1 l.groups s.store st s.is (sound_at c before s.store s.standing) l.due l.made (h s.store s.standing)
-      ]
-
-  over_at : (c : List Entry) → EachAfter Fits [] c → AreOverAt c
-  over_at c fits = each_along Fits AreOverAt over_step [] c tt fits over_first
+  over_at : (c : List Entry) → EachAfter Fits [] c → (st : Store) → store_of set c ≡ Some st → AllJobs IsOver st
+  over_at c fits = let t = timely_of c fits in jobs_at set valid IsOver (posts_over set.resources) c t.0 t.1
 
   -- ---- the first in the queue
 
@@ -128,7 +100,7 @@ module _ (set : Setup) (valid : IsInstance (instance_of set)) (tells : TellsWhat
       spec = read_from (value_at st (spec_path w.head.id)) w.head.spec (each_at (IsStored st) w.jobs w.head w.are.stored (among_from w.jobs w.head w.known)).spec_is
 
       on_desk : (d : Desk) → IsDeskOf (instance_of set) (log_in set.work c) st d → IsIdle d → All (λ other. next ≤ other) (seconds_ahead d.scene) → next ≤ second
-      unfolding Fits AreOverAt
+      unfolding Fits
       on_desk d is idle low =
           let jobs : w.jobs ≡ d.scene.jobs = jobs_are_one st w.jobs d.scene.jobs w.are is.jobs in
           no_further d.scene (λ due h. idle.posts (Does due) h) (fits.1 st d was is) (in_time st d.scene.jobs is.jobs) (over_at c before st was d.scene.jobs is.jobs)

@@ -1,6 +1,6 @@
 -- Where nothing is due, what live jobs hold is held now and ends at seconds ahead: so time goes on at
 -- most to the second that is reserved for the first in the queue.
-use Rattle.std.proofs.Common.{◌≡◌, ◌≢◌, ℕ, zero, suc, ◌<◌, ◌≤◌, ◌^◌, ◌⊎◌, inl, inr, Bool, true, false, ◌||◌, not, List, [], ◌∷◌, ◌++◌, Option, Some, None, refl, sym, ap, ap₂, ◌∙◌, subst, arith, true≢false}
+use Rattle.std.proofs.Common.{◌≡◌, ◌≢◌, ℕ, zero, suc, ◌<◌, ◌≤◌, ◌^◌, ◌⊎◌, inl, inr, Bool, true, false, ◌||◌, not, List, [], ◌∷◌, ◌++◌, Option, Some, None, Ok, refl, sym, ap, ap₂, ◌∙◌, subst, arith, true≢false}
 use Rattle.std.specs.Prelude.{◌==◌, nat_lt, Contains, All, IsSomeAnd, option_and_then, option_map, flat_map, if◌then◌else◌}
 use Rattle.std.specs.List.{cons_option, AllByRecursion as Each}
 use Rattle.std.specs.Option.{option_map_or}
@@ -12,10 +12,13 @@ use Rattle.job_rules.specs.Worths.{wanted}
 use Rattle.job_rules.proofs.Among.{Among, all_at, among_flattened, among_from, among_kept, among_right, contains_from, each_at}
 use Rattle.job_rules.proofs.Counts.{enough}
 use Rattle.job_rules.proofs.Sets.{free_is, none_exactly}
+use Rattle.job_spec.specs.declared.spec.JobSpec.{JobSpec}
 use Rattle.job_states.specs.declared.job.State.{State}
 use Rattle.job_states.specs.declared.job.State.TheVariants as state
 use Rattle.job_states.specs.Table.{is_state}
 use Rattle.graph_match.proofs.Fitting.{picks_within}
+use Rattle.resource_set.specs.Reading.{told}
+use Rattle.resource_set.specs.Writing.{r_text}
 use Rattle.resource_set.specs.declared.node.Node.{Node}
 use Rattle.resource_set.specs.declared.node.Resources.{Resources}
 use Rattle.manager_rules.specs.Deeds.{Deed, Takes, Starts, Finishes, Expires, Stops, Releases, Frees, due_of}
@@ -28,9 +31,13 @@ use Rattle.manager_rules.specs.Scene.{Scene, has_living_child}
 use Rattle.manager_rules.specs.Sound.{AreInTime, HoldsInTime, IsUnserved, hold_of, holds_of, is_early}
 use Rattle.manager_rules.specs.Times.{IsEndDue, command_seconds, expiry_seconds, seconds_ahead, seconds_of}
 use Rattle.manager_rules.proofs.Rules.{same_job}
-use Rattle.run_laws.specs.Reserved.{TellsWhatFits}
 use Rattle.run_laws.proofs.Heads.{head_waits}
 use Rattle.run_laws.proofs.Over.{IsOver}
+
+-- the text of the resources that first fit finds in a grant tells them (Flux RFC 20)
+abbrev pub TellsWhatFits : Resources → Type 0
+TellsWhatFits grant = (spec : JobSpec) (holds : List Hold) (now : ℕ) (r : Resources) → now < 2 ^ 64 → first_fit spec grant.nodes (free_of grant.nodes holds) ≡ Some r.nodes
+    → r.starttime ≡ now → r.expiration ≡ sooner (end_of spec now) grant.expiration → told (r_text r) ≡ Ok r
 
 -- ---- seconds at which resources are held
 

@@ -1,5 +1,5 @@
 -- The text of the resources that first fit finds tells them, where hosts have names of hosts.
-use Rattle.std.proofs.Common.{◌≡◌, ◌≢◌, ℕ, suc, ◌+◌, ◌-◌, ◌*◌, ◌<◌, ◌≤◌, ◌^◌, min, Bool, true, false, cond, inl, inr, List, [], ◌∷◌, ◌++◌, length, map, filter, Option, Some, None, Ok, is_none, refl, sym, ap, ap₂, ◌∙◌, subst, arith, append-nil, codes}
+use Rattle.std.proofs.Common.{◌≡◌, ◌≢◌, ℕ, suc, ◌+◌, ◌-◌, ◌*◌, ◌<◌, ◌≤◌, ◌^◌, Bool, true, false, cond, inl, inr, List, [], ◌∷◌, ◌++◌, length, map, filter, Option, Some, None, Ok, is_none, refl, sym, ap, ap₂, ◌∙◌, subst, arith, append-nil, codes}
 use Rattle.std.specs.Prelude.{◌==◌, if◌then◌else◌}
 use Rattle.std.specs.List.{fold, range_with_len, AllByRecursion as Each}
 use Rattle.std.specs.List.Sorted.{IsStrictlyIncreasing}
@@ -22,7 +22,7 @@ use Rattle.idset.proofs.Spans.{ids_in-spans, spans}
 use Rattle.hostlist.specs.Names.{AreHostNames}
 use Rattle.hostlist.specs.declared.faults.HostFault.TheVariants.{TooMany}
 use Rattle.hostlist.proofs.RoundTrip.{canonical_spells}
-use Rattle.job_rules.specs.Fits.{AreWithin, HasIdSets, IsGrant, end_of, free_of, lowest, nodes_of, sooner, without_nodes}
+use Rattle.job_rules.specs.Fits.{AreWithin, HasIdSets, IsGrant, free_of, lowest, nodes_of, without_nodes}
 use Rattle.job_rules.specs.Worths.{give_as, wanted, worth}
 use Rattle.job_rules.proofs.Among.{all_at, among_map, each_at, each_from}
 use Rattle.job_rules.proofs.Counts.{enough, picks}
@@ -42,7 +42,9 @@ use Rattle.resource_set.proofs.Ascii.{canonical_utf8, printed_utf8}
 use Rattle.resource_set.proofs.Canonical.{rising_ranks}
 use Rattle.resource_set.proofs.Regroup.{IsRisen, entries_rise}
 use Rattle.manager_rules.proofs.Texts.{AreTexts, HaveTexts, IsText, text_utf8}
-use Rattle.run_laws.specs.Reserved.{TellsWhatFits}
+use Rattle.run_laws.specs.Reserved.{IsNamed}
+use Rattle.run_laws.proofs.Over.{ends_small}
+use Rattle.run_laws.proofs.Ticks.{TellsWhatFits}
 
 -- ---- rising ids are spelled
 
@@ -199,25 +201,10 @@ written r hosts rising named start end =
     let read : reading (r_text r) ≡ Ok (data_of r) = canonical_reading (data_of r) valid (text_utf8 (data_of r) (data_text r entries named start end)) (text_back (data_of r) valid (data_flat r)) in
     told_again (r_text r) (data_of r) r read refl hosts entries (names_spelled r.nodes hosts named)
 
-sooner_small : (a b : ℕ) → a < 2 ^ 64 → b < 2 ^ 64 → sooner a b < 2 ^ 64
-sooner_small a b h k = at (a == 0) (b == 0)
-  where
-    at : (p q : Bool) → (if p then b else if q then a else min a b) < 2 ^ 64
-    at true q = k
-    at false true = h
-    at false false = omega (arith, h, k)
-
-end_small : (spec : JobSpec) (now : ℕ) → end_of spec now < 2 ^ 64
-end_small spec now = at (spec.duration == 0)
-  where
-    at : (b : Bool) → (if b then 0 else min (now + spec.duration) 18446744073709551615) < 2 ^ 64
-    at true = omega arith
-    at false = omega arith
-
-pub tells_what_fits : (grant : Resources) → IsGrant grant.nodes → AreHostNames (host_names grant.nodes) → grant.expiration < 2 ^ 64 → TellsWhatFits grant
-tells_what_fits grant is named small spec holds now r low fit start end =
+pub tells_what_fits : (grant : Resources) → IsGrant grant.nodes → IsNamed grant → TellsWhatFits grant
+tells_what_fits grant is named spec holds now r low fit start end =
     let free = free_of grant.nodes holds in
     let found = (enough spec grant.nodes free r.nodes fit).1 in
     let within : AreWithin r.nodes free = subst (λ ns. AreWithin ns free) (sym found) (picks_within spec grant.nodes (nodes_of holds) (wanted spec) is) in
-    written r within.hosts (subst (Each HasRising) (sym found) (picks_rising spec grant.nodes (nodes_of holds) (wanted spec) is)) (names_within grant.nodes holds r.nodes named within.inside)
-    (subst (λ n. n < 2 ^ 64) (sym start) low) (subst (λ n. n < 2 ^ 64) (sym end) (sooner_small (end_of spec now) grant.expiration (end_small spec now) small))
+    written r within.hosts (subst (Each HasRising) (sym found) (picks_rising spec grant.nodes (nodes_of holds) (wanted spec) is)) (names_within grant.nodes holds r.nodes named.hosts within.inside)
+    (subst (λ n. n < 2 ^ 64) (sym start) low) (subst (λ n. n < 2 ^ 64) (sym end) (ends_small spec now grant.expiration named.end))

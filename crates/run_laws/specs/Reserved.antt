@@ -1,8 +1,6 @@
 -- The second that is reserved for the first in an instance's queue, along a run.
-use Rattle.std.specs.Prelude.{◌≡◌, ◌<◌, ◌≤◌, ◌^◌, ℕ, List, [], ◌∷◌, ◌++◌, Option, Some, Ok, Contains}
-use Rattle.job_rules.specs.Fits.{end_of, first_fit, free_of, sooner}
-use Rattle.job_rules.specs.declared.hold.Hold.{Hold}
-use Rattle.job_spec.specs.declared.spec.JobSpec.{JobSpec}
+use Rattle.std.specs.Prelude.{◌≡◌, ◌<◌, ◌≤◌, ◌^◌, ℕ, List, [], ◌∷◌, ◌++◌, Option, Some, Contains}
+use Rattle.hostlist.specs.Names.{AreHostNames}
 use Rattle.kvs_model.specs.History.{after_groups}
 use Rattle.kvs_model.specs.Store.{Store}
 use Rattle.kvs_rules.specs.Namespaces.{primary}
@@ -15,10 +13,9 @@ use Rattle.manager_rules.specs.Jobs.{AreJobsOf, StoredJob}
 use Rattle.manager_rules.specs.Posts.{Desk}
 use Rattle.manager_rules.specs.Reserved.{IsReserved}
 use Rattle.manager_rules.specs.Times.{IsEndDue}
+use Rattle.resource_set.specs.Units.{host_names}
 use Rattle.resource_set.specs.declared.node.Node.{Node}
 use Rattle.resource_set.specs.declared.node.Resources.{Resources}
-use Rattle.resource_set.specs.Reading.{told}
-use Rattle.resource_set.specs.Writing.{r_text}
 use Rattle.instance_rules.specs.Desks.{IsDeskOf}
 use Rattle.answers.specs.declared.chronicle.Entry.{Entry}
 use Rattle.answers.specs.declared.chronicle.Entry.TheVariants as entry
@@ -65,12 +62,11 @@ HeadsKeepTheirSeconds set c = (past between more : List Entry) (id second : ℕ)
 
 -- ---- what it rests on
 
--- the text of the resources that first fit finds in a grant tells them (Flux RFC 20)
-abbrev pub TellsWhatFits : Resources → Type 0
-TellsWhatFits grant = (spec : JobSpec) (holds : List Hold) (now : ℕ) (r : Resources)
-    → now < 2 ^ 64 → first_fit spec grant.nodes (free_of grant.nodes holds) ≡ Some r.nodes
-    → r.starttime ≡ now → r.expiration ≡ sooner (end_of spec now) grant.expiration
-    → told (r_text r) ≡ Ok r
+-- the hosts have names of hosts (Flux RFC 29), and the end has its place in 64 bits: so the text of
+-- what a job is given tells it
+pub record IsNamed (grant : Resources) : Type 0 where
+  pub hosts : AreHostNames (host_names grant.nodes)
+  pub end : grant.expiration < 2 ^ 64
 
 -- where time goes on no job that is ending has a living child
 abbrev pub EndsFirst : Setup → List Entry → Entry → Type 0

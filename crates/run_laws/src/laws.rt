@@ -1,9 +1,5 @@
 //! The laws, each the contract of a function.
-ghost use Rattle.std.specs.Prelude.{◌≡◌, ◌+◌, ◌<◌, ◌≤◌, ◌^◌, IsSome, List, None};
-ghost use Rattle.hostlist.specs.Names.{AreHostNames};
-ghost use Rattle.job_rules.specs.Fits.{IsGrant};
-ghost use Rattle.resource_set.specs.Units.{host_names};
-ghost use Rattle.resource_set.specs.declared.node.Resources.{Resources};
+ghost use Rattle.std.specs.Prelude.{◌≡◌, ◌+◌, ◌≤◌, IsSome, List, None};
 ghost use Rattle.workload.specs.Laws.{KeepsTallies};
 ghost use Rattle.workload.specs.Tallies.{seconds_in};
 ghost use Rattle.answers.specs.declared.chronicle.Entry.{Entry};
@@ -15,7 +11,7 @@ ghost use Rattle.answers.specs.Legal.{IsLegal};
 ghost use Rattle.answers.specs.Runs.{IsInTime};
 ghost use Rattle.run_laws.specs.Jobs.{JobsStaySound, LogsOnlyGrow, store_of};
 ghost use Rattle.run_laws.specs.Views.{JobsFollowWithRoots, LogsGrowWithRoots};
-ghost use Rattle.run_laws.specs.Reserved.{EndsComeFirst, HeadsKeepTheirSeconds, TellsWhatFits};
+ghost use Rattle.run_laws.specs.Reserved.{EndsComeFirst, HeadsKeepTheirSeconds, IsNamed};
 ghost use Rattle.run_laws.specs.Times.{HasTime, KeepsTime, seconds_issued};
 
 /// However much of a legal chronicle has happened, `primary` has its store. Each log in it replays,
@@ -62,13 +58,10 @@ pub fn what_roots_tell_of_jobs_goes_on()
 {}
 
 /// While one job stays the first in its instance's queue, the second that is reserved for it never
-/// rises, and no tick goes above it before that job's alloc, under both policies: where the text of
-/// the resources that first fit finds tells them, as it does where hosts have names of hosts, and
-/// children of ending jobs go before time goes on.
+/// rises, and no tick goes above it before that job's alloc, under both policies: where hosts have
+/// names of hosts, and children of ending jobs go before time goes on.
 pub fn heads_keep_their_seconds()
-    ensures kept { (set : Setup) (c : List Entry) → IsInstance (instance_of set)
-        → KeepsTime set c → IsLegal set c → TellsWhatFits set.resources → EndsComeFirst set c
+    ensures { (set : Setup) (c : List Entry) → IsInstance (instance_of set)
+        → KeepsTime set c → IsLegal set c → IsNamed set.resources → EndsComeFirst set c
         → HeadsKeepTheirSeconds set c }
-    ensures told { (grant : Resources) → IsGrant grant.nodes → AreHostNames (host_names grant.nodes)
-        → grant.expiration < 2 ^ 64 → TellsWhatFits grant }
 {}
