@@ -101,7 +101,8 @@ pub record MaySee (s : Setup) (own : List Entry) (by : By) (root : Numbered) : T
 -- a walk in such roots tells this
 pub record SeesWalk (s : Setup) (own : List Entry) (by : By) (asked : Query) (path : Path)
     (uses : List Numbered) (told : Result Found Name) (number : ℕ) : Type 0 where
-  pub roots : Each (MaySee s own by) (record { namespace = subject_at s.work by; number = number } ∷ uses)
+  pub roots : Each (MaySee s own by)
+      (record { namespace = subject_at s.work by; number = number } ∷ uses)
   pub tells : walk (family_at (setting_of s) (log_of s.work top own)
       (record { namespace = subject_at s.work by; number = number } ∷ uses))
       (subject_at s.work by) asked path ≡ told
@@ -181,8 +182,8 @@ JobsFollowInAll set c = InAllLiving set c
 
 -- ---- the numbers that an actor's replies name never fall
 
--- no root that the reply names is below one of its namespace that a reply before the command's issue
--- named, which its actor was given or one that has told it since
+-- no root that the reply names is below one of its namespace that a reply before the command's
+-- issue named, which its actor was given or one that has told it since
 abbrev pub IsNotBelow : Setup → List Entry → By → Reply → Option ℕ → Type 0
 IsNotBelow s own by given number = (before between : List Entry) (other : By) (told : Reply)
     (earlier : Option ℕ) (root : Numbered)
@@ -228,9 +229,9 @@ pub record AreReplied (set : Setup) (c : List Entry) : Type 0 where
 -- read sees a root no older than its actor had seen or was told; each committer is answered once
 -- its own broker has heard the landing; the numbers that an actor's replies name never fall; each
 -- event of a job lands where it is due, stored logs replay and only grow, and what later roots tell
--- of jobs follows from what earlier ones told; live allocations are disjoint, satisfy their jobs and
--- are within the grant; the grant of each living child lies within what a live job of its living
--- parent holds; and every command has its one reply
+-- of jobs follows from what earlier ones told; live allocations are disjoint, satisfy their jobs
+-- and are within the grant; the grant of each living child lies within what a live job of its
+-- living parent holds; and every command has its one reply
 pub record KeepsItsPromises (set : Setup) (c : List Entry) : Type 0 where
   pub published : RootsArePlain set c
   pub reads : ReadsAreFresh set c
