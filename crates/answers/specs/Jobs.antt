@@ -131,8 +131,8 @@ abbrev pub IsLegalHappening : Setup → List Entry → Entry → Type 0
 IsLegalHappening set c e = IfSome (happening_of set.work c e)
     (IsLegalMoment (instance_of set) (log_in set.work c))
 
--- what an instance is given fits together, and it begins anew: the text is that of the resources, and
--- the numbers and texts of commands on jobs are within their ranges
+-- what an instance is given fits together, and it begins anew: the text is that of the resources,
+-- and the numbers and texts of commands on jobs are within their ranges
 pub record IsSetup (set : Setup) : Type 0 where
   pub anew : set.base ≡ None
   pub text : set.grant ≡ r_text set.resources

@@ -11,7 +11,8 @@ use std::process::ExitCode;
 use world::manager_rules::Terms;
 
 /// The terms of the program's runs: a job's priority is its urgency, at least 1, the first in the
-/// queue alone takes resources where the words don't ask for backfill, and a job may ask for anything.
+/// queue alone takes resources where the words don't ask for backfill, and a job may ask for
+/// anything.
 pub fn program_terms() -> Terms
     ensures priority { (ask : Ask)
         → priority_by result.weights ask ≡ min (max ask.urgency 1) 4294967294 }

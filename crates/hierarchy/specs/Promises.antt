@@ -102,7 +102,8 @@ pub record MaySee (s : Setup) (own : List Entry) (by : By) (root : Numbered) : T
 -- a walk in such roots tells this
 pub record SeesWalk (s : Setup) (own : List Entry) (by : By) (asked : Query) (path : Path)
     (uses : List Numbered) (told : Result Found Name) (number : ℕ) : Type 0 where
-  pub roots : Each (MaySee s own by) (record { namespace = subject_at s.work by; number = number } ∷ uses)
+  pub roots : Each (MaySee s own by)
+      (record { namespace = subject_at s.work by; number = number } ∷ uses)
   pub tells : walk (family_at (setting_of s) (log_of s.work top own)
       (record { namespace = subject_at s.work by; number = number } ∷ uses))
       (subject_at s.work by) asked path ≡ told
@@ -188,8 +189,8 @@ HeadsKeepTheirSecondsInAll set c = InAllLiving set c HeadsKeepTheirSeconds
 
 -- ---- the numbers that an actor's replies name never fall
 
--- no root that the reply names is below one of its namespace that a reply before the command's issue
--- named, which its actor was given or one that has told it since
+-- no root that the reply names is below one of its namespace that a reply before the command's
+-- issue named, which its actor was given or one that has told it since
 abbrev pub IsNotBelow : Setup → List Entry → By → Reply → Option ℕ → Type 0
 IsNotBelow s own by given number = (before between : List Entry) (other : By) (told : Reply)
     (earlier : Option ℕ) (root : Numbered)

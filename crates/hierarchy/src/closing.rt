@@ -19,8 +19,8 @@ ghost use Rattle.hierarchy.specs.Own.{own_of, setup_in};
 ghost use Rattle.hierarchy.specs.Stretches.{IsRunStretch};
 ghost use Rattle.hierarchy.specs.Whole.{IsWholeRun};
 
-/// A run rests where each living instance has settled, no command is open of an actor whose instance
-/// has gone, and no end is due.
+/// A run rests where each living instance has settled, no command is open of an actor whose
+/// instance has gone, and no end is due.
 pub fn a_run_rests_with_its_instances()
     ensures { (set : Setup) (c : List Entry) → GoesOn set c
         → ((i : ℕ) → IsTrue (lives c i) → HasSettled (setup_in set c i) (own_of set c i))

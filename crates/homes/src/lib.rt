@@ -1,6 +1,6 @@
-//! The instances of a run, by their numbers, and where its actors stand: how an instance is born and
-//! goes with all that lie within it, how time goes on for all that live, and what their actors are
-//! told at the end.
+//! The instances of a run, by their numbers, and where its actors stand: how an instance is born
+//! and goes with all that lie within it, how time goes on for all that live, and what their actors
+//! are told at the end.
 #![tactic(auto)]
 
 mod births;

@@ -92,7 +92,8 @@ impl Offer {
     /// accepted where its bytes are those that are kept.
     fn settle(&mut self, fanout: u32, broker: u32, reference: &BlobRef, kept: Option<&Bytes>)
         requires { 0 < fanout }
-        ensures { self.new ≡ settled fanout broker reference.now (option_copied kept.entry) self.old }
+        ensures { self.new
+            ≡ settled fanout broker reference.now (option_copied kept.entry) self.old }
     {
         if self.waits_at(fanout, broker, reference) {
             self.stage = OfferStage::outcome(self.is_kept(kept));

@@ -41,5 +41,6 @@ own_walk st asked path = option_map_or (found_in st asked) (own_end st asked pat
 
 -- where an operation works
 unfoldable pub own_resolved : Store → Path → Result Path Cause
-own_resolved st path =
-    ok_or (follow (λ at. option_map (λ target. target.path) (past_inner_link st at)) most_links path) cause.Loop
+own_resolved st path = ok_or
+    (follow (λ at. option_map (λ target. target.path) (past_inner_link st at)) most_links path)
+    cause.Loop

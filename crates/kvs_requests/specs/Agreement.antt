@@ -94,8 +94,8 @@ heard_at log by request = unwrap_or (heard (before_asked by log) request.broker 
 -- what a request needs its broker to have heard, if it reads or waits: at least what its actor had
 -- seen, what the broker had heard when it asked, and the number that it waits for
 pub record IsNeeded (log : Log) (by : By) (request : Request) (need : ℕ) : Type 0 where
-  pub needs : need
-      ≡ max (max (floor_at by log request.namespace) (heard_at log by request)) (awaited request.ask)
+  pub needs : need ≡ max
+      (max (floor_at by log request.namespace) (heard_at log by request)) (awaited request.ask)
   pub low : heard_at log by request ≤ landed log request.namespace
 
 -- what stays at its broker until that has heard a number

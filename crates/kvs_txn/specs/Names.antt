@@ -14,4 +14,5 @@ is_name_byte b = is_ascii_alphanumeric b || b == dash || b == underscore
 
 -- a name is 1 to 64 of these bytes
 abbrev pub is_name : List ℕ → Bool
-is_name name = not (length name == 0) && nat_le (length name) most_name && list_all is_name_byte name
+is_name name =
+    not (length name == 0) && nat_le (length name) most_name && list_all is_name_byte name

@@ -45,7 +45,8 @@ WaitsFirst set c id second = (st : Store) × (store_of set c ≡ Some st)
 abbrev pub IsFirstIn : ℕ → Store → Type 0
 IsFirstIn id st = (jobs : List StoredJob) × AreJobsOf st jobs × IsHead jobs id
 
--- over an entry the job stays the first: behind it, and where transactions land, behind each of them
+-- over an entry the job stays the first: behind it, and where transactions land, behind each of
+-- them
 pub record StaysFirst (set : Setup) (id : ℕ) (c : List Entry) (e : Entry) : Type 0 where
   pub behind : (st : Store) → store_of set (c ++ e ∷ []) ≡ Some st → IsFirstIn id st
   pub within : (instance number : ℕ) (authors : List (Option By)) (done left : List Group)

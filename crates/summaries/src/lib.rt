@@ -48,7 +48,8 @@ pub fn summary(
     answers: &[u8],
     chronicle: &Chronicle,
 ) -> Result<Vec<u8>, AllocError>
-    requires { (set : Setup) × (set.base ≡ None) × (set.grant ≡ grant.now) × IsTopLegal set chronicle.now }
+    requires { (set : Setup) × (set.base ≡ None) × (set.grant ≡ grant.now)
+        × IsTopLegal set chronicle.now }
     ensures { (set : Setup) → set.base ≡ None → set.grant ≡ grant.now → set.hash ≡ hash
         → IsTopLegal set chronicle.now → answers.now ≡ answers_text set.work chronicle.now
         → IfOk result (λ text. IsSummary set chronicle.now text.items) }

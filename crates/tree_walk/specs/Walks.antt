@@ -52,8 +52,9 @@ IsPassed w cache reference = IsSome (clean_at reference cache) × Contains w.pin
 -- what an advance of a walk in this store tells: at the end what is found, all needs being passed;
 -- before, the first need that isn't clean, those before it being passed
 abbrev pub TellsNext : Hash → Store → Walk → Cache → Advance → Type 0
-TellsNext hash st w cache (Done found) = (found ≡ own_walk st w.asked w.path) × ((reference : BlobRef)
-    → Contains (own_needs hash st w.asked w.path) reference → IsPassed w cache reference)
+TellsNext hash st w cache (Done found) = (found ≡ own_walk st w.asked w.path)
+    × ((reference : BlobRef) → Contains (own_needs hash st w.asked w.path) reference
+    → IsPassed w cache reference)
 TellsNext hash st w cache (Needs reference) =
     (before : List BlobRef) × (behind : List BlobRef)
     × (own_needs hash st w.asked w.path ≡ before ++ reference ∷ behind)
