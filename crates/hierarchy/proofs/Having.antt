@@ -1,35 +1,29 @@
 -- Each child that lives by the log of its instance lives in the run: so where no end is due, no job
 -- that is ending has a living child.
-use Rattle.std.proofs.Common.{◌≡◌, ℕ, ◌==◌, inl, inr, List, [], ◌∷◌, ◌++◌, Bool, true, false, cond, ◌||◌, Option, Some, None, is_some, option_map, unwrap_or, refl, sym, ap, ap₂, ◌∙◌, subst, append-nil, true≢false}
-use Rattle.std.specs.Prelude.{◌&&◌, Contains}
-use Rattle.std.specs.Option.{option_map_or}
+use Rattle.std.proofs.Common.{◌≡◌, ℕ, ◌==◌, inl, inr, List, [], ◌∷◌, ◌++◌, Bool, true, false, ◌||◌, Option, Some, None, is_some, unwrap_or, refl, sym, ap, ap₂, ◌∙◌, subst, append-nil, true≢false}
 use Rattle.std.specs.List.{cons_option}
-use Rattle.std.proofs.lemmas.Bool.{and_parts, eq-eqb, eqb-true, false_from_ne_true}
-use Rattle.job_rules.proofs.Among.{any_from, contains_from}
-use Rattle.kvs_rules.specs.Log as service
+use Rattle.std.proofs.lemmas.Bool.{eq-eqb, eqb-true, false_from_ne_true}
 use Rattle.kvs_rules.specs.Sequence.{EachAfter}
 use Rattle.kvs_rules.proofs.Sequences.{each_along, each_joined}
-use Rattle.kvs_txn.specs.declared.txn.By.{By}
-use Rattle.manager_rules.specs.declared.asked.Asked.{Asked}
 use Rattle.manager_rules.specs.declared.asked.Asked.TheVariants as asked
-use Rattle.manager_rules.specs.Scene.{has_living_child, is_child_of, is_living}
 use Rattle.resource_set.specs.declared.node.Resources.{Resources}
 use Rattle.workload.specs.declared.work.Actor.{Actor}
 use Rattle.workload.specs.declared.work.Workload.{Workload}
-use Rattle.instance_rules.specs.Log.{Issued, JobReply, Replied, Served, child_of}
+use Rattle.instance_rules.specs.Log.{child_of}
 use Rattle.answers.specs.Chronicle.{Setup, top}
 use Rattle.answers.specs.Jobs.{happening_of, job_ask_at, job_reply_of, log_in}
 use Rattle.answers.specs.Services.{moment_of}
 use Rattle.answers.specs.declared.chronicle.Entry.{Entry}
 use Rattle.answers.specs.declared.chronicle.Entry.TheVariants as entry
 use Rattle.run_laws.specs.Reserved.{EndsComeFirst, EndsFirst}
+use Rattle.run_laws.proofs.Children.{child_push, child_there, issued_untold, replied_untold, served_untold, told_by}
 use Rattle.hierarchy.specs.Births.{birth_in, birth_of, ends, is_at, is_born, is_gone, label_of, lives}
 use Rattle.hierarchy.specs.Families.{living_in}
 use Rattle.hierarchy.specs.Legal.{IsLegalBirth, IsLegalEnd, IsLegalRun, IsLegalRunEntry, is_end}
 use Rattle.hierarchy.specs.Own.{only_if, own_entry, own_of, setup_in}
 use Rattle.hierarchy.proofs.Bearing.{fresh, own_none}
 use Rattle.hierarchy.proofs.Members.{gone_was_born, member}
-use Rattle.hierarchy.proofs.Nested.{born_is, child_push, from_of, happenings_push, in_family, served_untold, told_by, told_if}
+use Rattle.hierarchy.proofs.Nested.{born_is, from_of, happenings_push, in_family, told_if}
 use Rattle.hierarchy.proofs.Owning.{alive, birth_kept, gone_push, is_alive, lived, lives_on, own_born, own_push, setup_kept}
 
 -- ---- what an entry says of a child
@@ -51,25 +45,17 @@ module _ (work : Workload) (own : List Entry) (id : ℕ) where
   untold true f none = said_by f ∙ ap (λ o. unwrap_or o said) none
   untold false f none = said_none
 
-  issued_untold : (b : Bool) (by : By) (o : Option service.Moment) → told_by id (cond b (Some (Issued by)) (option_map Served o)) ≡ None
-  issued_untold true by o = refl
-  issued_untold false by o = served_untold id o
-
-  replied_untold : (by : By) (number : Option ℕ) (told : Option JobReply) (o : Option service.Moment) → told_by id (option_map_or (λ r. Some (Replied by r number)) told (option_map Served o)) ≡ None
-  replied_untold by number None o = served_untold id o
-  replied_untold by number (Some r) o = refl
-
   -- only births and ends say something
   says_nothing : (actors : List Actor) (label : Option (List ℕ)) (i : ℕ) (e : Entry) → is_end e ≡ false → birth_in e ≡ None → said_with (own_entry actors label i e) ≡ said
   says_nothing actors label i (entry.Issued actor number) n b =
-      untold (is_at actors label actor) (entry.Issued actor number) (issued_untold (is_some (job_ask_at work (record { actor = actor; command = number }))) (record { actor = actor; command = number }) _)
+      untold (is_at actors label actor) (entry.Issued actor number) (issued_untold id (is_some (job_ask_at work (record { actor = actor; command = number }))) (record { actor = actor; command = number }) _)
   says_nothing actors label i (entry.Landed instance space number authors groups) n b = untold (instance == i) (entry.Landed top space number authors groups) (served_untold id (moment_of work top own (entry.Landed top space number authors groups)))
   says_nothing actors label i (entry.Denied instance space authors group refusal) n b = untold (instance == i) (entry.Denied top space authors group refusal) (served_untold id (moment_of work top own (entry.Denied top space authors group refusal)))
   says_nothing actors label i (entry.Heard instance broker space number) n b = untold (instance == i) (entry.Heard top broker space number) (served_untold id (moment_of work top own (entry.Heard top broker space number)))
   says_nothing actors label i (entry.Got instance broker reference) n b = untold (instance == i) (entry.Got top broker reference) (served_untold id (moment_of work top own (entry.Got top broker reference)))
   says_nothing actors label i (entry.Dropped instance broker reference) n b = untold (instance == i) (entry.Dropped top broker reference) (served_untold id (moment_of work top own (entry.Dropped top broker reference)))
   says_nothing actors label i (entry.Replied actor command given number) n b =
-      untold (is_at actors label actor) (entry.Replied actor command given number) (replied_untold (record { actor = actor; command = command }) number (job_reply_of given) _)
+      untold (is_at actors label actor) (entry.Replied actor command given number) (replied_untold id (record { actor = actor; command = command }) number (job_reply_of given) _)
   says_nothing actors label i (entry.Told from to) n b = untold (is_at actors label from) (entry.Told from to) refl
   says_nothing actors label i (entry.Ticked second) n b = untold true (entry.Ticked second) refl
   says_nothing actors label i (entry.Born child parent job name second grant) n b = cc
@@ -215,18 +201,6 @@ module _ (set : Setup) where
   has_those c l = each_along (IsLegalRunEntry set) HasThose has_step [] c tt l has_first
 
   -- ---- ticks
-
-  -- a living child on a desk is told of by the log
-  child_there : (a : List Asked) (id : ℕ) → has_living_child a id ≡ true → (shut : Bool) × Contains a (asked.Child id true shut)
-  child_there all id h =
-      let hit = any_from (λ a. is_child_of id a && is_living a) all h in
-      by hit.0 (contains_from all hit.0 hit.1) (and_parts (is_child_of id hit.0) (is_living hit.0) hit.2).0 (and_parts (is_child_of id hit.0) (is_living hit.0) hit.2).1
-    where
-      by : (a : Asked) → Contains all a → is_child_of id a ≡ true → is_living a ≡ true → (shut : Bool) × Contains all (asked.Child id true shut)
-      by (asked.Child job living shut) here mine lives = (shut, subst (λ n. Contains all (asked.Child n true shut)) (sym (eqb-true id job mine)) (subst (λ b. Contains all (asked.Child job b shut)) lives here))
-      by (asked.Cancel by_ job) here mine lives = absurd (true≢false (sym mine))
-      by (asked.Raise by_ job kind severity note) here mine lives = absurd (true≢false (sym mine))
-      by (asked.Urgency by_ job urgency) here mine lives = absurd (true≢false (sym mine))
 
   tick_ends : (xs : List Entry) (second : ℕ) → IsLegalRun set xs → IsLegalRunEntry set xs (entry.Ticked second) → (i : ℕ) → lives xs i ≡ true → EndsFirst (setup_in set xs i) (own_of set xs i) (entry.Ticked second)
   unfolding HasThose SaidIn

@@ -1,6 +1,6 @@
 -- The hosts of each living instance's grant have names of hosts, and its end has its place in 64 bits,
 -- where those of the run do.
-use Rattle.std.proofs.Common.{◌≡◌, ◌∙◌, ℕ, ◌+◌, ◌<◌, ◌^◌, ◌==◌, inl, inr, List, [], ◌∷◌, ◌++◌, map, Option, Some, None, Bool, true, false, cond, refl, sym, ap, subst, append-nil, true≢false}
+use Rattle.std.proofs.Common.{◌≡◌, ◌∙◌, ℕ, ◌+◌, ◌<◌, ◌^◌, ◌==◌, inl, inr, List, [], ◌∷◌, ◌++◌, Option, None, Bool, true, false, cond, refl, sym, ap, subst, append-nil, true≢false}
 use Rattle.std.specs.Prelude.{IfSome, find}
 use Rattle.std.specs.List.{cons_option, list_all, AllByRecursion as Each}
 use Rattle.std.specs.Option.{option_map_or}
@@ -26,7 +26,7 @@ use Rattle.run_laws.specs.Times.{HasTime}
 use Rattle.run_laws.proofs.EachJob.{jobs_at}
 use Rattle.run_laws.proofs.Over.{IsShort, posts_short}
 use Rattle.run_laws.proofs.Sounds.{stay_sound}
-use Rattle.hierarchy.specs.Births.{Birth, birth_in, birth_of, births, is_birth_of, is_born, label_of, lives}
+use Rattle.hierarchy.specs.Births.{Birth, births, is_birth_of, is_born, label_of, lives}
 use Rattle.hierarchy.specs.Families.{living_in}
 use Rattle.hierarchy.specs.Laws.{AreValid, IsKept}
 use Rattle.hierarchy.specs.Legal.{IsGrantFor, IsLegalBirth, IsLegalRun, IsLegalRunEntry}

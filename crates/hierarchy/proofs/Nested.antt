@@ -13,7 +13,7 @@ use Rattle.job_rules.proofs.Among.{Among, among_from, among_kept, among_mapped, 
 use Rattle.job_states.specs.declared.job.State.TheVariants as state
 use Rattle.kvs_rules.specs.Namespaces.{newest_store, primary}
 use Rattle.kvs_rules.specs.Sequence.{EachAfter}
-use Rattle.kvs_rules.proofs.Sequences.{each_along, each_parts, latest_push}
+use Rattle.kvs_rules.proofs.Sequences.{each_along, each_parts}
 use Rattle.manager_rules.specs.Jobs.{AreJobsOf, IsStored, ids_of}
 use Rattle.manager_rules.specs.Times.{IsBirthDue}
 use Rattle.manager_rules.proofs.Unique.{jobs_are_one}
@@ -21,7 +21,7 @@ use Rattle.resource_set.specs.Units.{units_of}
 use Rattle.resource_set.specs.declared.node.Resources.{Resources}
 use Rattle.workload.specs.declared.work.Workload.{Workload}
 use Rattle.instance_rules.specs.Family.{AreNested, IsNestedAs, LiesIn, Living, OfLiving, below, itself}
-use Rattle.instance_rules.specs.Log.{Born, IsInstance, Issued, JobReply, Log, Moment, Replied, Served, Ticked, child_of, child_told}
+use Rattle.instance_rules.specs.Log.{Born, IsInstance, Issued, JobReply, Moment, Replied, Served, Ticked, child_of}
 use Rattle.answers.specs.Chronicle.{Setup, top}
 use Rattle.answers.specs.Jobs.{happening_of, happenings_after, instance_of, job_ask_at, job_reply_of, log_in, second_of}
 use Rattle.answers.specs.Services.{moment_of}
@@ -29,6 +29,7 @@ use Rattle.answers.specs.Legal.{IsLegal, IsLegalEntry}
 use Rattle.answers.specs.declared.chronicle.Entry.{Entry}
 use Rattle.answers.specs.declared.chronicle.Entry.TheVariants as entry
 use Rattle.run_laws.specs.Times.{KeepsTime}
+use Rattle.run_laws.proofs.Children.{child_push, served_untold, told_by}
 use Rattle.run_laws.proofs.Newest.{same_one}
 use Rattle.run_laws.proofs.Sounds.{stay_sound}
 use Rattle.hierarchy.specs.Births.{Birth, birth_in, birth_of, births, ends, is_at, is_birth_of, is_born, label_of, lives, numbers}
@@ -58,15 +59,6 @@ happenings_joined work c (x ∷ xs) ys =
 pub happenings_push : (work : Workload) (c : List Entry) (e : Entry) → log_in work (c ++ e ∷ []) ≡ log_in work c ++ cons_option (happening_of work c e) []
 happenings_push work c e = happenings_joined work [] c (e ∷ [])
 
--- what a moment says of a child, if there is one
-abbrev pub told_by : ℕ → Option Moment → Option (Option (Bool × Bool))
-told_by id None = None
-told_by id (Some m) = child_told id m
-
-pub child_push : (id : ℕ) (log : Log) (o : Option Moment) → child_of (log ++ cons_option o []) id ≡ unwrap_or (told_by id o) (child_of log id)
-child_push id log None = ap (λ l. child_of l id) (append-nil log)
-child_push id log (Some m) = latest_push (child_told id) None log m
-
 -- what is told of a child where the moment is about its job
 abbrev pub told_if : Bool → Option (Bool × Bool) → Option (Option (Bool × Bool))
 told_if same told = if same then Some told else None
@@ -75,26 +67,22 @@ abbrev pub from_of : Option Birth → Option (ℕ × ℕ)
 from_of o = option_map (λ b. (b.parent, b.job)) o
 
 module _ (id : ℕ) where
-  pub served_untold : (o : Option service.Moment) → told_by id (option_map Served o) ≡ None
-  served_untold None = refl
-  served_untold (Some m) = refl
-
   -- no moment but its end says that the child of the job doesn't live
   Says : Option Moment → Type 0
   Says o = (told_by id o ≡ None) ⊎ (told_by id o ≡ Some (Some (true, false)))
 
   served_says : (o : Option service.Moment) → Says (option_map Served o)
   unfolding Says
-  served_says o = inl (served_untold o)
+  served_says o = inl (served_untold id o)
 
   issued_says : (b : Bool) (by : By) (o : Option service.Moment) → Says (cond b (Some (Issued by)) (option_map Served o))
   unfolding Says
   issued_says true by o = inl refl
-  issued_says false by o = inl (served_untold o)
+  issued_says false by o = inl (served_untold id o)
 
   replied_says : (by : By) (number : Option ℕ) (told : Option JobReply) (o : Option service.Moment) → Says (option_map_or (λ r. Some (Replied by r number)) told (option_map Served o))
   unfolding Says
-  replied_says by number None o = inl (served_untold o)
+  replied_says by number None o = inl (served_untold id o)
   replied_says by number (Some r) o = inl refl
 
   born_says : (b : Bool) (job : ℕ) → Says (cond b (Some (Born job)) None)

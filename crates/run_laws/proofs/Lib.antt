@@ -11,5 +11,6 @@ pub mod Ticks
 pub mod Landings
 pub mod Reserved
 pub mod EachJob
+pub mod Children
 pub mod Written
 mod Examples

@@ -37,7 +37,7 @@ cons_append : {A : Type 0} (o : Option A) (xs ys : List A) → cons_option o xs 
 cons_append None xs ys = refl
 cons_append (Some x) xs ys = refl
 
-happenings_append : (work : Workload) (c xs ys : List Entry) → happenings_after work c (xs ++ ys) ≡ happenings_after work c xs ++ happenings_after work (c ++ xs) ys
+pub happenings_append : (work : Workload) (c xs ys : List Entry) → happenings_after work c (xs ++ ys) ≡ happenings_after work c xs ++ happenings_after work (c ++ xs) ys
 happenings_append work c [] ys = ap (λ b. happenings_after work b ys) (sym (append-nil c))
 happenings_append work c (x ∷ xs) ys =
     ap (cons_option (happening_of work c x)) (happenings_append work (c ++ x ∷ []) xs ys ∙ ap (λ b. happenings_after work (c ++ x ∷ []) xs ++ happenings_after work b ys) (append_assoc c (x ∷ []) xs))

@@ -59,9 +59,10 @@ pub fn what_roots_tell_of_jobs_goes_on()
 
 /// While one job stays the first in its instance's queue, the second that is reserved for it never
 /// rises, and no tick goes above it before that job's alloc, under both policies: where hosts have
-/// names of hosts, and children of ending jobs go before time goes on.
+/// names of hosts, and children of ending jobs go before time goes on, as in a run of one instance.
 pub fn heads_keep_their_seconds()
-    ensures { (set : Setup) (c : List Entry) → IsInstance (instance_of set)
+    ensures kept { (set : Setup) (c : List Entry) → IsInstance (instance_of set)
         → KeepsTime set c → IsLegal set c → IsNamed set.resources → EndsComeFirst set c
         → HeadsKeepTheirSeconds set c }
+    ensures alone { (set : Setup) (c : List Entry) → IsInTime set c → EndsComeFirst set c }
 {}
