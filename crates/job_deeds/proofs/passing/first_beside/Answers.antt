@@ -20,7 +20,7 @@ loop-row-preserved-then-not-goes_before c = (
 
 pub loop-row-preserved : goal.loop-row-preserved
 loop-row-preserved c = (
-  ?,
+  c.in_ok-leaves.ensures.kept ∙ c.loop-row.invariant.0,
   λ s seen.
       let x = c.row-item.result in
       let head = c.args.head.now in

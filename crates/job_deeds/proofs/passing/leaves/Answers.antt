@@ -11,13 +11,13 @@ use Rattle.job_deeds.proofs.passing.leaves.Goals as goal
 offered : (c : In-Some) → IsOffer c.args.desk.now.graph.now c.args.desk.now.second c.args.row.now (Some c.in-Some.offer)
 offered c = subst (IsOffer c.args.desk.now.graph.now c.args.desk.now.second c.args.row.now) c.in-Some.is c.in_ok-offer.ensures
 
-pub keeps-kept-requires-clause-held : goal.keeps-kept-requires-clause-held
-keeps-kept-requires-clause-held c =
+pub keeps-requires-2-clause-held : goal.keeps-requires-2-clause-held
+keeps-requires-2-clause-held c =
     let graph = c.args.desk.now.graph.now in
     let hold = c.in-Some.offer in
     subst (λ ns. AreHeld ns (c.args.live.now ++ hold ∷ [])) (ap (λ g. g.grant) c.requires.look.graph)
     (subst (λ ls. AreHeld graph.grant (ls ++ hold ∷ [])) (sym c.requires.live)
-    (are_held graph c.args.desk.now.rows.now hold c.keeps.ensures.live (ap (λ g. g.live) c.requires.look.graph) (offered (goal.at.keeps-kept-requires-clause-held c).In-Some).0.free))
+    (are_held graph c.args.desk.now.rows.now hold c.keeps.ensures.live (ap (λ g. g.live) c.requires.look.graph) (offered (goal.at.keeps-requires-2-clause-held c).In-Some).0.free))
 
 pub print-requires : goal.print-requires
 print-requires c = taken_are_r c.args.desk.now.graph.now c.args.row.now.spec c.args.desk.now.second c.in-Some.offer.units c.requires.look.named (offered (goal.at.print-requires c).In-Some).0
