@@ -4,6 +4,7 @@ use Rattle.std.specs.Prelude.{All}
 use Rattle.std.specs.List.{AllByRecursion as Each, cons_option, list_any}
 use Rattle.std.proofs.lemmas.List.Elements.{All-head, All-tail}
 use Rattle.kvs_txn.specs.declared.txn.By.{By}
+use Rattle.kvs_txn.specs.Staged.{most_ops}
 use Rattle.kvs_txn.specs.declared.txn.Txn.{Txn}
 use Rattle.kvs_model.specs.OneStore.{IsOwnOp}
 use Rattle.kvs_rules.specs.declared.events.KvsAsk.{KvsAsk}
@@ -24,7 +25,7 @@ Stages c = IfSome (op_of c) IsOwnOp
 
 built_stages : (c : Command) → IsBuilt c → Stages c
 unfolding Stages
-built_stages (command.Symlink path target) h = h.1.1
+built_stages (command.Symlink path target) h = h.2
 built_stages (command.Put path bytes) h = tt
 built_stages (command.Append path bytes) h = tt
 built_stages (command.Unlink path) h = tt
@@ -42,11 +43,11 @@ take_each P (suc n) (x ∷ xs) h = (h.0, take_each P n xs h.1)
 
 since_each : {A : Type 0} (P : A → Type 0) (test : A → Bool) (xs : List A) → Each P xs → Each P (since_last test xs)
 since_each P test [] h = tt
-since_each P test (x ∷ xs) h = by (test x || list_any test xs)
+since_each P test (x ∷ xs) h = by (test x || list_any test xs) (since_each P test xs h.1)
   where
-    by : (b : Bool) → Each P (cond b (since_last test xs) (x ∷ xs))
-    by true = since_each P test xs h.1
-    by false = h
+    by : (b : Bool) → Each P (since_last test xs) → Each P (cond b (since_last test xs) (x ∷ xs))
+    by true rest = rest
+    by false rest = h
 
 ops_each : (cs : List Command) → Each Stages cs → Each IsOwnOp (filter_map op_of cs)
 unfolding Stages
@@ -64,7 +65,7 @@ lines_each actor (l ∷ ls) h = option_each Stages (cond (l.actor == actor) (Som
 staged_own : (set : Setup) → All (λ l. IsBuilt l.command) set.work.lines → (by : By) → Each IsOwnOp (staged_at set.work by)
 staged_own set built by =
     let before : Each Stages (commands_before set.work by) = take_each Stages by.command (commands_of set.work by.actor) (lines_each by.actor set.work.lines built) in
-    take_each IsOwnOp _ (filter_map op_of (since_last takes_staged (commands_before set.work by))) (ops_each (since_last takes_staged (commands_before set.work by)) (since_each Stages takes_staged (commands_before set.work by) before))
+    take_each IsOwnOp most_ops (filter_map op_of (since_last takes_staged (commands_before set.work by))) (ops_each (since_last takes_staged (commands_before set.work by)) (since_each Stages takes_staged (commands_before set.work by) before))
 
 asked_own : (txn : Txn) → Each IsOwnOp txn.ops → (c : Command) → IfSome (ask_of txn c) IsOwnAsk
 asked_own txn h command.Commit = h

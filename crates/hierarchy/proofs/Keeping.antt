@@ -24,7 +24,7 @@ use Rattle.kvs_model.specs.Walk.{walk}
 use Rattle.kvs_txn.specs.declared.answers.Found.{Found}
 use Rattle.kvs_txn.specs.declared.answers.Numbered.{Numbered}
 use Rattle.kvs_txn.specs.declared.answers.Query.{Query}
-use Rattle.answers.specs.Floors.{floor}
+use Rattle.answers.specs.Floors.{floor, knows_after, number_in, roots_named}
 use Rattle.kvs_rules.specs.Answers as service_rules
 use Rattle.kvs_rules.specs.Answers.{InFreshStore, IsFreshRoot, IsLegalLog, IsLegalMoment, WalkTells}
 use Rattle.kvs_rules.specs.Brokers.{HasHeard, heard}
@@ -48,7 +48,7 @@ use Rattle.run_laws.proofs.Newest.{newest_of}
 use Rattle.hierarchy.specs.Births.{birth_in, has_living_home, is_at, label_of, lives, numbers}
 use Rattle.hierarchy.specs.Legal.{HasHomeFor, IsLegalRun, IsLegalRunEntry, is_end}
 use Rattle.hierarchy.specs.Own.{only_if, own_entry, own_of, setup_in}
-use Rattle.hierarchy.specs.Promises.{AtHome, CommittersHaveHeard, EventsAreDue, IsHeardOf, IsNoOlder, IsPublished, MaySee, ReadsAreFresh, RootsArePlain, SeesStore, SeesWalk, is_committed}
+use Rattle.hierarchy.specs.Promises.{AtHome, CommittersHaveHeard, EventsAreDue, IsHeardOf, IsNoOlder, IsNotBelow, IsPublished, MaySee, NumbersNeverFall, ReadsAreFresh, RootsArePlain, SeesStore, SeesWalk, is_committed}
 use Rattle.hierarchy.proofs.OneEntry.{lives_same, own_more}
 use Rattle.hierarchy.proofs.Owning.{alive, setup_kept}
 
@@ -288,7 +288,7 @@ module _ (set : Setup) (c : List Entry) (legal : IsLegalRun set c) where
       record {
         home = h.home;
         theirs = h.theirs;
-        held = (h.living, (g.0, g.1, asks s own by a.request a.made ∙ ap Some g.2, sees_walk s own by a.request a.made h.own.before given g.0 g.1 (Err space) number h.own.now.grounds g.3.0));
+        held = (h.living, (g.0, g.1, asks s own by a.request a.made ∙ ap Some g.2, sees_walk s own by a.request a.made h.own.before given g.0 g.1 (Err space) number h.own.now.grounds g.3));
       }
   all_fresh past more actor command (reply.Root reference) number split =
       let by : By = record { actor = actor; command = command } in
@@ -332,3 +332,27 @@ module _ (set : Setup) (c : List Entry) (legal : IsLegalRun set c)
       let log : IsLegalLog (setting_of s) (service_of (log_in s.work own)) = subst (IsLegalLog (setting_of s)) (sym (service_kept s.work own)) (service_legal s own o.before) in
       let newest = newest_of (setting_of s) (ap (λ (b : Base). b.number) v.text) (first_is s v.text) (service_of (log_in s.work own)) log in
       (l.grounds, (newest.store, newest.stands, o.now.grounds.2 here newest.store newest.stands))
+
+-- ---- numbers that never fall, where those of one instance don't
+
+abbrev NeverFall : Type 0
+NeverFall = (s : Setup) (own before between : List Entry) (by later : By) (given next : Reply) (number second : Option ℕ) (root : Numbered) → IsLegal s own
+    → before_issue later own ≡ (before ++ entry.Replied by.actor by.command given number ∷ []) ++ between
+    → knows_after by.actor between later.actor ≡ true → IsLegalEntry s own (entry.Replied later.actor later.command next second)
+    → Contains (roots_named s.work later next second) root → number_in root.namespace (roots_named s.work by given number) ≤ root.number
+
+module _ (set : Setup) (c : List Entry) (legal : IsLegalRun set c) (never_fall : NeverFall) where
+  -- no root of a reply is below one that was named to its actor before
+  unfallen : (past : List Entry) (actor command : ℕ) (given : Reply) (number : Option ℕ) → IsLegalRunEntry set past (entry.Replied actor command given number)
+      → IfSome number (λ n. AtHome set past actor (λ s own. IsNotBelow s own (record { actor = actor; command = command }) given (Some n)))
+  unfallen past actor command given None l = tt
+  unfallen past actor command given (Some n) l =
+      let by : By = record { actor = actor; command = command } in
+      let h = replied_in set past actor command given (Some n) l (lives_there set past by n given l.grounds) in
+      at_home set past actor (entry.Replied actor command given (Some n)) h (λ s own. IsNotBelow s own by given (Some n))
+      (λ before between other told earlier root split knows there.
+      never_fall (setup_in set past h.home) (own_of set past h.home) before between other by told given earlier (Some n) root h.own.before split knows h.own.now there)
+
+  pub all_rise : NumbersNeverFall set c
+  all_rise past more actor command given number split =
+      unfallen past actor command given number (each_at (IsLegalRunEntry set) past (entry.Replied actor command given number) more (subst (IsLegalRun set) split legal))

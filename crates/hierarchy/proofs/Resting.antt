@@ -1,5 +1,5 @@
 -- When a run rests with its living instances, and when no advance is left behind.
-use Rattle.std.proofs.Common.{◌≡◌, ℕ, ◌+◌, ◌&&◌, ◌⊎◌, inl, inr, List, [], ◌∷◌, Bool, true, false, cond, count_by, not, Option, Some, None, is_some, option_map, filter_map, refl, sym, ap, ap₂, subst, arith, true≢false}
+use Rattle.std.proofs.Common.{◌≡◌, ℕ, ◌+◌, ◌&&◌, inl, inr, List, [], ◌∷◌, Bool, true, false, cond, count_by, not, Option, Some, None, is_some, option_map, filter_map, refl, sym, ap, ap₂, subst, arith, true≢false}
 use Rattle.std.specs.Prelude.{Contains, option_and_then}
 use Rattle.std.specs.List.{cons_option}
 use Rattle.std.proofs.lemmas.Bool.{and_parts, eq-eqb, or_cases}

@@ -1,24 +1,47 @@
 -- What holds all the way through a legal run.
-use Rattle.std.proofs.Common.{◌≡◌, ◌∙◌, ℕ, List, [], ◌∷◌, ◌++◌, None, true, false, refl, sym, ap, subst}
+use Rattle.std.proofs.Common.{◌≡◌, ◌∙◌, ℕ, ◌==◌, inl, inr, List, [], ◌∷◌, ◌++◌, Option, None, Bool, true, false, refl, sym, ap, subst, append-nil, true≢false}
+use Rattle.std.specs.List.{cons_option}
 use Rattle.std.specs.Option.{option_map_or}
 use Rattle.std.proofs.lemmas.Bool.{and_parts}
 use Rattle.std.proofs.lemmas.List.{append_assoc}
-use Rattle.kvs_rules.proofs.Sequences.{each_at, each_parts}
+use Rattle.kvs_rules.proofs.Sequences.{each_along, each_parts}
+use Rattle.kvs_rules.specs.Log as service
+use Rattle.workload.specs.declared.work.Actor.{Actor}
+use Rattle.workload.specs.declared.work.Workload.{Workload}
 use Rattle.instance_rules.specs.Log.{IsInstance}
-use Rattle.run_laws.proofs.Sounds.{only_grow}
-use Rattle.run_laws.specs.Times.{HasTime}
-use Rattle.answers.specs.Chronicle.{Setup}
+use Rattle.run_laws.proofs.Views.{jobs_follow, logs_grow}
+use Rattle.run_laws.specs.Views.{JobsFollowWithRoots, LogsGrowWithRoots}
+use Rattle.run_laws.specs.Times.{HasTime, KeepsTime}
+use Rattle.answers.specs.Chronicle.{Setup, top}
 use Rattle.answers.specs.Jobs.{instance_of}
+use Rattle.answers.specs.Legal.{IsLegal}
+use Rattle.answers.specs.Services.{log_of, setting_of}
+use Rattle.answers.proofs.Services.{log_push}
 use Rattle.answers.specs.declared.chronicle.Entry.{Entry}
-use Rattle.hierarchy.specs.Births.{birth_of, is_born, is_gone, lives}
+use Rattle.answers.specs.declared.chronicle.Entry.TheVariants as entry
+use Rattle.hierarchy.specs.Births.{is_born, lives, label_of}
 use Rattle.hierarchy.specs.Laws.{AreValid, IsKept}
-use Rattle.hierarchy.specs.Legal.{IsLegalRun, IsLegalRunEntry}
-use Rattle.hierarchy.specs.Own.{child_setup, own_of, setup_in, work_for}
-use Rattle.hierarchy.specs.Promises.{ChildrenStayNested, JobsStaySoundInAll, LogsOnlyGrowInAll}
+use Rattle.hierarchy.specs.Legal.{IsLegalRun, IsLegalRunEntry, is_end}
+use Rattle.hierarchy.specs.Own.{begins, child_setup, only_if, own_entry, own_of, setup_in, work_for}
+use Rattle.hierarchy.specs.Promises.{ChildrenStayNested, JobsFollowInAll, JobsStaySoundInAll, LogsGrowInAll}
 use Rattle.hierarchy.proofs.Advances.{timely}
+use Rattle.hierarchy.proofs.Bearing.{first_top}
 use Rattle.hierarchy.proofs.Nested.{are_nested}
-use Rattle.hierarchy.proofs.Owning.{birth_kept, born_kept}
+use Rattle.hierarchy.proofs.Owning.{alive, birth_kept, born_kept, lived, own_push, setup_kept}
 use Rattle.hierarchy.proofs.Sound.{sound_in}
+
+end_begins_none : (e : Entry) → is_end e ≡ true → (i : ℕ) → begins i e ≡ true → ⊥
+end_begins_none (entry.Gone child parent job shut) ends i h = true≢false (sym h)
+end_begins_none _ ends i h = true≢false (sym ends)
+
+end_is_silent : (work : Workload) (own : List Entry) (actors : List Actor) (label : Option (List ℕ)) (i : ℕ) (e : Entry) → is_end e ≡ true
+    → log_of work top (own ++ cons_option (own_entry actors label i e) []) ≡ log_of work top own
+end_is_silent work own actors label i (entry.Gone child parent job shut) ends = by (parent == i)
+  where
+    by : (b : Bool) → log_of work top (own ++ cons_option (only_if b (entry.Gone child top job shut)) []) ≡ log_of work top own
+    by true = log_push work top own (entry.Gone child top job shut) ∙ append-nil _
+    by false = ap (log_of work top) (append-nil own)
+end_is_silent work own actors label i _ ends = absurd (true≢false (sym ends))
 
 module _ (set : Setup) (c : List Entry) (fits : HasTime set) (valid : AreValid set c) (legal : IsLegalRun set c) where
   -- a first part is a legal run
@@ -45,9 +68,56 @@ module _ (set : Setup) (c : List Entry) (fits : HasTime set) (valid : AreValid s
   pub all_nested : ChildrenStayNested set c
   all_nested past more split = are_nested set past (past_legal past more split) (past_kept past more split)
 
-  pub all_grow : LogsOnlyGrowInAll set c
-  all_grow past e more split other i h =
-      let whole : c ≡ (past ++ e ∷ []) ++ more = split ∙ sym (append_assoc past (e ∷ []) more) in
-      let kept = past_kept (past ++ e ∷ []) more whole i h in
-      let own = (each_at (IsLegalRunEntry set) past e more (subst (IsLegalRun set) split legal)).own other i h in
-      only_grow (setup_in set (past ++ e ∷ []) i) kept.valid (own_of set (past ++ e ∷ []) i) own kept.timely
+  -- ---- what roots tell
+
+  -- the roots of an instance's own chronicle tell of its jobs as they must
+  abbrev Tell : Setup → service.Log → Type 0
+  Tell s log = LogsGrowWithRoots (setting_of s) log × JobsFollowWithRoots (setting_of s) log
+
+  abbrev TellIn : Setup → List Entry → Type 0
+  TellIn s own = Tell s (log_of s.work top own)
+
+  Tells : List Entry → Type 0
+  Tells past = (more : List Entry) → c ≡ past ++ more → (i : ℕ) → lives past i ≡ true → TellIn (setup_in set past i) (own_of set past i)
+
+  legal_tells : (s : Setup) (own : List Entry) → IsInstance (instance_of s) → KeepsTime s own → IsLegal s own → TellIn s own
+  legal_tells s own sound time l = (logs_grow s sound own time l, jobs_follow s sound own time l)
+
+  tells_first : Tells []
+  unfolding Tells
+  tells_first more split i h = subst (λ n. lives [] n ≡ true → TellIn (setup_in set [] n) (own_of set [] n)) (sym (first_top set i (alive [] i h).0)) (at_top more split) h
+    where
+      at_top : (more : List Entry) → c ≡ more → lives [] top ≡ true → TellIn (setup_in set [] top) (own_of set [] top)
+      at_top more split living = let kept = past_kept [] more split top living in legal_tells (setup_in set [] top) (own_of set [] top) kept.valid kept.timely tt
+
+  -- an end is no moment of a service
+  tells_behind_end : (xs : List Entry) (e : Entry) → is_end e ≡ true → (i : ℕ) → lives (xs ++ e ∷ []) i ≡ true
+      → (lives xs i ≡ true → TellIn (setup_in set xs i) (own_of set xs i)) → TellIn (setup_in set (xs ++ e ∷ []) i) (own_of set (xs ++ e ∷ []) i)
+  tells_behind_end xs e ends i h before =
+      let v = lived xs e i h in
+      let was : lives xs i ≡ true = elim v.how [ inl w ↦ w | inr new ↦ absurd (end_begins_none e ends i new.1) ] in
+      let s = setup_in set xs i in
+      let same : log_of s.work top (own_of set (xs ++ e ∷ []) i) ≡ log_of s.work top (own_of set xs i) =
+      ap (log_of s.work top) (own_push set xs e i was v.stays) ∙ end_is_silent s.work (own_of set xs i) set.work.actors (label_of xs i) i e ends in
+      subst (λ x. TellIn x (own_of set (xs ++ e ∷ []) i)) (sym (setup_kept set xs (e ∷ []) i (alive xs i was).0)) (subst (Tell s) (sym same) (before was))
+
+  tells_step : (xs : List Entry) (e : Entry) → IsLegalRun set xs → IsLegalRunEntry set xs e → Tells xs → Tells (xs ++ e ∷ [])
+  unfolding Tells
+  tells_step xs e before l again more split i h = by (is_end e) refl (again (e ∷ more) (split ∙ append_assoc xs (e ∷ []) more) i)
+    where
+      by : (b : Bool) → is_end e ≡ b → (lives xs i ≡ true → TellIn (setup_in set xs i) (own_of set xs i)) → TellIn (setup_in set (xs ++ e ∷ []) i) (own_of set (xs ++ e ∷ []) i)
+      by true ends before_it = tells_behind_end xs e ends i h before_it
+      by false other before_it =
+          let kept = past_kept (xs ++ e ∷ []) more split i h in
+          legal_tells (setup_in set (xs ++ e ∷ []) i) (own_of set (xs ++ e ∷ []) i) kept.valid kept.timely (l.own other i h)
+
+  all_tell : (past : List Entry) → IsLegalRun set past → Tells past
+  all_tell past l = each_along (IsLegalRunEntry set) Tells (λ xs e before fit again. tells_step xs e before fit again) [] past tt l tells_first
+
+  pub all_grow : LogsGrowInAll set c
+  unfolding Tells
+  all_grow past more split i h = (all_tell past (past_legal past more split) more split i h).0
+
+  pub all_follow : JobsFollowInAll set c
+  unfolding Tells
+  all_follow past more split i h = (all_tell past (past_legal past more split) more split i h).1

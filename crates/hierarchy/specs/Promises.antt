@@ -22,17 +22,17 @@ use Rattle.kvs_txn.specs.declared.txn.Group.{Group}
 use Rattle.tree_rules.specs.Texts.{root_reference}
 use Rattle.answers.specs.Chronicle.{Setup, before_issue, replies_to, top}
 use Rattle.answers.specs.Commands.{ask_at, broker_of, command_at, subject_at}
-use Rattle.answers.specs.Floors.{floor}
+use Rattle.answers.specs.Floors.{floor, knows_after, number_in, roots_named}
 use Rattle.answers.specs.Jobs.{instance_of, log_in}
 use Rattle.answers.specs.Services.{log_of, setting_of}
 use Rattle.answers.specs.declared.chronicle.Entry.{Entry}
 use Rattle.answers.specs.declared.chronicle.Entry.TheVariants as entry
 use Rattle.answers.specs.declared.chronicle.Reply.{Reply}
 use Rattle.answers.specs.declared.chronicle.Reply.TheVariants as reply
-use Rattle.run_laws.specs.Jobs.{LogsOnlyGrow, store_of}
+use Rattle.run_laws.specs.Jobs.{store_of}
+use Rattle.run_laws.specs.Views.{JobsFollowWithRoots, LogsGrowWithRoots}
 use Rattle.hierarchy.specs.Births.{is_at, label_of, lives}
 use Rattle.hierarchy.specs.Families.{family_of}
-use Rattle.hierarchy.specs.Legal.{is_end}
 use Rattle.hierarchy.specs.Own.{own_of, setup_in}
 
 -- ---- whose a fact is
@@ -164,12 +164,40 @@ EventsAreDue set c = (past more : List Entry) (i : ℕ) (space : Name) (number :
     → InLiving set past i (λ s own. (st : Store) × (store_of s own ≡ Some st)
     × AreDueFrom (instance_of s) (log_in s.work own) groups st)
 
--- and up to each entry no event of a job of a living instance is lost or changed. Ends come with
--- those of the instances within, and are told behind them all
-abbrev pub LogsOnlyGrowInAll : Setup → List Entry → Type 0
-LogsOnlyGrowInAll set c = (past : List Entry) (e : Entry) (more : List Entry)
-    → c ≡ past ++ e ∷ more → is_end e ≡ false → (i : ℕ) → IsTrue (lives (past ++ e ∷ []) i)
-    → LogsOnlyGrow (setup_in set (past ++ e ∷ []) i) (own_of set (past ++ e ∷ []) i)
+-- after each first part P of what each living instance is given and of its own chronicle
+abbrev pub InAllLiving : Setup → List Entry → (Setup → List Entry → Type 0) → Type 0
+InAllLiving set c P = (past more : List Entry) → c ≡ past ++ more
+    → (i : ℕ) → IsTrue (lives past i) → P (setup_in set past i) (own_of set past i)
+
+-- no event of a job is lost or changed: its log at a root is the first part of that at a later one
+abbrev pub LogsGrowInAll : Setup → List Entry → Type 0
+LogsGrowInAll set c = InAllLiving set c
+    (λ s own. LogsGrowWithRoots (setting_of s) (log_of s.work top own))
+
+-- and what a later root tells of a job follows by the table from what an earlier one tells
+abbrev pub JobsFollowInAll : Setup → List Entry → Type 0
+JobsFollowInAll set c = InAllLiving set c
+    (λ s own. JobsFollowWithRoots (setting_of s) (log_of s.work top own))
+
+-- ---- the numbers that an actor's replies name never fall
+
+-- no root that the reply names is below one of its namespace that a reply before the command's issue
+-- named, which its actor was given or one that has told it since
+abbrev pub IsNotBelow : Setup → List Entry → By → Reply → Option ℕ → Type 0
+IsNotBelow s own by given number = (before between : List Entry) (other : By) (told : Reply)
+    (earlier : Option ℕ) (root : Numbered)
+    → before_issue by own
+    ≡ (before ++ entry.Replied other.actor other.command told earlier ∷ []) ++ between
+    → IsTrue (knows_after other.actor between by.actor)
+    → Contains (roots_named s.work by given number) root
+    → number_in root.namespace (roots_named s.work other told earlier) ≤ root.number
+
+-- a reply without a number names no root
+abbrev pub NumbersNeverFall : Setup → List Entry → Type 0
+NumbersNeverFall set c = (past more : List Entry) (actor command : ℕ) (given : Reply)
+    (number : Option ℕ) → c ≡ past ++ entry.Replied actor command given number ∷ more
+    → let by : By = record { actor = actor; command = command } in
+    IfSome number (λ n. AtHome set past actor (λ s own. IsNotBelow s own by given (Some n)))
 
 -- ---- live allocations are disjoint, satisfying and within the grant
 
@@ -198,16 +226,19 @@ pub record AreReplied (set : Setup) (c : List Entry) : Type 0 where
 
 -- each published root is the plain store after whole transactions, fences landing at once; each
 -- read sees a root no older than its actor had seen or was told; each committer is answered once
--- its own broker has heard the landing; each event of a job lands where it is due, stored logs
--- replay and only grow; live allocations are disjoint, satisfy their jobs and are within the grant;
--- the grant of each living child lies within what a live job of its living parent holds; and every
--- command has its one reply
+-- its own broker has heard the landing; the numbers that an actor's replies name never fall; each
+-- event of a job lands where it is due, stored logs replay and only grow, and what later roots tell
+-- of jobs follows from what earlier ones told; live allocations are disjoint, satisfy their jobs and
+-- are within the grant; the grant of each living child lies within what a live job of its living
+-- parent holds; and every command has its one reply
 pub record KeepsItsPromises (set : Setup) (c : List Entry) : Type 0 where
   pub published : RootsArePlain set c
   pub reads : ReadsAreFresh set c
   pub answered : CommittersHaveHeard set c
+  pub numbers : NumbersNeverFall set c
   pub due : EventsAreDue set c
-  pub grows : LogsOnlyGrowInAll set c
+  pub grows : LogsGrowInAll set c
+  pub follows : JobsFollowInAll set c
   pub live : JobsStaySoundInAll set c
   pub nested : ChildrenStayNested set c
   pub replied : AreReplied set c

@@ -17,7 +17,7 @@ ghost use Rattle.hierarchy.specs.Families.{family_of, left_in, second_in};
 ghost use Rattle.hierarchy.specs.Laws.{AreValid, IsChildless, IsKept, IsOfOthers, IsOfTop};
 ghost use Rattle.hierarchy.specs.Legal.{AreOwnLegal, IsLegalRun, IsSettledRun, is_end};
 ghost use Rattle.hierarchy.specs.Own.{own_of, setup_in};
-ghost use Rattle.hierarchy.specs.Promises.{ChildrenStayNested, JobsStaySoundInAll, LogsOnlyGrowInAll};
+ghost use Rattle.hierarchy.specs.Promises.{ChildrenStayNested, JobsFollowInAll, JobsStaySoundInAll, LogsGrowInAll};
 ghost use Rattle.hierarchy.specs.Whole.{IsWholeRun};
 
 /// Where all actors are of the top and nothing is born, a run is legal, whole and settled exactly
@@ -91,7 +91,8 @@ pub fn time_stays_within_the_run()
 {}
 
 /// All the way through a legal run jobs stay sound in each living instance, children stay nested in
-/// their parents, and logs only grow: where what each instance is given is within its ranges, and
+/// their parents, logs only grow, and what later roots tell of jobs follows from what earlier ones
+/// told: where what each instance is given is within its ranges, and
 /// the seconds of all have their place in 64 bits.
 pub fn a_run_stays_sound()
     ensures sound { (set : Setup) (c : List Entry) → HasTime set → AreValid set c
@@ -99,7 +100,9 @@ pub fn a_run_stays_sound()
     ensures nested { (set : Setup) (c : List Entry) → HasTime set → AreValid set c
         → IsLegalRun set c → ChildrenStayNested set c }
     ensures grows { (set : Setup) (c : List Entry) → HasTime set → AreValid set c
-        → IsLegalRun set c → LogsOnlyGrowInAll set c }
+        → IsLegalRun set c → LogsGrowInAll set c }
+    ensures follows { (set : Setup) (c : List Entry) → HasTime set → AreValid set c
+        → IsLegalRun set c → JobsFollowInAll set c }
 {}
 
 /// At the end of a run the own chronicle of each living instance is legal.

@@ -5,9 +5,10 @@ use Rattle.std.specs.List.{cons_option}
 use Rattle.std.proofs.lemmas.Bool.{eq-eqb}
 use Rattle.std.proofs.lemmas.List.Elements.{filter_map-append}
 use Rattle.std.proofs.lemmas.List.Sums.{sum_by_push}
+use Rattle.kvs_model.specs.History.{first_store}
 use Rattle.kvs_model.specs.Store.{Store}
 use Rattle.kvs_rules.specs.Log.{same_command}
-use Rattle.kvs_rules.specs.Namespaces.{begun_at, primary}
+use Rattle.kvs_rules.specs.Namespaces.{Base, begun_at, fresh, primary}
 use Rattle.kvs_rules.proofs.Sequences.{latest_push}
 use Rattle.kvs_rules.specs.Sequence.{EachAfter, latest}
 use Rattle.kvs_txn.specs.declared.txn.By.{By}
@@ -94,9 +95,12 @@ none_checked inst log by reason number built reply = none_away inst reply.ask re
 
 -- ---- runs from first stores
 
-pub none_old : (inst : Instance) (st : Store) (id : ℕ) → is_old (begun_at inst.service primary) st id ≡ false
+none_at_first : (grant : List ℕ) (st : Store) (id : ℕ) → is_old (first_store grant) st id ≡ false
 unfolding job_path
-none_old inst st id = refl
+none_at_first grant st id = refl
+
+pub none_old : (inst : Instance) (grant : List ℕ) (st : Store) (id : ℕ) → inst.service.base ≡ fresh grant → is_old (begun_at inst.service primary) st id ≡ false
+none_old inst grant st id begins = ap (λ (b : Base). is_old b.store st id) begins ∙ none_at_first grant st id
 
 -- time goes on from the second at which the log begins
 goes_on : (inst : Instance) (log : Log) (m : Moment) → inst.start ≤ now_of inst log → IsLegalMoment inst log m → inst.start ≤ now_of inst (log ++ m ∷ [])

@@ -35,7 +35,7 @@ module _ (v : CommandsValue) (jobs : List StoredJob) (inst : Instance) (log : Lo
   ends = seconds_ahead desk.scene
 
   desk_there : IsDeskOf inst log h.store desk
-  desk_there = desk_is v inst log h.commands h.store jobs h.are
+  desk_there = desk_is v inst log h.commands h.valid h.store jobs h.are
 
   pub of_desk : (P : Desk → Type 0) → P desk → OfDesk inst log P
   of_desk P p = (h.store, h.standing, (desk, desk_there, p))

@@ -3,15 +3,16 @@ use Rattle.std.specs.Prelude.{◌≡◌, ◌<◌, ◌≤◌, ℕ, List, Some, No
 use Rattle.kvs_model.specs.Store.{Store}
 use Rattle.kvs_rules.specs.Namespaces.{newest_store, primary}
 use Rattle.instance_rules.specs.Family.{Living}
-use Rattle.instance_rules.specs.Log.{Instance, Log, service_of}
+use Rattle.instance_rules.specs.Log.{Instance, IsInstance, Log, service_of}
 use Rattle.job_commands.specs.Agrees.{AgreesCommands}
 use Rattle.job_commands.specs.Rows.{CommandsValue}
 use Rattle.manager_rules.specs.Jobs.{AreJobsOf, StoredJob}
 
--- the open commands and the children are those of the log, and the jobs are those of its newest
--- store
+-- the open commands and the children of an instance are those of the log, and the jobs are those of
+-- its newest store
 pub record StandsWith (v : CommandsValue) (jobs : List StoredJob) (inst : Instance) (log : Log)
     : Type 0 where
+  pub valid : IsInstance inst
   pub commands : AgreesCommands v inst log
   pub store : Store
   pub standing : newest_store inst.service (service_of log) primary ≡ Some store

@@ -10,6 +10,7 @@ use Rattle.kvs_model.specs.Store.{Store}
 use Rattle.kvs_rules.specs.Log.{same_command}
 use Rattle.kvs_rules.specs.Sequence.{latest}
 use Rattle.kvs_txn.specs.declared.txn.By.{By}
+use Rattle.resource_set.specs.Writing.{r_text}
 use Rattle.manager_rules.specs.declared.asked.Asked.{Asked}
 use Rattle.manager_rules.specs.declared.asked.Asked.TheVariants as asked
 use Rattle.manager_rules.specs.Jobs.{AreJobsOf, StoredJob}
@@ -357,14 +358,14 @@ module _ (v : CommandsValue) (inst : Instance) (log : Log) (h : AgreesCommands v
       (ap (submit_at v inst log w.row) w.stands
       ∙ submit_made w.row x s.label s.named w.row.ask told-is s.needs w.named r-is (ap (seconds_open inst log) w.named ∙ sym s.seconds) count-is))
 
-  pub desk_is : (st : Store) (jobs : List StoredJob) → AreJobsOf st jobs → IsDeskOf inst log st (desk_of v inst log jobs)
-  desk_is st jobs are = record {
+  pub desk_is : IsInstance inst → (st : Store) (jobs : List StoredJob) → AreJobsOf st jobs → IsDeskOf inst log st (desk_of v inst log jobs)
+  desk_is valid st jobs are = record {
     now = refl;
     grant = refl;
     answer = refl;
     policy = refl;
     limits = refl;
-    old = λ id. sym (none_old inst st id);
+    old = λ id. sym (none_old inst (r_text inst.grant) st id valid.text);
     birth = refl;
     jobs = are;
     asked = λ a. (asked_true a, asked_there a);

@@ -1,7 +1,7 @@
 //! What follows from the words of the contracts.
 ghost use Rattle.std.specs.Prelude.{◌≡◌, ◌≢◌, ◌≤◌, ◌^◌, ◌++◌, ◌∷◌, ◌&&◌, ℕ, List, [], Some, Contains, false, is_some, length, not};
 ghost use Rattle.instance_rules.specs.Desks.{IsDeskOf};
-ghost use Rattle.instance_rules.specs.Log.{Instance, IsOpen, Issued, Log, Moment, Shutdown, Ticked, before_issue, child_of, now_of, seconds_open};
+ghost use Rattle.instance_rules.specs.Log.{Instance, IsInstance, IsOpen, Issued, Log, Moment, Shutdown, Ticked, before_issue, child_of, now_of, seconds_open};
 ghost use Rattle.job_commands.specs.Agrees.{AgreesCommands, IsIdOf};
 ghost use Rattle.job_commands.specs.Children.{LeavesChildren};
 ghost use Rattle.job_commands.specs.Desks.{asked_of, desk_of};
@@ -41,7 +41,7 @@ pub fn open_commands_are_open_at_their_issue()
 /// What the manager looks at is what the commands give.
 pub fn the_desk_is_this()
     ensures { (v : CommandsValue) (inst : Instance) (log : Log) (st : Store)
-        (jobs : List StoredJob) → AgreesCommands v inst log → AreJobsOf st jobs
+        (jobs : List StoredJob) → AgreesCommands v inst log → IsInstance inst → AreJobsOf st jobs
         → IsDeskOf inst log st (desk_of v inst log jobs) }
 {}
 

@@ -167,7 +167,7 @@ module _ (inst : Instance) (valid : IsInstance inst) (log : service.Log) (post :
 module _ (inst : Instance) (valid : IsInstance inst) (log : Log) (v : CommandsValue) (jobs : List StoredJob) (post : Post)
     (agrees : AgreesCommands v inst log) (due : IsDuePost (desk_of v inst log jobs) post)
     (users_land : (es : List KvsEvent) (left : List Group) → posts_landed es ++ left ≡ [] → Each LandsUsers es)
-    (due_from : (i : Instance) (l : Log) (desk : Desk) (p : Post) (gs : List Group) (s : Store) → IsDeskOf i l s desk → IsDuePost desk p → posts_in gs ≡ group_of p ∷ [] → AreDueFrom i l gs s) where
+    (due_from : (i : Instance) (l : Log) (desk : Desk) (p : Post) (gs : List Group) (s : Store) → IsInstance i → IsDeskOf i l s desk → IsDuePost desk p → posts_in gs ≡ group_of p ∷ [] → AreDueFrom i l gs s) where
   users_alone : (es : List KvsEvent) → posts_landed es ≡ [] → Each LandsUsers es
   users_alone es none = users_land es [] (append-nil _ ∙ none)
 
@@ -219,10 +219,10 @@ module _ (inst : Instance) (valid : IsInstance inst) (log : Log) (v : CommandsVa
     desk_at st standing =
         let same : has_at.store ≡ st = same_one has_at.store st (sym has_at.stands ∙ ap (λ l. newest_store inst.service l primary) (sym service_at) ∙ standing) in
         subst (IsDeskOf inst at st) (desk_along v inst jobs before log)
-        (desk_is v inst at (besides_agree v inst before log beside_before agrees) st jobs (subst (λ s. AreJobsOf s jobs) same has_at.are))
+        (desk_is v inst at (besides_agree v inst before log beside_before agrees) valid st jobs (subst (λ s. AreJobsOf s jobs) same has_at.are))
 
     landing_due : IsDueEvent inst at landing
-    landing_due = λ inside st standing. due_from inst at (desk_of v inst log jobs) post groups st (desk_at st standing) due lands
+    landing_due = λ inside st standing. due_from inst at (desk_of v inst log jobs) post groups st valid (desk_at st standing) due lands
 
     pub all_legal : EachAfter (IsLegalMoment inst) log (map happening (before ++ landing ∷ behind))
     all_legal =

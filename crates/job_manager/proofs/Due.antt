@@ -2,7 +2,7 @@
 use Rattle.std.proofs.Common.{◌≡◌, List, [], ◌∷◌, Bool, true, false, Result, Ok, Err, refl, sym, ap, ◌∙◌, subst}
 use Rattle.std.specs.Prelude.{IfSome}
 use Rattle.instance_rules.specs.Desks.{AreDueFrom, IsDeskOf, IsDueAt, IsDueFor}
-use Rattle.instance_rules.specs.Log.{Instance, Log}
+use Rattle.instance_rules.specs.Log.{Instance, IsInstance, Log}
 use Rattle.instance_rules.proofs.Feeding.{none_old}
 use Rattle.kvs_model.specs.History.{landed_on}
 use Rattle.kvs_model.specs.Operation.{effect}
@@ -15,6 +15,7 @@ use Rattle.kvs_txn.specs.declared.txn.Group.{Group}
 use Rattle.kvs_txn.specs.declared.txn.Scope.TheVariants as scope
 use Rattle.manager_rules.specs.Posts.{Desk, IsDuePost, Post, group_of}
 use Rattle.manager_rules.proofs.Stores.{users_leave_jobs}
+use Rattle.resource_set.specs.Writing.{r_text}
 use Rattle.store_laws.specs.Posts.{is_manager, posts_in}
 use Rattle.job_manager.proofs.Landing.{as-user}
 
@@ -42,7 +43,7 @@ module _ (inst : Instance) (log : Log) where
         each-after (AreDueFrom inst log gs) (effect st g.txn scope.Primary) (λ mid e. more mid (sym (with-user g gs m) ∙ none)),
       )
 
-  module _ (desk : Desk) (post : Post) (due : IsDuePost desk post) where
+  module _ (valid : IsInstance inst) (desk : Desk) (post : Post) (due : IsDuePost desk post) where
     at-desk : (st mid : Store) (g : Group) → is_manager g.txn.author ≡ false → effect st g.txn scope.Primary ≡ Ok mid → IsDeskOf inst log st desk → IsDeskOf inst log mid desk
     at-desk st mid g m e is = record {
       now = is.now;
@@ -50,7 +51,7 @@ module _ (inst : Instance) (log : Log) where
       answer = is.answer;
       policy = is.policy;
       limits = is.limits;
-      old = λ id. is.old id ∙ none_old inst st id ∙ sym (none_old inst mid id);
+      old = λ id. is.old id ∙ none_old inst (r_text inst.grant) st id valid.text ∙ sym (none_old inst (r_text inst.grant) mid id valid.text);
       birth = is.birth;
       jobs = users_leave_jobs st mid g.txn desk.scene.jobs (as-user g.txn.author m) e is.jobs;
       asked = is.asked;

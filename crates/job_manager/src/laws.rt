@@ -1,7 +1,7 @@
 //! What follows from the words of the contracts.
 ghost use Rattle.std.specs.Prelude.{◌≡◌, ◌⊎◌, List, [], ◌∷◌, Some};
 ghost use Rattle.instance_rules.specs.Desks.{AreDueFrom, IsDeskOf};
-ghost use Rattle.instance_rules.specs.Log.{Instance, Log};
+ghost use Rattle.instance_rules.specs.Log.{Instance, IsInstance, Log};
 ghost use Rattle.kvs_model.specs.Store.{Store};
 ghost use Rattle.kvs_txn.specs.declared.txn.Group.{Group};
 ghost use Rattle.manager_rules.specs.Posts.{Desk, IsDuePost, Post, group_of};
@@ -13,6 +13,6 @@ pub fn what_lands_is_due()
     ensures none { (inst : Instance) (log : Log) (groups : List Group) (st : Store)
         → posts_in groups ≡ [] → AreDueFrom inst log groups st }
     ensures one { (inst : Instance) (log : Log) (desk : Desk) (post : Post) (groups : List Group)
-        (st : Store) → IsDeskOf inst log st desk → IsDuePost desk post
+        (st : Store) → IsInstance inst → IsDeskOf inst log st desk → IsDuePost desk post
         → posts_in groups ≡ group_of post ∷ [] → AreDueFrom inst log groups st }
 {}

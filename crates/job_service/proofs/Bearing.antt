@@ -147,7 +147,7 @@ module _ (v : JobServiceValue) (inst : Instance) (log : Log) (a : AgreesJobs v i
 
   module _ (m : IsManaged v.manager) (newest : newest_store inst.service (service_of log) primary ≡ Some (newest_of v.manager.core)) where
     pub stands : StandsWith v.commands jobs inst log
-    stands = record { commands = a.commands; store = newest_of v.manager.core; standing = newest; are = m.jobs }
+    stands = record { valid = a.kind.valid; commands = a.commands; store = newest_of v.manager.core; standing = newest; are = m.jobs }
 
     pub first_birth : (job : ℕ) → IsBearing v.commands v.manager.book (Some job) → OfDesk inst log (λ d. IsFirstBirth d.scene job)
     first_birth job h =

@@ -102,7 +102,7 @@ module _ (v : JobServiceValue) (inst : Instance) (log : Log) (a : AgreesJobs v i
   pub may_post : v.second < 2 ^ 64 → (post : Post) → v.found ≡ Some post → WasDuePost v.manager.book post
   may_post small post e = record {
     desk = desk;
-    valid = desk_kept inst a.kind.valid log (subst (λ n. n < 2 ^ 64) (sym a.second) small) (newest_of v.manager.core) desk (desk_is v.commands inst log a.commands (newest_of v.manager.core) v.manager.book.jobs m.jobs);
+    valid = desk_kept inst a.kind.valid log (subst (λ n. n < 2 ^ 64) (sym a.second) small) (newest_of v.manager.core) desk (desk_is v.commands inst log a.commands a.kind.valid (newest_of v.manager.core) v.manager.book.jobs m.jobs);
     jobs = refl;
     grant = sym a.kind.book.grant;
     policy = sym a.kind.book.policy;

@@ -50,12 +50,12 @@ users-own set space group links (user, inr f) = members-own set space f.name f.c
 -- what waits is users' or a post
 pub ready-own : (set : Setting) (space : Name) (groups : List Group) → AsksOwn set → Each (IsWaiting set space) groups → Each IsPost (posts_in groups) → Each AreOwn groups
 ready-own set space [] links waits posts = tt
-ready-own set space (group ∷ groups) links waits posts = by (is_manager group.txn.author) refl waits.0 posts
+ready-own set space (group ∷ groups) links waits posts = by (is_manager group.txn.author) refl waits.0 posts (ready-own set space groups links waits.1)
   where
-    by : (b : Bool) → is_manager group.txn.author ≡ b → IsWaiting set space group → Each IsPost (cond b (group ∷ posts_in groups) (posts_in groups)) → Each AreOwn (group ∷ groups)
-    by true e w p = (puts-own group.txn.ops p.0.below, ready-own set space groups links waits.1 p.1)
-    by false e (inl users) p = (users-own set space group links users, ready-own set space groups links waits.1 p)
-    by false e (inr managers) p = let m : true ≡ false = sym (ap is_manager managers.author) ∙ e in absurd (cc)
+    by : (b : Bool) → is_manager group.txn.author ≡ b → IsWaiting set space group → Each IsPost (cond b (group ∷ posts_in groups) (posts_in groups)) → (Each IsPost (posts_in groups) → Each AreOwn groups) → Each AreOwn (group ∷ groups)
+    by true e w p others = (puts-own group.txn.ops p.0.below, others p.1)
+    by false e (inl users) p others = (users-own set space group links users, others p)
+    by false e (inr managers) p others = let m : true ≡ false = sym (ap is_manager managers.author) ∙ e in absurd (cc)
 
 pub posted-each : (name : Name) (ready : List Group) (st : Store) → ArePosted name ready st → Each IsPost (posts_in ready)
 posted-each name ready st (inl taken) = taken.1.each

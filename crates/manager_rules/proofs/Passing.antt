@@ -1,13 +1,27 @@
 -- A worked scene of EASY backfill: one host with two cores, of which one is held until second 10, a first in the queue that asks for both, and behind it a long job and a short one.
-use Rattle.std.proofs.Common.{◌≡◌, ◌≢◌, ℕ, suc, zero, ◌<◌, ◌≤◌, ◌⊎◌, inl, inr, Bool, true, false, List, [], ◌∷◌, Some, None, codes, refl, sym, ap, subst, arith}
+use Rattle.std.proofs.Common.{◌≡◌, ◌≢◌, ℕ, suc, zero, ◌+◌, ◌-◌, ◌<◌, ◌≤◌, ◌⊎◌, inl, inr, Bool, true, false, List, [], ◌∷◌, map, Some, None, is_none, codes, refl, sym, ap, ap₂, ◌∙◌, subst, arith}
 use Rattle.std.specs.Prelude.{nat_lt, Contains, Ok, cond, if◌then◌else◌}
 use Rattle.std.specs.BTreeMap.{is_at}
-use Rattle.std.specs.List.{cons_option}
+use Rattle.std.specs.Fmt.{digits}
+use Rattle.std.specs.List.{AllByRecursion, cons_option, join_with_byte, range_with_len}
 use Rattle.std.specs.List.Sorted.{IsStrictlyIncreasing}
 use Rattle.std.specs.Ordering.{nat_cmp}
+use Rattle.std.specs.Str.{IsUtf8}
 use Rattle.std.proofs.lemmas.Bool.Decides.{nat_tests}
 use Rattle.std.proofs.lemmas.List.Elements.{All-cons, All-nil}
-use Rattle.idset.proofs.Sets.{is_set, no_ids, one_range}
+use Rattle.json.specs.Print.{escape_byte}
+use Rattle.json.proofs.Printed.Utf8.{IsUtf8-are_ascii}
+use Rattle.fl_json.specs.Reading.{reading}
+use Rattle.fl_json.proofs.Canonical.{canonical_reading}
+use Rattle.event_log.proofs.JsonTexts.{text_back}
+use Rattle.idset.specs.Ranges.{AreApart, ids_in, single}
+use Rattle.idset.specs.Runs.{printed, range_text}
+use Rattle.idset.specs.Text.{first_fault, spelled}
+use Rattle.idset.specs.declared.ranges.IdRange.{IdRange}
+use Rattle.idset.proofs.Rereads.{read_again, sound_again}
+use Rattle.idset.proofs.Sets.{is_set, no_ids, one_range, runs_in}
+use Rattle.hostlist.specs.Printing.{canonical, group_text}
+use Rattle.hostlist.proofs.RoundTrip.{canonical_spells}
 use Rattle.job_queue.specs.Queue as queue
 use Rattle.job_rules.specs.declared.hold.Hold.{Hold}
 use Rattle.job_rules.specs.Fits.{AreWithin, IsGrant, IsSpec, first_fit, free_of, nodes_of}
@@ -20,9 +34,10 @@ use Rattle.job_states.specs.declared.job.State.TheVariants as state
 use Rattle.job_states.specs.Table.{made, submitted_job}
 use Rattle.resource_set.specs.Reading.{told}
 use Rattle.resource_set.specs.Units.{AreHosts}
-use Rattle.resource_set.specs.Writing.{r_text}
+use Rattle.resource_set.specs.Writing.{AreNamesSpelled, IsEntrySpelled, IsSpelled, data_of, entries_of, r_text}
 use Rattle.resource_set.specs.declared.node.Node.{Node}
 use Rattle.resource_set.specs.declared.node.Resources.{Resources}
+use Rattle.resource_set.proofs.Again.{data_flat, data_valid, told_again}
 use Rattle.manager_rules.specs.declared.policy.Policy.{Policy}
 use Rattle.manager_rules.specs.declared.policy.Policy.TheVariants.{Easy, FirstFit}
 use Rattle.manager_rules.specs.declared.why.Why.TheVariants.{Behind, Ready}
@@ -221,32 +236,75 @@ reserved_still = record {
   least = λ t from below. full_then (with_r 3 given jobs) t (full_beside _ _ (holds_before t below));
 }
 
--- a premise here, which printing ensures of each R that it prints: the text of this one tells it
-module _ (written : told (r_text given) ≡ Ok given) where
-  passes : Passes (scene Easy) short given
-  passes = record {
-    easy = refl;
-    head = first;
-    known = (1, omega arith, refl);
-    first = is_first;
-    full = finds_none Easy;
-    leaves = record {
-      waits = refl;
-      behind = λ e. cc;
-      ranked = omega arith;
-      fit = record { nodes = refl; start = refl; end = refl; free = given_within; written = written };
-      second = 10;
-      reserved = reserved_then;
-      kept = reserved_still;
-    };
-    next = none_before;
-  }
+-- ---- the text of its R tells it
 
-  may_take : MayTake (scene Easy) short given
-  may_take = inr passes
+-- the text of the ids of ranges that lie apart spells these ids
+spelled_by : (rs : List IdRange) (ids : List ℕ) → AreApart 0 rs → ids_in rs ≡ ids → IsSpelled ids
+unfolding printed
+spelled_by rs ids apart e = subst IsSpelled e (record {
+  sound = ap (λ (found : List IdRange). first_fault (join_with_byte 44 (map range_text found))) (runs_in rs apart) ∙ sound_again rs apart;
+  same = ap (λ (found : List IdRange). spelled (join_with_byte 44 (map range_text found))) (runs_in rs apart) ∙ read_again rs apart;
+})
 
-  short_is_ready : IsSaidOf (scene Easy) short Ready
-  short_is_ready = inr (given, passes)
+-- so does the text of no id
+no_id_spelled : IsSpelled []
+no_id_spelled = spelled_by [] [] tt (no_ids [] refl)
+
+-- and the text of one id
+one_id_spelled : (id : ℕ) → id < 65536 → IsSpelled (id ∷ [])
+one_id_spelled id small =
+    let one : id + 1 - id ≡ 1 = omega arith in
+    spelled_by (single id ∷ []) (id ∷ []) (omega arith, record { some = omega arith; small = small }, tt) (one_range _ id id refl (omega arith) small ∙ ap (range_with_len id) one)
+
+-- its one entry has rank 0 and core 1
+entries_spelled : AllByRecursion IsEntrySpelled (entries_of given.nodes)
+entries_spelled = (record { ranks = one_id_spelled 0 (omega arith); cores = one_id_spelled 1 (omega arith); gpus = no_id_spelled }, tt)
+
+-- its one host has a name, which the hostlist spells again
+names_spelled : AreNamesSpelled given.nodes
+names_spelled some = let again = canonical_spells (codes "node0" ∷ []) refl in ap₂ (λ fault hosts. if is_none fault then Some hosts else None) again.fault again.hosts
+
+-- the text is ASCII, and so UTF-8
+text_utf8 : IsUtf8 (r_text given)
+unfolding data_of printed canonical group_text escape_byte digits
+text_utf8 = IsUtf8-are_ascii (r_text given) refl
+
+-- it is the canonical text of a valid value, and so it is read as that value
+text_read : reading (r_text given) ≡ Ok (data_of given)
+text_read =
+    let valid = data_valid given (omega arith) (omega arith) in
+    canonical_reading (data_of given) valid text_utf8 (text_back (data_of given) valid (data_flat given))
+
+-- and that value tells the R
+written : told (r_text given) ≡ Ok given
+written = told_again (r_text given) (data_of given) given text_read refl (are_hosts (1 ∷ [])) entries_spelled names_spelled
+
+-- ---- so the short one passes, may take that core and is ready
+
+passes : Passes (scene Easy) short given
+passes = record {
+  easy = refl;
+  head = first;
+  known = (1, omega arith, refl);
+  first = is_first;
+  full = finds_none Easy;
+  leaves = record {
+    waits = refl;
+    behind = λ e. cc;
+    ranked = omega arith;
+    fit = record { nodes = refl; start = refl; end = refl; free = given_within; written = written };
+    second = 10;
+    reserved = reserved_then;
+    kept = reserved_still;
+  };
+  next = none_before;
+}
+
+may_take : MayTake (scene Easy) short given
+may_take = inr passes
+
+short_is_ready : IsSaidOf (scene Easy) short Ready
+short_is_ready = inr (given, passes)
 
 -- under first fit it may not take that core
 waits_under_first_fit : (r : Resources) → MayTake (scene FirstFit) short r → ⊥

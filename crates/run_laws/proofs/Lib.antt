@@ -4,3 +4,5 @@ pub mod Growing
 pub mod Sounds
 pub mod Lines
 pub mod Times
+pub mod Views
+mod Examples

@@ -51,11 +51,10 @@ module _ (set : Setup) (grant : List ℕ) (begins : base_of set ≡ fresh grant)
   stands c legal = let n = newest_in c legal in record { store = n.store; is = n.is; standing = kept c ∙ n.stands }
 
   module _ (c : List Entry) (legal : IsLegal set c) (e : Entry) (fits : IsLegalEntry set c e) where
-    log : service.Log
+    abbrev log : service.Log
     log = log_of set.work top c
 
-    next_legal : (m : service.Moment) → moment_of set.work top c e ≡ Some m → IsLegalMoment (setting_of set) log m
-    unfolding log
+    pub next_legal : (m : service.Moment) → moment_of set.work top c e ≡ Some m → IsLegalMoment (setting_of set) log m
     next_legal m is =
         let whole : IsLegalLog (setting_of set) (log_of set.work top (c ++ e ∷ [])) = service_legal set (c ++ e ∷ []) (each_push (IsLegalEntry set) c e legal fits) in
         let pushed : log_of set.work top (c ++ e ∷ []) ≡ log ++ m ∷ [] = log_push set.work top c e ∙ ap (λ o. log ++ cons_option o []) is in
@@ -63,7 +62,6 @@ module _ (set : Setup) (grant : List ℕ) (begins : base_of set ≡ fresh grant)
 
     moves : (o : Option service.Moment) → moment_of set.work top c e ≡ o → (st new : Store) → newest_store (setting_of set) log primary ≡ Some st
         → newest_store (setting_of set) (log ++ cons_option o []) primary ≡ Some new → (new ≡ st) ⊎ LandsDue set c st new
-    unfolding log
     moves None is st new was now = inl (same_one new st (sym now ∙ ap (λ l. newest_store (setting_of set) l primary) (append-nil log) ∙ was))
     moves (Some m) is st new was now =
         let n = newest_in c legal in
@@ -84,6 +82,5 @@ module _ (set : Setup) (grant : List ℕ) (begins : base_of set ≡ fresh grant)
 
     -- an entry leaves the store as it is, or lands what is due
     pub entry_moves : (st new : Store) → store_of set c ≡ Some st → store_of set (c ++ e ∷ []) ≡ Some new → (new ≡ st) ⊎ LandsDue set c st new
-    unfolding log
     entry_moves st new was now = moves (moment_of set.work top c e) refl st new (sym (kept c) ∙ was)
         (ap (λ l. newest_store (setting_of set) l primary) (sym (log_push set.work top c e)) ∙ sym (kept (c ++ e ∷ [])) ∙ now)

@@ -33,7 +33,7 @@ module _ (set : Setup) (valid : IsInstance (instance_of set)) where
   is_one : IsInstance (instance_of set)
   is_one = valid
 
-  grant : List ℕ
+  abbrev grant : List ℕ
   grant = r_text set.resources
 
   -- an entry may follow, and its second has its place

@@ -3,12 +3,14 @@ ghost use Rattle.std.specs.Prelude.{◌≡◌, ◌+◌, ◌≤◌, IsSome, List,
 ghost use Rattle.workload.specs.Laws.{KeepsTallies};
 ghost use Rattle.workload.specs.Tallies.{seconds_in};
 ghost use Rattle.answers.specs.declared.chronicle.Entry.{Entry};
-ghost use Rattle.answers.specs.Chronicle.{Setup};
+ghost use Rattle.answers.specs.Chronicle.{Setup, top};
+ghost use Rattle.answers.specs.Services.{log_of, setting_of};
 ghost use Rattle.answers.specs.Jobs.{instance_of, second_of, start_of};
 ghost use Rattle.instance_rules.specs.Log.{IsInstance};
 ghost use Rattle.answers.specs.Legal.{IsLegal};
 ghost use Rattle.answers.specs.Runs.{IsInTime};
 ghost use Rattle.run_laws.specs.Jobs.{JobsStaySound, LogsOnlyGrow, store_of};
+ghost use Rattle.run_laws.specs.Views.{JobsFollowWithRoots, LogsGrowWithRoots};
 ghost use Rattle.run_laws.specs.Times.{HasTime, KeepsTime, seconds_issued};
 
 /// However much of a legal chronicle has happened, `primary` has its store. Each log in it replays,
@@ -39,4 +41,17 @@ pub fn time_stays_within()
     ensures kept { (set : Setup) (c : List Entry) → HasTime set → IsLegal set c → IsInTime set c
         → KeepsTime set c }
     ensures fits { (set : Setup) → start_of set ≡ 0 → KeepsTallies set.work.lines → HasTime set }
+{}
+
+/// What the roots of a legal chronicle tell of its jobs goes on: a job's log at a root is the first
+/// part of its log at a later one (Flux RFC 18), and so the job at the later root follows from the
+/// job at the earlier one by the table of events and states (Flux RFC 21). Each root was once the
+/// newest.
+pub fn what_roots_tell_of_jobs_goes_on()
+    ensures logs { (set : Setup) (c : List Entry) → IsInstance (instance_of set)
+        → KeepsTime set c → IsLegal set c
+        → LogsGrowWithRoots (setting_of set) (log_of set.work top c) }
+    ensures jobs { (set : Setup) (c : List Entry) → IsInstance (instance_of set)
+        → KeepsTime set c → IsLegal set c
+        → JobsFollowWithRoots (setting_of set) (log_of set.work top c) }
 {}

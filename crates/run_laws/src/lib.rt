@@ -4,4 +4,6 @@
 
 pub mod laws;
 
-pub use laws::{jobs_stay_sound, logs_only_grow, time_stays_within};
+pub use laws::{
+    jobs_stay_sound, logs_only_grow, time_stays_within, what_roots_tell_of_jobs_goes_on,
+};

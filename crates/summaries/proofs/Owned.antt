@@ -1,5 +1,5 @@
 -- The landings of `primary` in a run are those of the top's own chronicle.
-use Rattle.std.proofs.Common.{◌≡◌, ◌∙◌, ◌==◌, ◌&&◌, ◌||◌, ℕ, Bool, true, false, cond, not, List, [], ◌∷◌, length, filter_map, Option, Some, None, ap, refl, sym, true≢false}
+use Rattle.std.proofs.Common.{◌≡◌, ◌∙◌, ◌==◌, ◌&&◌, ◌||◌, Bool, true, false, cond, not, List, [], ◌∷◌, length, filter_map, Option, Some, None, ap, refl, sym, true≢false}
 use Rattle.std.specs.List.{cons_option, list_any}
 use Rattle.kvs_txn.specs.declared.txn.Group.{Group}
 use Rattle.kvs_rules.specs.Namespaces.{is_primary, landings, primary}

@@ -1,5 +1,5 @@
 -- What a legal chronicle says of `primary`.
-use Rattle.std.proofs.Common.{◌≡◌, ◌∙◌, List, ap, ap₂, refl, sym, length}
+use Rattle.std.proofs.Common.{◌≡◌, ◌∙◌, List, ap, ap₂, sym, length}
 use Rattle.std.specs.Prelude.{ℕ, IsSome, None, Some, is_some}
 use Rattle.kvs_txn.specs.declared.txn.Group.{Group}
 use Rattle.kvs_txn.specs.declared.txn.Scope.TheVariants as scope

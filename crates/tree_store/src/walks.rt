@@ -60,6 +60,7 @@ fn joined(alloc: Global, front: &[Bytes], back: &[Bytes]) -> Result<Vec<Bytes>, 
 }
 
 /// Where a link leads.
+#[derive(Drop)]
 pub enum Further {
     /// To this path of its own store.
     Inside(Vec<Bytes>),

@@ -31,7 +31,7 @@ fn a_directory_and_its_text(rt: HostRuntime) -> Result<(), Fail> {
 }
 
 /// Texts with the faults that they have.
-const FAULTS: [(&str, ObjectFault); 14] = [
+const FAULTS: [(&str, ObjectFault); 16] = [
     ("", ObjectFault::NotJson(JsonFault::NotJson)),
     (
         r#"{"ver":0.5}"#,
@@ -63,7 +63,15 @@ const FAULTS: [(&str, ObjectFault); 14] = [
         ObjectFault::BadData,
     ),
     (
-        r#"{"data":{"target":"a","namespace":"n"},"type":"symlink","ver":1}"#,
+        r#"{"data":{"target":"a","namespace":null},"type":"symlink","ver":1}"#,
+        ObjectFault::BadData,
+    ),
+    (
+        r#"{"data":{"target":"a","namespace":"a.b"},"type":"symlink","ver":1}"#,
+        ObjectFault::BadData,
+    ),
+    (
+        r#"{"data":{"namespace":"n"},"type":"symlink","ver":1}"#,
         ObjectFault::BadData,
     ),
     (
@@ -86,12 +94,13 @@ fn texts_of_no_object(rt: HostRuntime) -> Result<(), Fail> {
 }
 
 /// Texts of objects, each the one text of its object.
-const TEXTS: [&str; 7] = [
+const TEXTS: [&str; 8] = [
     r#"{"data":"","type":"val","ver":1}"#,
     r#"{"data":"aGVsbG8=","type":"val","ver":1}"#,
     r#"{"data":["sha1-da39a3ee5e6b4b0d3255bfef95601890afd80709"],"type":"valref","ver":1}"#,
     r#"{"data":["sha1-da39a3ee5e6b4b0d3255bfef95601890afd80709"],"type":"dirref","ver":1}"#,
     r#"{"data":{"target":"a.b"},"type":"symlink","ver":1}"#,
+    r#"{"data":{"namespace":"n","target":"a.b"},"type":"symlink","ver":1}"#,
     r#"{"data":{},"type":"dir","ver":1}"#,
     concat!(
         r#"{"data":{"a":{"data":{"k\"":{"data":"eA==","type":"val","ver":1}},"#,
@@ -120,5 +129,19 @@ fn a_copy_has_the_text_of_its_object(rt: HostRuntime) -> Result<(), Fail> {
     for text in &TEXTS {
         assert!(rt; prints_as_its_copy(rt.alloc(), text)?, "{text}");
     }
+    Ok(())
+}
+
+/// A link into a namespace, with the members of its data in another order than is printed.
+const TURNED: &str = r#"{"data":{"target":"a","namespace":"n"},"type":"symlink","ver":1}"#;
+
+const IN_ORDER: &str = r#"{"data":{"namespace":"n","target":"a"},"type":"symlink","ver":1}"#;
+
+#[test]
+fn a_namespace_is_read_behind_the_target(rt: HostRuntime) -> Result<(), Fail> {
+    let alloc = rt.alloc();
+    let object = read(alloc, TURNED.as_bytes())?;
+    let printed = print(alloc, &object)?;
+    assert!(rt; printed.as_slice() == IN_ORDER.as_bytes());
     Ok(())
 }

@@ -1,4 +1,4 @@
-use Rattle.std.proofs.Common.{◌≡◌, List, [], None, Option, ap, sym, subst}
+use Rattle.std.proofs.Common.{[], Option, ap, sym, subst}
 use Rattle.instance_rules.specs.Family.{MayClose}
 use Rattle.answers.specs.Chronicle.{Checkpoint, Setup}
 use Rattle.answers.specs.Legal.{IsLegal}

@@ -1,4 +1,4 @@
-use Rattle.std.proofs.Common.{◌++◌, ◌∷◌, [], refl, sym, subst}
+use Rattle.std.proofs.Common.{◌++◌, [], refl, sym, subst}
 use Rattle.kvs_rules.proofs.Sequences.{each_at}
 use Rattle.answers.specs.declared.chronicle.Entry.TheVariants as entry
 use Rattle.hierarchy.specs.Legal.{AreOwnLegal, IsLegalRun, IsLegalRunEntry}

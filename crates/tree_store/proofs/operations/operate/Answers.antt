@@ -26,13 +26,13 @@ refusal-requires c =
     let leads : resolved st c.as_slice-key.result.now ≡ Ok at = subst (LeadsTo st c.as_slice-key.result.now) c.in-Ok.is (c.in_ok-end.ensures.end c.requires.0 st c.requires.2) ∙ ap Ok (sym c.as_slice-at.ensures.value) in
     leads_below st c.as_slice-key.result.now at (more_of _ (sym c.is_empty.ensures ∙ c.if-is_empty.false)) leads
 
-pub returns-in-Some-refusal : goal.returns-in-Some-refusal
-returns-in-Some-refusal c = λ h st shows.
+pub returns-in-Some : goal.returns-in-Some
+returns-in-Some c = λ h st shows.
     let at = c.as_slice-at.result.now in
     let leads : resolved st c.as_slice-key.result.now ≡ Ok at = subst (LeadsTo st c.as_slice-key.result.now) c.in-Ok.is (c.in_ok-end.ensures.end h st shows) ∙ ap Ok (sym c.as_slice-at.ensures.value) in
     let opens : OpensAbove c.resolve.new.opened st at = subst (OpensAbove c.resolve.new.opened st) (sym c.as_slice-at.ensures.value) (subst (λ r. IfOk r (λ v. OpensAbove c.resolve.new.opened st v.items)) c.in-Ok.is (c.in_ok-end.ensures.opens h st shows)) in
-    op_refused st c.args.who c.args.space c.args.op.now c.as_slice-key.result.now at (c.as_slice-key.ensures ∙ c.key_in-key.ensures) (more_of _ (sym c.is_empty.ensures ∙ c.if-is_empty.false)) leads c.in-Some-refusal.why
-    (c.in-Some-refusal.ensures h st (c.in_ok-end.ensures.shown h st shows) opens)
+    op_refused st c.args.who c.args.space c.args.op.now c.as_slice-key.result.now at (c.as_slice-key.ensures ∙ c.key_in-key.ensures) (more_of _ (sym c.is_empty.ensures ∙ c.if-is_empty.false)) leads c.in-Some.why
+    (c.in-Some.ensures h st (c.in_ok-end.ensures.shown h st shows) opens)
 
 pub change-requires-clause-named : goal.change-requires-clause-named
 change-requires-clause-named c =
@@ -55,6 +55,6 @@ returns c = λ h st shows.
     let opens : OpensAbove c.resolve.new.opened st at = subst (OpensAbove c.resolve.new.opened st) (sym c.as_slice-at.ensures.value) (subst (λ r. IfOk r (λ v. OpensAbove c.resolve.new.opened st v.items)) c.in-Ok.is (c.in_ok-end.ensures.opens h st shows)) in
     let now = c.in_ok-end.ensures.shown h st shows in (
       changed st c.args.op.now at,
-      op_done st c.args.who c.args.space c.args.op.now c.as_slice-key.result.now at (c.as_slice-key.ensures ∙ c.key_in-key.ensures) (more_of _ (sym c.is_empty.ensures ∙ c.if-is_empty.false)) leads (c.in_default-refusal.ensures h st now opens),
+      op_done st c.args.who c.args.space c.args.op.now c.as_slice-key.result.now at (c.as_slice-key.ensures ∙ c.key_in-key.ensures) (more_of _ (sym c.is_empty.ensures ∙ c.if-is_empty.false)) leads (c.in_default.ensures h st now opens),
       c.in_ok-change.ensures h st now opens,
     )
