@@ -1,9 +1,9 @@
 -- A job that fits at a second fits later too, and after the last end of a live job nothing changes.
-use Rattle.std.proofs.Common.{◌≡◌, ℕ, ◌+◌, ◌<◌, ◌≤◌, Bool, true, false, ◌||◌, eqb, ltb, inl, inr, List, [], ◌∷◌, ◌++◌, map, refl, sym, ◌∙◌, subst, arith}
+use Rattle.std.proofs.Common.{◌≡◌, ℕ, ◌+◌, ◌<◌, ◌≤◌, Bool, true, false, ◌||◌, eqb, ltb, inl, inr, List, [], ◌∷◌, ◌++◌, map, refl, sym, ap, ◌∙◌, subst, arith}
 use Rattle.std.specs.Prelude.{filter, IsTrue, ◌↔◌}
 use Rattle.std.specs.List.{AllByRecursion as Each}
 use Rattle.std.proofs.lemmas.Bool.{cases_lt, lt-ltb, ltb-true}
-use Rattle.job_rules.proofs.Among.{Among, among_filter, among_flat, among_flattened, among_kept, among_left, among_map, among_mapped, each_at}
+use Rattle.job_rules.proofs.Among.{Among, among_append, among_filter, among_flat, among_flattened, among_kept, among_left, among_map, among_mapped, each_at}
 use Rattle.job_rules.proofs.Unique.{more_free}
 use Rattle.job_rules.specs.Fits.{CanFit, free_of, nodes_of, without_nodes}
 use Rattle.graph_match.specs.Allotment.{Allotment}
@@ -106,3 +106,19 @@ passes_is spec grant live offer now second g b is same nodes room = (
 
     back : FitsAt spec grant (live ++ offer ∷ []) second → CanFit spec g.grant (free_of g.grant g.live)
     back can = subst (λ x. CanFit spec x (map (without_nodes (nodes_of g.live)) x)) (sym same) (subst (λ ns. CanFit spec grant (map (without_nodes ns) grant)) (sym taken) can)
+
+-- who has given its units back by the second leaves it
+pub keeps_ended : (spec : JobSpec) (grant : List Node) (live : List Hold) (offer : Hold) (now second : ℕ) → IsReserved spec grant live now second → is_held_at second offer ≡ false → IsTrue true ↔ KeepsReservation spec grant live offer now
+keeps_ended spec grant live offer now second is ended = (
+  λ t. keeps spec grant live offer now second is (fewer spec grant (live ++ offer ∷ []) live second second still is.fits),
+  λ k. refl,
+)
+  where
+    still : (h : Hold) → Among h (live ++ offer ∷ []) → is_held_at second h ≡ true → Among h live × (is_held_at second h ≡ true)
+    still h i e = elim (among_append live (offer ∷ []) h i) [
+      | inl here ↦ (here, e)
+      | inr last ↦ elim last [
+        | inl same ↦ let no : true ≡ false = sym e ∙ ap (is_held_at second) (sym same) ∙ ended in cc
+        | inr none ↦ absurd none
+      ]
+    ]

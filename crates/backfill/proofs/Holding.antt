@@ -1,9 +1,9 @@
 -- What live jobs hold at a second, one after another.
-use Rattle.std.proofs.Common.{◌≡◌, ℕ, suc, zero, ◌+◌, ◌<◌, Bool, true, false, cond, not, ◌&&◌, List, [], ◌∷◌, ◌++◌, length, get_or, take, map, refl, sym, ap, ◌∙◌, subst, length-append, arith}
+use Rattle.std.proofs.Common.{◌≡◌, ◌≢◌, ℕ, suc, zero, ◌+◌, ◌<◌, ◌==◌, Bool, true, false, cond, not, ◌&&◌, List, [], ◌∷◌, ◌++◌, length, get_or, take, map, refl, sym, ap, ◌∙◌, subst, length-append, arith}
 use Rattle.std.specs.Prelude.{filter}
 use Rattle.std.specs.List.{AllByRecursion as Each}
 use Rattle.std.specs.Str.{bytes_eq}
-use Rattle.std.proofs.lemmas.Bool.{true≢false, and_from, le-ltb, or_from, or_parts, false_from_ne_true}
+use Rattle.std.proofs.lemmas.Bool.{true≢false, and_from, eq-eqb, le-ltb, ne_eqb, or_from, or_parts, false_from_ne_true}
 use Rattle.std.proofs.lemmas.List.{map-append}
 use Rattle.std.proofs.Math.Seq.{take-append_seam}
 use Rattle.std.proofs.lemmas.List.Concat.{flat_map-append}
@@ -14,7 +14,7 @@ use Rattle.job_rules.specs.declared.hold.Hold.{Hold as Held}
 use Rattle.job_rules.specs.Fits.{AllApart, AreApart, AreWithin, IsWithin, has_unit, left_on, nodes_of, without_nodes}
 use Rattle.job_rules.proofs.Among.{Among, among_from, among_has, among_kept, among_map, among_mapped, any_at, contains_from, each_at, each_from, has_among}
 use Rattle.job_rules.proofs.Few.{same_bytes}
-use Rattle.graph_match.specs.Holds.{IsNew, with_hold}
+use Rattle.graph_match.specs.Holds.{IsNew, with_hold, without_hold}
 use Rattle.graph_match.proofs.Blocking.{IsApartBy}
 use Rattle.graph_match.proofs.Holds.{has_both, has_held, ids_of}
 use Rattle.graph_match.proofs.Turns.{read_among}
@@ -27,6 +27,17 @@ with_last hold [] e = refl
 with_last hold (x ∷ xs) e =
     ap (λ b. cond b (hold ∷ x ∷ xs) (x ∷ with_hold hold xs)) (le-ltb hold.id x.id (omega (arith, e.0)))
     ∙ ap (λ ys. x ∷ ys) (with_last hold xs e.1)
+
+-- and give them back
+pub left_again : (hold : Held) (holds : List Held) → Each (λ h. h.id < hold.id) holds → without_hold hold.id (with_hold hold holds) ≡ holds
+left_again hold holds e = ap (without_hold hold.id) (with_last hold holds e) ∙ all holds e
+  where
+    all : (xs : List Held) → Each (λ h. h.id < hold.id) xs → filter (λ h. not (h.id == hold.id)) (xs ++ hold ∷ []) ≡ xs
+    all [] e = ap (λ b. cond (not b) (hold ∷ []) []) (eq-eqb hold.id hold.id refl)
+    all (x ∷ xs) e =
+        let other : x.id ≢ hold.id = λ same. omega (arith, e.0, same) in
+        ap (λ b. cond (not b) (x ∷ filter (λ h. not (h.id == hold.id)) (xs ++ hold ∷ [])) (filter (λ h. not (h.id == hold.id)) (xs ++ hold ∷ []))) (ne_eqb x.id hold.id other)
+        ∙ ap (λ ys. x ∷ ys) (all xs e.1)
 
 pub new_id : (place : ℕ) (holds : List Held) → Each (λ h. h.id < place) holds → IsNew place holds
 new_id place holds e c =

@@ -7,4 +7,4 @@ pub mod hold;
 pub mod reserving;
 
 pub use hold::Hold;
-pub use reserving::{passes, reserve};
+pub use reserving::{Reservation, passes, reserve};

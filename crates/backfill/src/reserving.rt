@@ -5,6 +5,7 @@ ghost use Rattle.resource_set.specs.Units.{AreHosts};
 ghost use Rattle.job_rules.specs.Fits.{AreWithin, IsSpec, free_of, nodes_of};
 ghost use Rattle.backfill.specs.Held.{AreHeld, held_at};
 ghost use Rattle.backfill.specs.Reserved.{FitsAt, IsReserved, KeepsReservation, Reserves};
+ghost use Rattle.backfill.specs.Reservations.{AsReserved, IsReservation};
 
 use crate::hold::Hold;
 use graph_match::Graph;
@@ -155,4 +156,62 @@ pub fn passes(
     let mut graph = graph_at(alloc, grant, live, second)?;
     hold_at(&mut graph, live.len(), offer, second)?;
     Ok(graph.has_room(head))
+}
+
+/// The second that is reserved for the head of a queue, and the grant with what live jobs hold of
+/// it then.
+#[derive(Drop)]
+pub struct Reservation {
+    pub second: u64,
+    pub graph: Graph,
+}
+
+impl Reservation {
+    /// The reserved second of a job, with what live jobs hold then, so that several offers can be asked
+    /// for; None exactly where it has none.
+    pub fn of(
+        alloc: Global,
+        grant: &Resources,
+        live: &[Hold],
+        spec: &JobSpec,
+        now: u64,
+    ) -> Result<Option<Reservation>, AllocError>
+        requires spec { IsSpec spec.now }
+        requires grant { AreHosts grant.now.nodes }
+        requires held { AreHeld grant.now.nodes live.now }
+        ensures { IfOk result (AsReserved spec.now grant.now.nodes live.now now) }
+    {
+        let Some(second) = reserve(alloc, grant, live, spec, now)? else {
+            return Ok(None);
+        };
+        let graph = graph_at(alloc, grant, live, second)?;
+        Ok(Some(Reservation { second, graph }))
+    }
+
+    /// Whether the head of a queue keeps its reserved second where the offer is one more live job,
+    /// as `passes` tells it.
+    pub fn keeps(
+        &mut self,
+        _grant: &Resources,
+        live: &[Hold],
+        head: &JobSpec,
+        offer: &Hold,
+        _now: u64,
+    ) -> Result<bool, AllocError>
+        requires spec { IsSpec head.now }
+        requires held { AreHeld _grant.now.nodes (live.now ++ offer.now ∷ []) }
+        requires reserved { IsReservation head.now _grant.now.nodes live.now _now self.old }
+        ensures keeps { IfOk result (λ keeps. IsTrue keeps
+            ↔ KeepsReservation head.now _grant.now.nodes live.now offer.now _now) }
+        ensures kept { OnOk result (self.new ≡ self.old) }
+    {
+        if !offer.is_held_at(self.second) {
+            return Ok(true);
+        }
+        let place = live.len() as u64;
+        self.graph.take(place, &offer.units)?;
+        let keeps = self.graph.has_room(head);
+        self.graph.give(place);
+        Ok(keeps)
+    }
 }

@@ -1,5 +1,5 @@
 -- What a job would hold that passes the first in the queue.
-use Rattle.std.proofs.Common.{◌≡◌, ◌≢◌, ℕ, ◌<◌, Bool, true, false, not, ◌&&◌, List, [], ◌∷◌, ◌++◌, map, Option, Some, None, Ok, refl, sym, ap, ◌∙◌, subst, true≢false}
+use Rattle.std.proofs.Common.{◌≡◌, ◌≢◌, ℕ, ◌<◌, ◌≤◌, Bool, true, false, not, ◌&&◌, List, [], ◌∷◌, ◌++◌, map, Option, Some, None, Ok, refl, sym, ap, ◌∙◌, subst, true≢false}
 use Rattle.std.specs.Prelude.{Contains, IsSomeAnd}
 use Rattle.std.specs.List.{AllByRecursion as Each}
 use Rattle.std.proofs.lemmas.Bool.{false_from_ne_true, or_from, or_parts}
@@ -7,14 +7,14 @@ use Rattle.std.proofs.lemmas.List.{map-append}
 use Rattle.std.proofs.lemmas.List.Concat.{flat_map-append}
 use Rattle.backfill.specs.declared.hold.Hold.{Hold}
 use Rattle.backfill.specs.Held.{AreHeld, held}
-use Rattle.backfill.specs.Reserved.{KeepsReservation}
+use Rattle.backfill.specs.Reserved.{FitsAt, KeepsReservation}
 use Rattle.graph_match.specs.Allotment.{Allotment}
 use Rattle.graph_match.specs.Answers.{AreFirstFit}
 use Rattle.graph_match.proofs.Fitting.{are_within_grant, free_of_others}
 use Rattle.graph_match.proofs.Holds.{has_both}
 use Rattle.job_rules.specs.Fits as fits
-use Rattle.job_rules.specs.Fits.{AllApart, AreApart, AreLive, AreWithin, free_of, has_unit, nodes_of}
-use Rattle.job_rules.proofs.Among.{among_from, each_at}
+use Rattle.job_rules.specs.Fits.{AllApart, AreApart, AreLive, AreWithin, CanFit, free_of, has_unit, nodes_of}
+use Rattle.job_rules.proofs.Among.{among_from, each_at, each_from}
 use Rattle.job_spec.specs.declared.spec.JobSpec.{JobSpec}
 use Rattle.job_states.specs.Table.{is_state}
 use Rattle.job_states.specs.declared.job.State.{State}
@@ -34,7 +34,7 @@ use Rattle.job_deeds.specs.Waiting.{waits_with}
 use Rattle.job_deeds.specs.declared.decisions.Desk.{Desk}
 use Rattle.job_deeds.proofs.Fitting.{seen_fit}
 use Rattle.job_deeds.proofs.Heads.{so_waits}
-use Rattle.job_deeds.proofs.Passers.{held_all, keeps_back, keeps_there}
+use Rattle.job_deeds.proofs.Passers.{held_all, held_leases, keeps_back, keeps_there}
 
 -- ---- it is apart from what live jobs hold
 
@@ -60,9 +60,18 @@ apart_last hold (x ∷ xs) a h = (here, apart_last hold xs a.1 (λ host id. (res
     here = subst (AreApart x.units.nodes) (sym (ap nodes_of (map-append held xs (hold ∷ [])) ∙ flat_map-append (λ h. h.nodes) (map held xs) (held hold ∷ [])))
         (λ host id. (one (λ n. n.cores) host id (h host id).0 (a.0 host id).0, one (λ n. n.gpus) host id (h host id).1 (a.0 host id).1))
 
+each_held : (grant : List Node) (xs : List Hold) → Each (λ h. AreWithin h.nodes grant) (map held xs) → Each (λ h. AreWithin h.units.nodes grant) xs
+each_held grant [] e = tt
+each_held grant (x ∷ xs) e = (e.0, each_held grant xs e.1)
+
+pub are_leases : (g : Allotment) (jobs : List StoredJob) → AreLive g.grant g.live → g.live ≡ holds_of jobs → AreHeld g.grant (leases_of jobs)
+are_leases g jobs live same =
+    let here = subst (AreLive g.grant) (same ∙ sym (held_all jobs)) live in
+    record { within = each_held g.grant (leases_of jobs) here.within; apart = here.apart }
+
 pub are_held : (g : Allotment) (jobs : List StoredJob) (hold : Hold) → AreLive g.grant g.live → g.live ≡ holds_of jobs → AreWithin hold.units.nodes (free_of g.grant g.live) → AreHeld g.grant (leases_of jobs ++ hold ∷ [])
 are_held g jobs hold live same w = record {
-  within = each_more (leases_of jobs) (each_held (leases_of jobs) here.within);
+  within = each_more (leases_of jobs) (each_held g.grant (leases_of jobs) here.within);
   apart = apart_last hold (leases_of jobs) here.apart (subst (λ hs. AreApart hold.units.nodes (nodes_of hs)) alike (free_of_others (nodes_of g.live) g.grant hold.units.nodes w));
 }
   where
@@ -71,10 +80,6 @@ are_held g jobs hold live same w = record {
 
     here : AreLive g.grant (map held (leases_of jobs))
     here = subst (AreLive g.grant) alike live
-
-    each_held : (xs : List Hold) → Each (λ h. AreWithin h.nodes g.grant) (map held xs) → Each (λ h. AreWithin h.units.nodes g.grant) xs
-    each_held [] e = tt
-    each_held (x ∷ xs) e = (e.0, each_held xs e.1)
 
     each_more : (xs : List Hold) → Each (λ h. AreWithin h.units.nodes g.grant) xs → Each (λ h. AreWithin h.units.nodes g.grant) (xs ++ hold ∷ [])
     each_more [] e = (are_within_grant (nodes_of g.live) g.grant hold.units.nodes w, tt)
@@ -113,6 +118,13 @@ one_fit s j r q a b = same_r r q (sym a.nodes ∙ b.nodes) (a.start ∙ sym b.st
 moved : (grant other : List Node) (jobs more : List StoredJob) (spec : JobSpec) (now later second : ℕ) → grant ≡ other → jobs ≡ more → now ≡ later → rules.IsReserved grant jobs spec now second → rules.IsReserved other more spec later second
 moved grant other jobs more spec now later second g j n h =
     subst (λ x. rules.IsReserved x more spec later second) g (subst (λ x. rules.IsReserved grant x spec later second) j (subst (λ x. rules.IsReserved grant jobs spec x second) n h))
+
+-- without a reserved second no job leaves it
+pub unreserved : (desk : Desk) (grant : Resources) → IsLook desk grant → (head : StoredJob) → ((second : ℕ) → desk.second ≤ second → FitsAt head.spec grant.nodes (leases_of desk.rows.now) second → ⊥) → (s : Scene) → IsSeen desk s → Each (λ k. Leaves s head k → ⊥) desk.rows.now
+unreserved desk grant look head never s seen = each_from (λ k. Leaves s head k → ⊥) desk.rows.now (λ k i l.
+    let whole : s.grant.nodes ≡ grant.nodes = ap (λ g. g.grant) (sym seen.graph ∙ look.graph) in
+    let here = moved s.grant.nodes grant.nodes s.jobs desk.rows.now head.spec s.now desk.second l.1.second whole seen.jobs seen.second l.1.reserved in
+    never l.1.second here.from (subst (λ hs. CanFit head.spec grant.nodes (free_of grant.nodes hs)) (sym (held_leases l.1.second desk.rows.now)) here.fits))
 
 module _ (desk : Desk) (grant : Resources) (look : IsLook desk grant) (head j : StoredJob) (known : Contains desk.rows.now j) (above : 0 < waits_with j) (hold : Hold) (ends : hold.until ≡ hold.units.expiration) (fit : AreFirstFit desk.graph.now j.spec desk.second hold.units) (s : Scene) (seen : IsSeen desk s) where
   waits : j.job.state ≡ state.Sched

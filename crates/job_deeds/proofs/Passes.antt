@@ -5,7 +5,7 @@ use Rattle.std.specs.List.{AllByRecursion as Each}
 use Rattle.std.specs.List.Sorted.{IsStrictlyIncreasing}
 use Rattle.graph_match.specs.Allotment.{Allotment}
 use Rattle.job_rules.specs.Fits.{CanFit, IsGrant, first_fit, free_of, nodes_of}
-use Rattle.job_rules.proofs.Among.{Among, among_from, among_mapped, contains_from, each_at}
+use Rattle.job_rules.proofs.Among.{Among, among_from, among_mapped, contains_from, each_at, each_from}
 use Rattle.job_rules.proofs.Lying.{read_is}
 use Rattle.job_rules.proofs.Sets.{free_is, none_exactly}
 use Rattle.job_spec.specs.Sound.{IsSpec}
@@ -19,13 +19,14 @@ use Rattle.manager_rules.specs.Due.{FindsNone, IsBefore, IsFirstFit, LeavesReser
 use Rattle.manager_rules.specs.Jobs.{StoredJob, ids_of}
 use Rattle.manager_rules.specs.Scene.{Scene}
 use Rattle.manager_rules.proofs.Rules.{one_takes, same_job}
-use Rattle.job_deeds.specs.Choices.{IsSeen}
-use Rattle.job_deeds.specs.Passing.{IsFirstLeaving, IsPasserOf, Leaves}
+use Rattle.job_deeds.specs.Choices.{IsLook, IsSeen}
+use Rattle.job_deeds.specs.Passing.{FindsRoom, IsFirstLeaving, IsPasserOf, Leaves}
 use Rattle.job_deeds.specs.Waiting.{waits_with}
 use Rattle.job_deeds.specs.declared.decisions.Desk.{Desk}
 use Rattle.job_deeds.proofs.Fitting.{one_head}
 use Rattle.job_deeds.proofs.Heads.{head_none, in_queue}
 use Rattle.job_deeds.proofs.Offers.{one_fit}
+use Rattle.job_deeds.proofs.Walking.{ranked}
 
 -- the id of the first is that of a job
 pub head_known : (jobs : List StoredJob) (id : ℕ) → IsHead jobs id → Contains (ids_of jobs) id
@@ -102,6 +103,13 @@ module _ (desk : Desk) (s : Scene) (seen : IsSeen desk s) (grant : IsGrant desk.
   some_seen room none =
       (none_exactly j.spec desk.graph.now.grant (free_of desk.graph.now.grant desk.graph.now.live) (read_is j.spec spec) (free_is desk.graph.now.grant (nodes_of desk.graph.now.live) grant)).0
       (subst (λ g. first_fit j.spec g.grant (free_of g.grant g.live) ≡ None) (sym seen.graph) none) room
+
+-- where none of them finds room none leaves the reserved second
+pub none_leaving : (desk : Desk) (grant : Resources) → IsLook desk grant → IsGrant desk.graph.now.grant → (head : StoredJob) → Each (λ j. FindsRoom desk.graph.now head.id j → ⊥) desk.rows.now → (s : Scene) → IsSeen desk s → Each (λ k. Leaves s head k → ⊥) desk.rows.now
+none_leaving desk grant look sets head none s seen = each_from (λ k. Leaves s head k → ⊥) desk.rows.now (λ k i l.
+    let spec = each_at (λ j. IsSpec j.spec) desk.rows.now k look.specs i in
+    let full = none_seen desk s seen sets k spec (λ can. each_at (λ j. FindsRoom desk.graph.now head.id j → ⊥) desk.rows.now k none i ((ranked s head k l, l.1.behind), can)) in
+    let both : Some l.0.nodes ≡ None = sym l.1.fit.nodes ∙ full in cc)
 
 pub is_easy : (p : Policy) → (p ≡ FirstFit → ⊥) → p ≡ Easy
 is_easy FirstFit h = absurd (h refl)

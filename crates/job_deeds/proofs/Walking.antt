@@ -54,7 +54,7 @@ some_rank : (o : Option ℕ) → IsSomeAnd o (λ p. 0 < p) → (p : ℕ) × (o �
 some_rank None h = absurd h
 some_rank (Some p) h = (p, refl, h)
 
-ranked : (s : Scene) (head j : StoredJob) → Leaves s head j → 0 < waits_with j
+pub ranked : (s : Scene) (head j : StoredJob) → Leaves s head j → 0 < waits_with j
 ranked s head j l =
     let p = some_rank j.job.priority l.1.ranked in
     omega (arith, rank_is s head j p.0 l p.1, p.2)

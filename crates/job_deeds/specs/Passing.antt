@@ -1,10 +1,10 @@
 -- Who passes the first in the queue.
-use Rattle.std.specs.Prelude.{◌≡◌, ℕ, List, Option, Some, None, Contains, filter_map, option_map}
+use Rattle.std.specs.Prelude.{◌≡◌, ◌≢◌, ◌<◌, ℕ, List, Option, Some, None, Contains, filter_map, option_map}
 use Rattle.std.specs.List.{AllByRecursion as Each}
 use Rattle.backfill.specs.declared.hold.Hold.{Hold}
 use Rattle.graph_match.specs.Allotment.{Allotment}
 use Rattle.graph_match.specs.Answers.{AreFirstFit}
-use Rattle.job_rules.specs.Fits.{first_fit, free_of}
+use Rattle.job_rules.specs.Fits.{CanFit, first_fit, free_of}
 use Rattle.resource_set.specs.declared.node.Resources.{Resources}
 use Rattle.manager_rules.specs.Due.{IsBefore, LeavesReserved, Passes}
 use Rattle.manager_rules.specs.Jobs.{StoredJob}
@@ -32,6 +32,11 @@ abbrev pub IsOffer : Allotment → ℕ → StoredJob → Option Hold → Type 0
 IsOffer g now j None = first_fit j.spec g.grant (free_of g.grant g.live) ≡ None
 IsOffer g now j (Some hold) = AreFirstFit g j.spec now hold.units × (hold.id ≡ j.id)
     × (hold.until ≡ hold.units.expiration)
+
+-- a job behind the first finds room
+abbrev pub FindsRoom : Allotment → ℕ → StoredJob → Type 0
+FindsRoom g head j =
+    ((0 < waits_with j) × (j.id ≢ head)) × CanFit j.spec g.grant (free_of g.grant g.live)
 
 -- a job leaves the second that is reserved for the first
 abbrev pub Leaves : Scene → StoredJob → StoredJob → Type 0

@@ -1,16 +1,18 @@
 //! The job that passes the first in the queue (EASY backfill).
-ghost use Rattle.std.specs.Prelude.{◌≡◌, ◌≢◌, ◌<◌, ◌↔◌, ℕ, Contains, IfOk, IsTrue};
+ghost use Rattle.std.specs.Prelude.{◌≡◌, ◌≢◌, ◌<◌, ◌↔◌, ℕ, false, Contains, IfOk, IsTrue, OnOk};
+ghost use Rattle.std.specs.List.{AllByRecursion as Each};
+ghost use Rattle.backfill.specs.Reservations.{IsReservation};
 ghost use Rattle.job_rules.specs.Fits.{IsGrant};
 ghost use Rattle.job_spec.specs.Sound.{IsSpec};
 ghost use Rattle.manager_rules.specs.Scene.{Scene};
 ghost use Rattle.job_deeds.specs.Choices.{IsLook, IsSeen};
-ghost use Rattle.job_deeds.specs.Passing.{IsFirstLeaving, IsOffer, IsPasserOf, Leaves, leases_of};
+ghost use Rattle.job_deeds.specs.Passing.{FindsRoom, IsFirstLeaving, IsOffer, IsPasserOf, Leaves, leases_of};
 ghost use Rattle.job_deeds.specs.Waiting.{waits_with};
 
 use crate::decisions::Desk;
 use crate::row::{Row, place_in};
 use crate::waiting::rank;
-use backfill::{Hold, passes};
+use backfill::{Hold, Reservation};
 use graph_match::Fit;
 use lists::Copied;
 use manager_rules::Policy;
@@ -61,24 +63,29 @@ fn leaves(
     desk: &Desk<'_>,
     grant: &Resources,
     live: &[Hold],
+    reserved: &mut Reservation,
     head: &Row,
     row: &Row,
 ) -> Result<bool, AllocError>
     requires look { IsLook desk.now grant.now }
     requires live { live.now ≡ leases_of desk.now.rows.now }
+    requires reserved { IsReservation head.now.spec grant.now.nodes live.now desk.now.second
+        reserved.old }
     requires head { IsSpec head.now.spec }
     requires known { Contains desk.now.rows.now row.now }
     requires behind { row.now.id ≢ head.now.id }
     requires ranked { 0 < waits_with row.now }
-    ensures { IfOk result (λ leaves. (s : Scene) → IsSeen desk.now s
+    ensures leaves { IfOk result (λ leaves. (s : Scene) → IsSeen desk.now s
         → IsTrue leaves ↔ Leaves s head.now row.now) }
+    ensures kept { OnOk result (reserved.new ≡ reserved.old) }
 {
     // live jobs hold units of the grant, no two of them one in common
     desk.graph.keeps();
     let Some(offer) = offer(desk, row)? else {
         return Ok(false);
     };
-    if !passes(alloc, grant, live, &head.spec, &offer, desk.second)? {
+    let kept = reserved.keeps(grant, live, &head.spec, &offer, desk.second)?;
+    if !kept {
         return Ok(false);
     }
     // the text of the units is read again
@@ -93,8 +100,61 @@ fn goes_before(row: &Row, head: u64, most: u32) -> bool
     most < rank(&row.job) && row.id != head
 }
 
+/// Whether a job behind the first finds room.
+fn finds_room(desk: &Desk<'_>, head: u64, row: &Row) -> bool
+    requires { IsSpec row.now.spec }
+    ensures { IsTrue result ↔ FindsRoom desk.now.graph.now head row.now }
+{
+    goes_before(row, head, 0) && desk.graph.has_room(&row.spec)
+}
+
+/// Whether one of the jobs behind the first finds room.
+fn has_some(desk: &Desk<'_>, head: u64) -> bool
+    requires { Each (λ j. IsSpec j.spec) desk.now.rows.now }
+    ensures { result ≡ false
+        → Each (λ j. FindsRoom desk.now.graph.now head j → ⊥) desk.now.rows.now }
+{
+    for row in desk.rows {
+        if finds_room(desk, head, row) {
+            return true;
+        }
+    }
+    false
+}
+
 /// The first job behind the first in the queue that leaves the second that is reserved for it. The
 /// ids rise, so of those that wait with the same priority the first is met first.
+fn first_beside(
+    alloc: Global,
+    desk: &Desk<'_>,
+    grant: &Resources,
+    live: &[Hold],
+    reserved: &mut Reservation,
+    head: &Row,
+) -> Result<Option<u64>, AllocError>
+    requires look { IsLook desk.now grant.now }
+    requires live { live.now ≡ leases_of desk.now.rows.now }
+    requires reserved { IsReservation head.now.spec grant.now.nodes live.now desk.now.second
+        reserved.old }
+    requires head { IsSpec head.now.spec }
+    ensures { IfOk result (λ id. (s : Scene) → IsSeen desk.now s
+        → (most : ℕ) × IsFirstLeaving s head.now desk.now.rows.now most id) }
+{
+    let mut first = None;
+    let mut most = 0;
+    for row in desk.rows {
+        if !goes_before(row, head.id, most) {
+            continue;
+        }
+        if leaves(alloc, desk, grant, live, reserved, head, row)? {
+            first = Some(row.id);
+            most = rank(&row.job);
+        }
+    }
+    Ok(first)
+}
+
+/// The same, where none of them may find room, and the first may have no reserved second.
 fn first_leaving(
     alloc: Global,
     desk: &Desk<'_>,
@@ -106,18 +166,17 @@ fn first_leaving(
     ensures { IfOk result (λ id. (s : Scene) → IsSeen desk.now s
         → (most : ℕ) × IsFirstLeaving s head.now desk.now.rows.now most id) }
 {
-    let live = leases(alloc, desk.rows)?;
-    let mut first = None;
-    let mut most = 0;
-    for row in desk.rows {
-        if !goes_before(row, head.id, most) {
-            continue;
-        }
-        if leaves(alloc, desk, grant, &live, head, row)? {
-            first = Some(row.id);
-            most = rank(&row.job);
-        }
+    // live jobs hold units of the grant, no two of them one in common
+    desk.graph.keeps();
+    if !has_some(desk, head.id) {
+        return Ok(None);
     }
+    let live = leases(alloc, desk.rows)?;
+    let found = Reservation::of(alloc, grant, &live, &head.spec, desk.second)?;
+    let Some(mut reserved) = found else {
+        return Ok(None);
+    };
+    let first = first_beside(alloc, desk, grant, &live, &mut reserved, head)?;
     Ok(first)
 }
 

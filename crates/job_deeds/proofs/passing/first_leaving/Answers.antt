@@ -1,34 +1,36 @@
-use Rattle.std.proofs.Common.{◌≡◌, ◌<◌, ◌+◌, ℕ, Option, take, true, false, Some, sym, ap, ◌∙◌, subst, arith, true≢false}
-use Rattle.std.proofs.lemmas.List.{take_all}
-use Rattle.manager_rules.specs.Scene.{Scene}
-use Rattle.job_deeds.specs.Passing.{IsFirstLeaving}
-use Rattle.job_deeds.specs.Waiting.{rank_of}
-use Rattle.job_deeds.proofs.Walking.{not_asked, not_leaving, now_first}
-use Rattle.job_deeds.proofs.passing.first_leaving.Goals.{then-branch, else-branch}
+use Rattle.std.proofs.Common.{◌≡◌, ℕ, ◌≤◌, None, refl, sym, ap, ◌∙◌, subst}
+use Rattle.std.specs.List.{AllByRecursion as Each}
+use Rattle.backfill.specs.Held.{AreHeld}
+use Rattle.backfill.specs.Reservations.{AsReserved}
+use Rattle.backfill.specs.Reserved.{FitsAt}
+use Rattle.job_deeds.specs.Passing.{FindsRoom, leases_of}
+use Rattle.job_deeds.proofs.Offers.{are_leases, unreserved}
+use Rattle.job_deeds.proofs.Passes.{none_leaving}
 use Rattle.job_deeds.proofs.passing.first_leaving.Goals as goal
 
-pub loop-row-preserved-then-not-goes_before : goal.loop-row-preserved-then-not-goes_before
-loop-row-preserved-then-not-goes_before c = λ s seen.
-    not_asked s c.args.head.now c.args.desk.now.rows.now c.requires.look.in_time.rising c.loop-row.row-index c.row-item.result c.loop-row-test.true c.row-item.is c.loop-row.most c.loop-row.first (c.loop-row.invariant s seen)
-    (λ h. true≢false (sym (c.goes_before.ensures.1 (h.0, λ e. h.1 (e ∙ ap (λ k. k.id) c.head.view_is))) ∙ c.if-not-goes_before.true))
+pub returns-then-not-has_some : goal.returns-then-not-has_some
+returns-then-not-has_some c = λ s seen.
+    let desk = c.args.desk.now in
+    let none = subst (λ h. Each (λ j. FindsRoom desk.graph.now h.id j → ⊥) desk.rows.now) c.head.view_is (c.has_some.ensures c.if-not-has_some.true) in
+    (0, (refl, none_leaving desk c.args.grant.now c.requires.look c.keeps.ensures.grant c.args.head.now none s seen))
 
-pub loop-row-preserved : goal.loop-row-preserved
-loop-row-preserved c = λ s seen.
-    let x = c.row-item.result in
-    let head = c.args.head.now in
-    let rows = c.args.desk.now.rows.now in
-    let i = c.loop-row.row-index in
-    elim c.if-branch.branch [
-      | then-branch w ↦
-          let above = (c.goes_before.ensures.0 c.if-not-goes_before.false).0 in
-          let now = now_first s head rows c.requires.look.in_time.rising i x c.loop-row-test.true c.row-item.is c.loop-row.most c.loop-row.first (c.loop-row.invariant s seen) above ((c.in_ok-leaves.ensures s seen).0 w.if-branch.true) in
-          subst (λ n. IsFirstLeaving s head (take (i + 1) rows) n c.if-branch.first) (ap (λ j. rank_of j.job) (sym c.row.view_is) ∙ sym w.rank-most.ensures ∙ sym w.most-is)
-          (subst (λ o. IsFirstLeaving s head (take (i + 1) rows) (rank_of x.job) o) (ap (λ j. Some j.id) (sym c.row.view_is) ∙ sym w.first-is) now)
-      | else-branch w ↦
-          let now = not_leaving s head rows c.requires.look.in_time.rising i x c.loop-row-test.true c.row-item.is c.loop-row.most c.loop-row.first (c.loop-row.invariant s seen) (λ l. true≢false (sym ((c.in_ok-leaves.ensures s seen).1 l) ∙ w.if-branch.false)) in
-          subst (λ n. IsFirstLeaving s head (take (i + 1) rows) n c.if-branch.first) (sym w.most-is)
-          (subst (λ o. IsFirstLeaving s head (take (i + 1) rows) c.loop-row.most o) (sym w.first-is) now)
-    ]
+pub of-requires-clause-held : goal.of-requires-clause-held
+of-requires-clause-held c =
+    let desk = c.args.desk.now in
+    subst (AreHeld c.args.grant.now.nodes) (sym (c.deref.ensures.value ∙ c.in_ok-live.ensures))
+    (subst (λ ns. AreHeld ns (leases_of desk.rows.now)) (ap (λ g. g.grant) c.requires.look.graph)
+    (are_leases desk.graph.now desk.rows.now c.keeps.ensures.live (ap (λ g. g.live) c.requires.look.graph)))
 
-pub returns : goal.returns
-returns c = λ s seen. (c.loop-row.most, subst (λ js. IsFirstLeaving s c.args.head.now js c.loop-row.most c.loop-row.first) (take_all c.loop-row.row-index c.args.desk.now.rows.now (omega (arith, c.loop-row-test.false))) (c.loop-row.invariant s seen))
+pub returns-in_default : goal.returns-in_default
+returns-in_default c = λ s seen.
+    let desk = c.args.desk.now in
+    let nodes = c.args.grant.now.nodes in
+    let never = subst (AsReserved c.head.inside.spec nodes c.deref.result.now desk.second) c.in_default.is c.in_ok-found.ensures in (
+      0,
+      (
+        refl,
+        unreserved desk c.args.grant.now c.requires.look c.args.head.now (λ second from fits.
+            never second from (subst (λ ls. FitsAt c.head.inside.spec nodes ls second) (sym (c.deref.ensures.value ∙ c.in_ok-live.ensures))
+            (subst (λ j. FitsAt j.spec nodes (leases_of desk.rows.now) second) (sym c.head.view_is) fits))) s seen,
+      ),
+    )
