@@ -14,7 +14,7 @@ use Rattle.answers.specs.Chronicle.{Setup, top}
 use Rattle.answers.specs.declared.chronicle.Entry.{Entry}
 use Rattle.answers.specs.declared.chronicle.Entry.TheVariants as entry
 use Rattle.instance_rules.specs.Log.{IsInstance}
-use Rattle.answers.specs.Jobs.{instance_of}
+use Rattle.answers.specs.Jobs.{instance_of, start_of}
 use Rattle.hierarchy.specs.Births.{Birth, birth_in, birth_of, births, ends, is_birth_of, is_born, is_gone, label_of, lives, numbers}
 use Rattle.hierarchy.specs.Legal.{IsLegalRun, IsLegalRunEntry}
 use Rattle.hierarchy.specs.Own.{brokers_for, child_setup, own_entry, own_of, setup_in, work_for}
@@ -140,8 +140,8 @@ top_alone i = ap (λ o. (i == top) || is_some o) (none_born i) ∙ or-false (i =
 top_size : (set : Setup) (c : List Entry) (i : ℕ) → (i == top) ≡ true → (setup_in set c i).size ≡ set.size
 top_size set c i is = ap (λ b. (option_map_or (child_setup set) (cond b None (find (is_birth_of i) (births c))) (record set { work = work_for set.work None set.size })).size) is
 
-pub begun : (set : Setup) (c : List Entry) (i brokers : ℕ) (places : List Place) (f : Following) → set.birth ≡ 0 → brokers ≡ (setup_in set c i).size → IsBegun (i == top) brokers f → IsFollowed set [] i brokers places f
-begun set c i brokers places f start size h = record {
+pub begun : (set : Setup) (c : List Entry) (i brokers : ℕ) (places : List Place) (f : Following) → IsInstance (instance_of (setup_in set [] i)) → start_of set ≡ 0 → brokers ≡ (setup_in set c i).size → IsBegun (i == top) brokers f → IsFollowed set [] i brokers places f
+begun set c i brokers places f valid start size h = record {
   second = h.second ∙ sym start;
   living = h.living ∙ sym (ap (λ b. b && true) (top_alone i) ∙ and-true (i == top));
   fresh = λ unborn. (h.rows, h.heard);
@@ -151,7 +151,7 @@ begun set c i brokers places f start size h = record {
       let same : s.size ≡ brokers = top_size set [] i is ∙ sym (size ∙ top_size set c i is) in
       subst (λ own. KeepsUp s own f.rows.items f.heard.items) (sym (none_before set i))
       (subst (λ rows. KeepsUp s [] rows f.heard.items) (sym h.rows)
-      (subst (λ known. KeepsUp s [] [] known) (sym (h.heard ∙ ap first_heard (sym same))) (first_keeps s)));
+      (subst (λ known. KeepsUp s [] [] known) (sym (h.heard ∙ ap first_heard (sym same))) (first_keeps s valid)));
   columns = subst (λ cs. AreColumns set i places [] cs) (sym h.columns) tt;
 }
   where
@@ -168,7 +168,7 @@ own_legal set c l w =
 
 pub ended : (set : Setup) (c : List Entry) (i brokers : ℕ) (places : List Place) (f : Following) → IsShownRun set c → IsFollowed set c i brokers places f → AreColumns set i places (ends_of set c i) (with_column f places).columns
 ended set c i brokers places f shown h = with_shown set i brokers places c f h (λ was.
-    shows set i brokers places c (own_legal set c shown.run.legal shown.whole i was)
+    shows set i brokers places c (shown.run.valid i (alive c i was).0) (own_legal set c shown.run.legal shown.whole i was)
     (sound_in set c shown.run.legal i was (record { valid = shown.run.valid i (alive c i was).0; timely = timely set shown.run.timely c shown.run.legal i was }))
     f was h)
 

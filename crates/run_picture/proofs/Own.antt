@@ -1,5 +1,5 @@
 -- How what is kept of an instance goes on along its own chronicle.
-use Rattle.std.proofs.Common.{◌≡◌, ◌≢◌, ℕ, zero, suc, ◌+◌, ◌<◌, ◌^◌, ◌==◌, inl, inr, List, [], ◌∷◌, ◌++◌, Bool, true, false, cond, length, map, replicate, set, Option, Some, None, unwrap_or, refl, sym, ap, ap₂, ◌∙◌, subst, arith, bytes_eq, append-nil, is_some, option_map, ◌&&◌, true≢false}
+use Rattle.std.proofs.Common.{◌≡◌, ◌≢◌, ℕ, zero, suc, ◌+◌, ◌<◌, ◌^◌, ◌==◌, inl, inr, List, [], ◌∷◌, ◌++◌, Bool, true, false, cond, length, map, replicate, set, Option, Some, None, unwrap_or, refl, sym, ap, ap₂, ◌∙◌, subst, arith, bytes_eq, append-nil, is_some, option_and_then, option_map, ◌&&◌, true≢false}
 use Rattle.std.specs.Prelude.{if◌then◌else◌}
 use Rattle.std.specs.List.{cons_option, range_with_len}
 use Rattle.std.proofs.lemmas.Bool.{eq-eqb, ne_eqb}
@@ -8,13 +8,13 @@ use Rattle.kvs_model.specs.Store.{IsStore, Name, Store}
 use Rattle.kvs_rules.specs.Answers.{IsLegalLog}
 use Rattle.kvs_rules.specs.Brokers.{heard, number_heard}
 use Rattle.kvs_rules.specs.Landings.{IsAdvance, IsLegalLanding}
-use Rattle.kvs_rules.specs.Log.{Asked, Happened, Log, Moment}
-use Rattle.kvs_rules.specs.Namespaces.{Setting, groups_landed, landed, landings, newest_store, number_landed, primary}
+use Rattle.kvs_rules.specs.Log.{Asked, Happened, Log, Moment, Resumed}
+use Rattle.kvs_rules.specs.Namespaces.{Setting, above_first, groups_landed, landed, landings, newest_store, number_landed, primary}
 use Rattle.kvs_rules.specs.declared.events.KvsEvent.TheVariants as event
 use Rattle.kvs_rules.specs.declared.events.KvsAnswer.{KvsAnswer}
 use Rattle.kvs_rules.proofs.Logs.{landed_push}
 use Rattle.kvs_rules.proofs.Sequences.{latest_push}
-use Rattle.kvs_rules.proofs.Stores.{landings_push, made_newest}
+use Rattle.kvs_rules.proofs.Stores.{fresh_sound, fresh_store, landings_push, made_newest}
 use Rattle.kvs_txn.specs.declared.txn.By.{By}
 use Rattle.kvs_txn.specs.declared.txn.Group.{Group}
 use Rattle.kvs_txn.specs.declared.txn.Scope.TheVariants as scope
@@ -33,8 +33,10 @@ use Rattle.answers.specs.declared.chronicle.Entry.TheVariants as entry
 use Rattle.answers.proofs.JobLogs.{service_kept}
 use Rattle.answers.proofs.Services.{log_push, service_legal}
 use Rattle.workload.specs.declared.work.Workload.{Workload}
+use Rattle.resource_set.specs.Writing.{r_text}
 use Rattle.run_laws.specs.Jobs.{store_of}
-use Rattle.run_laws.proofs.Newest.{newest_of, same_one}
+use Rattle.run_laws.proofs.Moves.{stands as stands_in}
+use Rattle.run_laws.proofs.Newest.{same_one}
 use Rattle.run_picture.specs.Columns.{heard_by}
 use Rattle.run_picture.specs.Follows.{IsReady, KeepGroups, KeepStore, KeepsUp, first_heard}
 use Rattle.run_picture.specs.Rows.{AreRowsOf, known_of}
@@ -51,7 +53,8 @@ AreQuiet None = Unit {0}
 AreQuiet (Some m) = IsQuietMoment m
 
 no_groups : (m : Moment) → number_landed primary m ≡ None → groups_landed primary m ≡ None
-no_groups (Asked by floor) e = refl
+no_groups (Asked by floors) e = refl
+no_groups (Resumed number) e = refl
 no_groups (Happened (event.Landed other number authors [])) e = refl
 no_groups (Happened (event.Landed other number authors (g ∷ gs))) e = apart (bytes_eq primary other) e
   where
@@ -69,7 +72,7 @@ module _ (setting : Setting) (log : Log) (m : Moment) where
   store_stays e =
       let number : landed (log ++ m ∷ []) primary ≡ landed log primary = landed_push log m primary ∙ ap (λ o. unwrap_or o (landed log primary)) e in
       let same : landings (log ++ m ∷ []) primary ≡ landings log primary = landings_push log m primary ∙ ap (λ o. landings log primary ++ cons_option o []) (no_groups m e) ∙ append-nil _ in
-      ap₂ (λ ls k. after scope.Primary ls k (first_store setting.grant)) same number
+      ap₂ (λ ls k. option_and_then (λ count. after scope.Primary ls count setting.base.store) (above_first setting.base.number k)) same number
 
   heard_more : (broker : ℕ) → heard (log ++ m ∷ []) broker primary ≡ unwrap_or (number_heard broker primary m) (heard log broker primary)
   heard_more broker = latest_push (number_heard broker primary) (Some 0) log m
@@ -151,7 +154,7 @@ advances setting log number authors groups l = elim l.form [
   ]
 ]
 
-module _ (s : Setup) (own : List Entry) (legal : IsLegal s own) (number : ℕ) (authors : List (Option By)) (groups : List Group) (fits : IsLegalEntry s own (entry.Landed top primary number authors groups)) where
+module _ (s : Setup) (valid : IsInstance (instance_of s)) (own : List Entry) (legal : IsLegal s own) (number : ℕ) (authors : List (Option By)) (groups : List Group) (fits : IsLegalEntry s own (entry.Landed top primary number authors groups)) where
   abbrev log : Log
   log = log_of s.work top own
 
@@ -168,12 +171,12 @@ module _ (s : Setup) (own : List Entry) (legal : IsLegal s own) (number : ℕ) (
   stood = newest_before s own (entry.Landed top primary number authors groups) ∙ advance.standing
 
   stands : store_of s (own ++ entry.Landed top primary number authors groups ∷ []) ≡ Some advance.new
-  stands = newest_behind s own (entry.Landed top primary number authors groups) (Some m) refl ∙ made_newest (setting_of s) primary log whole number authors groups advance
+  stands = newest_behind s own (entry.Landed top primary number authors groups) (Some m) refl ∙ made_newest (setting_of s) primary (fresh_sound (setting_of s) (r_text s.resources) valid.text) log whole number authors groups advance
 
-  ready : IsInstance (instance_of s) → second_of s own < 2 ^ 64 → IsSound (instance_of s) (log_in s.work own) → IsReady (instance_of s) (log_in s.work own) advance.old
-  ready valid timed sound =
-      let n = newest_of (setting_of s) log whole in
-      let same : n.store ≡ advance.old = same_one n.store advance.old (sym n.stands ∙ advance.standing) in
+  ready : second_of s own < 2 ^ 64 → IsSound (instance_of s) (log_in s.work own) → IsReady (instance_of s) (log_in s.work own) advance.old
+  ready timed sound =
+      let n = stands_in s (r_text s.resources) valid.text own legal in
+      let same : n.store ≡ advance.old = same_one n.store advance.old (sym n.standing ∙ stood) in
       record {
         valid = valid;
         timed = timed;
@@ -181,13 +184,13 @@ module _ (s : Setup) (own : List Entry) (legal : IsLegal s own) (number : ℕ) (
         sound = sound advance.old stood;
       }
 
-  pub landing_keeps : IsInstance (instance_of s) → second_of s own < 2 ^ 64 → IsSound (instance_of s) (log_in s.work own)
+  pub landing_keeps : second_of s own < 2 ^ 64 → IsSound (instance_of s) (log_in s.work own)
       → (old new : List JobRow) (known : List (Option ℕ)) → KeepGroups old groups new → KeepsUp s own old known → KeepsUp s (own ++ entry.Landed top primary number authors groups ∷ []) new known
-  landing_keeps valid timed sound old new known lands k = record {
+  landing_keeps timed sound old new known lands k = record {
     jobs = λ st is.
         let same : advance.new ≡ st = same_one advance.new st (sym stands ∙ is) in
         subst (KeepStore new) same
-        (lands (instance_of s) (log_in s.work own) advance.old advance.new (ready valid timed sound) (fits.grounds.2 refl advance.old stood) advance.made (k.jobs advance.old stood));
+        (lands (instance_of s) (log_in s.work own) advance.old advance.new (ready timed sound) (fits.grounds.2 refl advance.old stood) advance.made (k.jobs advance.old stood));
     brokers = k.brokers ∙ sym (heard_behind s own (entry.Landed top primary number authors groups) (Some m) refl ∙ heard_same log m (λ b. refl) (range_with_len 0 s.size));
   }
 
@@ -238,11 +241,16 @@ all_alike : {A : Type 0} (v : A) (n a : ℕ) → replicate n v ≡ map (λ b. v)
 all_alike v zero a = refl
 all_alike v (suc n) a = ap (λ l. v ∷ l) (all_alike v n (a + 1))
 
-pub first_keeps : (s : Setup) → KeepsUp s [] [] (first_heard s.size)
-first_keeps s = record {
+-- the store at which an instance begins anew
+begun_store : (s : Setup) → IsInstance (instance_of s) → store_of s [] ≡ Some (first_store (r_text s.resources))
+begun_store s valid = fresh_store (setting_of s) (r_text s.resources) [] primary 0 valid.text
+
+pub first_keeps : (s : Setup) → IsInstance (instance_of s) → KeepsUp s [] [] (first_heard s.size)
+first_keeps s valid = record {
   jobs = λ st is jobs are.
-      let same : first_store s.grant ≡ st = same_one (first_store s.grant) st is in
-      let none : [] ≡ jobs = jobs_are_one st [] jobs (subst (λ x. AreJobsOf x []) same (first_jobs s.grant)) are in
+      let first : Store = first_store (r_text s.resources) in
+      let same : first ≡ st = same_one first st (sym (begun_store s valid) ∙ is) in
+      let none : [] ≡ jobs = jobs_are_one st [] jobs (subst (λ x. AreJobsOf x []) same (first_jobs (r_text s.resources))) are in
       ap (λ js. map known_of js) none;
   brokers = all_alike (Some 0) s.size 0;
 }

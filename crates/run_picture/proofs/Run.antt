@@ -12,10 +12,11 @@ use Rattle.kvs_txn.specs.declared.txn.By.{By}
 use Rattle.kvs_txn.specs.declared.txn.Group.{Group}
 use Rattle.instance_rules.specs.Legal.{IsSound}
 use Rattle.instance_rules.specs.Log.{IsInstance}
+use Rattle.resource_set.specs.Writing.{r_text}
 use Rattle.resource_set.proofs.Ranks.{bytes_eq_back}
 use Rattle.std.proofs.lemmas.Slice.Eq.{bytes_eq-Decides}
 use Rattle.answers.specs.Chronicle.{Setup, top}
-use Rattle.answers.specs.Jobs.{instance_of, log_in, second_of}
+use Rattle.answers.specs.Jobs.{instance_of, log_in, second_of, start_of}
 use Rattle.answers.specs.Legal.{IsLegal, IsLegalEntry}
 use Rattle.answers.specs.declared.chronicle.Entry.{Entry}
 use Rattle.answers.specs.declared.chronicle.Entry.TheVariants as entry
@@ -103,7 +104,7 @@ module _ (set : Setup) (i brokers : ℕ) (places : List Place) where
   columns_push (x ∷ xs) [] end column h c = absurd h
 
   time_push : (past : List Entry) (e : Entry) → time_at set (past ++ e ∷ []) ≡ unwrap_or (ticked e) (time_at set past)
-  time_push past e = latest_push ticked set.birth past e
+  time_push past e = latest_push ticked (start_of set) past e
 
   -- the instance neither begins nor ends in the entry
   module _ (past : List Entry) (e : Entry) (begun : begins i e ≡ false) (stays : ends i e ≡ false) where
@@ -214,7 +215,7 @@ module _ (set : Setup) (i brokers : ℕ) (places : List Place) where
         living = h.living ∙ sym (lives_same past e refl refl);
         fresh = λ b. absurd (true≢false (sym (alive past i was).0 ∙ unborn_before past e refl refl b));
         keeps = keeps_on past e refl refl rows.items f.heard.items (λ w. subst (λ o. KeepsUp (setup_in set past i) (own_of set past i ++ cons_option o []) rows.items f.heard.items) (sym is)
-            (landing_keeps (setup_in set past i) (own_of set past i) p.0 number authors groups p.1.0 (valid past e run refl refl refl was g is) (in_time past e run refl refl refl was g is) (sound past e run refl refl refl was g is)
+            (landing_keeps (setup_in set past i) (valid past e run refl refl refl was g is) (own_of set past i) p.0 number authors groups p.1.0 (in_time past e run refl refl refl was g is) (sound past e run refl refl refl was g is)
             f.rows.items rows.items f.heard.items made (h.keeps was)));
         columns = same_columns past e refl refl refl f.columns h.columns;
       }
@@ -254,10 +255,10 @@ module _ (set : Setup) (i brokers : ℕ) (places : List Place) where
 
   -- ---- its birth and its end
 
-  pub begins_here : (past : List Entry) (e : Entry) → ticked e ≡ None → begins i e ≡ true → is_born past i ≡ false → ends i e ≡ false → is_gone past i ≡ false
+  pub begins_here : (past : List Entry) (e : Entry) → IsRun set (past ++ e ∷ []) → ticked e ≡ None → begins i e ≡ true → is_born past i ≡ false → ends i e ≡ false → is_gone past i ≡ false
       → (setup_in set (past ++ e ∷ []) i).size ≡ brokers → is_born (past ++ e ∷ []) i ≡ true
       → (f : Following) → IsFollowed set past i brokers places f → IsFollowed set (past ++ e ∷ []) i brokers places (record f { lives = true })
-  begins_here past e none begun unborn stays there size born f h =
+  begins_here past e run none begun unborn stays there size born f h =
       let fresh = h.fresh unborn in
       let s = setup_in set (past ++ e ∷ []) i in
       record {
@@ -266,7 +267,7 @@ module _ (set : Setup) (i brokers : ℕ) (places : List Place) where
         fresh = λ b. absurd (true≢false (sym born ∙ b));
         keeps = λ now. subst (λ own. KeepsUp s own f.rows.items f.heard.items) (sym (own_born set past e i unborn begun))
             (subst (λ rows. KeepsUp s [] rows f.heard.items) (sym fresh.0)
-            (subst (λ known. KeepsUp s [] [] known) (sym (fresh.1 ∙ ap first_heard (sym size))) (first_keeps s)));
+            (subst (λ known. KeepsUp s [] [] known) (sym (fresh.1 ∙ ap first_heard (sym size))) (first_keeps s (run.valid i born))));
         columns = subst (λ es. AreColumns set i places (filter (sees i) es) f.columns)
             (sym (ends_push [] past e ∙ ap (λ o. ends_in set [] past ++ cond (is_some o) (end_at set past ∷ []) []) none ∙ append-nil (ends_in set [] past))) h.columns;
       }
@@ -287,12 +288,12 @@ module _ (set : Setup) (i brokers : ℕ) (places : List Place) where
   -- ---- the column of a moment
 
   -- what is kept of a living instance shows it, where its own chronicle is legal and its store sound
-  pub shows : (past : List Entry) → IsLegal (setup_in set past i) (own_of set past i) → IsSound (instance_of (setup_in set past i)) (log_in (setup_in set past i).work (own_of set past i))
+  pub shows : (past : List Entry) → IsInstance (instance_of (setup_in set past i)) → IsLegal (setup_in set past i) (own_of set past i) → IsSound (instance_of (setup_in set past i)) (log_in (setup_in set past i).work (own_of set past i))
       → (f : Following) → lives past i ≡ true → IsFollowed set past i brokers places f → IsColumnAt set i places (end_at set past) (column_of f places)
-  shows past legal sound f was h =
+  shows past valid legal sound f was h =
       let s = setup_in set past i in
       let own = own_of set past i in
-      let stood = stands s own legal in
+      let stood = stands s (r_text s.resources) valid.text own legal in
       let jobs = sound stood.store stood.standing in
       let k = h.keeps was in
       record {
@@ -364,7 +365,7 @@ pub enter_ticked : (i : ℕ) (places : List Place) (second : ℕ) (f : Following
 enter_ticked i places second f set past brokers run given h =
     let e : Entry = entry.Ticked second in
     let shown : lives past i ≡ true → IsColumnAt set i places (end_at set past) (column_of f places) =
-    λ was. shows set i brokers places past (parts set i brokers places past e run refl refl refl was e refl).0 (sound set i brokers places past e run refl refl refl was e refl) f was h in
+    λ was. shows set i brokers places past (valid set i brokers places past e run refl refl refl was e refl) (parts set i brokers places past e run refl refl refl was e refl).0 (sound set i brokers places past e run refl refl refl was e refl) f was h in
     subst (IsFollowed set (past ++ e ∷ []) i brokers places) (by f.lives)
     (ticks set i brokers places past second f (with_column f places).columns h (with_shown set i brokers places past f h shown))
   where
@@ -386,7 +387,7 @@ enter_born i places child parent job label second grant f here = subst (λ n. En
     let named : is_birth_of i b ≡ true = eq-eqb i i refl in
     let is : birth_of (past ++ e ∷ []) i ≡ Some b = birth_new past i e b unborn refl named in
     let size : (setup_in set (past ++ e ∷ []) i).size ≡ brokers = ap (λ o. (option_map_or (child_setup set) o (record set { work = work_for set.work None set.size })).size) is ∙ sym (given b refl refl) in
-    begins_here set i brokers places past e refl named unborn refl there size (born_so (past ++ e ∷ []) i b is) f h)
+    begins_here set i brokers places past e run refl named unborn refl there size (born_so (past ++ e ∷ []) i b is) f h)
 
 pub enter_gone : (i : ℕ) (places : List Place) (child parent job : ℕ) (shut : Bool) (f : Following) → child ≡ i → Enters i places (entry.Gone child parent job shut) f (record f { lives = false })
 enter_gone i places child parent job shut f here = λ set past brokers run given h. ends_here set i brokers places past (entry.Gone child parent job shut) refl (eq-eqb i child (sym here)) f h

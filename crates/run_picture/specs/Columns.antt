@@ -7,6 +7,7 @@ use Rattle.kvs_rules.specs.Namespaces.{primary}
 use Rattle.kvs_rules.specs.Sequence.{latest}
 use Rattle.manager_rules.specs.Jobs.{AreJobsOf, StoredJob}
 use Rattle.answers.specs.Chronicle.{Setup, top}
+use Rattle.answers.specs.Jobs.{start_of}
 use Rattle.answers.specs.Services.{log_of}
 use Rattle.answers.specs.declared.chronicle.Entry.{Entry}
 use Rattle.answers.specs.declared.chronicle.Entry.TheVariants as entry
@@ -33,7 +34,7 @@ ticked _ = None
 
 -- the second that it is behind these entries
 abbrev pub time_at : Setup → List Entry → ℕ
-time_at set c = latest ticked set.birth c
+time_at set c = latest ticked (start_of set) c
 
 -- the end of the second that it is there
 abbrev pub end_at : Setup → List Entry → End

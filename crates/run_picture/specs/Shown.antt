@@ -3,6 +3,7 @@ use Rattle.std.specs.Prelude.{◌≡◌, ℕ, List, [], ◌∷◌, ◌++◌, Boo
 use Rattle.resource_set.specs.Units.{units_of_node}
 use Rattle.resource_set.specs.declared.node.Node.{Node}
 use Rattle.answers.specs.Chronicle.{Setup}
+use Rattle.answers.specs.Jobs.{start_of}
 use Rattle.answers.specs.declared.chronicle.Entry.{Entry}
 use Rattle.hierarchy.specs.Births.{is_born, numbers}
 use Rattle.hierarchy.specs.Own.{setup_in}
@@ -20,7 +21,7 @@ use Rattle.run_picture.specs.declared.picture.Scene.{Scene}
 pub record IsShownRun (set : Setup) (c : List Entry) : Type 0 where
   pub run : IsRun set c
   pub whole : IsWholeRun set c
-  pub start : set.birth ≡ 0
+  pub start : start_of set ≡ 0
 
 -- an instance of the run, and how many brokers it has
 pub record IsSubject (set : Setup) (c : List Entry) (i brokers : ℕ) : Type 0 where
