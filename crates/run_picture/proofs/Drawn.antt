@@ -1,9 +1,10 @@
 -- What is drawn of a run.
-use Rattle.std.proofs.Common.{◌≡◌, ℕ, zero, suc, ◌+◌, ◌<◌, ◌==◌, List, [], ◌∷◌, ◌++◌, Bool, true, false, cond, not, ◌&&◌, ◌||◌, length, map, take, drop, Option, Some, None, is_some, refl, sym, ap, ap₂, ◌∙◌, subst, arith, append-nil, append_assoc, true≢false}
-use Rattle.std.specs.Prelude.{filter, filter_map, find, flat_map, min}
+use Rattle.std.proofs.Common.{◌≡◌, ℕ, zero, suc, ◌+◌, ◌<◌, ◌==◌, List, [], ◌∷◌, ◌++◌, Bool, true, false, cond, not, ◌&&◌, ◌||◌, length, get_or, map, take, take-suc, add-one, drop, Option, Some, None, is_some, refl, sym, ap, ap₂, ◌∙◌, subst, arith, append-nil, append_assoc, true≢false}
+use Rattle.std.specs.Prelude.{IfSome, filter, filter_map, find, flat_map, min}
 use Rattle.std.specs.List.{cons_option}
 use Rattle.std.specs.Option.{option_map_or}
 use Rattle.std.proofs.lemmas.Bool.{false_from_ne_true, eq-eqb}
+use Rattle.std.proofs.lemmas.List.{take-append-drop}
 use Rattle.std.proofs.lemmas.List.Concat.{flat_map-cons}
 use Rattle.kvs_rules.proofs.Sequences.{each_at, each_parts}
 use Rattle.kvs_rules.specs.Sequence.{EachAfter, until}
@@ -27,7 +28,8 @@ use Rattle.hierarchy.proofs.Owning.{alive, birth_kept, births_push, born_kept, s
 use Rattle.hierarchy.proofs.Sound.{sound_in}
 use Rattle.run_picture.specs.Cells.{place_of_host, place_of_unit, places_of}
 use Rattle.run_picture.specs.Columns.{AreColumns, AreScenes, IsPicture, IsScene, end_at, ends_in, ends_of, sees}
-use Rattle.run_picture.specs.Follows.{IsBegun, IsFollowed, IsGiven, IsRun, KeepsUp, first_heard, with_column}
+use Rattle.run_picture.specs.Follows.{Enters, IsBegun, IsFollowed, IsGiven, IsRun, KeepsUp, first_heard, with_column}
+use Rattle.run_picture.specs.Rows.{cell_of}
 use Rattle.run_picture.specs.Shown.{AddsBorn, IsShownRun, IsSubject, place_of_id, places_of_node}
 use Rattle.run_picture.specs.declared.following.Following.{Following}
 use Rattle.run_picture.specs.declared.picture.Place.{Place}
@@ -51,6 +53,14 @@ pub units_shown : (node : Node) → map place_of_unit (units_of_node node) ≡ m
 units_shown node =
     map_joined place_of_unit (map (core_of node) node.cores) (map (gpu_of node) node.gpus)
     ∙ ap₂ (λ a b. a ++ b) (map_twice place_of_unit (core_of node) node.cores) (map_twice place_of_unit (gpu_of node) node.gpus)
+
+-- the places of the cores and then those of the GPUs
+pub units_added : (r : Rows) (node : Node) (old with_cores new : List Place) (cores gpus : List ℕ) → r ≡ rows.Units → cores ≡ node.cores → gpus ≡ node.gpus
+    → with_cores ≡ old ++ map (place_of_id node.host false) cores → new ≡ with_cores ++ map (place_of_id node.host true) gpus → new ≡ old ++ places_of_node r node
+units_added r node old with_cores new cores gpus units c g first next =
+    next ∙ ap₂ (λ l ids. l ++ map (place_of_id node.host true) ids) (first ∙ ap (λ ids. old ++ map (place_of_id node.host false) ids) c) g
+    ∙ append_assoc old (map (place_of_id node.host false) node.cores) (map (place_of_id node.host true) node.gpus)
+    ∙ ap (λ l. old ++ l) (sym (units_shown node)) ∙ ap (λ x. old ++ places_of_node x node) (sym units)
 
 pub all_places : (r : Rows) (nodes : List Node) → flat_map (places_of_node r) nodes ≡ places_of r nodes
 all_places rows.Hosts [] = refl
@@ -140,8 +150,8 @@ top_alone i = ap (λ o. (i == top) || is_some o) (none_born i) ∙ or-false (i =
 top_size : (set : Setup) (c : List Entry) (i : ℕ) → (i == top) ≡ true → (setup_in set c i).size ≡ set.size
 top_size set c i is = ap (λ b. (option_map_or (child_setup set) (cond b None (find (is_birth_of i) (births c))) (record set { work = work_for set.work None set.size })).size) is
 
-pub begun : (set : Setup) (c : List Entry) (i brokers : ℕ) (places : List Place) (f : Following) → IsInstance (instance_of (setup_in set [] i)) → start_of set ≡ 0 → brokers ≡ (setup_in set c i).size → IsBegun (i == top) brokers f → IsFollowed set [] i brokers places f
-begun set c i brokers places f valid start size h = record {
+pub begun : (set : Setup) (c : List Entry) (i brokers : ℕ) (places : List Place) (f : Following) → IsRun set [] → start_of set ≡ 0 → brokers ≡ (setup_in set c i).size → IsBegun (i == top) brokers f → IsFollowed set [] i brokers places f
+begun set c i brokers places f run start size h = record {
   second = h.second ∙ sym start;
   living = h.living ∙ sym (ap (λ b. b && true) (top_alone i) ∙ and-true (i == top));
   fresh = λ unborn. (h.rows, h.heard);
@@ -151,13 +161,26 @@ begun set c i brokers places f valid start size h = record {
       let same : s.size ≡ brokers = top_size set [] i is ∙ sym (size ∙ top_size set c i is) in
       subst (λ own. KeepsUp s own f.rows.items f.heard.items) (sym (none_before set i))
       (subst (λ rows. KeepsUp s [] rows f.heard.items) (sym h.rows)
-      (subst (λ known. KeepsUp s [] [] known) (sym (h.heard ∙ ap first_heard (sym same))) (first_keeps s valid)));
+      (subst (λ known. KeepsUp s [] [] known) (sym (h.heard ∙ ap first_heard (sym same))) (first_keeps s (run.valid i (alive [] i living).0))));
+  drawn = subst (λ o. IfSome o (λ cells. cells ≡ map (cell_of f.rows.items) places)) (sym h.undrawn) tt;
   columns = subst (λ cs. AreColumns set i places [] cs) (sym h.columns) tt;
 }
   where
     and-true : (b : Bool) → (b && true) ≡ b
     and-true true = refl
     and-true false = refl
+
+-- ---- one entry further
+
+pub entered : (c : List Entry) (k i brokers : ℕ) (places : List Place) (e : Entry) (old new : Following) → k < length c → e ≡ get_or c k e → Enters i places e old new
+    → (set : Setup) → IsShownRun set c → IsSubject set c i brokers → IsFollowed set (take k c) i brokers places old → IsFollowed set (take (k + 1) c) i brokers places new
+entered c k i brokers places e old new within is enters set shown subject h =
+    let one : take (k + 1) c ≡ take k c ++ e ∷ [] = ap (λ n. take n c) (add-one k) ∙ take-suc c k e within ∙ ap (λ x. take k c ++ x ∷ []) (sym is) in
+    let split : c ≡ (take k c ++ e ∷ []) ++ drop (k + 1) c = sym (take-append-drop (k + 1) c) ∙ ap (λ l. l ++ drop (k + 1) c) one in
+    let apart : c ≡ take k c ++ e ∷ drop (k + 1) c = split ∙ append_assoc (take k c) (e ∷ []) (drop (k + 1) c) in
+    subst (λ past. IsFollowed set past i brokers places new) (sym one)
+    (enters set (take k c) brokers (run_part set c (take k c ++ e ∷ []) (drop (k + 1) c) split shown.run)
+    (given_there set c (take k c) (drop (k + 1) c) e apart shown.run i brokers subject.size) h)
 
 -- ---- at the end
 
@@ -183,9 +206,32 @@ scenes_push set c r (x ∷ xs) [] i scene h s = absurd h
 numbers_push : (past : List Entry) (e : Entry) → numbers (past ++ e ∷ []) ≡ numbers past ++ map (λ b. b.child) (cons_option (birth_in e) [])
 numbers_push past e = ap (λ l. top ∷ l) (ap (map (λ b. b.child)) (births_push past e) ∙ map_joined (λ b. b.child) (births past) (cons_option (birth_in e) []))
 
+-- the entries of the other kinds tell no birth
+pub no_birth : (e : Entry) → ((child parent job : ℕ) (label : List ℕ) (second : ℕ) (grant : Resources) → e ≡ entry.Born child parent job label second grant → ⊥) → birth_in e ≡ None
+no_birth (entry.Born child parent job label second grant) b = absurd (b child parent job label second grant refl)
+no_birth (entry.Issued actor command) b = refl
+no_birth (entry.Landed instance space number authors groups) b = refl
+no_birth (entry.Denied instance space authors group refusal) b = refl
+no_birth (entry.Heard instance broker space number) b = refl
+no_birth (entry.Got instance broker reference) b = refl
+no_birth (entry.Dropped instance broker reference) b = refl
+no_birth (entry.Replied actor command given number) b = refl
+no_birth (entry.Told from to) b = refl
+no_birth (entry.Ticked second) b = refl
+no_birth (entry.Gone child parent job shut) b = refl
+no_birth entry.Closed b = refl
+
 pub adds_none : (c : List Entry) (r : Rows) (e : Entry) (picture : List Scene) → birth_in e ≡ None → AddsBorn c r e picture picture
 adds_none c r e picture none set past more shown split h =
     subst (λ is. AreScenes set c r is picture) (sym (numbers_push past e ∙ ap (λ o. numbers past ++ map (λ b. b.child) (cons_option o [])) none ∙ append-nil (numbers past))) h
+
+-- the scenes of the instances that are born up to an entry
+pub born_further : (c : List Entry) (r : Rows) (k : ℕ) (e : Entry) (old new : List Scene) → k < length c → e ≡ get_or c k e → AddsBorn c r e old new
+    → (set : Setup) → IsShownRun set c → AreScenes set c r (numbers (take k c)) old → AreScenes set c r (numbers (take (k + 1) c)) new
+born_further c r k e old new within is adds set shown h =
+    let one : take (k + 1) c ≡ take k c ++ e ∷ [] = ap (λ n. take n c) (add-one k) ∙ take-suc c k e within ∙ ap (λ x. take k c ++ x ∷ []) (sym is) in
+    let split : c ≡ take k c ++ e ∷ drop (k + 1) c = sym (take-append-drop (k + 1) c) ∙ ap (λ l. l ++ drop (k + 1) c) one ∙ append_assoc (take k c) (e ∷ []) (drop (k + 1) c) in
+    subst (λ past. AreScenes set c r (numbers past) new) (sym one) (adds set (take k c) (drop (k + 1) c) shown split h)
 
 -- the scene of an instance that is born in an entry
 pub adds_one : (c : List Entry) (r : Rows) (e : Entry) (b : Birth) (picture : List Scene) (scene : Scene) → birth_in e ≡ Some b

@@ -35,10 +35,11 @@ use Rattle.hierarchy.proofs.Owning.{alive, births_push, born_kept, born_push, go
 use Rattle.hierarchy.proofs.Sound.{sound_in}
 use Rattle.run_picture.specs.Columns.{AreColumns, End, IsColumnAt, end_at, ends_in, heard_by, sees, ticked, time_at}
 use Rattle.run_laws.proofs.Moves.{stands}
-use Rattle.run_picture.specs.Follows.{Enters, IsFollowed, IsGiven, IsRun, KeepGroups, KeepsUp, column_of, first_heard, with_column}
+use Rattle.run_picture.specs.Follows.{Enters, IsDrawn, IsFollowed, IsGiven, IsRun, KeepGroups, KeepsUp, column_of, first_heard, with_column}
 use Rattle.run_picture.proofs.Shown.{cells_same}
 use Rattle.run_picture.specs.declared.following.Following.{Following}
 use Rattle.run_picture.specs.declared.jobs.JobRow.{JobRow}
+use Rattle.run_picture.specs.Rows.{cell_of}
 use Rattle.run_picture.specs.declared.picture.Column.{Column}
 use Rattle.run_picture.specs.declared.picture.Place.{Place}
 use Rattle.run_picture.proofs.Own.{IsQuietEntry, first_keeps, hearing_keeps, landing_keeps, quiet_keeps, quiet_moment}
@@ -154,6 +155,7 @@ module _ (set : Setup) (i brokers : ℕ) (places : List Place) where
       living = h.living ∙ sym lives_same;
       fresh = λ b. h.fresh (unborn_before b);
       keeps = keeps_on f.rows.items f.heard.items (quiet_step passed f h);
+      drawn = h.drawn;
       columns = same_columns none f.columns h.columns;
     }
 
@@ -203,7 +205,7 @@ module _ (set : Setup) (i brokers : ℕ) (places : List Place) where
 
   pub lands : (past : List Entry) (space : List ℕ) (number : ℕ) (authors : List (Option By)) (groups : List Group) → is_primary space ≡ true → let e : Entry = entry.Landed i space number authors groups in
       IsRun set (past ++ e ∷ []) → (f : Following) (rows : Vec JobRow) → KeepGroups f.rows.items groups rows.items
-      → IsFollowed set past i brokers places f → IsFollowed set (past ++ e ∷ []) i brokers places (record f { rows = rows })
+      → IsFollowed set past i brokers places f → IsFollowed set (past ++ e ∷ []) i brokers places (record f { rows = rows; cells = None })
   lands past space number authors groups here run f rows made h =
       let e : Entry = entry.Landed i space number authors groups in
       let was : lives past i ≡ true = (follows past e run).grounds in
@@ -217,6 +219,7 @@ module _ (set : Setup) (i brokers : ℕ) (places : List Place) where
         keeps = keeps_on past e refl refl rows.items f.heard.items (λ w. subst (λ o. KeepsUp (setup_in set past i) (own_of set past i ++ cons_option o []) rows.items f.heard.items) (sym is)
             (landing_keeps (setup_in set past i) (valid past e run refl refl refl was g is) (own_of set past i) p.0 number authors groups p.1.0 (in_time past e run refl refl refl was g is) (sound past e run refl refl refl was g is)
             f.rows.items rows.items f.heard.items made (h.keeps was)));
+        drawn = tt;
         columns = same_columns past e refl refl refl f.columns h.columns;
       }
 
@@ -235,21 +238,23 @@ module _ (set : Setup) (i brokers : ℕ) (places : List Place) where
         keeps = keeps_on past e refl refl f.rows.items heard.items (λ w. subst (λ o. KeepsUp (setup_in set past i) (own_of set past i ++ cons_option o []) f.rows.items heard.items) (sym is)
             (subst (λ known. KeepsUp (setup_in set past i) (own_of set past i ++ g ∷ []) f.rows.items known) (sym made)
             (hearing_keeps (setup_in set past i) (own_of set past i) broker number f.rows.items f.heard.items (h.keeps was))));
+        drawn = h.drawn;
         columns = same_columns past e refl refl refl f.columns h.columns;
       }
 
   -- ---- time goes on
 
-  pub ticks : (past : List Entry) (second : ℕ) (f : Following) (columns : List Column) → IsFollowed set past i brokers places f
-      → AreColumns set i places (filter (sees i) (ends_in set [] past ++ end_at set past ∷ [])) columns
-      → IsFollowed set (past ++ entry.Ticked second ∷ []) i brokers places (record f { second = second; columns = columns })
-  ticks past second f columns h shown =
+  pub ticks : (past : List Entry) (second : ℕ) (f : Following) (columns : List Column) (cells : Option (List (List ℕ))) → IsFollowed set past i brokers places f
+      → AreColumns set i places (filter (sees i) (ends_in set [] past ++ end_at set past ∷ [])) columns → IsDrawn (record f { cells = cells }) places
+      → IsFollowed set (past ++ entry.Ticked second ∷ []) i brokers places (record f { second = second; columns = columns; cells = cells })
+  ticks past second f columns cells h shown drawn =
       let e : Entry = entry.Ticked second in
       record {
         second = sym (time_push past e);
         living = h.living ∙ sym (lives_same past e refl refl);
         fresh = λ b. h.fresh (unborn_before past e refl refl b);
         keeps = keeps_on past e refl refl f.rows.items f.heard.items (quiet_step past e refl refl tt f h);
+        drawn = drawn;
         columns = subst (λ es. AreColumns set i places (filter (sees i) es) columns) (sym (ends_push [] past e)) shown;
       }
 
@@ -268,6 +273,7 @@ module _ (set : Setup) (i brokers : ℕ) (places : List Place) where
         keeps = λ now. subst (λ own. KeepsUp s own f.rows.items f.heard.items) (sym (own_born set past e i unborn begun))
             (subst (λ rows. KeepsUp s [] rows f.heard.items) (sym fresh.0)
             (subst (λ known. KeepsUp s [] [] known) (sym (fresh.1 ∙ ap first_heard (sym size))) (first_keeps s (run.valid i born))));
+        drawn = h.drawn;
         columns = subst (λ es. AreColumns set i places (filter (sees i) es) f.columns)
             (sym (ends_push [] past e ∙ ap (λ o. ends_in set [] past ++ cond (is_some o) (end_at set past ∷ []) []) none ∙ append-nil (ends_in set [] past))) h.columns;
       }
@@ -281,6 +287,7 @@ module _ (set : Setup) (i brokers : ℕ) (places : List Place) where
         living = sym dead;
         fresh = λ b. h.fresh (false_from_ne_true (is_born past i) (λ w. true≢false (sym (born_kept past (e ∷ []) i w) ∙ b)));
         keeps = λ now. absurd (true≢false (sym now ∙ dead));
+        drawn = h.drawn;
         columns = subst (λ es. AreColumns set i places (filter (sees i) es) f.columns)
             (sym (ends_push [] past e ∙ ap (λ o. ends_in set [] past ++ cond (is_some o) (end_at set past ∷ []) []) none ∙ append-nil (ends_in set [] past))) h.columns;
       }
@@ -289,7 +296,7 @@ module _ (set : Setup) (i brokers : ℕ) (places : List Place) where
 
   -- what is kept of a living instance shows it, where its own chronicle is legal and its store sound
   pub shows : (past : List Entry) → IsInstance (instance_of (setup_in set past i)) → IsLegal (setup_in set past i) (own_of set past i) → IsSound (instance_of (setup_in set past i)) (log_in (setup_in set past i).work (own_of set past i))
-      → (f : Following) → lives past i ≡ true → IsFollowed set past i brokers places f → IsColumnAt set i places (end_at set past) (column_of f places)
+      → (f : Following) → lives past i ≡ true → IsFollowed set past i brokers places f → IsColumnAt set i places (end_at set past) (column_of f (map (cell_of f.rows.items) places))
   shows past valid legal sound f was h =
       let s = setup_in set past i in
       let own = own_of set past i in
@@ -310,14 +317,14 @@ module _ (set : Setup) (i brokers : ℕ) (places : List Place) where
 
   -- the columns with that of a moment, if the instance lives
   pub with_shown : (past : List Entry) (f : Following) → IsFollowed set past i brokers places f
-      → (lives past i ≡ true → IsColumnAt set i places (end_at set past) (column_of f places))
+      → (lives past i ≡ true → IsColumnAt set i places (end_at set past) (column_of f (map (cell_of f.rows.items) places)))
       → AreColumns set i places (filter (sees i) (ends_in set [] past ++ end_at set past ∷ [])) (with_column f places).columns
   with_shown past f h shown = subst (λ es. AreColumns set i places es (with_column f places).columns) (sym (filter_push (sees i) (ends_in set [] past) (end_at set past)))
       (by f.lives (lives past i) h.living refl)
     where
       by : (a b : Bool) → a ≡ b → lives past i ≡ b
-          → AreColumns set i places (filter (sees i) (ends_in set [] past) ++ cond b (end_at set past ∷ []) []) (cond a (record f { columns = f.columns ++ column_of f places ∷ [] }) f).columns
-      by true true e was = columns_push (filter (sees i) (ends_in set [] past)) f.columns (end_at set past) (column_of f places) h.columns (shown was)
+          → AreColumns set i places (filter (sees i) (ends_in set [] past) ++ cond b (end_at set past ∷ []) []) (cond a (record f { columns = f.columns ++ column_of f (map (cell_of f.rows.items) places) ∷ []; cells = Some (map (cell_of f.rows.items) places) }) f).columns
+      by true true e was = columns_push (filter (sees i) (ends_in set [] past)) f.columns (end_at set past) (column_of f (map (cell_of f.rows.items) places)) h.columns (shown was)
       by false false e was = subst (λ es. AreColumns set i places es f.columns) (sym (append-nil (filter (sees i) (ends_in set [] past)))) h.columns
       by true false e was = absurd (true≢false e)
       by false true e was = absurd (true≢false (sym e))
@@ -325,7 +332,7 @@ module _ (set : Setup) (i brokers : ℕ) (places : List Place) where
 -- ---- what each kind of entry makes of what is followed
 
 -- the first birth of a number
-birth_new : (past : List Entry) (i : ℕ) (e : Entry) (b : Birth) → is_born past i ≡ false → birth_in e ≡ Some b → is_birth_of i b ≡ true → birth_of (past ++ e ∷ []) i ≡ Some b
+pub birth_new : (past : List Entry) (i : ℕ) (e : Entry) (b : Birth) → is_born past i ≡ false → birth_in e ≡ Some b → is_birth_of i b ≡ true → birth_of (past ++ e ∷ []) i ≡ Some b
 birth_new past i e b unborn is named = by (i == top) unborn
   where
     or_none : {A : Type 0} (o p : Option A) → is_some o ≡ false → option_or o p ≡ p
@@ -340,7 +347,7 @@ birth_new past i e b unborn is named = by (i == top) unborn
         ∙ or_none (find (is_birth_of i) (births past)) (find (is_birth_of i) (b ∷ [])) h
         ∙ ap (λ t. cond t (Some b) None) named
 
-born_so : (past : List Entry) (i : ℕ) (b : Birth) → birth_of past i ≡ Some b → is_born past i ≡ true
+pub born_so : (past : List Entry) (i : ℕ) (b : Birth) → birth_of past i ≡ Some b → is_born past i ≡ true
 born_so past i b is = ap (λ o. (i == top) || is_some o) is ∙ or-true (i == top)
   where
     or-true : (t : Bool) → (t || true) ≡ true
@@ -348,7 +355,7 @@ born_so past i b is = ap (λ o. (i == top) || is_some o) is ∙ or-true (i == to
     or-true false = refl
 
 pub enter_landed : (i : ℕ) (places : List Place) (instance : ℕ) (space : List ℕ) (number : ℕ) (authors : List (Option By)) (groups : List Group) (f new : Following) → instance ≡ i → is_primary space ≡ true
-    → KeepGroups f.rows.items groups new.rows.items → new ≡ record f { rows = new.rows } → Enters i places (entry.Landed instance space number authors groups) f new
+    → KeepGroups f.rows.items groups new.rows.items → new ≡ record f { rows = new.rows; cells = None } → Enters i places (entry.Landed instance space number authors groups) f new
 enter_landed i places instance space number authors groups f new here primary made rest = subst (λ n. Enters i places (entry.Landed n space number authors groups) f new) (sym here)
     (λ set past brokers run given h. subst (IsFollowed set (past ++ entry.Landed i space number authors groups ∷ []) i brokers places) (sym rest) (lands set i brokers places past space number authors groups primary run f new.rows made h))
 
@@ -364,12 +371,19 @@ enter_passed i places e f none begun stays passed = λ set past brokers run give
 pub enter_ticked : (i : ℕ) (places : List Place) (second : ℕ) (f : Following) → Enters i places (entry.Ticked second) f (record (with_column f places) { second = second })
 enter_ticked i places second f set past brokers run given h =
     let e : Entry = entry.Ticked second in
-    let shown : lives past i ≡ true → IsColumnAt set i places (end_at set past) (column_of f places) =
+    let shown : lives past i ≡ true → IsColumnAt set i places (end_at set past) (column_of f (map (cell_of f.rows.items) places)) =
     λ was. shows set i brokers places past (valid set i brokers places past e run refl refl refl was e refl) (parts set i brokers places past e run refl refl refl was e refl).0 (sound set i brokers places past e run refl refl refl was e refl) f was h in
     subst (IsFollowed set (past ++ e ∷ []) i brokers places) (by f.lives)
-    (ticks set i brokers places past second f (with_column f places).columns h (with_shown set i brokers places past f h shown))
+    (ticks set i brokers places past second f (with_column f places).columns (with_column f places).cells h (with_shown set i brokers places past f h shown) (drawn f.lives))
   where
-    by : (b : Bool) → ◌≡◌ {A = Following} (record f { second = second; columns = (cond b (record f { columns = f.columns ++ column_of f places ∷ [] }) f).columns }) (record (cond b (record f { columns = f.columns ++ column_of f places ∷ [] }) f) { second = second })
+    cells : List (List ℕ)
+    cells = map (cell_of f.rows.items) places
+
+    drawn : (b : Bool) → IsDrawn (record f { cells = (cond b (record f { columns = f.columns ++ column_of f cells ∷ []; cells = Some cells }) f).cells }) places
+    drawn true = refl
+    drawn false = h.drawn
+
+    by : (b : Bool) → ◌≡◌ {A = Following} (record f { second = second; columns = (cond b (record f { columns = f.columns ++ column_of f cells ∷ []; cells = Some cells }) f).columns; cells = (cond b (record f { columns = f.columns ++ column_of f cells ∷ []; cells = Some cells }) f).cells }) (record (cond b (record f { columns = f.columns ++ column_of f cells ∷ []; cells = Some cells }) f) { second = second })
     by true = refl
     by false = refl
 

@@ -1,5 +1,5 @@
 -- What is kept of an instance that is followed.
-use Rattle.std.specs.Prelude.{◌≡◌, ◌<◌, ◌^◌, ℕ, List, [], ◌∷◌, ◌++◌, Bool, true, false, Option, Some, Ok, filter, map, replicate, if◌then◌else◌}
+use Rattle.std.specs.Prelude.{◌≡◌, ◌<◌, ◌^◌, ℕ, List, [], ◌∷◌, ◌++◌, Bool, true, false, Option, Some, None, Ok, IfSome, filter, map, replicate, if◌then◌else◌}
 use Rattle.kvs_model.specs.History.{after_groups}
 use Rattle.kvs_model.specs.Operation.{effect}
 use Rattle.kvs_model.specs.Store.{IsStore, Store}
@@ -67,6 +67,10 @@ pub record IsRun (set : Setup) (c : List Entry) : Type 0 where
   pub valid : AreValid set c
   pub timely : HasTime set
 
+-- the cells that are kept, if some are, are those of the rows
+abbrev pub IsDrawn : Following → List Place → Type 0
+IsDrawn f places = IfSome f.cells (λ cells. cells ≡ map (cell_of f.rows.items) places)
+
 -- the instance is followed up to here, with these rows in its picture
 pub record IsFollowed (set : Setup) (past : List Entry) (i brokers : ℕ) (places : List Place)
     (f : Following) : Type 0 where
@@ -76,6 +80,7 @@ pub record IsFollowed (set : Setup) (past : List Entry) (i brokers : ℕ) (place
       → (f.rows.items ≡ []) × (f.heard.items ≡ first_heard brokers)
   pub keeps : lives past i ≡ true
       → KeepsUp (setup_in set past i) (own_of set past i) f.rows.items f.heard.items
+  pub drawn : IsDrawn f places
   pub columns : AreColumns set i places (filter (sees i) (ends_in set [] past)) f.columns
 
 -- before anything has happened
@@ -84,23 +89,22 @@ pub record IsBegun (is_top : Bool) (brokers : ℕ) (f : Following) : Type 0 wher
   pub living : f.lives ≡ is_top
   pub rows : f.rows.items ≡ []
   pub heard : f.heard.items ≡ first_heard brokers
+  pub undrawn : f.cells ≡ None
   pub columns : f.columns ≡ []
 
 -- where the entry begins the instance, it has so many brokers
 abbrev pub IsGiven : Entry → ℕ → ℕ → Type 0
 IsGiven e i brokers = (b : Birth) → birth_in e ≡ Some b → b.child ≡ i → brokers ≡ brokers_for b
 
--- the column of what is kept
-abbrev pub column_of : Following → List Place → Column
-column_of f places = record {
-  second = f.second;
-  cells = map (cell_of f.rows.items) places;
-  brokers = f.heard.items;
-}
+-- the column of what is kept, with these cells
+abbrev pub column_of : Following → List (List ℕ) → Column
+column_of f cells = record { second = f.second; cells = cells; brokers = f.heard.items }
 
+-- with the column of this moment, while the instance lives
 abbrev pub with_column : Following → List Place → Following
-with_column f places = if f.lives
-    then record f { columns = f.columns ++ column_of f places ∷ [] } else f
+with_column f places = let cells = map (cell_of f.rows.items) places in
+    if f.lives then record f { columns = f.columns ++ column_of f cells ∷ []; cells = Some cells }
+    else f
 
 -- behind an entry the new one is followed, where the old one was before
 abbrev pub Enters : ℕ → List Place → Entry → Following → Following → Type 0

@@ -1,13 +1,14 @@
 //! An instance that is followed through the chronicle of its run.
-ghost use Rattle.std.specs.Prelude.{◌≡◌, Some, IfOk, OnOk, slice_set};
+ghost use Rattle.std.specs.Prelude.{◌≡◌, Some, None, IfOk, OnOk, map, slice_set};
 ghost use Rattle.kvs_rules.specs.Namespaces.{is_primary};
-ghost use Rattle.run_picture.specs.Follows.{Enters, IsBegun, KeepGroups, column_of, first_heard, with_column};
+ghost use Rattle.run_picture.specs.Follows.{Enters, IsBegun, IsDrawn, KeepGroups, column_of, first_heard, with_column};
+ghost use Rattle.run_picture.specs.Rows.{cell_of};
 
 use crate::cells::cells_of;
 use crate::drawing::PictureFault;
 use crate::jobs::JobRow;
 use crate::labels::Labels;
-use crate::picture::{Column, JobSign, Place};
+use crate::picture::{Cell, Column, JobSign, Place};
 use crate::posts::land_all;
 use answers::Entry;
 use kvs_txn::Group;
@@ -24,6 +25,8 @@ pub struct Following {
     pub rows: Vec<JobRow>,
     /// What each broker has heard of `primary`.
     pub heard: Vec<Option<u64>>,
+    /// The cells of its places, if nothing has landed since they were drawn.
+    pub cells: Option<ListOf<Cell>>,
     pub columns: ListOf<Column>,
 }
 
@@ -64,6 +67,7 @@ impl Following {
             lives: is_top,
             rows: Vec::new(alloc),
             heard: first_heard(alloc, brokers)?,
+            cells: None,
             columns: ListOf::new(alloc),
         })
     }
@@ -72,9 +76,12 @@ impl Following {
     fn land(&mut self, alloc: Global, labels: &Labels, groups: &[Group]) -> Result<(), PictureFault>
         ensures rows { OnOk result
             (KeepGroups self.old.rows.items groups.now self.new.rows.items) }
-        ensures rest { OnOk result (self.new ≡ record self.old { rows = self.new.rows }) }
+        ensures rest { OnOk result
+            (self.new ≡ record self.old { rows = self.new.rows; cells = None }) }
     {
-        land_all(alloc, &mut self.rows, labels, groups)
+        land_all(alloc, &mut self.rows, labels, groups)?;
+        self.cells = None;
+        Ok(())
     }
 
     /// Takes in what a broker has heard of `primary`.
@@ -89,25 +96,39 @@ impl Following {
         }
     }
 
-    /// The column of this moment.
-    fn column(&self, alloc: Global, places: &[Place]) -> Result<Column, AllocError>
-        ensures { IfOk result (λ column. column ≡ column_of self.now places.now) }
+    /// The cells of this moment: those that were drawn last, if nothing has landed since.
+    fn drawn(&self, alloc: Global, places: &[Place]) -> Result<ListOf<Cell>, AllocError>
+        ensures { IsDrawn self.now places.now
+            → IfOk result (λ cells. cells ≡ map (cell_of self.now.rows.items) places.now) }
+    {
+        match &self.cells {
+            Some(cells) => cells.copy(),
+            None => cells_of(alloc, &self.rows, places),
+        }
+    }
+
+    /// The column of this moment, with these cells.
+    fn column(&self, alloc: Global, cells: ListOf<Cell>) -> Result<Column, AllocError>
+        ensures { IfOk result (λ column. column ≡ column_of self.now cells) }
     {
         Ok(Column {
             second: self.second,
-            cells: cells_of(alloc, &self.rows, places)?,
+            cells,
             brokers: ListOf::from_vec(Vec::from_slice(alloc, &self.heard)?),
         })
     }
 
     /// Adds the column of the second that ends, while the instance lives.
     pub fn end_second(&mut self, alloc: Global, places: &[Place]) -> Result<(), AllocError>
-        ensures { OnOk result (self.new ≡ with_column self.old places.now) }
+        ensures { IsDrawn self.old places.now
+            → OnOk result (self.new ≡ with_column self.old places.now) }
     {
         if !self.lives {
             return Ok(());
         }
-        let column = self.column(alloc, places)?;
+        let cells = self.drawn(alloc, places)?;
+        let column = self.column(alloc, cells.copy()?)?;
+        self.cells = Some(cells);
         self.columns.push(column)
     }
 

@@ -1,7 +1,7 @@
-use Rattle.std.proofs.Common.{◌≡◌, ◌≢◌, ◌⊎◌, inl, inr, true, false, ◌&&◌, sym, ap, ap₂, ◌∙◌, refl, subst}
+use Rattle.std.proofs.Common.{[], ◌∷◌, ◌++◌, ◌≡◌, ◌≢◌, ◌⊎◌, inl, inr, true, false, ◌&&◌, sym, ap, ap₂, ◌∙◌, refl, subst}
 use Rattle.kvs_rules.specs.Namespaces.{is_primary}
 use Rattle.answers.specs.declared.chronicle.Entry.TheVariants as entry
-use Rattle.run_picture.specs.Follows.{Enters, KeepGroups, with_column}
+use Rattle.run_picture.specs.Follows.{Enters, IsFollowed, KeepGroups, with_column}
 use Rattle.run_picture.specs.declared.following.Following.{Following}
 use Rattle.run_picture.proofs.Run.{enter_born, enter_elsewhere, enter_gone, enter_heard, enter_landed, enter_other, enter_passed, enter_ticked, enter_unborn, enter_ungone}
 use Rattle.run_picture.proofs.following.Following.enter.Goals.{else-instance-number-via-then-instance-number+else-is_primary, else-instance-number-via-else-instance-number}
@@ -47,9 +47,10 @@ returns-else-instance-number-2 c =
 pub returns-in_ok-end_second-in-Ticked : goal.returns-in_ok-end_second-in-Ticked
 returns-in_ok-end_second-in-Ticked c =
     let e = c.in-Ticked in
-    let made : c.end_second.new.self ≡ with_column c.args.self.now c.args.places.now = c.in_ok-end_second-in-Ticked.ensures in
     subst (λ x. Enters c.args.number c.args.places.now x c.args.self.now (record c.end_second.new.self { second = e.second })) (sym e.is)
-    (subst (λ f. Enters c.args.number c.args.places.now (entry.Ticked e.second) c.args.self.now (record f { second = e.second })) (sym made) (enter_ticked c.args.number c.args.places.now e.second c.args.self.now))
+    (λ set past brokers run given h.
+    let made : c.end_second.new.self ≡ with_column c.args.self.now c.args.places.now = c.in_ok-end_second-in-Ticked.ensures h.drawn in
+    subst (λ f. IsFollowed set (past ++ entry.Ticked e.second ∷ []) c.args.number brokers c.args.places.now (record f { second = e.second })) (sym made) (enter_ticked c.args.number c.args.places.now e.second c.args.self.now set past brokers run given h))
 
 pub returns-then-child-number : goal.returns-then-child-number
 returns-then-child-number c =
