@@ -36,6 +36,7 @@ generated_options = record {
   hash = Sha1;
   shuffle = None;
   journal = false;
+  backfill = false;
 }
 
 -- the workload is the one that is drawn

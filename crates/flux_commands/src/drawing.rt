@@ -32,6 +32,7 @@ pub const DRAWN_OPTIONS: Options = Options {
     hash: Hash::Sha1,
     shuffle: None,
     journal: false,
+    backfill: false,
 };
 
 /// What the words `gen SEED N` draw a workload from.

@@ -1,8 +1,9 @@
 //! Runs the examples in data/, and says of each whether its answers are those that stand beside it,
 //! and whether each of its commands is answered in twenty drawn orders.
 //!
-//! Each word of the program is an example's name, and behind it the options of its run; `always`
-//! before it asks for the same answers in each drawn order. Or it names a file of cases.
+//! Each word of the program is an example's name, and behind it the options of its run; where its
+//! answers have another name, that stands behind a colon. `always` before it asks for the same
+//! answers in each drawn order. Or it names a file of cases.
 #![tactic(auto)]
 
 mod cases;
@@ -25,9 +26,10 @@ struct Example<'a> {
 /// Reads the example of a word of the program.
 fn read_example<'a>(rt: &HostRuntime, word: &'a str) -> io::Result<Example<'a>> {
     let alloc = rt.alloc();
-    let (name, options) = word.split_once(' ').unwrap_or((word, ""));
-    let workload = format!(in alloc; "{name}.workload")?;
-    let answers = format!(in alloc; "{name}.answers")?;
+    let (names, options) = word.split_once(' ').unwrap_or((word, ""));
+    let (workload, answers) = names.split_once(':').unwrap_or((names, names));
+    let workload = format!(in alloc; "{workload}.workload")?;
+    let answers = format!(in alloc; "{answers}.answers")?;
     Ok(Example {
         options,
         workload: fs::read(rt, workload.as_str())?,

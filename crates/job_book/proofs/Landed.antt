@@ -168,7 +168,6 @@ module _ (book : BookValue) (g : Allotment) (is : IsBook book g) (now : ℕ) (as
         record {
           kept = record {
             grant = is.kept.grant;
-            policy = is.kept.policy;
             sets = is.kept.sets;
             rising = rising;
             small = each_after (λ k. k.id < 2 ^ 64) (due_of now j deed) book.jobs is.kept.small (λ k i e. each_at (λ k. k.id < 2 ^ 64) book.jobs k is.kept.small i);

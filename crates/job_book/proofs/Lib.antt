@@ -1,3 +1,4 @@
+pub mod Plain
 pub mod Actives
 pub mod Ahead
 pub mod Held

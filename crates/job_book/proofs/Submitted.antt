@@ -39,7 +39,6 @@ book_with book g is id spec needs userid urgency event small sound none =
     record {
       kept = record {
         grant = is.kept.grant;
-        policy = is.kept.policy;
         sets = is.kept.sets;
         rising = rising;
         small = each_with (λ k. k.id < 2 ^ 64) j book.jobs small is.kept.small;

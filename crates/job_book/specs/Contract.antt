@@ -24,9 +24,11 @@ use Rattle.job_deeds.specs.manager_rules.Limits.{no_limits}
 use Rattle.job_deeds.specs.manager_rules.Whys.{IsWhy}
 use Rattle.job_deeds.specs.manager_rules.declared.asked.Asked.{Asked}
 use Rattle.job_deeds.specs.manager_rules.declared.due.Due.{Due}
+use Rattle.job_deeds.specs.manager_rules.declared.policy.Policy.TheVariants.{FirstFit}
 use Rattle.job_deeds.specs.manager_rules.declared.terms.Limits.{Limits}
 use Rattle.job_deeds.specs.manager_rules.declared.why.Why.{Why}
 use Rattle.job_deeds.specs.Choices.{IsSeen, SaysAs}
+use Rattle.job_deeds.specs.Passing.{IsPasserOf}
 use Rattle.job_deeds.specs.declared.decisions.Desk.{Desk}
 use Rattle.job_book.specs.Value.{BookValue, scene_of}
 
@@ -98,6 +100,18 @@ NoneDueIn book now asked says =
 abbrev pub Finds : BookValue → ℕ → List Asked → (Ask → ℕ → Type 0) → Option Due → Type 0
 Finds book now asked says (Some due) = IsDueIn book now asked says due
 Finds book now asked says None = NoneDueIn book now asked says
+
+-- the book where nobody passes the first in the queue
+abbrev pub plain : BookValue → BookValue
+plain book = record book { policy = FirstFit }
+
+-- what is found for the one that passes the first: an event that is due, or none where nobody
+-- passes it
+abbrev pub FindsPassing : BookValue → ℕ → List Asked → (Ask → ℕ → Type 0) → Option Due → Type 0
+FindsPassing book now asked says (Some due) = IsDueIn book now asked says due
+FindsPassing book now asked says None =
+    (answer : Ask → ℕ) (limits : Limits) → SaysAs says answer
+    → IsPasserOf (scene_of book now asked answer limits) None
 
 -- the event is due at some second, with some commands and children, some answers and some limits
 pub record WasDue (book : BookValue) (due : Due) : Type 0 where

@@ -9,8 +9,8 @@ ghost use Rattle.job_deeds.specs.manager_rules.Dependencies.{job_at};
 ghost use Rattle.job_deeds.specs.manager_rules.Jobs.{ids_of};
 ghost use Rattle.job_deeds.specs.manager_rules.Scene.{IsAsked};
 ghost use Rattle.job_deeds.specs.manager_rules.Times.{IsLeast};
-ghost use Rattle.job_deeds.specs.Choices.{IsDesk};
-ghost use Rattle.job_book.specs.Contract.{BeginsAsOne, Explains, Finds, Gains, IsFirstBirth, IsKept, IsNewJob, IsSeenIn, KnowsNeeds, NoBirth, WasDue, after_event, r_at, seconds_left};
+ghost use Rattle.job_deeds.specs.Choices.{IsDesk, IsLook};
+ghost use Rattle.job_book.specs.Contract.{BeginsAsOne, Explains, Finds, FindsPassing, Gains, IsFirstBirth, IsKept, IsNewJob, IsSeenIn, KnowsNeeds, NoBirth, WasDue, after_event, plain, r_at, seconds_left};
 
 use crate::active::{Active, enter, entry_of, first_bearing, follow, place_of_active};
 use crate::seconds::next_of_rows;
@@ -110,7 +110,26 @@ impl Book {
         Ok(())
     }
 
-    /// What the jobs are decided by at this second.
+    /// What the jobs are decided by at this second where nobody passes the first in the queue.
+    fn plain_desk<'a>(&'a self, now: u64, asked: &'a [Asked]) -> Desk<'a>
+        ensures rows { result.rows.now ≡ self.now.jobs }
+        ensures asked { result.asked.now ≡ asked.now }
+        ensures desk { IsDesk result }
+        ensures look { IsLook result self.now.grant }
+        ensures seen { IsSeenIn (plain self.now) now asked.now result }
+    {
+        Desk {
+            second: now,
+            graph: &self.graph,
+            policy: Policy::FirstFit,
+            rows: &self.rows,
+            head: self.queue.head(),
+            passer: None,
+            asked,
+        }
+    }
+
+    /// The same with the one that passes.
     fn desk<'a>(&'a self, now: u64, asked: &'a [Asked]) -> Result<Desk<'a>, AllocError>
         ensures rows { IfOk result (λ desk. desk.rows.now ≡ self.now.jobs) }
         ensures asked { IfOk result (λ desk. desk.asked.now ≡ asked.now) }
@@ -118,20 +137,42 @@ impl Book {
         ensures seen { IfOk result (IsSeenIn self.now now asked.now) }
     {
         let desk = Desk {
-            second: now,
-            graph: &self.graph,
             policy: self.policy,
-            rows: &self.rows,
-            head: self.queue.head(),
-            passer: None,
-            asked,
+            ..self.plain_desk(now, asked)
         };
         let passer = passer(*self.rows.allocator(), &desk, &self.grant)?;
         Ok(Desk { passer, ..desk })
     }
 
+    /// The taking of resources that is due for a job that passes the first in the queue, if one
+    /// does.
+    fn passing<F: Fn(&Ask) -> u32>(
+        &self,
+        now: u64,
+        asked: &OpenList,
+        tap: &Tap<F>,
+    ) -> Result<Option<Due>, AllocError>
+        requires callable { F.IsAlwaysCallable tap.now }
+        requires once { AnswersOnce (λ ask n. FnReturnsAt F.Fn tap.now ask n) }
+        requires asked { All IsAsked asked.now }
+        ensures { IfOk result (FindsPassing self.now now asked.now (FnReturnsAt F.Fn tap.now)) }
+    {
+        let alloc = *self.rows.allocator();
+        let desk = self.desk(now, asked.as_slice())?;
+        let Some(id) = desk.passer else {
+            return Ok(None);
+        };
+        let at = place_in(desk.rows, id);
+        let row = &desk.rows[at];
+        match choice(alloc, &desk, row, tap)? {
+            Some(action) => Ok(Some(due(alloc, now, row, &action)?)),
+            None => Ok(None),
+        }
+    }
+
     /// An event that is due at this second (Flux RFC 21, 26 and 27), if there is one: of the job
-    /// with the least id that has one, a command's before the manager's own.
+    /// with the least id that has one, a command's before the manager's own. Who passes the first
+    /// in the queue is asked for where nothing else is due, since that looks at all that wait.
     pub fn due<F: Fn(&Ask) -> u32>(
         &self,
         now: u64,
@@ -144,7 +185,7 @@ impl Book {
         ensures { IfOk result (Finds self.now now asked.now (FnReturnsAt F.Fn tap.now)) }
     {
         let alloc = *self.rows.allocator();
-        let desk = self.desk(now, asked.as_slice())?;
+        let desk = self.plain_desk(now, asked.as_slice());
         let mut near = 0;
         for index in 0..self.active.len() {
             if sleeps(self.active[index], now, desk.asked) {
@@ -157,7 +198,8 @@ impl Book {
             }
             near = at + 1;
         }
-        Ok(None)
+        let found = self.passing(now, asked, tap)?;
+        Ok(found)
     }
 
     /// Does an event that was due and has landed (Flux RFC 21). After want of memory the book is as
@@ -184,6 +226,8 @@ impl Book {
         ensures { IfOk result (Explains self.now now job) }
     {
         let desk = self.desk(now, &[])?;
+        // live jobs hold units of the grant, no two of them one in common
+        desk.graph.keeps();
         match find(desk.rows, job) {
             Some(row) => reason(*self.rows.allocator(), &desk, row),
             None => Ok(Why::NoJob),

@@ -21,14 +21,17 @@ use Rattle.run_options.specs.Words.{wants_value, with_word, with_words}
 use Rattle.run_options.proofs.Steps.{alone, paired, unpaired}
 use Rattle.run_options.specs.Command.{is_dashes, run_app}
 use Rattle.run_options.specs.Matches.{IsFlag, flag_of, given_by, given_in}
-use Rattle.run_options.proofs.Rows.{Sound, absent, at_none, value_in, find_old, read, find_new, same_given}
+use Rattle.run_options.proofs.Rows.{IsSetByRow, Sound, absent, at_none, find_new, find_old, found, has_find, read, same_given, value_in}
 use Rattle.run_options.proofs.Whole.{Ends, fault, left, walk_tie}
-use Rattle.run_options.proofs.Walks.{Name, by_size, by_fanout, by_hash, by_shuffle, at, journal_rule, rule, run_rules, run_shape, text}
+use Rattle.run_options.proofs.Walks.{Name, by_size, by_fanout, by_hash, by_shuffle, Flag, by_journal, by_backfill, at, flag_rule, flag_text, rule, run_rules, run_shape, text}
 
 -- ---- defaults
 
-abbrev default_row : Row
-default_row = record { id = codes "journal"; values = codes "false" ∷ []; count = None; source = Some DefaultValue; reading = reading.AsWritten }
+abbrev default_row : Flag → Row
+default_row f = record { id = flag_text f; values = codes "false" ∷ []; count = None; source = Some DefaultValue; reading = reading.AsWritten }
+
+abbrev with_flags : List Row → List Row
+with_flags rows = with_default (with_default rows (flag_rule by_journal)) (flag_rule by_backfill)
 
 no_default : (n : Name) (rows : List Row) → with_default rows (rule n) ≡ rows
 no_default n rows = go (has_row (text n) rows)
@@ -44,10 +47,10 @@ valueless n rows = go (has_row (text n) rows)
     go true = refl
     go false = refl
 
-flag_default : (rows : List Row) → default_fault rows journal_rule ≡ []
-flag_default rows = go (has_row (codes "journal") rows)
+flag_default : (f : Flag) (rows : List Row) → default_fault rows (flag_rule f) ≡ []
+flag_default f rows = go (has_row (flag_text f) rows)
   where
-    go : (b : Bool) → (if b || false then [] else given_default_fault journal_rule journal_rule.defaults) ≡ []
+    go : (b : Bool) → (if b || false then [] else given_default_fault (flag_rule f) (flag_rule f).defaults) ≡ []
     go true = refl
     go false = refl
 
@@ -55,24 +58,28 @@ next_default : (n : Name) (rs : List Row) (rest : List Rule) → defaults_fault 
 unfolding defaults_fault
 next_default n rs rest e = ap (λ ks. or_else ks (defaults_fault (with_default rs (rule n)) rest)) (valueless n rs) ∙ e
 
-last_default : (rs : List Row) → defaults_fault rs (journal_rule ∷ []) ≡ []
+next_flag : (f : Flag) (rs : List Row) (rest : List Rule) → defaults_fault (with_default rs (flag_rule f)) rest ≡ [] → defaults_fault rs (flag_rule f ∷ rest) ≡ []
 unfolding defaults_fault
-last_default rs = ap (λ ks. or_else ks []) (flag_default rs)
+next_flag f rs rest e = ap (λ ks. or_else ks (defaults_fault (with_default rs (flag_rule f)) rest)) (flag_default f rs) ∙ e
+
+flag_defaults : (rs : List Row) → defaults_fault rs (flag_rule by_journal ∷ flag_rule by_backfill ∷ []) ≡ []
+unfolding defaults_fault
+flag_defaults rs = next_flag by_journal rs (flag_rule by_backfill ∷ []) (next_flag by_backfill (with_default rs (flag_rule by_journal)) [] refl)
 
 defaults_pass : (rows : List Row) → defaults_fault rows run_rules ≡ []
 unfolding defaults_fault
-defaults_pass rows = next_default by_size rows (rule by_fanout ∷ rule by_hash ∷ rule by_shuffle ∷ journal_rule ∷ [])
-    (next_default by_fanout (with_default rows (rule by_size)) (rule by_hash ∷ rule by_shuffle ∷ journal_rule ∷ [])
-    (next_default by_hash (with_default (with_default rows (rule by_size)) (rule by_fanout)) (rule by_shuffle ∷ journal_rule ∷ [])
-    (next_default by_shuffle (with_default (with_default (with_default rows (rule by_size)) (rule by_fanout)) (rule by_hash)) (journal_rule ∷ [])
-    (last_default (with_default (with_default (with_default (with_default rows (rule by_size)) (rule by_fanout)) (rule by_hash)) (rule by_shuffle))))))
+defaults_pass rows = next_default by_size rows (rule by_fanout ∷ rule by_hash ∷ rule by_shuffle ∷ flag_rule by_journal ∷ flag_rule by_backfill ∷ [])
+    (next_default by_fanout (with_default rows (rule by_size)) (rule by_hash ∷ rule by_shuffle ∷ flag_rule by_journal ∷ flag_rule by_backfill ∷ [])
+    (next_default by_hash (with_default (with_default rows (rule by_size)) (rule by_fanout)) (rule by_shuffle ∷ flag_rule by_journal ∷ flag_rule by_backfill ∷ [])
+    (next_default by_shuffle (with_default (with_default (with_default rows (rule by_size)) (rule by_fanout)) (rule by_hash)) (flag_rule by_journal ∷ flag_rule by_backfill ∷ [])
+    (flag_defaults (with_default (with_default (with_default (with_default rows (rule by_size)) (rule by_fanout)) (rule by_hash)) (rule by_shuffle))))))
 
-finish : (rows : List Row) → fold with_default rows run_rules ≡ with_default rows journal_rule
+finish : (rows : List Row) → fold with_default rows run_rules ≡ with_flags rows
 finish rows =
-    ap (λ rs. with_default (with_default (with_default (with_default rs (rule by_fanout)) (rule by_hash)) (rule by_shuffle)) journal_rule) (no_default by_size rows)
-    ∙ ap (λ rs. with_default (with_default (with_default rs (rule by_hash)) (rule by_shuffle)) journal_rule) (no_default by_fanout rows)
-    ∙ ap (λ rs. with_default (with_default rs (rule by_shuffle)) journal_rule) (no_default by_hash rows)
-    ∙ ap (λ rs. with_default rs journal_rule) (no_default by_shuffle rows)
+    ap (λ rs. with_flags (with_default (with_default (with_default rs (rule by_fanout)) (rule by_hash)) (rule by_shuffle))) (no_default by_size rows)
+    ∙ ap (λ rs. with_flags (with_default (with_default rs (rule by_hash)) (rule by_shuffle))) (no_default by_fanout rows)
+    ∙ ap (λ rs. with_flags (with_default rs (rule by_shuffle))) (no_default by_hash rows)
+    ∙ ap with_flags (no_default by_shuffle rows)
 
 -- ---- the parse
 
@@ -90,40 +97,85 @@ fault_is words =
     ∙ ap (λ ds. or_else (walk_fault run_shape [] (at [] None) words) (or_else (settle_fault run_rules false (walk run_rules [] nothing_held words).held) (or_else ds []))) (defaults_pass (rows_of_words words))
     ∙ ap (or_else (walk_fault run_shape [] (at [] None) words)) (right_nil (settle_fault run_rules false (walk run_rules [] nothing_held words).held))
 
-matches_are : (words : List Text) → matches_of run_app words ≡ with_default (rows_of_words words) journal_rule
+matches_are : (words : List Text) → matches_of run_app words ≡ with_flags (rows_of_words words)
 unfolding run_app
 matches_are words = finish (rows_of_words words)
 
 -- what the matches' rows give
 abbrev given_of_rows : List Row → Option Given
-given_of_rows rows = given_by (first_of (codes "size") rows) (first_of (codes "fanout") rows) (first_of (codes "hash") rows) (first_of (codes "shuffle") rows) (flag_of (one_of (codes "journal") rows))
+given_of_rows rows = given_by (first_of (codes "size") rows) (first_of (codes "fanout") rows) (first_of (codes "hash") rows) (first_of (codes "shuffle") rows) (flag_of (one_of (codes "journal") rows)) (flag_of (one_of (codes "backfill") rows))
 
-first_old : (n : Name) (rows : List Row) → first_of (text n) (rows ++ default_row ∷ []) ≡ first_of (text n) rows
-first_old by_size rows = ap value_in (find_old (λ r. bytes_eq r.id (codes "size")) rows default_row refl)
-first_old by_fanout rows = ap value_in (find_old (λ r. bytes_eq r.id (codes "fanout")) rows default_row refl)
-first_old by_hash rows = ap value_in (find_old (λ r. bytes_eq r.id (codes "hash")) rows default_row refl)
-first_old by_shuffle rows = ap value_in (find_old (λ r. bytes_eq r.id (codes "shuffle")) rows default_row refl)
+-- a flag that is not given has a row of its own, and other rows stay
+not_given : (f : Flag) (rows : List Row) → has_row (flag_text f) rows ≡ false → with_default rows (flag_rule f) ≡ rows ++ default_row f ∷ []
+not_given f rows none = ap (λ b. if b then rows else at_row (flag_text f) (more_values DefaultValue (codes "false" ∷ [])) (default_row f ∷ []) rows) none
+    ∙ at_none (flag_text f) (more_values DefaultValue (codes "false" ∷ [])) (default_row f ∷ []) rows none
+
+is_given : (f : Flag) (rows : List Row) → has_row (flag_text f) rows ≡ true → with_default rows (flag_rule f) ≡ rows
+is_given f rows has = ap (λ b. if b then rows else at_row (flag_text f) (more_values DefaultValue (codes "false" ∷ [])) (default_row f ∷ []) rows) has
+
+found_default : (f : Flag) (id : Text) (rows : List Row) → bytes_eq (flag_text f) id ≡ false → found id (with_default rows (flag_rule f)) ≡ found id rows
+found_default f id rows other = go (has_row (flag_text f) rows) refl
+  where
+    go : (b : Bool) → has_row (flag_text f) rows ≡ b → found id (with_default rows (flag_rule f)) ≡ found id rows
+    go true has = ap (found id) (is_given f rows has)
+    go false none = ap (found id) (not_given f rows none) ∙ find_old (λ r. bytes_eq r.id id) rows (default_row f) other
+
+-- the text of a flag in the matches
+abbrev flag_shown : Bool → Text
+flag_shown b = cond b (codes "true") (codes "false")
+
+shown_default : (f : Flag) (rows : List Row) → IsSetByRow (flag_text f) rows → one_of (flag_text f) (with_default rows (flag_rule f)) ≡ Some (flag_shown (has_row (flag_text f) rows))
+shown_default f rows set = go (has_row (flag_text f) rows) refl
+  where
+    own : (f : Flag) → option_and_then row_text (cond (bytes_eq (flag_text f) (flag_text f)) (Some (default_row f)) None) ≡ Some (codes "false")
+    own by_journal = refl
+    own by_backfill = refl
+
+    go : (b : Bool) → has_row (flag_text f) rows ≡ b → one_of (flag_text f) (with_default rows (flag_rule f)) ≡ Some (flag_shown (has_row (flag_text f) rows))
+    go true has = ap (one_of (flag_text f)) (is_given f rows has) ∙ set ∙ ap (λ b. cond b (Some (codes "true")) None) has ∙ ap (λ b. Some (flag_shown b)) (sym has)
+    go false none = ap (one_of (flag_text f)) (not_given f rows none)
+        ∙ ap (option_and_then row_text) (find_new (λ r. bytes_eq r.id (flag_text f)) rows (default_row f) (absent (flag_text f) rows none))
+        ∙ own f ∙ ap (λ b. Some (flag_shown b)) (sym none)
+
+-- what is found in all the rows
+found_old : (id : Text) (rows : List Row) → bytes_eq (codes "journal") id ≡ false → bytes_eq (codes "backfill") id ≡ false → found id (with_flags rows) ≡ found id rows
+found_old id rows journal backfill = found_default by_backfill id (with_default rows (flag_rule by_journal)) backfill ∙ found_default by_journal id rows journal
+
+first_old : (n : Name) (rows : List Row) → first_of (text n) (with_flags rows) ≡ first_of (text n) rows
+first_old by_size rows = ap value_in (found_old (codes "size") rows refl refl)
+first_old by_fanout rows = ap value_in (found_old (codes "fanout") rows refl refl)
+first_old by_hash rows = ap value_in (found_old (codes "hash") rows refl refl)
+first_old by_shuffle rows = ap value_in (found_old (codes "shuffle") rows refl refl)
+
+flag_text_in : (f : Flag) (rows : List Row) → Sound rows → one_of (flag_text f) (with_flags rows) ≡ Some (flag_shown (has_row (flag_text f) rows))
+flag_text_in by_journal rows s =
+    ap (option_and_then row_text) (found_default by_backfill (codes "journal") (with_default rows (flag_rule by_journal)) refl) ∙ shown_default by_journal rows (s.flags by_journal)
+flag_text_in by_backfill rows s =
+    let journaled = with_default rows (flag_rule by_journal) in
+    let kept : found (codes "backfill") journaled ≡ found (codes "backfill") rows = found_default by_journal (codes "backfill") rows refl in
+    let has : has_row (codes "backfill") journaled ≡ has_row (codes "backfill") rows = has_find (codes "backfill") journaled ∙ ap is_some kept ∙ sym (has_find (codes "backfill") rows) in
+    let set : IsSetByRow (codes "backfill") journaled = ap (option_and_then row_text) kept ∙ s.flags by_backfill ∙ ap (λ b. cond b (Some (codes "true")) None) (sym has) in
+    shown_default by_backfill journaled set ∙ ap (λ b. Some (flag_shown b)) has
+
+flag_read : (b : Bool) → flag_of (Some (flag_shown b)) ≡ b
+flag_read true = refl
+flag_read false = refl
 
 -- what the matches give is what the uses give
-given_same : (rows : List Row) → Sound rows → given_of_rows (with_default rows journal_rule) ≡ read rows
-given_same rows s = go (has_row (codes "journal") rows) refl
+given_same : (rows : List Row) → Sound rows → given_of_rows (with_flags rows) ≡ read rows
+given_same rows s = same_given (first_old by_size rows) (first_old by_fanout rows) (first_old by_hash rows) (first_old by_shuffle rows) (flag by_journal) (flag by_backfill)
   where
-    went : (b : Bool) → has_row (codes "journal") rows ≡ b → given_of_rows (if b then rows else at_row (codes "journal") (more_values DefaultValue (codes "false" ∷ [])) (default_row ∷ []) rows) ≡ read rows
-    went true has = same_given {a = first_of (codes "size") rows} {b = first_of (codes "fanout") rows} {c = first_of (codes "hash") rows} {d = first_of (codes "shuffle") rows} refl refl refl refl
-        (ap flag_of (s.flag ∙ ap (λ b. cond b (Some (codes "true")) None) has) ∙ sym has)
-    went false none =
-        ap given_of_rows (at_none (codes "journal") (more_values DefaultValue (codes "false" ∷ [])) (default_row ∷ []) rows none)
-        ∙ same_given (first_old by_size rows) (first_old by_fanout rows) (first_old by_hash rows) (first_old by_shuffle rows)
-        (ap (λ o. flag_of (option_and_then row_text o)) (find_new (λ r. bytes_eq r.id (codes "journal")) rows default_row (absent (codes "journal") rows none)) ∙ sym none)
-
-    go : (b : Bool) → has_row (codes "journal") rows ≡ b → given_of_rows (with_default rows journal_rule) ≡ read rows
-    go b e = ap (λ t. given_of_rows (if t then rows else at_row (codes "journal") (more_values DefaultValue (codes "false" ∷ [])) (default_row ∷ []) rows)) e ∙ went b e
+    flag : (f : Flag) → flag_of (one_of (flag_text f) (with_flags rows)) ≡ has_row (flag_text f) rows
+    flag f = ap flag_of (flag_text_in f rows s) ∙ flag_read (has_row (flag_text f) rows)
 
 empty_sound : Sound []
-empty_sound = record { held = held; flag = refl }
+empty_sound = record { held = held; flags = set }
   where
     held : (n : Name) → has_row (text n) [] ≡ is_some (first_of (text n) [])
     held n = refl
+
+    set : (f : Flag) → IsSetByRow (flag_text f) []
+    set f = refl
 
 spelled_first : (words : List Text) → list_any is_dashes words ≡ false → Ends (at [] None) words (with_words nothing words)
 spelled_first words other = walk_tie words [] None other refl empty_sound
@@ -143,28 +195,25 @@ pub taken : (words : List Text) (f : Found) → rows_of f ≡ matches_of run_app
 unfolding given_in
 taken words f rows other passes =
     let texts : (id : Text) → first_of id (matches_of run_app words) ≡ first_value f id = λ id. ap (first_of id) (sym rows) ∙ sym (first_value-rows f id) in
+    let flag : (id : Text) → flag_of (one_of id (matches_of run_app words)) ≡ flag_of (one_text f id) = λ id. ap (λ rs. flag_of (one_of id rs)) (sym rows) ∙ ap flag_of (sym (one_text-rows f id)) in
     rows_taken words other passes
     ∙ same_given (texts (codes "size")) (texts (codes "fanout")) (texts (codes "hash")) (texts (codes "shuffle"))
-    (ap (λ rs. flag_of (one_of (codes "journal") rs)) (sym rows) ∙ ap flag_of (sym (one_text-rows f (codes "journal"))))
+    (flag (codes "journal")) (flag (codes "backfill"))
 
--- and the flag is written out in them
-flag_in : (rows : List Row) → Sound rows → IsFlag (one_of (codes "journal") (with_default rows journal_rule))
-flag_in rows s = go (has_row (codes "journal") rows) refl
+-- and each flag is written out in them
+flag_in : (f : Flag) (rows : List Row) → Sound rows → IsFlag (one_of (flag_text f) (with_flags rows))
+flag_in f rows s = subst IsFlag (sym (flag_text_in f rows s)) (go (has_row (flag_text f) rows))
   where
-    went : (b : Bool) → has_row (codes "journal") rows ≡ b → IsFlag (one_of (codes "journal") (if b then rows else at_row (codes "journal") (more_values DefaultValue (codes "false" ∷ [])) (default_row ∷ []) rows))
-    went true has = inl (s.flag ∙ ap (λ b. cond b (Some (codes "true")) None) has)
-    went false none = inr (ap (one_of (codes "journal")) (at_none (codes "journal") (more_values DefaultValue (codes "false" ∷ [])) (default_row ∷ []) rows none)
-        ∙ ap (option_and_then row_text) (find_new (λ r. bytes_eq r.id (codes "journal")) rows default_row (absent (codes "journal") rows none)))
-
-    go : (b : Bool) → has_row (codes "journal") rows ≡ b → IsFlag (one_of (codes "journal") (with_default rows journal_rule))
-    go b e = subst (λ t. IsFlag (one_of (codes "journal") (if t then rows else at_row (codes "journal") (more_values DefaultValue (codes "false" ∷ [])) (default_row ∷ []) rows))) (sym e) (went b e)
+    go : (b : Bool) → IsFlag (Some (flag_shown b))
+    go true = inl refl
+    go false = inr refl
 
 pub flag_written : (words : List Text) (f : Found) → rows_of f ≡ matches_of run_app words → list_any is_dashes words ≡ false → fault_of run_app words ≡ []
-    → IsFlag (one_text f (codes "journal"))
-flag_written words f rows other passes = subst IsFlag (sym (one_text-rows f (codes "journal") ∙ ap (one_of (codes "journal")) (rows ∙ matches_are words))) (go (spelled_first words other))
+    → (flag : Flag) → IsFlag (one_text f (flag_text flag))
+flag_written words f rows other passes flag = subst IsFlag (sym (one_text-rows f (flag_text flag) ∙ ap (one_of (flag_text flag)) (rows ∙ matches_are words))) (go (spelled_first words other))
   where
-    go : Ends (at [] None) words (with_words nothing words) → IsFlag (one_of (codes "journal") (with_default (rows_of_words words) journal_rule))
-    go (inl h) = flag_in (rows_of_words words) h.2
+    go : Ends (at [] None) words (with_words nothing words) → IsFlag (one_of (flag_text flag) (with_flags (rows_of_words words)))
+    go (inl h) = flag_in flag (rows_of_words words) h.2
     go (inr h) = absurd (h.0 (sym (fault_is words) ∙ passes))
 
 -- where clap refuses them, they spell nothing

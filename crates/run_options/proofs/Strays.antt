@@ -14,7 +14,7 @@ use Rattle.std.specs.List.{position_or_len}
 use Rattle.std.specs.Prelude.{take, ◌+◌}
 use Rattle.std.proofs.Common.{arith}
 use Rattle.clap.specs.Walk.{Step, after_step}
-use Rattle.run_options.proofs.Walks.{Name, by_size, by_fanout, by_hash, by_shuffle, at, dashed, holding, journal_rule, run_rules, run_shape, text, waits, rule}
+use Rattle.run_options.proofs.Walks.{Name, by_size, by_fanout, by_hash, by_shuffle, Flag, by_journal, by_backfill, at, dashed, flag_dashed, flag_rule, flag_text, holding, run_rules, run_shape, text, waits, rule}
 
 pub some_fault : (k : _) (ks : Kinds) → k ∷ ks ≢ []
 some_fault k ks = λ e. cc
@@ -87,10 +87,10 @@ late_turn word rows p other late =
 
 -- ---- a word that is none of the command's
 
--- what stands before `=` is the name of no option, or that of the one without a value
+-- what stands before `=` is the name of no option, or that of one without a value
 pub record IsUnknown (word : Text) : Type 0 where
   pub names : (n : Name) → bytes_eq (before_first (λ b. b == 61) word) (dashed n) ≡ false
-  pub flag : bytes_eq (before_first (λ b. b == 61) word) (codes "--journal") ≡ true → list_any (λ b. b == 61) word ≡ true
+  pub flags : (f : Flag) → bytes_eq (before_first (λ b. b == 61) word) (flag_dashed f) ≡ true → list_any (λ b. b == 61) word ≡ true
 
 flipped : (xs ys : Text) → bytes_eq xs ys ≡ false → bytes_eq ys xs ≡ false
 flipped xs ys e = go (bytes_eq ys xs) refl
@@ -99,17 +99,25 @@ flipped xs ys e = go (bytes_eq ys xs) refl
     go false f = f
     go true f = absurd (true≢false (sym ((bytes_eq-Decides xs ys).1 (sym ((bytes_eq-Decides ys xs).0 f))) ∙ e))
 
-by_long : (a b c d e : Bool) → a ≡ false → b ≡ false → c ≡ false → d ≡ false
-    → (cond (true && (a || false)) (Some (rule by_size)) (cond (true && (b || false)) (Some (rule by_fanout)) (cond (true && (c || false)) (Some (rule by_hash))
-    (cond (true && (d || false)) (Some (rule by_shuffle)) (cond (true && (e || false)) (Some journal_rule) None)))))
-    ≡ cond e (Some journal_rule) None
-by_long a b c d true ea eb ec ed = rw (ea, eb, ec, ed) refl
-by_long a b c d false ea eb ec ed = rw (ea, eb, ec, ed) refl
+-- the rule of a flag, by which of them is named
+abbrev flag_named : Bool → Bool → Option Rule
+flag_named j k = cond j (Some (flag_rule by_journal)) (cond k (Some (flag_rule by_backfill)) None)
 
-unknown_flag : (b : Bool) (v : Option Text) (h : Held) → (b ≡ true → is_some v ≡ true) → long_fault run_rules false (cond b (Some journal_rule) None) v h ≢ []
-unknown_flag false v h valued = some_fault _ _
-unknown_flag true None h valued = absurd (true≢false (sym (valued refl)))
-unknown_flag true (Some v) h valued = some_fault _ _
+by_long : (a b c d j k : Bool) → a ≡ false → b ≡ false → c ≡ false → d ≡ false
+    → (cond (true && (a || false)) (Some (rule by_size)) (cond (true && (b || false)) (Some (rule by_fanout)) (cond (true && (c || false)) (Some (rule by_hash))
+    (cond (true && (d || false)) (Some (rule by_shuffle)) (cond (true && (j || false)) (Some (flag_rule by_journal)) (cond (true && (k || false)) (Some (flag_rule by_backfill)) None))))))
+    ≡ flag_named j k
+by_long a b c d true k ea eb ec ed = rw (ea, eb, ec, ed) refl
+by_long a b c d false true ea eb ec ed = rw (ea, eb, ec, ed) refl
+by_long a b c d false false ea eb ec ed = rw (ea, eb, ec, ed) refl
+
+unknown_flag : (j k : Bool) (v : Option Text) (h : Held) → (j ≡ true → is_some v ≡ true) → (k ≡ true → is_some v ≡ true)
+    → long_fault run_rules false (flag_named j k) v h ≢ []
+unknown_flag false false v h journal backfill = some_fault _ _
+unknown_flag false true None h journal backfill = absurd (true≢false (sym (backfill refl)))
+unknown_flag false true (Some v) h journal backfill = some_fault _ _
+unknown_flag true k None h journal backfill = absurd (true≢false (sym (journal refl)))
+unknown_flag true k (Some v) h journal backfill = some_fault _ _
 
 -- the text before `=`, behind a byte that is none
 pub before_more : (b : ℕ) (xs : Text) → (b == 61) ≡ false → before_first (λ c. c == 61) (b ∷ xs) ≡ b ∷ before_first (λ c. c == 61) xs
@@ -122,15 +130,17 @@ unknown_long rest h u =
     let name = before_first (λ b. b == 61) rest in
     let whole : before_first (λ b. b == 61) (45 ∷ 45 ∷ rest) ≡ 45 ∷ 45 ∷ name = before_more 45 (45 ∷ rest) refl ∙ ap (λ t. 45 ∷ t) (before_more 45 rest refl) in
     let other : (n : Name) → bytes_eq (text n) name ≡ false = λ n. flipped name (text n) (ap (λ t. bytes_eq t (dashed n)) (sym whole) ∙ u.names n) in
-    let is : arg_by_long run_rules name ≡ cond (bytes_eq (codes "journal") name) (Some journal_rule) None =
-    by_long (bytes_eq (codes "size") name) (bytes_eq (codes "fanout") name) (bytes_eq (codes "hash") name) (bytes_eq (codes "shuffle") name) (bytes_eq (codes "journal") name)
+    let is : arg_by_long run_rules name ≡ flag_named (bytes_eq (flag_text by_journal) name) (bytes_eq (flag_text by_backfill) name) =
+    by_long (bytes_eq (codes "size") name) (bytes_eq (codes "fanout") name) (bytes_eq (codes "hash") name) (bytes_eq (codes "shuffle") name)
+    (bytes_eq (flag_text by_journal) name) (bytes_eq (flag_text by_backfill) name)
     (other by_size) (other by_fanout) (other by_hash) (other by_shuffle) in
-    let valued : bytes_eq (codes "journal") name ≡ true → is_some (name_and_value rest).1 ≡ true = λ e.
-    let same : codes "journal" ≡ name = (bytes_eq-Decides (codes "journal") name).0 e in
-    let journal : bytes_eq (before_first (λ b. b == 61) (45 ∷ 45 ∷ rest)) (codes "--journal") ≡ true =
-    (bytes_eq-Decides (before_first (λ b. b == 61) (45 ∷ 45 ∷ rest)) (codes "--journal")).1 (whole ∙ ap (λ t. 45 ∷ 45 ∷ t) (sym same)) in
-    ap (λ b. is_some (if b then Some (after_first (λ c. c == 61) rest) else None)) (u.flag journal) in
-    subst (λ o. long_fault run_rules false o (name_and_value rest).1 h ≢ []) (sym is) (unknown_flag (bytes_eq (codes "journal") name) (name_and_value rest).1 h valued)
+    let valued : (f : Flag) → bytes_eq (flag_text f) name ≡ true → is_some (name_and_value rest).1 ≡ true = λ f e.
+    let same : flag_text f ≡ name = (bytes_eq-Decides (flag_text f) name).0 e in
+    let named : bytes_eq (before_first (λ b. b == 61) (45 ∷ 45 ∷ rest)) (flag_dashed f) ≡ true =
+    (bytes_eq-Decides (before_first (λ b. b == 61) (45 ∷ 45 ∷ rest)) (flag_dashed f)).1 (whole ∙ ap (λ t. 45 ∷ 45 ∷ t) (sym same)) in
+    ap (λ b. is_some (if b then Some (after_first (λ c. c == 61) rest) else None)) (u.flags f named) in
+    subst (λ o. long_fault run_rules false o (name_and_value rest).1 h ≢ []) (sym is)
+    (unknown_flag (bytes_eq (flag_text by_journal) name) (bytes_eq (flag_text by_backfill) name) (name_and_value rest).1 h (valued by_journal) (valued by_backfill))
 
 -- what `long_of` makes of a word, by its bytes
 stripped : (word : Text) → (strip_byte 45 word ≡ None) ⊎ ((rest : Text) × (word ≡ 45 ∷ rest))

@@ -6,11 +6,12 @@ use Rattle.std.proofs.lemmas.Slice.Eq.{bytes_eq-Decides}
 use Rattle.std.proofs.lemmas.Bool.Decides.{nat_tests}
 use Rattle.run_options.specs.declared.given.Given.{Given}
 use Rattle.workload.specs.Words.{number_value}
-use Rattle.run_options.specs.Given.{as_brokers, brokers_of, hash_of, most_digits, number_of, with_fanout, with_hash, with_journal, with_shuffle, with_size, with_value}
-use Rattle.run_options.specs.Words.{wants_value, with_word, with_words}
+use Rattle.run_options.specs.Given.{as_brokers, brokers_of, hash_of, most_digits, number_of, with_backfill, with_fanout, with_hash, with_journal, with_shuffle, with_size, with_value}
+use Rattle.run_options.specs.Words.{is_flag, wants_value, with_word, with_words}
+use Rattle.run_options.proofs.Sets.{with_flag}
 use Rattle.run_options.proofs.Steps.{alone, paired, unpaired}
 use Rattle.run_options.proofs.Strays.{IsUnknown, HasHyphen, before_more}
-use Rattle.run_options.proofs.Walks.{Name, by_size, by_fanout, by_hash, by_shuffle, dashed}
+use Rattle.run_options.proofs.Walks.{Name, by_size, by_fanout, by_hash, by_shuffle, Flag, by_journal, by_backfill, dashed, flag_dashed}
 
 abbrev Text : Type 0
 Text = List ℕ
@@ -71,7 +72,7 @@ cut (b ∷ rest) some = go (b == 61) refl (cut rest)
 -- ---- what a word is
 
 pub data View (word : Text) : Type 0 where
-  journal : word ≡ codes "--journal" → View word
+  flagged : (f : Flag) → word ≡ flag_dashed f → View word
   named : (n : Name) → word ≡ dashed n → View word
   whole : (n : Name) (v : Text) → word ≡ dashed n ++ 61 ∷ v → View word
   stray : IsStray word → View word
@@ -97,57 +98,70 @@ names name = go (bytes_eq name (dashed by_size)) (bytes_eq name (dashed by_fanou
     go false false false true ea eb ec ed = inl (by_shuffle, (bytes_eq-Decides name (dashed by_shuffle)).0 ed)
     go false false false false ea eb ec ed = inr (none ea eb ec ed)
 
-wants : (word : Text) (a b : Bool) → bytes_eq word (codes "--journal") ≡ a → list_any (λ c. c == 61) word ≡ b → wants_value word ≡ (not a && not b)
-wants word a b ea eb = ap (λ x. not x && not (list_any (λ c. c == 61) word)) ea ∙ ap (λ y. not a && not y) eb
+-- the word is no flag's
+abbrev NoFlag : Text → Type 0
+NoFlag word = (f : Flag) → bytes_eq word (flag_dashed f) ≡ false
+
+wants : (word : Text) (b : Bool) → NoFlag word → list_any (λ c. c == 61) word ≡ b → wants_value word ≡ not b
+wants word b other eb =
+    let no_flag : is_flag word ≡ false = ap (λ x. x || bytes_eq word (codes "--backfill")) (other by_journal) ∙ other by_backfill in
+    ap (λ x. not x && not (list_any (λ c. c == 61) word)) no_flag ∙ ap (λ y. not y) eb
 
 -- a word with `=` that names no option
-stray_whole : (word : Text) → bytes_eq word (codes "--journal") ≡ false → list_any (λ c. c == 61) word ≡ true
+stray_whole : (word : Text) → NoFlag word → list_any (λ c. c == 61) word ≡ true
     → ((n : Name) → bytes_eq (before_first (λ c. c == 61) word) (dashed n) ≡ false) → IsStray word
 stray_whole word other some none = record {
-  unknown = record { names = none; flag = λ e. some };
-  refused = λ g words. alone g word words (wants word false true other some)
+  unknown = record { names = none; flags = λ f e. some };
+  refused = λ g words. alone g word words (wants word true other some)
       ∙ ap (option_and_then (λ more. with_words more words)) (alone_word g);
 }
   where
     alone_word : (g : Given) → with_word g word ≡ None
-    alone_word g = ap (λ a. if a then with_journal g else if list_any (λ c. c == 61) word then with_value g (before_first (λ c. c == 61) word) (after_first (λ c. c == 61) word) else None) other
+    alone_word g = ap (λ a. if a then with_journal g else if bytes_eq word (codes "--backfill") then with_backfill g
+        else if list_any (λ c. c == 61) word then with_value g (before_first (λ c. c == 61) word) (after_first (λ c. c == 61) word) else None) (other by_journal)
+        ∙ ap (λ a. if a then with_backfill g else if list_any (λ c. c == 61) word then with_value g (before_first (λ c. c == 61) word) (after_first (λ c. c == 61) word) else None) (other by_backfill)
         ∙ ap (λ b. if b then with_value g (before_first (λ c. c == 61) word) (after_first (λ c. c == 61) word) else None) some
         ∙ no_value g (before_first (λ c. c == 61) word) (after_first (λ c. c == 61) word) none
 
 -- a word without `=` that names no option
-stray_named : (word : Text) → bytes_eq word (codes "--journal") ≡ false → list_any (λ c. c == 61) word ≡ false
+stray_named : (word : Text) → NoFlag word → list_any (λ c. c == 61) word ≡ false
     → ((n : Name) → bytes_eq word (dashed n) ≡ false) → IsStray word
 stray_named word other plain none = record {
   unknown = record {
     names = λ n. ap (λ t. bytes_eq t (dashed n)) (uncut word plain) ∙ none n;
-    flag = λ e. absurd (true≢false (sym e ∙ ap (λ t. bytes_eq t (codes "--journal")) (uncut word plain) ∙ other));
+    flags = λ f e. absurd (true≢false (sym e ∙ ap (λ t. bytes_eq t (flag_dashed f)) (uncut word plain) ∙ other f));
   };
   refused = refused;
 }
   where
     refused : (g : Given) (words : List Text) → with_words g (word ∷ words) ≡ None
-    refused g [] = unpaired g word (wants word false false other plain)
-    refused g (value ∷ words) = paired g word value words (wants word false false other plain)
+    refused g [] = unpaired g word (wants word false other plain)
+    refused g (value ∷ words) = paired g word value words (wants word false other plain)
         ∙ ap (option_and_then (λ more. with_words more words)) (no_value g word value none)
 
 pub view : (word : Text) → View word
-view word = one (bytes_eq word (codes "--journal")) refl
+view word = one (bytes_eq word (flag_dashed by_journal)) (bytes_eq word (flag_dashed by_backfill)) refl refl
   where
-    cut_at : bytes_eq word (codes "--journal") ≡ false → list_any (λ c. c == 61) word ≡ true → Names (before_first (λ c. c == 61) word) → View word
+    cut_at : NoFlag word → list_any (λ c. c == 61) word ≡ true → Names (before_first (λ c. c == 61) word) → View word
     cut_at other some (inl n) = whole n.0 (after_first (λ c. c == 61) word) (cut word some ∙ ap (λ t. t ++ 61 ∷ after_first (λ c. c == 61) word) n.1)
     cut_at other some (inr none) = stray (stray_whole word other some none)
 
-    plain_as : bytes_eq word (codes "--journal") ≡ false → list_any (λ c. c == 61) word ≡ false → Names word → View word
+    plain_as : NoFlag word → list_any (λ c. c == 61) word ≡ false → Names word → View word
     plain_as other plain (inl n) = named n.0 n.1
     plain_as other plain (inr none) = stray (stray_named word other plain none)
 
-    two : bytes_eq word (codes "--journal") ≡ false → (b : Bool) → list_any (λ c. c == 61) word ≡ b → View word
+    two : NoFlag word → (b : Bool) → list_any (λ c. c == 61) word ≡ b → View word
     two other true some = cut_at other some (names (before_first (λ c. c == 61) word))
     two other false plain = plain_as other plain (names word)
 
-    one : (a : Bool) → bytes_eq word (codes "--journal") ≡ a → View word
-    one true e = journal ((bytes_eq-Decides word (codes "--journal")).0 e)
-    one false other = two other (list_any (λ c. c == 61) word) refl
+    no_flag : bytes_eq word (flag_dashed by_journal) ≡ false → bytes_eq word (flag_dashed by_backfill) ≡ false → NoFlag word
+    no_flag journal backfill by_journal = journal
+    no_flag journal backfill by_backfill = backfill
+
+    one : (a b : Bool) → bytes_eq word (flag_dashed by_journal) ≡ a → bytes_eq word (flag_dashed by_backfill) ≡ b → View word
+    one true b journal backfill = flagged by_journal ((bytes_eq-Decides word (flag_dashed by_journal)).0 journal)
+    one false true journal backfill = flagged by_backfill ((bytes_eq-Decides word (flag_dashed by_backfill)).0 backfill)
+    one false false journal backfill = two (no_flag journal backfill) (list_any (λ c. c == 61) word) refl
 
 -- ---- the words of an option, to the reference
 
@@ -162,6 +176,14 @@ whole_word by_size v g = refl
 whole_word by_fanout v g = refl
 whole_word by_hash v g = refl
 whole_word by_shuffle v g = refl
+
+pub flag_wants : (f : Flag) → wants_value (flag_dashed f) ≡ false
+flag_wants by_journal = refl
+flag_wants by_backfill = refl
+
+pub flag_word : (f : Flag) (g : Given) → with_word g (flag_dashed f) ≡ with_flag f g
+flag_word by_journal g = refl
+flag_word by_backfill g = refl
 
 pub named_wants : (n : Name) → wants_value (dashed n) ≡ true
 named_wants by_size = refl

@@ -23,6 +23,18 @@ text by_shuffle = codes "shuffle"
 abbrev pub dashed : Name → Text
 dashed n = 45 ∷ 45 ∷ text n
 
+-- the options without one
+pub data Flag : Type 0 where
+  by_journal : Flag
+  by_backfill : Flag
+
+abbrev pub flag_text : Flag → Text
+flag_text by_journal = codes "journal"
+flag_text by_backfill = codes "backfill"
+
+abbrev pub flag_dashed : Flag → Text
+flag_dashed f = 45 ∷ 45 ∷ flag_text f
+
 -- the rules of the command as it is built
 abbrev pub rule : Name → Rule
 rule n = record (valued (text n)) {
@@ -30,8 +42,8 @@ rule n = record (valued (text n)) {
   range = Some (record { start_inclusive = 1; end_inclusive = 1 });
 }
 
-abbrev pub journal_rule : Rule
-journal_rule = record (flag (codes "journal")) {
+abbrev pub flag_rule : Flag → Rule
+flag_rule f = record (flag (flag_text f)) {
   defaults = codes "false" ∷ [];
   missing = codes "true" ∷ [];
   parser = Some vp.Bool;
@@ -39,7 +51,7 @@ journal_rule = record (flag (codes "journal")) {
 }
 
 abbrev pub run_rules : List Rule
-run_rules = rule by_size ∷ rule by_fanout ∷ rule by_hash ∷ rule by_shuffle ∷ journal_rule ∷ []
+run_rules = rule by_size ∷ rule by_fanout ∷ rule by_hash ∷ rule by_shuffle ∷ flag_rule by_journal ∷ flag_rule by_backfill ∷ []
 
 abbrev pub run_shape : Shape
 run_shape = record (new_shape (codes "run")) {
@@ -102,11 +114,13 @@ named_walk by_fanout rows p = refl
 named_walk by_hash rows p = refl
 named_walk by_shuffle rows p = refl
 
-pub journal_turn : (rows : List Row) (p : Option (Text × List Text))
-    → turn_fault run_shape [] (at rows p) (codes "--journal") ≡ or_else (react_fault run_rules false journal_rule [] (holding rows p)) []
-journal_turn rows p = refl
+pub flag_turn : (f : Flag) (rows : List Row) (p : Option (Text × List Text))
+    → turn_fault run_shape [] (at rows p) (flag_dashed f) ≡ or_else (react_fault run_rules false (flag_rule f) [] (holding rows p)) []
+flag_turn by_journal rows p = refl
+flag_turn by_backfill rows p = refl
 
-pub journal_walk : (rows : List Row) (p : Option (Text × List Text))
-    → walked run_rules [] (at rows p) (codes "--journal") ≡ at (used journal_rule [] (settled_rows run_rules p rows)) None
+pub flag_walk : (f : Flag) (rows : List Row) (p : Option (Text × List Text))
+    → walked run_rules [] (at rows p) (flag_dashed f) ≡ at (used (flag_rule f) [] (settled_rows run_rules p rows)) None
 unfolding walked
-journal_walk rows p = refl
+flag_walk by_journal rows p = refl
+flag_walk by_backfill rows p = refl

@@ -1,5 +1,5 @@
 -- clap takes the words, none of which is `--`, where each spells an option that is not given yet.
-use Rattle.std.proofs.Common.{◌≡◌, ◌≢◌, ◌∙◌, ◌++◌, ◌⊎◌, ◌&&◌, ◌||◌, Bool, true, false, not, List, [], ◌∷◌, Option, Some, None, refl, sym, ap, inl, inr, codes, fold, subst, true≢false}
+use Rattle.std.proofs.Common.{◌≡◌, ◌≢◌, ◌∙◌, ◌++◌, ◌⊎◌, ◌&&◌, ◌||◌, Bool, true, false, not, List, [], ◌∷◌, Option, Some, None, refl, sym, ap, inl, inr, fold, subst, true≢false}
 use Rattle.std.specs.Prelude.{option_and_then, if◌then◌else◌}
 use Rattle.std.specs.List.{list_any}
 use Rattle.clap.specs.Walk.{Held, Row, Rule, Text, Walk, has_row, settled_rows, used, walked}
@@ -7,15 +7,15 @@ use Rattle.clap.specs.Kinds.{Kinds, or_else}
 use Rattle.clap.specs.Faults.{react_fault, settle_fault, turn_fault, use_fault, walk_fault}
 use Rattle.clap.specs.declared.error.kind.ErrorKind.TheVariants as kind
 use Rattle.run_options.specs.declared.given.Given.{Given}
-use Rattle.run_options.specs.Given.{with_journal, with_value}
+use Rattle.run_options.specs.Given.{with_value}
 use Rattle.run_options.specs.Words.{with_words}
 use Rattle.run_options.specs.Command.{is_dashes}
-use Rattle.run_options.proofs.Rows.{Sound, flagged_again, flagged_new, given_again, given_new, journal_row, made, read, sound_journal, sound_new, used_journal, used_new}
-use Rattle.run_options.proofs.Sets.{nothing_then, then_in_turn, then_same}
+use Rattle.run_options.proofs.Rows.{Sound, flagged_again, flagged_new, given_again, given_new, flag_row, made, read, sound_flag, sound_new, used_flag, used_new}
+use Rattle.run_options.proofs.Sets.{nothing_then, then_in_turn, then_same, with_flag}
 use Rattle.run_options.proofs.Steps.{alone, ended, paired, unpaired}
 use Rattle.run_options.proofs.Strays.{HasHyphen, IsValueOf, first_fails, late_turn, missing, some_fault, unknown_turn, waits_turn}
-use Rattle.run_options.proofs.Views.{IsStray, View, hyphen_refused, journal, named, named_wants, stray, view, whole, whole_wants, whole_word}
-use Rattle.run_options.proofs.Walks.{Name, by_size, by_fanout, by_hash, by_shuffle, at, dashed, holding, journal_rule, journal_turn, journal_walk, named_turn, named_walk, rule, run_rules, run_shape, text, waits, whole_turn, whole_walk}
+use Rattle.run_options.proofs.Views.{IsStray, View, flagged, hyphen_refused, named, named_wants, stray, view, flag_wants, flag_word, whole, whole_wants, whole_word}
+use Rattle.run_options.proofs.Walks.{Name, by_size, by_fanout, by_hash, by_shuffle, Flag, at, dashed, flag_dashed, flag_rule, flag_text, flag_turn, flag_walk, holding, named_turn, named_walk, rule, run_rules, run_shape, text, waits, whole_turn, whole_walk}
 
 abbrev held_after : Walk → List Text → Held
 held_after w words = (fold (walked run_rules []) w words).held
@@ -83,14 +83,14 @@ use_new n v rows none = use_is n v rows ∙ ap (λ b. or_else (if b && not false
 use_again : (n : Name) (v : Text) (rows : List Row) → has_row (text n) rows ≡ true → use_fault false (rule n) (v ∷ []) rows ≢ []
 use_again n v rows has = subst (λ ks. ks ≢ []) (sym (use_is n v rows ∙ ap (λ b. or_else (if b && not false then kind.ArgumentConflict ∷ [] else []) []) has)) (some_fault _ _)
 
-flag_is : (rows : List Row) → use_fault false journal_rule [] rows ≡ or_else (if has_row (codes "journal") rows && not false then kind.ArgumentConflict ∷ [] else []) []
-flag_is rows = refl
+flag_is : (f : Flag) (rows : List Row) → use_fault false (flag_rule f) [] rows ≡ or_else (if has_row (flag_text f) rows && not false then kind.ArgumentConflict ∷ [] else []) []
+flag_is f rows = refl
 
-flag_new : (rows : List Row) → has_row (codes "journal") rows ≡ false → use_fault false journal_rule [] rows ≡ []
-flag_new rows none = flag_is rows ∙ ap (λ b. or_else (if b && not false then kind.ArgumentConflict ∷ [] else []) []) none
+flag_new : (f : Flag) (rows : List Row) → has_row (flag_text f) rows ≡ false → use_fault false (flag_rule f) [] rows ≡ []
+flag_new f rows none = flag_is f rows ∙ ap (λ b. or_else (if b && not false then kind.ArgumentConflict ∷ [] else []) []) none
 
-flag_again : (rows : List Row) → has_row (codes "journal") rows ≡ true → use_fault false journal_rule [] rows ≢ []
-flag_again rows has = subst (λ ks. ks ≢ []) (sym (flag_is rows ∙ ap (λ b. or_else (if b && not false then kind.ArgumentConflict ∷ [] else []) []) has)) (some_fault _ _)
+flag_again : (f : Flag) (rows : List Row) → has_row (flag_text f) rows ≡ true → use_fault false (flag_rule f) [] rows ≢ []
+flag_again f rows has = subst (λ ks. ks ≢ []) (sym (flag_is f rows ∙ ap (λ b. or_else (if b && not false then kind.ArgumentConflict ∷ [] else []) []) has)) (some_fault _ _)
 
 -- the option before passes, and then this use
 reacts : (a : Rule) (values : List Text) (rows : List Row) (p : Option (Text × List Text)) → settle_fault run_rules false (holding rows p) ≡ []
@@ -128,10 +128,10 @@ named_spells n v words o =
     then_same (λ g. with_words g (dashed n ∷ v ∷ words)) (λ g. spelled words (with_value g (dashed n) v)) o (λ g. paired g (dashed n) v words (named_wants n))
     ∙ then_in_turn (λ g. with_value g (dashed n) v) (λ g. with_words g words) o
 
-flag_spells : (words : List Text) (o : Option Given) → spelled (codes "--journal" ∷ words) o ≡ spelled words (option_and_then with_journal o)
-flag_spells words o =
-    then_same (λ g. with_words g (codes "--journal" ∷ words)) (λ g. spelled words (with_journal g)) o (λ g. alone g (codes "--journal") words refl)
-    ∙ then_in_turn with_journal (λ g. with_words g words) o
+flag_spells : (f : Flag) (words : List Text) (o : Option Given) → spelled (flag_dashed f ∷ words) o ≡ spelled words (option_and_then (with_flag f) o)
+flag_spells f words o =
+    then_same (λ g. with_words g (flag_dashed f ∷ words)) (λ g. spelled words (with_flag f g)) o (λ g. alone g (flag_dashed f) words (flag_wants f) ∙ ap (spelled words) (flag_word f g))
+    ∙ then_in_turn (with_flag f) (λ g. with_words g words) o
 
 none_spells : (word : Text) (words : List Text) (o : Option Given) → ((g : Given) → with_words g (word ∷ words) ≡ None) → spelled (word ∷ words) o ≡ None
 none_spells word words o none = then_same (λ g. with_words g (word ∷ words)) (λ g. None) o none ∙ nothing_then o
@@ -162,27 +162,27 @@ at_whole n v words rows p other passes sound more = go (has_row (text n) rs) ref
         (whole_spells n v words (read (settled_rows run_rules p rows)) ∙ ap (spelled words) (given_new n v (settled_rows run_rules p rows) none))
         (more new None other refl (sound_new n v (settled_rows run_rules p rows) sound)))
 
--- `--journal`
-at_flag : (words : List Text) (rows : List Row) (p : Option (Text × List Text)) → list_any is_dashes words ≡ false
+-- a flag
+at_flag : (f : Flag) (words : List Text) (rows : List Row) (p : Option (Text × List Text)) → list_any is_dashes words ≡ false
     → settle_fault run_rules false (holding rows p) ≡ [] → Sound (settled_rows run_rules p rows) → Claim words
-    → Ends (at rows p) (codes "--journal" ∷ words) (spelled (codes "--journal" ∷ words) (read (settled_rows run_rules p rows)))
-at_flag words rows p other passes sound more = go (has_row (codes "journal") (settled_rows run_rules p rows)) refl
+    → Ends (at rows p) (flag_dashed f ∷ words) (spelled (flag_dashed f ∷ words) (read (settled_rows run_rules p rows)))
+at_flag f words rows p other passes sound more = go (has_row (flag_text f) (settled_rows run_rules p rows)) refl
   where
-    go : (b : Bool) → has_row (codes "journal") (settled_rows run_rules p rows) ≡ b
-        → Ends (at rows p) (codes "--journal" ∷ words) (spelled (codes "--journal" ∷ words) (read (settled_rows run_rules p rows)))
+    go : (b : Bool) → has_row (flag_text f) (settled_rows run_rules p rows) ≡ b
+        → Ends (at rows p) (flag_dashed f ∷ words) (spelled (flag_dashed f ∷ words) (read (settled_rows run_rules p rows)))
     go true has = inr (
-      fails_here (at rows p) (codes "--journal") words (subst (λ ks. ks ≢ []) (sym (journal_turn rows p ∙ reacts journal_rule [] rows p passes))
-          (first_fails _ _ (flag_again (settled_rows run_rules p rows) has))),
-      flag_spells words (read (settled_rows run_rules p rows)) ∙ ap (spelled words) (flagged_again (settled_rows run_rules p rows) has),
+      fails_here (at rows p) (flag_dashed f) words (subst (λ ks. ks ≢ []) (sym (flag_turn f rows p ∙ reacts (flag_rule f) [] rows p passes))
+          (first_fails _ _ (flag_again f (settled_rows run_rules p rows) has))),
+      flag_spells f words (read (settled_rows run_rules p rows)) ∙ ap (spelled words) (flagged_again f (settled_rows run_rules p rows) has),
     )
     go false none =
-        let new = settled_rows run_rules p rows ++ journal_row ∷ [] in
-        turned (at rows p) (at new None) (codes "--journal") words (spelled (codes "--journal" ∷ words) (read (settled_rows run_rules p rows)))
-        (journal_turn rows p ∙ reacts journal_rule [] rows p passes ∙ ap (λ ks. or_else ks []) (flag_new (settled_rows run_rules p rows) none))
-        (journal_walk rows p ∙ ap (λ k. at k None) (used_journal (settled_rows run_rules p rows) none))
-        (ends_as (at new None) words (spelled (codes "--journal" ∷ words) (read (settled_rows run_rules p rows))) (spelled words (read new))
-        (flag_spells words (read (settled_rows run_rules p rows)) ∙ ap (spelled words) (flagged_new (settled_rows run_rules p rows) none))
-        (more new None other refl (sound_journal (settled_rows run_rules p rows) none sound)))
+        let new = settled_rows run_rules p rows ++ flag_row f ∷ [] in
+        turned (at rows p) (at new None) (flag_dashed f) words (spelled (flag_dashed f ∷ words) (read (settled_rows run_rules p rows)))
+        (flag_turn f rows p ∙ reacts (flag_rule f) [] rows p passes ∙ ap (λ ks. or_else ks []) (flag_new f (settled_rows run_rules p rows) none))
+        (flag_walk f rows p ∙ ap (λ k. at k None) (used_flag f (settled_rows run_rules p rows) none))
+        (ends_as (at new None) words (spelled (flag_dashed f ∷ words) (read (settled_rows run_rules p rows))) (spelled words (read new))
+        (flag_spells f words (read (settled_rows run_rules p rows)) ∙ ap (spelled words) (flagged_new f (settled_rows run_rules p rows) none))
+        (more new None other refl (sound_flag f (settled_rows run_rules p rows) sound)))
 
 -- the value behind `--NAME`
 at_value : (n : Name) (v : Text) (words : List Text) (rows : List Row) → list_any is_dashes (v ∷ words) ≡ false → Sound rows → Claim words
@@ -243,13 +243,13 @@ at_stray word words rows p other s = inr (
 )
 
 last_word : (word : Text) → View word → Claim [] → Claim (word ∷ [])
-last_word word (journal is) more rows p other passes sound = subst (λ w. Ends (at rows p) (w ∷ []) (spelled (w ∷ []) (read (settled_rows run_rules p rows)))) (sym is) (at_flag [] rows p refl passes sound more)
+last_word word (flagged f is) more rows p other passes sound = subst (λ w. Ends (at rows p) (w ∷ []) (spelled (w ∷ []) (read (settled_rows run_rules p rows)))) (sym is) (at_flag f [] rows p refl passes sound more)
 last_word word (named n is) more rows p other passes sound = subst (λ w. Ends (at rows p) (w ∷ []) (spelled (w ∷ []) (read (settled_rows run_rules p rows)))) (sym is) (at_last n rows p passes)
 last_word word (whole n v is) more rows p other passes sound = subst (λ w. Ends (at rows p) (w ∷ []) (spelled (w ∷ []) (read (settled_rows run_rules p rows)))) (sym is) (at_whole n v [] rows p refl passes sound more)
 last_word word (stray s) more rows p other passes sound = at_stray word [] rows p (either _ _ other).0 s
 
 more_words : (word next : Text) (words : List Text) → View word → Claim (next ∷ words) → Claim words → Claim (word ∷ next ∷ words)
-more_words word next words (journal is) more later rows p other passes sound = subst (λ w. Ends (at rows p) (w ∷ next ∷ words) (spelled (w ∷ next ∷ words) (read (settled_rows run_rules p rows)))) (sym is) (at_flag (next ∷ words) rows p (either _ _ other).1 passes sound more)
+more_words word next words (flagged f is) more later rows p other passes sound = subst (λ w. Ends (at rows p) (w ∷ next ∷ words) (spelled (w ∷ next ∷ words) (read (settled_rows run_rules p rows)))) (sym is) (at_flag f (next ∷ words) rows p (either _ _ other).1 passes sound more)
 more_words word next words (named n is) more later rows p other passes sound = subst (λ w. Ends (at rows p) (w ∷ next ∷ words) (spelled (w ∷ next ∷ words) (read (settled_rows run_rules p rows)))) (sym is) (at_named n next words rows p (either _ _ other).1 passes sound later)
 more_words word next words (whole n v is) more later rows p other passes sound = subst (λ w. Ends (at rows p) (w ∷ next ∷ words) (spelled (w ∷ next ∷ words) (read (settled_rows run_rules p rows)))) (sym is) (at_whole n v (next ∷ words) rows p (either _ _ other).1 passes sound more)
 more_words word next words (stray s) more later rows p other passes sound = at_stray word (next ∷ words) rows p (either _ _ other).0 s

@@ -32,7 +32,14 @@ hash_of text = if bytes_eq text (codes "sha1") then Some Sha1
 
 -- no option is given
 abbrev pub nothing : Given
-nothing = record { size = None; fanout = None; hash = None; shuffle = None; journal = false }
+nothing = record {
+  size = None;
+  fanout = None;
+  hash = None;
+  shuffle = None;
+  journal = false;
+  backfill = false;
+}
 
 -- one option more, where it is not given yet
 abbrev pub with_size : Given → ℕ → Option Given
@@ -50,6 +57,9 @@ with_shuffle g seed = if is_some g.shuffle then None else Some (record g { shuff
 abbrev pub with_journal : Given → Option Given
 with_journal g = if g.journal then None else Some (record g { journal = true })
 
+abbrev pub with_backfill : Given → Option Given
+with_backfill g = if g.backfill then None else Some (record g { backfill = true })
+
 -- the option of this name more, where it takes this value
 abbrev pub with_value : Given → List ℕ → List ℕ → Option Given
 with_value g name value = if bytes_eq name (codes "--size")
@@ -60,8 +70,8 @@ with_value g name value = if bytes_eq name (codes "--size")
     then option_and_then (with_shuffle g) (number_of value)
     else None
 
--- the options: four brokers, two below one, SHA-1 and no drawn order where the words say nothing
--- else
+-- the options: four brokers, two below one, SHA-1, no drawn order, no journal and no backfill where
+-- the words say nothing else
 abbrev pub options_from : Given → Options
 options_from g = record {
   size = unwrap_or g.size 4;
@@ -69,6 +79,7 @@ options_from g = record {
   hash = unwrap_or g.hash Sha1;
   shuffle = g.shuffle;
   journal = g.journal;
+  backfill = g.backfill;
 }
 
 -- a number of brokers: 1 to 32

@@ -15,21 +15,22 @@ field read (Some text) = option_map (λ x. Some x) (read text)
 
 -- what is given, where each option is fine
 abbrev pub combined : Option (Option ℕ) → Option (Option ℕ) → Option (Option Hash)
-    → Option (Option ℕ) → Bool → Option Given
-combined a b c d journal = option_and_then (λ size. option_and_then (λ fanout.
+    → Option (Option ℕ) → Bool → Bool → Option Given
+combined a b c d journal backfill = option_and_then (λ size. option_and_then (λ fanout.
     option_and_then (λ hash. option_and_then (λ shuffle. Some (record {
       size = size;
       fanout = fanout;
       hash = hash;
       shuffle = shuffle;
       journal = journal;
+      backfill = backfill;
     })) d) c) b) a
 
 -- what the texts of the options with a value give
 abbrev pub given_by : Option (List ℕ) → Option (List ℕ) → Option (List ℕ) → Option (List ℕ) → Bool
-    → Option Given
-given_by size fanout hash shuffle journal = combined (field brokers_of size)
-    (field brokers_of fanout) (field hash_of hash) (field number_of shuffle) journal
+    → Bool → Option Given
+given_by size fanout hash shuffle journal backfill = combined (field brokers_of size)
+    (field brokers_of fanout) (field hash_of hash) (field number_of shuffle) journal backfill
 
 abbrev pub flag_of : Option (List ℕ) → Bool
 flag_of text = option_map_or (λ t. bytes_eq t (codes "true")) text false
@@ -38,7 +39,7 @@ flag_of text = option_map_or (λ t. bytes_eq t (codes "true")) text false
 unfoldable pub given_in : Found → Option Given
 given_in f = given_by (first_value f (codes "size")) (first_value f (codes "fanout"))
     (first_value f (codes "hash")) (first_value f (codes "shuffle"))
-    (flag_of (one_text f (codes "journal")))
+    (flag_of (one_text f (codes "journal"))) (flag_of (one_text f (codes "backfill")))
 
 -- a flag is written out in the matches
 abbrev pub IsFlag : Option (List ℕ) → Type 0

@@ -39,6 +39,7 @@ fn command<'a>(alloc: Global) -> Result<Command<'a>, AllocError>
     let run = run.arg(valued(alloc, "hash"))?;
     let run = run.arg(valued(alloc, "shuffle"))?;
     let run = run.arg(flag(alloc, "journal"))?;
+    let run = run.arg(flag(alloc, "backfill"))?;
     Ok(run)
 }
 
@@ -97,7 +98,8 @@ fn seed_in(matches: &ArgMatches<'_>) -> Option<Option<u64>>
 
 /// What the matches give, if each value is one of its option's.
 pub fn given_in(matches: &ArgMatches<'_>) -> Option<Given>
-    requires { IsFlag (one_text (found_of matches.now) (codes "journal")) }
+    requires journal { IsFlag (one_text (found_of matches.now) (codes "journal")) }
+    requires backfill { IsFlag (one_text (found_of matches.now) (codes "backfill")) }
     ensures value { result ≡ given_in (found_of matches.now) }
     ensures within { IfSome result IsWithin }
 {
@@ -111,5 +113,6 @@ pub fn given_in(matches: &ArgMatches<'_>) -> Option<Given>
         hash,
         shuffle,
         journal: matches.get_flag("journal"),
+        backfill: matches.get_flag("backfill"),
     })
 }

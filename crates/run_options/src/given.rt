@@ -17,6 +17,7 @@ pub struct Given {
     pub hash: Option<Hash>,
     pub shuffle: Option<u64>,
     pub journal: bool,
+    pub backfill: bool,
 }
 
 /// A number below 2^64, in 1 to 20 decimal digits.
@@ -65,6 +66,7 @@ impl Given {
             hash: self.hash.unwrap_or(Hash::Sha1),
             shuffle: self.shuffle,
             journal: self.journal,
+            backfill: self.backfill,
         }
     }
 }

@@ -32,6 +32,8 @@ pub struct Options {
     pub shuffle: Option<u64>,
     /// Whether the journal is printed behind the answers.
     pub journal: bool,
+    /// Whether a job may run before the first in the queue, where that one isn't delayed.
+    pub backfill: bool,
 }
 
 /// Whether a word is `--`.

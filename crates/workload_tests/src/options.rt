@@ -11,6 +11,7 @@ const DEFAULT: Options = Options {
     hash: Hash::Sha1,
     shuffle: None,
     journal: false,
+    backfill: false,
 };
 
 /// Words, and the options that they spell.
@@ -19,7 +20,7 @@ struct Case {
     options: Option<Options>,
 }
 
-const CASES: [Case; 83] = [
+const CASES: [Case; 105] = [
     Case {
         words: &[],
         options: Some(DEFAULT),
@@ -233,6 +234,7 @@ const CASES: [Case; 83] = [
             hash: Hash::Sha256,
             shuffle: None,
             journal: true,
+            backfill: false,
         }),
     },
     Case {
@@ -402,6 +404,121 @@ const CASES: [Case; 83] = [
     },
     Case {
         words: &["--size", "4", "run"],
+        options: None,
+    },
+    Case {
+        words: &["--backfill"],
+        options: Some(Options {
+            backfill: true,
+            ..DEFAULT
+        }),
+    },
+    Case {
+        words: &["--backfill", "--backfill"],
+        options: None,
+    },
+    Case {
+        words: &["--backfill=1"],
+        options: None,
+    },
+    Case {
+        words: &["--backfill="],
+        options: None,
+    },
+    Case {
+        words: &["--backfill=true"],
+        options: None,
+    },
+    Case {
+        words: &["--backfill", "1"],
+        options: None,
+    },
+    Case {
+        words: &["--backfill", "--size", "7"],
+        options: Some(Options {
+            size: 7,
+            backfill: true,
+            ..DEFAULT
+        }),
+    },
+    Case {
+        words: &["--fanout=3", "--backfill"],
+        options: Some(Options {
+            fanout: 3,
+            backfill: true,
+            ..DEFAULT
+        }),
+    },
+    Case {
+        words: &["--hash", "sha256", "--backfill"],
+        options: Some(Options {
+            hash: Hash::Sha256,
+            backfill: true,
+            ..DEFAULT
+        }),
+    },
+    Case {
+        words: &["--backfill", "--shuffle=12"],
+        options: Some(Options {
+            shuffle: Some(12),
+            backfill: true,
+            ..DEFAULT
+        }),
+    },
+    Case {
+        words: &["--backfill", "--journal"],
+        options: Some(Options {
+            journal: true,
+            backfill: true,
+            ..DEFAULT
+        }),
+    },
+    Case {
+        words: &["--journal", "--backfill"],
+        options: Some(Options {
+            journal: true,
+            backfill: true,
+            ..DEFAULT
+        }),
+    },
+    Case {
+        words: &["--size", "--backfill"],
+        options: None,
+    },
+    Case {
+        words: &["--backfill", "--journal", "--backfill"],
+        options: None,
+    },
+    Case {
+        words: &["--journal", "--backfill", "--journal"],
+        options: None,
+    },
+    Case {
+        words: &["--backfill", "--"],
+        options: None,
+    },
+    Case {
+        words: &["--backfil"],
+        options: None,
+    },
+    Case {
+        words: &["--backfills"],
+        options: None,
+    },
+    Case {
+        words: &["--Backfill"],
+        options: None,
+    },
+    Case {
+        words: &["--back-fill"],
+        options: None,
+    },
+    Case {
+        words: &["-backfill"],
+        options: None,
+    },
+    Case {
+        words: &["backfill"],
         options: None,
     },
 ];

@@ -1,4 +1,4 @@
-use Rattle.std.proofs.Common.{◌≡◌, ◌∙◌, ℕ, List, Bool, true, false, Option, Some, None, ap, sym, inl, inr, rules, codes}
+use Rattle.std.proofs.Common.{◌≡◌, ◌∙◌, ℕ, List, Bool, true, false, Option, Some, None, ap, ap₂, sym, inl, inr, rules, codes}
 use Rattle.clap.specs.Words.{first_value, found_of, one_text}
 use Rattle.clap.specs.declared.parser.matches.Found.{Found}
 use Rattle.fl_digest.specs.declared.Hash.{Hash}
@@ -18,10 +18,13 @@ hashes f = field hash_of (first_value f (codes "hash"))
 abbrev seeds : Found → Option (Option ℕ)
 seeds f = field number_of (first_value f (codes "shuffle"))
 
-abbrev flags : Found → Bool
-flags f = flag_of (one_text f (codes "journal"))
+abbrev journals : Found → Bool
+journals f = flag_of (one_text f (codes "journal"))
 
--- the flag, as `get_flag` reads it
+abbrev backfills : Found → Bool
+backfills f = flag_of (one_text f (codes "backfill"))
+
+-- a flag, as `get_flag` reads it
 flag_read : (o : Option (List ℕ)) (r : Bool) → IsFlag o → (o ≡ Some (codes "true") → r ≡ true) → (o ≡ Some (codes "false") → r ≡ false) → r ≡ flag_of o
 flag_read o r (inl e) on off = on e ∙ sym (ap flag_of e)
 flag_read o r (inr e) on off = off e ∙ sym (ap flag_of e)
@@ -32,7 +35,7 @@ returns-in_err-size-clause-value c =
     let f = found_of c.args.matches.now in
     let gone : c.from_residual.result ≡ None = search rules in
     let size : sizes f ≡ None = search rules in
-    gone ∙ sym (ap (λ o. combined o (fanouts f) (hashes f) (seeds f) (flags f)) size)
+    gone ∙ sym (ap (λ o. combined o (fanouts f) (hashes f) (seeds f) (journals f) (backfills f)) size)
 
 pub returns-in_err-fanout-clause-value : goal.returns-in_err-fanout-clause-value
 unfolding given_in
@@ -41,8 +44,8 @@ returns-in_err-fanout-clause-value c =
     let gone : c.from_residual-in_err-fanout.result ≡ None = search rules in
     let size : sizes f ≡ Some c.in_ok-size.size = search rules in
     let fanout : fanouts f ≡ None = search rules in
-    gone ∙ sym (ap (λ o. combined o (fanouts f) (hashes f) (seeds f) (flags f)) size
-    ∙ ap (λ o. combined (Some c.in_ok-size.size) o (hashes f) (seeds f) (flags f)) fanout)
+    gone ∙ sym (ap (λ o. combined o (fanouts f) (hashes f) (seeds f) (journals f) (backfills f)) size
+    ∙ ap (λ o. combined (Some c.in_ok-size.size) o (hashes f) (seeds f) (journals f) (backfills f)) fanout)
 
 pub returns-in_err-hash-clause-value : goal.returns-in_err-hash-clause-value
 unfolding given_in
@@ -52,9 +55,9 @@ returns-in_err-hash-clause-value c =
     let size : sizes f ≡ Some c.in_ok-size.size = search rules in
     let fanout : fanouts f ≡ Some c.in_ok-fanout.fanout = search rules in
     let hash : hashes f ≡ None = search rules in
-    gone ∙ sym (ap (λ o. combined o (fanouts f) (hashes f) (seeds f) (flags f)) size
-    ∙ ap (λ o. combined (Some c.in_ok-size.size) o (hashes f) (seeds f) (flags f)) fanout
-    ∙ ap (λ o. combined (Some c.in_ok-size.size) (Some c.in_ok-fanout.fanout) o (seeds f) (flags f)) hash)
+    gone ∙ sym (ap (λ o. combined o (fanouts f) (hashes f) (seeds f) (journals f) (backfills f)) size
+    ∙ ap (λ o. combined (Some c.in_ok-size.size) o (hashes f) (seeds f) (journals f) (backfills f)) fanout
+    ∙ ap (λ o. combined (Some c.in_ok-size.size) (Some c.in_ok-fanout.fanout) o (seeds f) (journals f) (backfills f)) hash)
 
 pub returns-in_err-shuffle-clause-value : goal.returns-in_err-shuffle-clause-value
 unfolding given_in
@@ -65,10 +68,10 @@ returns-in_err-shuffle-clause-value c =
     let fanout : fanouts f ≡ Some c.in_ok-fanout.fanout = search rules in
     let hash : hashes f ≡ Some c.in_ok-hash.hash = search rules in
     let shuffle : seeds f ≡ None = search rules in
-    gone ∙ sym (ap (λ o. combined o (fanouts f) (hashes f) (seeds f) (flags f)) size
-    ∙ ap (λ o. combined (Some c.in_ok-size.size) o (hashes f) (seeds f) (flags f)) fanout
-    ∙ ap (λ o. combined (Some c.in_ok-size.size) (Some c.in_ok-fanout.fanout) o (seeds f) (flags f)) hash
-    ∙ ap (λ o. combined (Some c.in_ok-size.size) (Some c.in_ok-fanout.fanout) (Some c.in_ok-hash.hash) o (flags f)) shuffle)
+    gone ∙ sym (ap (λ o. combined o (fanouts f) (hashes f) (seeds f) (journals f) (backfills f)) size
+    ∙ ap (λ o. combined (Some c.in_ok-size.size) o (hashes f) (seeds f) (journals f) (backfills f)) fanout
+    ∙ ap (λ o. combined (Some c.in_ok-size.size) (Some c.in_ok-fanout.fanout) o (seeds f) (journals f) (backfills f)) hash
+    ∙ ap (λ o. combined (Some c.in_ok-size.size) (Some c.in_ok-fanout.fanout) (Some c.in_ok-hash.hash) o (journals f) (backfills f)) shuffle)
 
 pub returns-clause-value : goal.returns-clause-value
 unfolding given_in
@@ -78,9 +81,10 @@ returns-clause-value c =
     let fanout : fanouts f ≡ Some c.in_ok-fanout.fanout = search rules in
     let hash : hashes f ≡ Some c.in_ok-hash.hash = search rules in
     let shuffle : seeds f ≡ Some c.in_ok-shuffle.shuffle = search rules in
-    let journal = flag_read (one_text f (codes "journal")) c.get_flag.result c.requires c.get_flag.ensures.value c.get_flag.ensures.other in
-    ap (λ b. combined (Some c.in_ok-size.size) (Some c.in_ok-fanout.fanout) (Some c.in_ok-hash.hash) (Some c.in_ok-shuffle.shuffle) b) journal
-    ∙ sym (ap (λ o. combined o (fanouts f) (hashes f) (seeds f) (flags f)) size
-    ∙ ap (λ o. combined (Some c.in_ok-size.size) o (hashes f) (seeds f) (flags f)) fanout
-    ∙ ap (λ o. combined (Some c.in_ok-size.size) (Some c.in_ok-fanout.fanout) o (seeds f) (flags f)) hash
-    ∙ ap (λ o. combined (Some c.in_ok-size.size) (Some c.in_ok-fanout.fanout) (Some c.in_ok-hash.hash) o (flags f)) shuffle)
+    let journal = flag_read (one_text f (codes "journal")) c.get_flag.result c.requires.journal c.get_flag.ensures.value c.get_flag.ensures.other in
+    let backfill = flag_read (one_text f (codes "backfill")) c.get_flag-2.result c.requires.backfill c.get_flag-2.ensures.value c.get_flag-2.ensures.other in
+    ap₂ (combined (Some c.in_ok-size.size) (Some c.in_ok-fanout.fanout) (Some c.in_ok-hash.hash) (Some c.in_ok-shuffle.shuffle)) journal backfill
+    ∙ sym (ap (λ o. combined o (fanouts f) (hashes f) (seeds f) (journals f) (backfills f)) size
+    ∙ ap (λ o. combined (Some c.in_ok-size.size) o (hashes f) (seeds f) (journals f) (backfills f)) fanout
+    ∙ ap (λ o. combined (Some c.in_ok-size.size) (Some c.in_ok-fanout.fanout) o (seeds f) (journals f) (backfills f)) hash
+    ∙ ap (λ o. combined (Some c.in_ok-size.size) (Some c.in_ok-fanout.fanout) (Some c.in_ok-hash.hash) o (journals f) (backfills f)) shuffle)
