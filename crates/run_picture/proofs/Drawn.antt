@@ -1,13 +1,13 @@
 -- What is drawn of a run.
-use Rattle.std.proofs.Common.{◌≡◌, ℕ, zero, suc, ◌+◌, ◌<◌, ◌==◌, List, [], ◌∷◌, ◌++◌, Bool, true, false, cond, not, ◌&&◌, ◌||◌, length, get_or, map, take, take-suc, add-one, drop, Option, Some, None, is_some, refl, sym, ap, ap₂, ◌∙◌, subst, arith, append-nil, append_assoc, true≢false}
-use Rattle.std.specs.Prelude.{IfSome, filter, filter_map, find, flat_map, min}
+use Rattle.std.proofs.Common.{◌≡◌, ℕ, ◌+◌, ◌<◌, ◌==◌, List, [], ◌∷◌, ◌++◌, Bool, true, false, cond, ◌&&◌, ◌||◌, length, get_or, map, take, take-suc, add-one, drop, Some, None, is_some, refl, sym, ap, ap₂, ◌∙◌, subst, arith, append-nil, append_assoc}
+use Rattle.std.specs.Prelude.{IfSome, filter_map, find, flat_map}
 use Rattle.std.specs.List.{cons_option}
 use Rattle.std.specs.Option.{option_map_or}
 use Rattle.std.proofs.lemmas.Bool.{false_from_ne_true, eq-eqb}
 use Rattle.std.proofs.lemmas.List.{take-append-drop}
 use Rattle.std.proofs.lemmas.List.Concat.{flat_map-cons}
 use Rattle.kvs_rules.proofs.Sequences.{each_at, each_parts}
-use Rattle.kvs_rules.specs.Sequence.{EachAfter, until}
+use Rattle.kvs_rules.specs.Sequence.{until}
 use Rattle.resource_set.specs.Units.{core_of, gpu_of, units_of, units_of_node}
 use Rattle.resource_set.specs.declared.node.Node.{Node}
 use Rattle.resource_set.specs.declared.node.Resources.{Resources}
@@ -16,7 +16,7 @@ use Rattle.answers.specs.declared.chronicle.Entry.{Entry}
 use Rattle.answers.specs.declared.chronicle.Entry.TheVariants as entry
 use Rattle.instance_rules.specs.Log.{IsInstance}
 use Rattle.answers.specs.Jobs.{instance_of, start_of}
-use Rattle.hierarchy.specs.Births.{Birth, birth_in, birth_of, births, ends, is_birth_of, is_born, is_gone, label_of, lives, numbers}
+use Rattle.hierarchy.specs.Births.{Birth, birth_in, birth_of, births, ends, is_birth_of, is_born, label_of, numbers}
 use Rattle.hierarchy.specs.Legal.{IsLegalRun, IsLegalRunEntry}
 use Rattle.hierarchy.specs.Own.{brokers_for, child_setup, own_entry, own_of, setup_in, work_for}
 use Rattle.hierarchy.specs.Whole.{IsWholeRun}
@@ -27,7 +27,7 @@ use Rattle.hierarchy.proofs.Numbering.{born_exactly, numbers_count}
 use Rattle.hierarchy.proofs.Owning.{alive, birth_kept, births_push, born_kept, setup_kept}
 use Rattle.hierarchy.proofs.Sound.{sound_in}
 use Rattle.run_picture.specs.Cells.{place_of_host, place_of_unit, places_of}
-use Rattle.run_picture.specs.Columns.{AreColumns, AreScenes, IsPicture, IsScene, end_at, ends_in, ends_of, sees}
+use Rattle.run_picture.specs.Columns.{AreColumns, AreScenes, IsScene, ends_of}
 use Rattle.run_picture.specs.Follows.{Enters, IsBegun, IsFollowed, IsGiven, IsRun, KeepsUp, first_heard, with_column}
 use Rattle.run_picture.specs.Rows.{cell_of}
 use Rattle.run_picture.specs.Shown.{AddsBorn, IsShownRun, IsSubject, place_of_id, places_of_node}
@@ -37,7 +37,7 @@ use Rattle.run_picture.specs.declared.picture.Rows.{Rows}
 use Rattle.run_picture.specs.declared.picture.Rows.TheVariants as rows
 use Rattle.run_picture.specs.declared.picture.Scene.{Scene}
 use Rattle.run_picture.proofs.Own.{first_keeps}
-use Rattle.run_picture.proofs.Run.{birth_new, born_so, columns_push, shows, with_shown}
+use Rattle.run_picture.proofs.Run.{birth_new, born_so, shows, with_shown}
 
 -- ---- the rows of a grant
 

@@ -6,9 +6,8 @@ use Rattle.job_rules.proofs.Among.{among_from, each_at}
 use Rattle.job_rules.specs.Fits.{AreWithin}
 use Rattle.kvs_model.specs.History.{after_groups, landed_on}
 use Rattle.kvs_model.specs.Operation.{effect}
-use Rattle.kvs_model.specs.Store.{IsStore, Store}
+use Rattle.kvs_model.specs.Store.{Store}
 use Rattle.kvs_txn.specs.declared.answers.Refusal.{Refusal}
-use Rattle.kvs_txn.specs.declared.txn.Author.{Author}
 use Rattle.kvs_txn.specs.declared.txn.Author.TheVariants as author
 use Rattle.kvs_txn.specs.declared.txn.Group.{Group}
 use Rattle.kvs_txn.specs.declared.txn.Scope.TheVariants as scope

@@ -23,10 +23,9 @@ use Rattle.job_states.specs.declared.job.Change.TheVariants as change
 use Rattle.manager_rules.specs.Keys.{job_path}
 use Rattle.job_states.specs.declared.job.Job.{Job}
 use Rattle.manager_rules.specs.Jobs.{StoredJob, ids_of, is_live}
-use Rattle.manager_rules.specs.Posts.{Submission, Submits, begun_with, event_done, held_after, job_after, job_of, jobs_after, r_after, with_event, with_job}
+use Rattle.manager_rules.specs.Posts.{Submission, Submits, begun_with, event_done, job_after, job_of, jobs_after, r_after, with_event, with_job}
 use Rattle.manager_rules.specs.declared.due.Due.{Due}
 use Rattle.resource_set.specs.Reading.{told}
-use Rattle.resource_set.specs.declared.node.Node.{Node}
 use Rattle.resource_set.specs.declared.node.Resources.{Resources}
 use Rattle.run_picture.specs.Rows.{AreRowsOf, IsNewRow, IsReadable, Known, held_then, known_in, known_of, row_after, row_ids}
 use Rattle.run_picture.specs.declared.jobs.JobRow.{JobRow}

@@ -1,10 +1,9 @@
 -- How what is kept of an instance goes on along its own chronicle.
-use Rattle.std.proofs.Common.{◌≡◌, ◌≢◌, ℕ, zero, suc, ◌+◌, ◌<◌, ◌^◌, ◌==◌, inl, inr, List, [], ◌∷◌, ◌++◌, Bool, true, false, cond, length, map, replicate, set, Option, Some, None, unwrap_or, refl, sym, ap, ap₂, ◌∙◌, subst, arith, bytes_eq, append-nil, is_some, option_and_then, option_map, ◌&&◌, true≢false}
-use Rattle.std.specs.Prelude.{if◌then◌else◌}
+use Rattle.std.proofs.Common.{◌≡◌, ◌≢◌, ℕ, zero, suc, ◌+◌, ◌<◌, ◌^◌, ◌==◌, inl, inr, List, [], ◌∷◌, ◌++◌, Bool, true, false, cond, map, replicate, set, Option, Some, None, unwrap_or, refl, sym, ap, ap₂, ◌∙◌, subst, arith, bytes_eq, append-nil, is_some, option_and_then, option_map, ◌&&◌}
 use Rattle.std.specs.List.{cons_option, range_with_len}
 use Rattle.std.proofs.lemmas.Bool.{eq-eqb, ne_eqb}
-use Rattle.kvs_model.specs.History.{after, after_groups, first_store}
-use Rattle.kvs_model.specs.Store.{IsStore, Name, Store}
+use Rattle.kvs_model.specs.History.{after, first_store}
+use Rattle.kvs_model.specs.Store.{IsStore, Store}
 use Rattle.kvs_rules.specs.Answers.{IsLegalLog}
 use Rattle.kvs_rules.specs.Brokers.{heard, number_heard}
 use Rattle.kvs_rules.specs.Landings.{IsAdvance, IsLegalLanding}
@@ -20,9 +19,9 @@ use Rattle.kvs_txn.specs.declared.txn.Group.{Group}
 use Rattle.kvs_txn.specs.declared.txn.Scope.TheVariants as scope
 use Rattle.manager_rules.proofs.Others.{first_jobs}
 use Rattle.manager_rules.proofs.Unique.{jobs_are_one}
-use Rattle.manager_rules.specs.Jobs.{AreJobsOf, StoredJob}
+use Rattle.manager_rules.specs.Jobs.{AreJobsOf}
 use Rattle.instance_rules.specs.Legal.{IsSound}
-use Rattle.instance_rules.specs.Log.{IsInstance, now_of, service_of}
+use Rattle.instance_rules.specs.Log.{IsInstance}
 use Rattle.answers.specs.Chronicle.{Setup, answer_of, top}
 use Rattle.answers.specs.Commands.{ask_at}
 use Rattle.answers.specs.Jobs.{instance_of, log_in, second_of}
@@ -39,7 +38,7 @@ use Rattle.run_laws.proofs.Moves.{stands as stands_in}
 use Rattle.run_laws.proofs.Newest.{same_one}
 use Rattle.run_picture.specs.Columns.{heard_by}
 use Rattle.run_picture.specs.Follows.{IsReady, KeepGroups, KeepStore, KeepsUp, first_heard}
-use Rattle.run_picture.specs.Rows.{AreRowsOf, known_of}
+use Rattle.run_picture.specs.Rows.{known_of}
 use Rattle.run_picture.specs.declared.jobs.JobRow.{JobRow}
 
 -- ---- moments of which nothing is kept

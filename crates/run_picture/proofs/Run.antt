@@ -2,10 +2,10 @@
 use Rattle.std.proofs.Common.{◌≡◌, ◌≢◌, ℕ, ◌+◌, ◌<◌, ◌^◌, ◌==◌, ◌⊎◌, inl, inr, List, [], ◌∷◌, ◌++◌, Bool, true, false, cond, ◌&&◌, length, map, Option, Some, None, is_some, unwrap_or, refl, sym, ap, ap₂, ◌∙◌, subst, arith, append-nil, append_assoc, true≢false, bytes_eq}
 use Rattle.std.specs.Global.{Vec}
 use Rattle.std.proofs.Common as common
-use Rattle.std.specs.Prelude.{filter, find, ◌||◌, if◌then◌else◌}
-use Rattle.std.specs.List.{cons_option, range_with_len}
+use Rattle.std.specs.Prelude.{filter, find, ◌||◌}
+use Rattle.std.specs.List.{cons_option}
 use Rattle.std.proofs.lemmas.Bool.{eq-eqb, false_from_ne_true, ne_eqb}
-use Rattle.kvs_rules.specs.Sequence.{EachAfter, latest}
+use Rattle.kvs_rules.specs.Sequence.{EachAfter}
 use Rattle.kvs_rules.proofs.Sequences.{each_parts, latest_push}
 use Rattle.kvs_rules.specs.Namespaces.{is_primary, primary}
 use Rattle.kvs_txn.specs.declared.txn.By.{By}
@@ -31,11 +31,11 @@ use Rattle.hierarchy.specs.Own.{begins, child_setup, only_if, own_entry, own_of,
 use Rattle.hierarchy.proofs.Members.{gone_was_born}
 use Rattle.hierarchy.proofs.Numbering.{born_exactly, numbers_count}
 use Rattle.hierarchy.proofs.Advances.{timely}
-use Rattle.hierarchy.proofs.Owning.{alive, births_push, born_kept, born_push, gone_push, is_alive, lived, lives_on, own_born, own_push, setup_kept}
+use Rattle.hierarchy.proofs.Owning.{alive, births_push, born_kept, gone_push, is_alive, lived, lives_on, own_born, own_push, setup_kept}
 use Rattle.hierarchy.proofs.Sound.{sound_in}
-use Rattle.run_picture.specs.Columns.{AreColumns, End, IsColumnAt, end_at, ends_in, heard_by, sees, ticked, time_at}
+use Rattle.run_picture.specs.Columns.{AreColumns, End, IsColumnAt, end_at, ends_in, sees, ticked, time_at}
 use Rattle.run_laws.proofs.Moves.{stands}
-use Rattle.run_picture.specs.Follows.{Enters, IsDrawn, IsFollowed, IsGiven, IsRun, KeepGroups, KeepsUp, column_of, first_heard, with_column}
+use Rattle.run_picture.specs.Follows.{Enters, IsDrawn, IsFollowed, IsRun, KeepGroups, KeepsUp, column_of, first_heard, with_column}
 use Rattle.run_picture.proofs.Shown.{cells_same}
 use Rattle.run_picture.specs.declared.following.Following.{Following}
 use Rattle.run_picture.specs.declared.jobs.JobRow.{JobRow}

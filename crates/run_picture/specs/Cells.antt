@@ -1,10 +1,9 @@
 -- Which jobs a cell of a picture names.
-use Rattle.std.specs.Prelude.{ℕ, ◌==◌, ◌&&◌, List, [], ◌∷◌, ◌++◌, Bool, true, false, not, Option, Some, None, filter, flat_map, map, if◌then◌else◌}
+use Rattle.std.specs.Prelude.{ℕ, ◌==◌, ◌&&◌, List, Bool, true, false, not, Option, Some, None, filter, map, if◌then◌else◌}
 use Rattle.std.specs.List.{list_any}
 use Rattle.std.specs.Option.{option_map_or}
 use Rattle.std.specs.Str.{bytes_eq}
-use Rattle.kvs_model.specs.Store.{Store}
-use Rattle.manager_rules.specs.Jobs.{AreJobsOf, StoredJob, ids_of, is_live}
+use Rattle.manager_rules.specs.Jobs.{StoredJob, ids_of, is_live}
 use Rattle.resource_set.specs.Units.{ResourceUnit, units_of}
 use Rattle.resource_set.specs.declared.node.Node.{Node}
 use Rattle.run_picture.specs.declared.picture.Place.{Place}

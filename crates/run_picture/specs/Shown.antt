@@ -1,5 +1,5 @@
 -- What the makers of a picture are told, and what they add to it.
-use Rattle.std.specs.Prelude.{◌≡◌, ℕ, List, [], ◌∷◌, ◌++◌, Bool, true, Some, None, map}
+use Rattle.std.specs.Prelude.{◌≡◌, ℕ, List, [], ◌∷◌, ◌++◌, Bool, true, Some, map}
 use Rattle.resource_set.specs.Units.{units_of_node}
 use Rattle.resource_set.specs.declared.node.Node.{Node}
 use Rattle.answers.specs.Chronicle.{Setup}

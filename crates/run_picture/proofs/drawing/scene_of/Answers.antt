@@ -1,4 +1,4 @@
-use Rattle.std.proofs.Common.{◌≡◌, IfOk, refl, sym, ap, ◌∙◌, subst}
+use Rattle.std.proofs.Common.{IfOk, refl, sym, ap, ◌∙◌, subst}
 use Rattle.run_picture.specs.Cells as cells
 use Rattle.run_picture.specs.Columns.{AreColumns, ends_of}
 use Rattle.run_picture.proofs.Drawn.{all_places}

@@ -1,4 +1,4 @@
-use Rattle.std.proofs.Common.{◌≡◌, ap₂, ap, ◌∙◌, option_map}
+use Rattle.std.proofs.Common.{◌≡◌, ap, ◌∙◌, option_map}
 use Rattle.job_states.specs.Changes.{change_of}
 use Rattle.manager_rules.specs.Posts.{job_after}
 use Rattle.run_picture.specs.Rows.{held_then}

@@ -1,4 +1,4 @@
-use Rattle.std.proofs.Common.{◌≡◌, ◌<◌, true, List, length, get_or, sym, ◌∙◌, subst}
+use Rattle.std.proofs.Common.{◌≡◌, ◌<◌, true, length, get_or, sym, ◌∙◌, subst}
 use Rattle.run_picture.specs.declared.jobs.JobRow.{JobRow}
 use Rattle.run_picture.proofs.Keeping.{done_more, line_added}
 use Rattle.run_picture.proofs.jobs.add_line.Goals as goal

@@ -1,4 +1,4 @@
-use Rattle.std.proofs.Common.{◌≡◌, ◌<◌, ◌≤◌, take, drop, subst}
+use Rattle.std.proofs.Common.{◌<◌, ◌≤◌, take, drop, subst}
 use Rattle.std.specs.List.{AllByRecursion as Each}
 use Rattle.std.specs.List.Sorted.{IsStrictlyIncreasing}
 use Rattle.run_picture.specs.Rows.{row_ids}

@@ -1,8 +1,7 @@
-use Rattle.std.proofs.Common.{◌≡◌, List, [], ◌∷◌, Ok, sym, ap, ◌∙◌, append-nil}
+use Rattle.std.proofs.Common.{◌≡◌, [], ◌∷◌, Ok, sym, ap, ◌∙◌, append-nil}
 use Rattle.std.proofs.lemmas.List.Elements.{All-cons, All-nil}
 use Rattle.event_log.specs.Events.{IsEvent, line_text}
 use Rattle.event_log.specs.Logs.{log_reading, log_text}
-use Rattle.event_log.specs.declared.event.Event.{Event}
 use Rattle.run_picture.proofs.Keeping.{last_one}
 use Rattle.run_picture.proofs.jobs.event_in.Goals as goal
 

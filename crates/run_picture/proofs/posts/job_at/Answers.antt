@@ -1,4 +1,4 @@
-use Rattle.std.proofs.Common.{◌≡◌, ◌<◌, ◌^◌, ℕ, List, Some, length, arith, sym, ap, ◌∙◌}
+use Rattle.std.proofs.Common.{◌≡◌, length, arith, ap, ◌∙◌}
 use Rattle.std.specs.Result.{result_ok}
 use Rattle.fluid_ids.specs.Texts.{meaning}
 use Rattle.fluid_ids.specs.declared.forms.Form.TheVariants.{Dothex}

@@ -1,4 +1,4 @@
-use Rattle.std.proofs.Common.{◌≡◌, ◌∙◌}
+use Rattle.std.proofs.Common.{◌∙◌}
 use Rattle.run_picture.proofs.Groups.{managers_keep, others_keep}
 use Rattle.run_picture.proofs.Keeping.{done_more}
 use Rattle.run_picture.proofs.posts.land_group.Goals as goal

@@ -1,8 +1,7 @@
-use Rattle.std.proofs.Common.{[], ◌∷◌, ◌++◌, ◌≡◌, ◌≢◌, ◌⊎◌, inl, inr, true, false, ◌&&◌, sym, ap, ap₂, ◌∙◌, refl, subst}
+use Rattle.std.proofs.Common.{[], ◌∷◌, ◌++◌, ◌≡◌, ◌≢◌, ◌⊎◌, inl, inr, true, false, sym, ◌∙◌, refl, subst}
 use Rattle.kvs_rules.specs.Namespaces.{is_primary}
 use Rattle.answers.specs.declared.chronicle.Entry.TheVariants as entry
 use Rattle.run_picture.specs.Follows.{Enters, IsFollowed, KeepGroups, with_column}
-use Rattle.run_picture.specs.declared.following.Following.{Following}
 use Rattle.run_picture.proofs.Run.{enter_born, enter_elsewhere, enter_gone, enter_heard, enter_landed, enter_other, enter_passed, enter_ticked, enter_unborn, enter_ungone}
 use Rattle.run_picture.proofs.following.Following.enter.Goals.{else-instance-number-via-then-instance-number+else-is_primary, else-instance-number-via-else-instance-number}
 use Rattle.run_picture.proofs.following.Following.enter.Goals.{else-instance-number-2-via-then-instance-number-2+else-is_primary-2, else-instance-number-2-via-else-instance-number-2}
