@@ -29,3 +29,6 @@ pub mod Inside
 pub mod Marks
 pub mod Throughout
 pub mod Keeping
+pub mod Having
+pub mod Named
+pub mod Heads

@@ -59,23 +59,23 @@ pub happenings_push : (work : Workload) (c : List Entry) (e : Entry) → log_in 
 happenings_push work c e = happenings_joined work [] c (e ∷ [])
 
 -- what a moment says of a child, if there is one
-abbrev told_by : ℕ → Option Moment → Option (Option (Bool × Bool))
+abbrev pub told_by : ℕ → Option Moment → Option (Option (Bool × Bool))
 told_by id None = None
 told_by id (Some m) = child_told id m
 
-child_push : (id : ℕ) (log : Log) (o : Option Moment) → child_of (log ++ cons_option o []) id ≡ unwrap_or (told_by id o) (child_of log id)
+pub child_push : (id : ℕ) (log : Log) (o : Option Moment) → child_of (log ++ cons_option o []) id ≡ unwrap_or (told_by id o) (child_of log id)
 child_push id log None = ap (λ l. child_of l id) (append-nil log)
 child_push id log (Some m) = latest_push (child_told id) None log m
 
 -- what is told of a child where the moment is about its job
-abbrev told_if : Bool → Option (Bool × Bool) → Option (Option (Bool × Bool))
+abbrev pub told_if : Bool → Option (Bool × Bool) → Option (Option (Bool × Bool))
 told_if same told = if same then Some told else None
 
-abbrev from_of : Option Birth → Option (ℕ × ℕ)
+abbrev pub from_of : Option Birth → Option (ℕ × ℕ)
 from_of o = option_map (λ b. (b.parent, b.job)) o
 
 module _ (id : ℕ) where
-  served_untold : (o : Option service.Moment) → told_by id (option_map Served o) ≡ None
+  pub served_untold : (o : Option service.Moment) → told_by id (option_map Served o) ≡ None
   served_untold None = refl
   served_untold (Some m) = refl
 

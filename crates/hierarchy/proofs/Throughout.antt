@@ -30,7 +30,7 @@ use Rattle.hierarchy.proofs.Nested.{are_nested}
 use Rattle.hierarchy.proofs.Owning.{alive, birth_kept, born_kept, lived, own_push, setup_kept}
 use Rattle.hierarchy.proofs.Sound.{sound_in}
 
-end_begins_none : (e : Entry) → is_end e ≡ true → (i : ℕ) → begins i e ≡ true → ⊥
+pub end_begins_none : (e : Entry) → is_end e ≡ true → (i : ℕ) → begins i e ≡ true → ⊥
 end_begins_none (entry.Gone child parent job shut) ends i h = true≢false (sym h)
 end_begins_none _ ends i h = true≢false (sym ends)
 
@@ -46,7 +46,7 @@ end_is_silent work own actors label i _ ends = absurd (true≢false (sym ends))
 module _ (set : Setup) (c : List Entry) (fits : HasTime set) (valid : AreValid set c) (legal : IsLegalRun set c) where
   -- a first part is a legal run
   module _ (past more : List Entry) (split : c ≡ past ++ more) where
-    past_legal : IsLegalRun set past
+    pub past_legal : IsLegalRun set past
     past_legal = (each_parts (IsLegalRunEntry set) [] past more (subst (IsLegalRun set) split legal)).0
 
     -- and what it rests on holds there

@@ -30,6 +30,7 @@ use Rattle.answers.specs.declared.chronicle.Entry.TheVariants as entry
 use Rattle.answers.specs.declared.chronicle.Reply.{Reply}
 use Rattle.answers.specs.declared.chronicle.Reply.TheVariants as reply
 use Rattle.run_laws.specs.Jobs.{store_of}
+use Rattle.run_laws.specs.Reserved.{HeadsKeepTheirSeconds, IsNamed}
 use Rattle.run_laws.specs.Views.{JobsFollowWithRoots, LogsGrowWithRoots}
 use Rattle.hierarchy.specs.Births.{is_at, label_of, lives}
 use Rattle.hierarchy.specs.Families.{family_of}
@@ -179,6 +180,12 @@ abbrev pub JobsFollowInAll : Setup → List Entry → Type 0
 JobsFollowInAll set c = InAllLiving set c
     (λ s own. JobsFollowWithRoots (setting_of s) (log_of s.work top own))
 
+-- ---- while a job stays the first in the queue, its reserved second never rises
+
+-- under both policies, and no tick goes above it
+abbrev pub HeadsKeepTheirSecondsInAll : Setup → List Entry → Type 0
+HeadsKeepTheirSecondsInAll set c = InAllLiving set c HeadsKeepTheirSeconds
+
 -- ---- the numbers that an actor's replies name never fall
 
 -- no root that the reply names is below one of its namespace that a reply before the command's issue
@@ -228,9 +235,10 @@ pub record AreReplied (set : Setup) (c : List Entry) : Type 0 where
 -- read sees a root no older than its actor had seen or was told; each committer is answered once
 -- its own broker has heard the landing; the numbers that an actor's replies name never fall; each
 -- event of a job lands where it is due, stored logs replay and only grow, and what later roots tell
--- of jobs follows from what earlier ones told; live allocations are disjoint, satisfy their jobs and
--- are within the grant; the grant of each living child lies within what a live job of its living
--- parent holds; and every command has its one reply
+-- of jobs follows from what earlier ones told; while a job stays the first in the queue, the second
+-- that is reserved for it never rises, where hosts have names of hosts; live allocations are
+-- disjoint, satisfy their jobs and are within the grant; the grant of each living child lies within
+-- what a live job of its living parent holds; and every command has its one reply
 pub record KeepsItsPromises (set : Setup) (c : List Entry) : Type 0 where
   pub published : RootsArePlain set c
   pub reads : ReadsAreFresh set c
@@ -239,6 +247,7 @@ pub record KeepsItsPromises (set : Setup) (c : List Entry) : Type 0 where
   pub due : EventsAreDue set c
   pub grows : LogsGrowInAll set c
   pub follows : JobsFollowInAll set c
+  pub reserved : IsNamed set.resources → HeadsKeepTheirSecondsInAll set c
   pub live : JobsStaySoundInAll set c
   pub nested : ChildrenStayNested set c
   pub replied : AreReplied set c

@@ -42,7 +42,7 @@ as_rules : (spec : JobSpec) → read.IsSpec spec → IsSpec spec
 as_rules spec h = record { slots = h.slots; cores = h.cores; gpus = h.gpus; nodes = λ count e. (subst (λ o. IfSome o IsCount) e h.nodes).0 }
 
 -- a jobspec that stands in the store was read
-read_from : (r : Option (List ℕ)) (spec : JobSpec) → option_and_then (λ text. result_ok (spec_reading text)) r ≡ Some spec → IsSpec spec
+pub read_from : (r : Option (List ℕ)) (spec : JobSpec) → option_and_then (λ text. result_ok (spec_reading text)) r ≡ Some spec → IsSpec spec
 read_from None spec e = cc
 read_from (Some text) spec e = by (spec_reading text) refl e
   where

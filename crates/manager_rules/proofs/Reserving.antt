@@ -27,7 +27,7 @@ use Rattle.manager_rules.proofs.Soundness.{given_r}
 -- ---- what is held
 
 -- the same is held at each second
-same_reserved : (grant : List Node) (jobs later : List StoredJob) (spec : JobSpec) (now second : ℕ) → ((t : ℕ) → holds_at t later ≡ holds_at t jobs) → IsReserved grant jobs spec now second → IsReserved grant later spec now second
+pub same_reserved : (grant : List Node) (jobs later : List StoredJob) (spec : JobSpec) (now second : ℕ) → ((t : ℕ) → holds_at t later ≡ holds_at t jobs) → IsReserved grant jobs spec now second → IsReserved grant later spec now second
 same_reserved grant jobs later spec now second e h = record {
   from = h.from;
   fits = subst (λ hs. CanFit spec grant (free_of grant hs)) (sym (e second)) h.fits;
@@ -64,7 +64,7 @@ taken_holds due r t (k ∷ jobs) all = ap₂ cons_option (one_held due (Some r) 
     ]
 
 -- what is so of the job of an event, under its id
-of_its_job : (s : Scene) → AreInTime s.jobs → (j : StoredJob) → Contains s.jobs j → (P : StoredJob → Type 0) → P j → Each (λ k. k.id ≡ j.id → P k) s.jobs
+pub of_its_job : (s : Scene) → AreInTime s.jobs → (j : StoredJob) → Contains s.jobs j → (P : StoredJob → Type 0) → P j → Each (λ k. k.id ≡ j.id → P k) s.jobs
 of_its_job s are j known P p = all s.jobs (λ k i. i)
   where
     here : Among j s.jobs
@@ -138,7 +138,7 @@ module _ (spec : JobSpec) (grant : List Node) (is : IsSpec spec) (whole : IsGran
           inl (record { nodes = given; set = good.0; inside = good.1; satisfied = good.2 })
 
   -- where no more is held at each second, the reserved second doesn't rise
-  no_later : (jobs later : List StoredJob) (now second : ℕ) → ((t : ℕ) (h : Hold) → Among h (holds_at t later) → Among h (holds_at t jobs)) → IsReserved grant jobs spec now second
+  pub no_later : (jobs later : List StoredJob) (now second : ℕ) → ((t : ℕ) (h : Hold) → Among h (holds_at t later) → Among h (holds_at t jobs)) → IsReserved grant jobs spec now second
       → (earlier : ℕ) × (earlier ≤ second) × IsReserved grant later spec now earlier
   no_later jobs later now second sub h =
       let from = h.from in
@@ -175,7 +175,7 @@ plain_r due j none = by (is_live (job_after (change_of due.event) j.job)) refl
     by false e = inr (ap (λ b. if b then r_after due.r j.r else None) e)
 
 -- so no more is held at any second
-held_before : (due : Due) (t : ℕ) (jobs : List StoredJob) → due.r ≡ None → (h : Hold) → Among h (holds_at t (with_event due jobs)) → Among h (holds_at t jobs)
+pub held_before : (due : Due) (t : ℕ) (jobs : List StoredJob) → due.r ≡ None → (h : Hold) → Among h (holds_at t (with_event due jobs)) → Among h (holds_at t jobs)
 held_before due t [] none h i = absurd i
 held_before due t (k ∷ jobs) none h i = by (hold_at t (if k.id == due.job then event_done due k else k)) (hold_at t k) (one k) (held_before due t jobs none h) i
   where
@@ -203,7 +203,7 @@ held_before due t (k ∷ jobs) none h i = by (hold_at t (if k.id == due.job then
         some_same a b e = cc
 
 -- an event gives no resources, or is that of a job that takes them
-gives : (deed : Deed) → (r_given deed ≡ None) ⊎ ((r : Resources) × (deed ≡ Takes r))
+pub gives : (deed : Deed) → (r_given deed ≡ None) ⊎ ((r : Resources) × (deed ≡ Takes r))
 gives (Takes r) = inr (r, refl)
 gives Validates = inl refl
 gives (Adds need) = inl refl

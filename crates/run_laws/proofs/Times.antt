@@ -44,7 +44,7 @@ happenings_append work c (x ∷ xs) ys =
     ∙ sym (cons_append (happening_of work c x) _ _)
 
 -- the second to which an entry lets time go on
-abbrev ticks : Entry → Option ℕ
+abbrev pub ticks : Entry → Option ℕ
 ticks (entry.Ticked second) = Some second
 ticks _ = None
 
@@ -76,7 +76,7 @@ entry_ticks work c (entry.Born child parent job label second grant) = child_tick
 entry_ticks work c (entry.Gone child parent job shut) = child_ticks (parent == top) (Gone job shut) refl
 entry_ticks work c e = served_ticks (moment_of work top c e)
 
-second_push : (set : Setup) (c : List Entry) (e : Entry) → second_of set (c ++ e ∷ []) ≡ unwrap_or (ticks e) (second_of set c)
+pub second_push : (set : Setup) (c : List Entry) (e : Entry) → second_of set (c ++ e ∷ []) ≡ unwrap_or (ticks e) (second_of set c)
 second_push set c e =
     ap (now_of (instance_of set)) (happenings_append set.work [] c (e ∷ []))
     ∙ pushed (log_in set.work c) (happening_of set.work c e)

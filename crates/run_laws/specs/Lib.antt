@@ -1,3 +1,4 @@
 pub mod Times
 pub mod Jobs
 pub mod Views
+pub mod Reserved

@@ -11,6 +11,7 @@ ghost use Rattle.answers.specs.Legal.{IsLegal};
 ghost use Rattle.answers.specs.Runs.{IsInTime};
 ghost use Rattle.run_laws.specs.Jobs.{JobsStaySound, LogsOnlyGrow, store_of};
 ghost use Rattle.run_laws.specs.Views.{JobsFollowWithRoots, LogsGrowWithRoots};
+ghost use Rattle.run_laws.specs.Reserved.{EndsComeFirst, HeadsKeepTheirSeconds, IsNamed};
 ghost use Rattle.run_laws.specs.Times.{HasTime, KeepsTime, seconds_issued};
 
 /// However much of a legal chronicle has happened, `primary` has its store. Each log in it replays,
@@ -54,4 +55,13 @@ pub fn what_roots_tell_of_jobs_goes_on()
     ensures jobs { (set : Setup) (c : List Entry) → IsInstance (instance_of set)
         → KeepsTime set c → IsLegal set c
         → JobsFollowWithRoots (setting_of set) (log_of set.work top c) }
+{}
+
+/// While one job stays the first in its instance's queue, the second that is reserved for it never
+/// rises, and no tick goes above it before that job's alloc, under both policies: where hosts have
+/// names of hosts, and children of ending jobs go before time goes on.
+pub fn heads_keep_their_seconds()
+    ensures { (set : Setup) (c : List Entry) → IsInstance (instance_of set)
+        → KeepsTime set c → IsLegal set c → IsNamed set.resources → EndsComeFirst set c
+        → HeadsKeepTheirSeconds set c }
 {}

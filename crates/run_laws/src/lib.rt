@@ -5,5 +5,6 @@
 pub mod laws;
 
 pub use laws::{
-    jobs_stay_sound, logs_only_grow, time_stays_within, what_roots_tell_of_jobs_goes_on,
+    heads_keep_their_seconds, jobs_stay_sound, logs_only_grow, time_stays_within,
+    what_roots_tell_of_jobs_goes_on,
 };

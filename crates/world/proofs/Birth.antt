@@ -32,7 +32,7 @@ use Rattle.homes.specs.declared.homes.Home.{Home}
 use Rattle.homes.specs.declared.homes.Place.{Place}
 use Rattle.homes.proofs.Bearing.{birth_grows, homes_with, places_with, valid_with}
 use Rattle.homes.proofs.Standing.{item_at}
-use Rattle.world.proofs.Stepping.{step_advances, step_sound, stepped}
+use Rattle.world.proofs.Stepping.{starts_at_0, step_advances, step_sound, stepped}
 
 pub job_is : (job : ℕ) (o : Option ℕ) → is_job job o ≡ true → o ≡ Some job
 job_is job None never = cc
@@ -69,7 +69,7 @@ module _ (v : WorldValue) (sound : IsSound v) (runs : v.closed ≡ false) where
   early_now =
       let low = time_within v.set v.chronicle sound.legal in
       let most = sound.run.few.seconds in
-      let first = sound.run.first in
+      let first = starts_at_0 v.set sound.run in
       omega arith
 
   -- there are no more places than actors

@@ -4,8 +4,8 @@ use Rattle.std.specs.Prelude.{◌==◌, is_some}
 use Rattle.std.specs.Option.{option_map_or}
 use Rattle.instance.specs.kvs_rules.Sequence.{EachAfter}
 use Rattle.instance.proofs.kvs_rules_proofs.Sequences.{each_joined}
-use Rattle.instance.specs.answers.Chronicle.{Setup, top}
-use Rattle.instance.specs.answers.Jobs.{instance_of}
+use Rattle.instance.specs.answers.Chronicle.{Checkpoint, Setup, top}
+use Rattle.instance.specs.answers.Jobs.{instance_of, start_of}
 use Rattle.instance.specs.answers.declared.chronicle.Entry.{Entry}
 use Rattle.instance.specs.answers.declared.steps.Step.{Step}
 use Rattle.hierarchy.specs.Births.{birth_of, is_born}
@@ -17,7 +17,7 @@ use Rattle.instance.specs.Steps.{IsStart}
 use Rattle.instance.specs.instance_rules.Log.{IsInstance}
 use Rattle.world.specs.Advances.{Advances}
 use Rattle.homes.specs.Homes.{AreValid}
-use Rattle.world.specs.Sound.{IsRunning, IsSound}
+use Rattle.world.specs.Sound.{IsRun, IsRunning, IsSound}
 use Rattle.world.specs.Value.{WorldValue}
 use Rattle.homes.specs.declared.homes.Home.{Home}
 use Rattle.homes.specs.declared.homes.Place.{Place}
@@ -34,6 +34,10 @@ valid_still set c more births valid = λ i born.
 
 pub valid_so : (set : Setup) (c more : List Entry) → LivesSo c more → AreValid set c → AreValid set (c ++ more)
 valid_so set c more so valid = valid_still set c more so.births valid
+
+-- a run begins at the second 0
+pub starts_at_0 : (set : Setup) → IsRun set → start_of set ≡ 0
+starts_at_0 set run = ap (λ o. option_map_or (λ (kept : Checkpoint). kept.second) o set.birth) run.anew ∙ run.first
 
 -- ---- the world behind a step
 

@@ -38,7 +38,7 @@ use Rattle.homes.proofs.Placing.{all_silent, places_stay}
 use Rattle.world.proofs.Resting.{among_flat, flat_among, living_home, no_end}
 use Rattle.world.proofs.Running.{home_agrees, home_lives, known}
 use Rattle.homes.proofs.Standing.{grown_home, homes_told, item_at, stays_home}
-use Rattle.world.proofs.Stepping.{step_advances, step_sound, stepped, valid_so}
+use Rattle.world.proofs.Stepping.{starts_at_0, step_advances, step_sound, stepped, valid_so}
 
 -- ---- lists
 
@@ -214,7 +214,7 @@ module _ (v : WorldValue) (sound : IsSound v) (runs : v.closed ≡ false) where
     pub all_may_pass : EachLiving (MayPassTo second) v.homes
     all_may_pass i h e living =
         let within = next_within v.set c second sound.legal may_tick in
-        let first = sound.run.first in
+        let first = starts_at_0 v.set sound.run in
         let few = sound.run.few.seconds in
         let above = ahead.above in
         record {
