@@ -6,6 +6,12 @@
 //! `--svg` for a page of SVG in place of a text.
 #![tactic(auto)]
 
+ghost use Rattle.std.specs.Prelude.{◌≡◌, ◌≤◌, IfOk};
+ghost use Rattle.homes.specs.Grant.{first_resources};
+ghost use Rattle.run_picture.specs.answers.Chronicle.{Setup};
+ghost use Rattle.run_picture.specs.Columns.{IsPicture};
+ghost use Rattle.run_picture.specs.Shown.{IsShownRun};
+
 use flux::{Run, flux, notice};
 use homes::hosts_of_brokers;
 use manager_rules::Terms;
@@ -50,7 +56,12 @@ fn drawn(
     work: &Workload,
     run: &Run,
     rows: Rows,
-) -> Result<Picture, PictureFault> {
+) -> Result<Picture, PictureFault>
+    requires { size ≤ 32 }
+    ensures { (set : Setup) → IsShownRun set run.now.chronicle → set.size ≡ size
+        → set.resources ≡ first_resources size work.now
+        → IfOk result (IsPicture set run.now.chronicle rows) }
+{
     match &work.grant {
         Some(grant) => picture_of(alloc, size, grant.resources(), work, &run.chronicle, rows),
         None => {
