@@ -7,8 +7,8 @@
 #![tactic(auto)]
 
 ghost use Rattle.std.specs.Prelude.{◌≡◌, ◌≤◌, IfOk};
+ghost use Rattle.answers.specs.Chronicle.{Setup};
 ghost use Rattle.homes.specs.Grant.{first_resources};
-ghost use Rattle.run_picture.specs.answers.Chronicle.{Setup};
 ghost use Rattle.run_picture.specs.Columns.{IsPicture};
 ghost use Rattle.run_picture.specs.Shown.{IsShownRun};
 
@@ -82,7 +82,10 @@ fn draw(rt: &HostRuntime, word: &str, style: Style) -> io::Result<bool> {
         rt.eprintln(notice(alloc, &run.fault)?.as_str())?;
         return Ok(false);
     }
-    let Some(options) = read_options(alloc, &words[1..])? else {
+    let Some(option_words) = words.get(1..) else {
+        return Ok(false);
+    };
+    let Some(options) = read_options(alloc, option_words)? else {
         return Ok(false);
     };
     let Ok(work) = workload_reader::read(alloc, &workload, options.size) else {
