@@ -16,8 +16,8 @@ use Rattle.run_picture.specs.declared.picture.Rows.{Rows}
 use Rattle.run_picture.specs.declared.picture.Rows.TheVariants as rows
 use Rattle.run_picture.specs.declared.picture.Scene.{Scene}
 
--- a run that can be shown: it is legal and whole, what its instances are given is within its ranges,
--- and its first second is 0
+-- a run that can be shown: it is legal and whole, what its instances are given is within its
+-- ranges, and its first second is 0
 pub record IsShownRun (set : Setup) (c : List Entry) : Type 0 where
   pub run : IsRun set c
   pub whole : IsWholeRun set c

@@ -35,7 +35,8 @@ fn is_at(place: &Place, node: &Node) -> bool
 
 /// Whether one of these hosts has a unit at the place.
 fn have_unit_at(place: &Place, nodes: &[Node]) -> bool
-    ensures { result ≡ list_any (λ node. list_any (is_at place.now) (units_of_node node)) nodes.now }
+    ensures { result
+        ≡ list_any (λ node. list_any (is_at place.now) (units_of_node node)) nodes.now }
 {
     nodes.iter().any(|node| is_at(place, node))
 }
