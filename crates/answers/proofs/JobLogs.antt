@@ -17,7 +17,6 @@ use Rattle.answers.specs.declared.chronicle.Entry.{Entry}
 use Rattle.answers.specs.declared.chronicle.Entry.TheVariants as entry
 use Rattle.answers.specs.declared.chronicle.Reply.{Reply}
 use Rattle.answers.specs.declared.chronicle.Reply.TheVariants as reply
-use Rattle.manager_rules.specs.Terms.{AreBuilt}
 use Rattle.workload.specs.declared.work.Command.{Command}
 use Rattle.workload.specs.declared.work.Command.TheVariants as command
 use Rattle.workload.specs.declared.work.Line.{Line}
@@ -48,6 +47,7 @@ apart_of txn (command.Info label shown) h = refl
 apart_of txn command.Jobs h = refl
 apart_of txn (command.Why label) h = refl
 apart_of txn (command.ResultOf label) h = refl
+apart_of txn (command.Watch label) h = refl
 apart_of txn (command.Advance seconds) h = refl
 apart_of txn command.Shutdown h = refl
 apart_of txn c h = absurd (true≢false (sym h))
@@ -129,6 +129,7 @@ in_primary (command.Info label shown) own h = refl
 in_primary command.Jobs own h = refl
 in_primary (command.Why label) own h = refl
 in_primary (command.ResultOf label) own h = refl
+in_primary (command.Watch label) own h = refl
 in_primary (command.Advance seconds) own h = refl
 in_primary command.Shutdown own h = refl
 in_primary c own h = absurd (true≢false (sym h))
@@ -238,30 +239,9 @@ asks_nothing work h by = nothing_asked by.actor by.command work.lines h
 pub no_advance : (set : Setup) → IsWithoutJobs set.work → (c : List Entry) → HasNoAdvance set c
 no_advance set h c target waits = let never : None ≡ Some (rules.Advance waits.seconds) = sym (asks_nothing set.work h waits.by) ∙ waits.asks in cc
 
--- no command watches a job
-pub unwatched : (work : Workload) (by : By) (label : List ℕ) → job_ask_at work by ≡ Some (rules.Watch label) → ⊥
-unwatched work by label = on (command_at work by)
-  where
-    on : (o : Option Command) → option_and_then job_ask_of o ≡ Some (rules.Watch label) → ⊥
-    on None e = cc
-    on (Some (command.Submit given urgency depends spec)) e = cc
-    on (Some (command.Cancel given)) e = cc
-    on (Some (command.Raise given kind severity note)) e = cc
-    on (Some (command.Urgency given urgency)) e = cc
-    on (Some (command.StateOf given)) e = cc
-    on (Some (command.Info given shown)) e = cc
-    on (Some command.Jobs) e = cc
-    on (Some (command.Why given)) e = cc
-    on (Some (command.ResultOf given)) e = cc
-    on (Some (command.Advance seconds)) e = cc
-    on (Some command.Shutdown) e = cc
-    on (Some c) e = cc
-
--- on terms that are built, the top instance asks for nothing else
-pub built_instance : (set : Setup) → set.base ≡ None → AreBuilt set.terms → IsBuilt (instance_of set)
-built_instance set anew h = record {
-  limits = h;
-  unwatched = λ by label asks. unwatched set.work by label asks;
+-- the top instance of a run that begins anew is built
+pub built_instance : (set : Setup) → set.base ≡ None → IsBuilt (instance_of set)
+built_instance set anew = record {
   start = ap (λ o. option_map_or (λ (kept : Checkpoint). kept.second) o set.birth) anew;
 }
 

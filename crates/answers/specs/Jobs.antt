@@ -8,7 +8,7 @@ use Rattle.job_rules.specs.Fits.{IsGrant}
 use Rattle.resource_set.specs.Writing.{r_text}
 use Rattle.tap.specs.Factors.{priority_by}
 use Rattle.instance_rules.specs.Log as rules
-use Rattle.instance_rules.specs.Log.{Instance, JobAsk, JobReply, Key, JobspecKey, RKey, LogKey, Log, Moment, Named, Served, Issued, Replied, Ticked, Born, Gone, IsInRange, now_of}
+use Rattle.instance_rules.specs.Log.{Instance, JobAsk, JobReply, Key, JobspecKey, RKey, LogKey, Log, Moment, Named, Served, Issued, Replied, Ticked, Born, Gone, Fed, IsInRange, now_of}
 use Rattle.instance_rules.specs.Family.{HasTarget, Living}
 use Rattle.instance_rules.specs.Legal.{IsLegalMoment}
 use Rattle.answers.specs.declared.chronicle.Entry.{Entry}
@@ -48,6 +48,7 @@ job_ask_of (command.Info label shown) = Some (rules.Info label (key_by shown))
 job_ask_of command.Jobs = Some rules.Jobs
 job_ask_of (command.Why label) = Some (rules.Why label)
 job_ask_of (command.ResultOf label) = Some (rules.ResultOf label)
+job_ask_of (command.Watch label) = Some (rules.Watch label)
 job_ask_of (command.Advance seconds) = Some (rules.Advance seconds)
 job_ask_of command.Shutdown = Some rules.Shutdown
 job_ask_of _ = None
@@ -62,6 +63,7 @@ state_by job = record { id = job.id; state = job.state }
 abbrev pub job_reply_of : Reply → Option JobReply
 job_reply_of (reply.Submitted id) = Some (rules.Submitted id)
 job_reply_of (reply.BadSpec fault) = Some (rules.BadSpec fault)
+job_reply_of (reply.Checked reason) = Some (rules.Checked reason)
 job_reply_of reply.NoJob = Some rules.NoJob
 job_reply_of reply.Raised = Some rules.Raised
 job_reply_of reply.Ended = Some rules.Ended
@@ -74,6 +76,7 @@ job_reply_of (reply.Behind id) = Some (rules.Behind id)
 job_reply_of reply.Held = Some rules.Held
 job_reply_of reply.Ready = Some rules.Ready
 job_reply_of (reply.EndedWith status) = Some (rules.EndedWith status)
+job_reply_of (reply.Watched shown) = Some (rules.Watched shown)
 job_reply_of (reply.Advanced second) = Some (rules.Advanced second)
 job_reply_of reply.Shut = Some rules.Shut
 job_reply_of _ = None
@@ -114,6 +117,8 @@ happening_of work c (entry.Born child parent job label second grant) =
     if parent == top then Some (Born job) else None
 happening_of work c (entry.Gone child parent job shut) =
     if parent == top then Some (Gone job shut) else None
+happening_of work c (entry.Watched actor command number first count) =
+    Some (Fed (record { actor = actor; command = command }) number first count)
 happening_of work c e = option_map Served (moment_of work top c e)
 
 -- the moments of the instance among further entries

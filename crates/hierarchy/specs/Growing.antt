@@ -54,6 +54,8 @@ IsMadeIn actors label (entry.Dropped instance broker reference) = instance ≡ t
 IsMadeIn actors label (entry.Replied actor command given number) =
     IsTrue (is_at actors label actor)
 IsMadeIn actors label (entry.Told from to) = IsTrue (is_at actors label from)
+IsMadeIn actors label (entry.Watched actor command number first count) =
+    IsTrue (is_at actors label actor)
 IsMadeIn actors label _ = ⊥
 
 -- what an instance makes, as the run has it, is legal there; the run goes on behind it, as before

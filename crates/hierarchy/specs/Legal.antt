@@ -87,6 +87,8 @@ HasRunGrounds set c (entry.Ticked second) =
 HasRunGrounds set c (entry.Born child parent job label second grant) =
     IsLegalBirth set c child parent job label second grant
 HasRunGrounds set c (entry.Gone child parent job shut) = IsLegalEnd set c child parent job shut
+HasRunGrounds set c (entry.Watched actor command number first count) =
+    IsTrue (has_living_home set.work.actors c actor)
 HasRunGrounds set c entry.Closed = IsWholeRun set (c ++ entry.Closed ∷ [])
 
 -- the own chronicle of each living instance is legal

@@ -88,6 +88,8 @@ own_entry actors label i (entry.Born child parent job name second grant) =
     only_if (parent == i) (entry.Born child top job name second grant)
 own_entry actors label i (entry.Gone child parent job shut) =
     only_if (parent == i) (entry.Gone child top job shut)
+own_entry actors label i (entry.Watched actor command number first count) =
+    only_if (is_at actors label actor) (entry.Watched actor command number first count)
 own_entry actors label i entry.Closed = Some entry.Closed
 
 -- the own chronicle of an instance

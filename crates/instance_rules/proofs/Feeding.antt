@@ -1,4 +1,4 @@
--- Watches are fed all that is new, and what is not asked for does not happen.
+-- Watches are fed all that is new, and without limits none is turned away.
 use Rattle.std.proofs.Common.{◌≡◌, ◌≤◌, ℕ, ◌+◌, append-nil, append_assoc, subst, arith, List, [], ◌∷◌, ◌++◌, ◌&&◌, Option, Some, None, refl, sym, ap, ap₂, ◌∙◌, inl, inr}
 use Rattle.std.specs.Prelude.{◌↔◌, filter_map, sum, unwrap_or, if◌then◌else◌, false, true}
 use Rattle.std.specs.List.{cons_option}
@@ -13,7 +13,7 @@ use Rattle.kvs_rules.proofs.Sequences.{latest_push}
 use Rattle.kvs_rules.specs.Sequence.{EachAfter, latest}
 use Rattle.kvs_txn.specs.declared.txn.By.{By}
 use Rattle.manager_rules.specs.Keys.{job_path}
-use Rattle.manager_rules.specs.Limits.{verdict_of}
+use Rattle.manager_rules.specs.Limits.{no_limits, verdict_of}
 use Rattle.instance_rules.specs.Desks.{is_old}
 use Rattle.instance_rules.specs.Family.{Living, WaitsForEnd}
 use Rattle.instance_rules.specs.Legal.{IsLegalMoment}
@@ -61,37 +61,24 @@ at_the_fifth : last_fed one feeds ≡ Some 5
 unfolding one two feeds
 at_the_fifth = refl
 
--- ---- what is not asked for
+-- ---- without limits none is turned away
 
-pub none_fed : (inst : Instance) (log : Log) (by : By) (number first count : ℕ) → IsBuilt inst → IsLegalFeed inst log by number first count → ⊥
-none_fed inst log by number first count built feed = built.unwatched by feed.label feed.asks
+none_away : (inst : Instance) (ask : JobAsk) (reason : ℕ) → inst.limits ≡ no_limits → IsTurnedAway inst ask reason → ⊥
+none_away inst (Submit label urgency named text) reason unlimited away = away.3 (sym away.2 ∙ ap (λ limits. verdict_of limits away.0) unlimited)
+none_away inst (Cancel label) reason unlimited away = away
+none_away inst (Raise label kind severity note) reason unlimited away = away
+none_away inst (Urge label urgency) reason unlimited away = away
+none_away inst (StateOf label) reason unlimited away = away
+none_away inst (Info label key) reason unlimited away = away
+none_away inst Jobs reason unlimited away = away
+none_away inst (Why label) reason unlimited away = away
+none_away inst (ResultOf label) reason unlimited away = away
+none_away inst (Watch label) reason unlimited away = away
+none_away inst (Advance seconds) reason unlimited away = away
+none_away inst Shutdown reason unlimited away = away
 
-pub none_watched : (inst : Instance) (log : Log) (by : By) (shown : List (List ℕ)) (number : Option ℕ) → IsBuilt inst → IsLegalReply inst log by (Watched shown) number → ⊥
-none_watched inst log by shown number built reply = built.unwatched by reply.grounds.0 (reply.made ∙ ap Some reply.grounds.1)
-
-pub result_awaits : (l : Living) (by : By) (label : List ℕ) (st : Store) (id : ℕ) → IsBuilt l.inst → WaitsForEnd l by label st id ↔ (l.inst.asks by ≡ Some (ResultOf label))
-result_awaits l by label st id built = (to, λ asks. inl asks)
-  where
-    to : WaitsForEnd l by label st id → l.inst.asks by ≡ Some (ResultOf label)
-    to (inl asks) = asks
-    to (inr watch) = absurd (built.unwatched by label watch.0)
-
-none_away : (inst : Instance) (ask : JobAsk) (reason : ℕ) → IsBuilt inst → IsTurnedAway inst ask reason → ⊥
-none_away inst (Submit label urgency named text) reason built away = away.3 (sym away.2 ∙ ap (λ limits. verdict_of limits away.0) built.limits)
-none_away inst (Cancel label) reason built away = away
-none_away inst (Raise label kind severity note) reason built away = away
-none_away inst (Urge label urgency) reason built away = away
-none_away inst (StateOf label) reason built away = away
-none_away inst (Info label key) reason built away = away
-none_away inst Jobs reason built away = away
-none_away inst (Why label) reason built away = away
-none_away inst (ResultOf label) reason built away = away
-none_away inst (Watch label) reason built away = away
-none_away inst (Advance seconds) reason built away = away
-none_away inst Shutdown reason built away = away
-
-pub none_checked : (inst : Instance) (log : Log) (by : By) (reason : ℕ) (number : Option ℕ) → IsBuilt inst → IsLegalReply inst log by (Checked reason) number → ⊥
-none_checked inst log by reason number built reply = none_away inst reply.ask reason built reply.grounds.1
+pub none_checked : (inst : Instance) (log : Log) (by : By) (reason : ℕ) (number : Option ℕ) → inst.limits ≡ no_limits → IsLegalReply inst log by (Checked reason) number → ⊥
+none_checked inst log by reason number unlimited reply = none_away inst reply.ask reason unlimited reply.grounds.1
 
 -- ---- runs from first stores
 

@@ -105,6 +105,9 @@ impl Copied for Command {
             Command::ResultOf { label } => Command::ResultOf {
                 label: label.copy()?,
             },
+            Command::Watch { label } => Command::Watch {
+                label: label.copy()?,
+            },
             Command::Advance { seconds } => Command::Advance { seconds: *seconds },
             Command::Shutdown => Command::Shutdown,
         })

@@ -123,6 +123,10 @@ pub enum Command {
     ResultOf {
         label: Bytes,
     },
+    /// The events of the job, once it has ended.
+    Watch {
+        label: Bytes,
+    },
     /// So many seconds to let pass.
     Advance {
         seconds: u64,

@@ -69,6 +69,7 @@ verb_of word = if bytes_eq word (codes "put") then Some verb.Put
     else if bytes_eq word (codes "jobs") then Some verb.Jobs
     else if bytes_eq word (codes "why") then Some verb.Why
     else if bytes_eq word (codes "result") then Some verb.Result
+    else if bytes_eq word (codes "watch") then Some verb.Watch
     else if bytes_eq word (codes "advance") then Some verb.Advance
     else if bytes_eq word (codes "shutdown") then Some verb.Shutdown
     else None
@@ -310,6 +311,7 @@ said work verb.Info tail = showing tail
 said work verb.Jobs tail = alone command.Jobs tail
 said work verb.Why tail = one_name command.Why tail
 said work verb.Result tail = one_name command.ResultOf tail
+said work verb.Watch tail = one_name command.Watch tail
 said work verb.Advance tail = advancing work tail
 said work verb.Shutdown tail = alone command.Shutdown tail
 

@@ -182,6 +182,17 @@ pub fn result_of(
     Ok(Command::ResultOf { label })
 }
 
+/// The command `watch LABEL`.
+pub fn watch(alloc: Global, work: &Workload, line: u64, tail: &str) -> Result<Command, LineFault>
+    ensures { Reads lasting
+        (first_of (faults_of line (said work.now Verb.Watch tail.now)))
+        (λ c. c ≡ (said work.now Verb.Watch tail.now).command)
+        result }
+{
+    let label = one_name(alloc, line, tail)?;
+    Ok(Command::Watch { label })
+}
+
 /// The command `advance SECONDS`.
 pub fn advance(work: &Workload, line: u64, tail: &str) -> Result<Command, LineFault>
     ensures { Reads lasting

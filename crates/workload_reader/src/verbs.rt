@@ -8,7 +8,9 @@ ghost use Rattle.workload_reader.specs.Verbs.{faults_of, verb_of, said, one_key,
 
 use crate::contents::{content_drop, content_flush, content_load, content_store};
 use crate::faults::{LineFault, Which};
-use crate::jobs::{advance, cancel, info, jobs, raise, result_of, shutdown, state, urgency, why};
+use crate::jobs::{
+    advance, cancel, info, jobs, raise, result_of, shutdown, state, urgency, watch, why,
+};
 use crate::submits::submit;
 use kvs_txn::{Path, PathFault, Target};
 use lists::Bytes;
@@ -48,6 +50,7 @@ pub enum Verb {
     Jobs,
     Why,
     Result,
+    Watch,
     Advance,
     Shutdown,
 }
@@ -86,6 +89,7 @@ impl Verb {
             "jobs" => Some(Verb::Jobs),
             "why" => Some(Verb::Why),
             "result" => Some(Verb::Result),
+            "watch" => Some(Verb::Watch),
             "advance" => Some(Verb::Advance),
             "shutdown" => Some(Verb::Shutdown),
             _ => None,
@@ -413,6 +417,7 @@ pub fn command(
         Verb::Jobs => jobs(work, line, tail),
         Verb::Why => why(alloc, work, line, tail),
         Verb::Result => result_of(alloc, work, line, tail),
+        Verb::Watch => watch(alloc, work, line, tail),
         Verb::Advance => advance(work, line, tail),
         Verb::Shutdown => shutdown(work, line, tail),
     }
