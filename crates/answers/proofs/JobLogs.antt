@@ -70,6 +70,7 @@ replied_kept : (work : Workload) (c : List Entry) (actor number : ℕ) (given : 
     ≡ moment_of work top c (entry.Replied actor number given at_)
 replied_kept work c actor number (reply.Submitted id) at_ = refl
 replied_kept work c actor number (reply.BadSpec fault) at_ = refl
+replied_kept work c actor number (reply.Checked reason) at_ = refl
 replied_kept work c actor number reply.NoJob at_ = refl
 replied_kept work c actor number reply.Raised at_ = refl
 replied_kept work c actor number reply.Ended at_ = refl
@@ -82,6 +83,7 @@ replied_kept work c actor number (reply.Behind id) at_ = refl
 replied_kept work c actor number reply.Held at_ = refl
 replied_kept work c actor number reply.Ready at_ = refl
 replied_kept work c actor number (reply.EndedWith status) at_ = refl
+replied_kept work c actor number (reply.Watched shown) at_ = refl
 replied_kept work c actor number (reply.Advanced second) at_ = refl
 replied_kept work c actor number reply.Shut at_ = refl
 replied_kept work c actor number given at_ = kept (moment_of work top c (entry.Replied actor number given at_))
@@ -98,6 +100,7 @@ entry_kept work c (entry.Replied actor number given at_) = replied_kept work c a
 entry_kept work c (entry.Ticked second) = refl
 entry_kept work c (entry.Born child parent job label second grant) = unserved (parent == top) (Born job) refl
 entry_kept work c (entry.Gone child parent job shut) = unserved (parent == top) (Gone job shut) refl
+entry_kept work c (entry.Watched actor command number first count) = refl
 entry_kept work c e = kept (moment_of work top c e)
 
 pub only : {A : Type 0} (x y : A) → Contains (x ∷ []) y → y ≡ x
@@ -181,6 +184,7 @@ module _ (work : Workload) (by : By) (asks : is_some (job_ask_at work by) ≡ tr
   entry_issues c (entry.Ticked second) = refl
   entry_issues c (entry.Born child parent job label second grant) = unissued (parent == top) (Born job) refl
   entry_issues c (entry.Gone child parent job shut) = unissued (parent == top) (Gone job shut) refl
+  entry_issues c (entry.Watched actor command number first count) = refl
   entry_issues c e = served_none (moment_of work top c e)
 
   until_option : (o : Option Moment) (log : Log) (b : Bool) → issues_in by o ≡ b → until (issues_now by) (cons_option o log) ≡ cond b [] (cons_option o (until (issues_now by) log))
