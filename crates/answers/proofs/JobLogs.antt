@@ -1,5 +1,5 @@
 -- The log of the top instance has the log of its service in it, and the issues of its job commands.
-use Rattle.std.proofs.Common.{◌≡◌, ℕ, zero, suc, ◌≤◌, ◌==◌, ◌&&◌, ◌||◌, List, [], ◌∷◌, ◌++◌, Bool, true, false, cond, Option, Some, None, is_some, option_map, filter_map, refl, sym, ap, ap₂, ◌∙◌, subst, arith, true≢false}
+use Rattle.std.proofs.Common.{◌≡◌, ℕ, zero, suc, ◌≤◌, ◌==◌, ◌&&◌, ◌||◌, List, [], ◌∷◌, ◌++◌, Bool, true, false, cond, Option, Some, None, is_some, option_map, filter_map, refl, sym, ap, ap₂, ◌∙◌, subst, arith, append-nil, append_assoc, true≢false}
 use Rattle.std.specs.Prelude.{Contains, slice_get}
 use Rattle.std.specs.Option.{option_and_then, option_map_or}
 use Rattle.std.specs.List.{AllByRecursion as Each, cons_option, list_any}
@@ -102,6 +102,17 @@ entry_kept work c (entry.Born child parent job label second grant) = unserved (p
 entry_kept work c (entry.Gone child parent job shut) = unserved (parent == top) (Gone job shut) refl
 entry_kept work c (entry.Watched actor command number first count) = refl
 entry_kept work c e = kept (moment_of work top c e)
+
+-- the moments of further entries stand behind those of the first
+pub happenings_after-append : (work : Workload) (c xs ys : List Entry) → happenings_after work c (xs ++ ys) ≡ happenings_after work c xs ++ happenings_after work (c ++ xs) ys
+happenings_after-append work c [] ys = ap (λ b. happenings_after work b ys) (sym (append-nil c))
+happenings_after-append work c (x ∷ xs) ys =
+    ap (cons_option (happening_of work c x)) (happenings_after-append work (c ++ x ∷ []) xs ys ∙ ap (λ b. happenings_after work (c ++ x ∷ []) xs ++ happenings_after work b ys) (append_assoc c (x ∷ []) xs))
+    ∙ sym (joined (happening_of work c x) _ _)
+  where
+    joined : (o : Option Moment) (xs ys : Log) → cons_option o xs ++ ys ≡ cons_option o (xs ++ ys)
+    joined None xs ys = refl
+    joined (Some m) xs ys = refl
 
 pub only : {A : Type 0} (x y : A) → Contains (x ∷ []) y → y ≡ x
 only x y (zero, low, e) = sym e
