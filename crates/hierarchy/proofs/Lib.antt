@@ -19,7 +19,6 @@ pub mod Resting
 pub mod Finish
 pub mod Parts
 pub mod Labels
-pub mod Once
 pub mod Homes
 pub mod Settling
 pub mod Numbering

@@ -1,6 +1,6 @@
 //! The laws, each the contract of a function.
 ghost use Rattle.std.specs.Prelude.{◌≡◌, ◌+◌, ◌≤◌, IsSome, List, None};
-ghost use Rattle.workload.specs.Laws.{KeepsTallies};
+ghost use Rattle.workload.specs.Laws.{HasOwnLabels, KeepsTallies};
 ghost use Rattle.workload.specs.Tallies.{seconds_in};
 ghost use Rattle.answers.specs.declared.chronicle.Entry.{Entry};
 ghost use Rattle.answers.specs.Chronicle.{Setup, top};
@@ -9,6 +9,7 @@ ghost use Rattle.answers.specs.Jobs.{instance_of, second_of, start_of};
 ghost use Rattle.instance_rules.specs.Log.{IsInstance};
 ghost use Rattle.answers.specs.Legal.{IsLegal};
 ghost use Rattle.answers.specs.Runs.{IsInTime};
+ghost use Rattle.run_laws.specs.Feeds.{WatchesSeeTheirLogs};
 ghost use Rattle.run_laws.specs.Jobs.{JobsStaySound, LogsOnlyGrow, store_of};
 ghost use Rattle.run_laws.specs.Views.{JobsFollowWithRoots, LogsGrowWithRoots};
 ghost use Rattle.run_laws.specs.Reserved.{EndsComeFirst, HeadsKeepTheirSeconds, IsNamed};
@@ -65,4 +66,13 @@ pub fn heads_keep_their_seconds()
         → KeepsTime set c → IsLegal set c → IsNamed set.resources → EndsComeFirst set c
         → HeadsKeepTheirSeconds set c }
     ensures alone { (set : Setup) (c : List Entry) → IsInTime set c → EndsComeFirst set c }
+{}
+
+/// Along a legal chronicle each watch is fed the log of its job, each event once and in order: what
+/// it was fed so far is the whole log at the root at which it was fed last. No two submissions may
+/// have one label.
+pub fn watches_see_their_logs()
+    ensures { (set : Setup) (c : List Entry) → IsInstance (instance_of set)
+        → HasOwnLabels set.work.lines → KeepsTime set c → IsLegal set c
+        → WatchesSeeTheirLogs set c }
 {}
