@@ -120,8 +120,11 @@ module _ (set : Setup) (valid : IsInstance (instance_of set)) (labels : HasOwnLa
   abbrev log : service.Log
   log = log_of set.work top c
 
+  stands_here : store_after own log primary number ≡ Some feed.store
+  stands_here = ap (λ l. store_after own l primary number) (sym (service_kept set.work c)) ∙ feed.standing
+
   logged_here : AtRoot own log number (λ st. IsLogged st feed.id feed.events)
-  logged_here = (feed.store, ap (λ l. store_after own l primary number) (sym (service_kept set.work c)) ∙ feed.standing, feed.logged)
+  logged_here = (feed.store, stands_here, feed.logged)
 
   known : number ≤ landed log primary
   known = (fed_now set by c legal number first count seen feed).known
@@ -149,7 +152,7 @@ module _ (set : Setup) (valid : IsInstance (instance_of set)) (labels : HasOwnLa
       let above : last < number = later last is in
       let grown = logs_grow set valid c timely legal last number s.id s.events (omega (arith, above), known) s.small s.logged in
       let there = grown.1 in
-      let store : there.0 ≡ feed.store = same_one there.0 feed.store (sym there.1 ∙ logged_here.1) in
+      let store : there.0 ≡ feed.store = same_one there.0 feed.store (sym there.1 ∙ stands_here) in
       let old : IsLogged feed.store feed.id (s.events ++ grown.0) = subst (λ st. IsLogged st feed.id (s.events ++ grown.0)) store (subst (λ id. IsLogged there.0 id (s.events ++ grown.0)) (sym same) there.2) in
       record { same = same; now = grown.0; joined = logs_same feed.store feed.id (s.events ++ grown.0) feed.events old feed.logged }
 
@@ -174,7 +177,7 @@ module _ (set : Setup) (valid : IsInstance (instance_of set)) (labels : HasOwnLa
 
   sees_all : (o : Option ℕ) → last_fed by (log_in set.work c) ≡ o → Known set c by o → feeds_of by (c ++ e ∷ []) ≡ feeds_of by c ++ is_feed ∷ []
       → (s : SeesLog set (c ++ e ∷ []) by number) × (s.events ≡ feed.events)
-  unfolding Known
+  unfolding Known next
   sees_all None is h pushed = (next [] feed.events refl h.0 (subst (λ feeds. AreFed own log feed.id feeds []) (sym h.1) refl) pushed, refl)
   sees_all (Some last) is (s, counted) pushed =
       let b = behind last is s in
@@ -196,34 +199,34 @@ module _ (set : Setup) (valid : IsInstance (instance_of set)) (labels : HasOwnLa
 abbrev Fits : Setup → List Entry → Entry → Type 0
 Fits set c e = IsLegalEntry set c e × (second_of set c < 2 ^ 64)
 
+abbrev feed_entry : By → ℕ → ℕ → ℕ → Entry
+feed_entry by number first count = entry.Watched by.actor by.command number first count
+
 module _ (set : Setup) (valid : IsInstance (instance_of set)) (labels : HasOwnLabels set.work.lines) where
   AllKnown : List Entry → Type 0
   AllKnown c = (by : By) → Known set c by (last_fed by (log_in set.work c))
 
   -- behind a feed of this watch or of another one
-  fed_step : (c : List Entry) → IsLegal set c → KeepsTime set c → (by other : By) (number first count : ℕ) → IsLegalEntry set c (entry.Watched other.actor other.command number first count)
-      → Known set c by (last_fed by (log_in set.work c)) → Known set (c ++ entry.Watched other.actor other.command number first count ∷ []) by (last_fed by (log_in set.work (c ++ entry.Watched other.actor other.command number first count ∷ [])))
+  fed_step : (c : List Entry) → IsLegal set c → KeepsTime set c → (by other : By) (number first count : ℕ) → IsLegalEntry set c (feed_entry other number first count)
+      → Known set c by (last_fed by (log_in set.work c)) → Known set (c ++ feed_entry other number first count ∷ []) by (last_fed by (log_in set.work (c ++ feed_entry other number first count ∷ [])))
   fed_step c legal timely by other number first count fits h = at (same_command by other) refl
     where
-      abbrev e : Entry
-      e = entry.Watched other.actor other.command number first count
-
-      at : (b : Bool) → same_command by other ≡ b → Known set (c ++ e ∷ []) by (last_fed by (log_in set.work (c ++ e ∷ [])))
+      at : (b : Bool) → same_command by other ≡ b → Known set (c ++ feed_entry other number first count ∷ []) by (last_fed by (log_in set.work (c ++ feed_entry other number first count ∷ [])))
       at false is =
-          let none : IsNoFeed set by e = record {
+          let none : IsNoFeed set by (feed_entry other number first count) = record {
             last = ap (λ b. cond b (Some (Some number)) None) is;
             counted = ap (λ b. cond b (Some count) None) is;
             feed = ap (λ b. cond b (Some (record { number = number; first = first; count = count })) None) is;
           } in
-          subst (Known set (c ++ e ∷ []) by) (sym (last_push set.work c by e ∙ ap (λ o. unwrap_or o (last_fed by (log_in set.work c))) none.last))
-          (known_stays set c by e none (last_fed by (log_in set.work c)) h)
+          subst (Known set (c ++ feed_entry other number first count ∷ []) by) (sym (last_push set.work c by (feed_entry other number first count) ∙ ap (λ o. unwrap_or o (last_fed by (log_in set.work c))) none.last))
+          (known_stays set c by (feed_entry other number first count) none (last_fed by (log_in set.work c)) h)
       at true is =
           let own : by ≡ other = command_is by other is in
           let seen : IsSeenFeed set c by number = subst (λ b. IsSeenFeed set c b number) (sym own) fits.grounds.0 in
           let feed : IsLegalFeed (instance_of set) (log_in set.work c) by number first count = subst (λ b. IsLegalFeed (instance_of set) (log_in set.work c) b number first count) (sym own) fits.grounds.1 in
           let now = known_behind set valid labels c legal timely by number first count seen feed h in
-          subst (Known set (c ++ e ∷ []) by) (sym (last_push set.work c by e ∙ ap (λ b. unwrap_or (cond b (Some (Some number)) None) (last_fed by (log_in set.work c))) is))
-          (subst (λ (b : By). Known set (c ++ entry.Watched b.actor b.command number first count ∷ []) by (Some number)) own now)
+          subst (Known set (c ++ feed_entry other number first count ∷ []) by) (sym (last_push set.work c by (feed_entry other number first count) ∙ ap (λ b. unwrap_or (cond b (Some (Some number)) None) (last_fed by (log_in set.work c))) is))
+          (subst (λ (b : By). Known set (c ++ feed_entry b number first count ∷ []) by (Some number)) own now)
 
   step : (c : List Entry) (e : Entry) → EachAfter (Fits set) [] c → Fits set c e → AllKnown c → AllKnown (c ++ e ∷ [])
   unfolding AllKnown
