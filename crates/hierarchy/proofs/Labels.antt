@@ -1,16 +1,10 @@
 -- A label names one job: that of the one line that submits it. So no birth has a label that another one has.
-use Rattle.std.proofs.Common.{◌≡◌, ℕ, zero, suc, ◌+◌, ◌<◌, ◌^◌, ◌==◌, inl, inr, List, [], ◌∷◌, ◌++◌, Bool, true, false, cond, ◌||◌, Option, Some, None, is_some, option_map, filter_map, refl, sym, ap, ap₂, ◌∙◌, subst, arith, append-nil, append_assoc, true≢false, bytes_eq}
-use Rattle.std.specs.Prelude.{Contains, find, if◌then◌else◌, slice_get, unwrap_or}
+use Rattle.std.proofs.Common.{◌≡◌, ℕ, ◌<◌, ◌^◌, ◌==◌, inl, inr, List, [], ◌∷◌, ◌++◌, Bool, true, false, cond, Option, Some, None, is_some, option_map, refl, sym, ap, ap₂, ◌∙◌, subst, append-nil, append_assoc, true≢false, bytes_eq}
+use Rattle.std.specs.Prelude.{find, unwrap_or}
 use Rattle.std.specs.List.{cons_option, list_any}
-use Rattle.std.specs.Option.{option_and_then}
-use Rattle.std.proofs.lemmas.Bool.{eq-eqb, eqb-true, or_parts, or_right}
-use Rattle.std.proofs.lemmas.List.Elements.{Contains-append_left, filter_map-append}
+use Rattle.std.proofs.lemmas.Bool.{eq-eqb, or_parts}
 use Rattle.std.proofs.lemmas.List.Folds.{list_any-append}
-use Rattle.std.proofs.lemmas.Slice.Eq.{bytes_eq-Decides}
 use Rattle.job_rules.proofs.Among.{Among, among_from, each_at as each_among}
-use Rattle.kvs_rules.specs.Log as service
-use Rattle.kvs_rules.specs.Namespaces.{primary}
-use Rattle.kvs_rules.specs.declared.events.KvsEvent.TheVariants as event
 use Rattle.kvs_rules.specs.Sequence.{EachAfter, latest}
 use Rattle.kvs_rules.proofs.Sequences.{each_at}
 use Rattle.kvs_txn.specs.declared.txn.By.{By}
@@ -20,18 +14,15 @@ use Rattle.manager_rules.specs.Jobs.{IsStored}
 use Rattle.manager_rules.specs.Times.{IsBirthDue}
 use Rattle.instance_rules.specs.Desks.{HasSubmitted, Names}
 use Rattle.instance_rules.specs.Family.{Living, OfLiving}
-use Rattle.instance_rules.specs.Log as rules
-use Rattle.instance_rules.specs.Log.{Born, Gone, Issued, Log, Moment, Replied, Served, Ticked, child_of, child_told, served, service_of}
+use Rattle.instance_rules.specs.Log.{Born, Gone, Log, Moment, child_of, child_told}
 use Rattle.workload.specs.Actors.{are_together}
 use Rattle.workload.specs.Laws.{HasOwnLabels}
-use Rattle.workload.specs.Tallies.{declares, is_declared}
+use Rattle.workload.specs.Tallies.{declares}
 use Rattle.workload.specs.declared.work.Command.{Command}
-use Rattle.workload.specs.declared.work.Command.TheVariants as command
-use Rattle.workload.specs.declared.work.Line.{Line}
 use Rattle.workload.specs.declared.work.Workload.{Workload}
 use Rattle.answers.specs.Chronicle.{Setup, top}
 use Rattle.answers.specs.Commands.{command_at}
-use Rattle.answers.specs.Jobs.{happenings_after, instance_of, job_ask_of, log_in}
+use Rattle.answers.specs.Jobs.{happenings_after, instance_of, log_in}
 use Rattle.answers.specs.declared.chronicle.Entry.{Entry}
 use Rattle.answers.specs.declared.chronicle.Entry.TheVariants as entry
 use Rattle.run_laws.proofs.Once.{begins_one}

@@ -56,6 +56,12 @@ watch_same a b e = cc
 
 -- ---- what an entry leaves
 
+-- an entry that feeds another watch or none
+pub record IsNoFeed (by : By) (e : Entry) : Type 0 where
+  pub last : told_of (fed_at by) e ≡ None
+  pub counted : told_of (fed_with by) e ≡ None
+  pub feed : feed_in by e ≡ None
+
 module _ (set : Setup) where
   root_stays : (c : List Entry) (e : Entry) (number : ℕ) (P : Store → Type 0) → AtRoot (setting_of set) (log_of set.work top c) number P → AtRoot (setting_of set) (log_of set.work top (c ++ e ∷ [])) number P
   root_stays c e number P (st, was, held) = (
@@ -80,34 +86,35 @@ module _ (set : Setup) where
   Known c by None = (fed_in_all by (log_in set.work c) ≡ 0) × (feeds_of by c ≡ [])
   Known c by (Some number) = (s : SeesLog set c by number) × (fed_in_all by (log_in set.work c) ≡ length s.events)
 
-  -- an entry that feeds another watch or none
-  record IsNoFeed (by : By) (e : Entry) : Type 0 where
-    last : told_of (fed_at by) e ≡ None
-    counted : told_of (fed_with by) e ≡ None
-    feed : feed_in by e ≡ None
-
   count_stays : (c : List Entry) (by : By) (e : Entry) → IsNoFeed by e → fed_in_all by (log_in set.work (c ++ e ∷ [])) ≡ fed_in_all by (log_in set.work c)
   count_stays c by e none = all_push set.work c by e ∙ ap (λ o. fed_in_all by (log_in set.work c) + unwrap_or o 0) none.counted ∙ omega arith
 
   feeds_stay : (c : List Entry) (by : By) (e : Entry) → IsNoFeed by e → feeds_of by (c ++ e ∷ []) ≡ feeds_of by c
   feeds_stay c by e none = filter_map-append (feed_in by) c (e ∷ []) ∙ ap (λ o. feeds_of by c ++ cons_option o []) none.feed ∙ append-nil (feeds_of by c)
 
+  sees_stays : (c : List Entry) (by : By) (e : Entry) → IsNoFeed by e → (number : ℕ) → SeesLog set c by number → SeesLog set (c ++ e ∷ []) by number
+  sees_stays c by e none number s = record {
+    label = s.label;
+    asks = s.asks;
+    id = s.id;
+    small = s.small;
+    names = names_stay c e s.label s.id s.names;
+    events = s.events;
+    logged = root_stays c e number (λ st. IsLogged st s.id s.events) s.logged;
+    fed = subst (λ feeds. AreFed (setting_of set) (log_of set.work top (c ++ e ∷ [])) s.id feeds s.events) (sym (feeds_stay c by e none)) (fed_stays c e s.id (feeds_of by c) s.events s.fed);
+  }
+
+  last_stays : (c : List Entry) (by : By) (e : Entry) → IsNoFeed by e → last_fed by (log_in set.work (c ++ e ∷ [])) ≡ last_fed by (log_in set.work c)
+  last_stays c by e none = last_push set.work c by e ∙ ap (λ o. unwrap_or o (last_fed by (log_in set.work c))) none.last
+
+  -- what is no feed leaves what watches were fed
+  pub see_behind : (c : List Entry) (e : Entry) → ((by : By) → IsNoFeed by e) → WatchesSeeTheirLogs set c → WatchesSeeTheirLogs set (c ++ e ∷ [])
+  see_behind c e none all by number is = sees_stays c by e (none by) number (all by number (sym (last_stays c by e (none by)) ∙ is))
+
   known_stays : (c : List Entry) (by : By) (e : Entry) → IsNoFeed by e → (o : Option ℕ) → Known c by o → Known (c ++ e ∷ []) by o
-  unfolding Known
+  unfolding Known sees_stays
   known_stays c by e none None h = (count_stays c by e none ∙ h.0, feeds_stay c by e none ∙ h.1)
-  known_stays c by e none (Some number) (s, counted) = (
-    record {
-      label = s.label;
-      asks = s.asks;
-      id = s.id;
-      small = s.small;
-      names = names_stay c e s.label s.id s.names;
-      events = s.events;
-      logged = root_stays c e number (λ st. IsLogged st s.id s.events) s.logged;
-      fed = subst (λ feeds. AreFed (setting_of set) (log_of set.work top (c ++ e ∷ [])) s.id feeds s.events) (sym (feeds_stay c by e none)) (fed_stays c e s.id (feeds_of by c) s.events s.fed);
-    },
-    count_stays c by e none ∙ counted,
-  )
+  known_stays c by e none (Some number) (s, counted) = (sees_stays c by e none number s, count_stays c by e none ∙ counted)
 
 -- ---- a feed
 
@@ -213,12 +220,12 @@ module _ (set : Setup) (valid : IsInstance (instance_of set)) (labels : HasOwnLa
     where
       at : (b : Bool) → same_command by other ≡ b → Known set (c ++ feed_entry other number first count ∷ []) by (last_fed by (log_in set.work (c ++ feed_entry other number first count ∷ [])))
       at false is =
-          let none : IsNoFeed set by (feed_entry other number first count) = record {
+          let none : IsNoFeed by (feed_entry other number first count) = record {
             last = ap (λ b. cond b (Some (Some number)) None) is;
             counted = ap (λ b. cond b (Some count) None) is;
             feed = ap (λ b. cond b (Some (record { number = number; first = first; count = count })) None) is;
           } in
-          subst (Known set (c ++ feed_entry other number first count ∷ []) by) (sym (last_push set.work c by (feed_entry other number first count) ∙ ap (λ o. unwrap_or o (last_fed by (log_in set.work c))) none.last))
+          subst (Known set (c ++ feed_entry other number first count ∷ []) by) (sym (last_stays set c by (feed_entry other number first count) none))
           (known_stays set c by (feed_entry other number first count) none (last_fed by (log_in set.work c)) h)
       at true is =
           let own : by ≡ other = command_is by other is in
