@@ -13,20 +13,16 @@ use Rattle.backfill.specs.Held.{held, held_at, is_held_at}
 -- who has no unit of live jobs has none of what they hold at a second
 none_then : (kind : Node → List ℕ) (second : ℕ) (live : List Hold) (host : List ℕ) (id : ℕ) → has_unit kind (nodes_of (map held live)) host id ≡ false → has_unit kind (nodes_of (held_at second live)) host id ≡ false
 none_then kind second [] host id e = e
-none_then kind second (x ∷ xs) host id e = at (is_held_at second x)
+none_then kind second (x ∷ xs) host id e =
+    let parts = or_parts (has_unit kind x.units.nodes host id) (has_unit kind (nodes_of (map held xs)) host id) (sym (has_both kind x.units.nodes (nodes_of (map held xs)) host id) ∙ e) in
+    at (is_held_at second x) parts.0 (none_then kind second xs host id parts.1)
   where
-    parts : (has_unit kind x.units.nodes host id ≡ false) × (has_unit kind (nodes_of (map held xs)) host id ≡ false)
-    parts = or_parts (has_unit kind x.units.nodes host id) (has_unit kind (nodes_of (map held xs)) host id) (sym (has_both kind x.units.nodes (nodes_of (map held xs)) host id) ∙ e)
-
     rest : List Hold
     rest = filter (is_held_at second) xs
 
-    more : has_unit kind (nodes_of (map held rest)) host id ≡ false
-    more = none_then kind second xs host id parts.1
-
-    at : (b : Bool) → has_unit kind (nodes_of (map held (cond b (x ∷ rest) rest))) host id ≡ false
-    at true = has_both kind x.units.nodes (nodes_of (map held rest)) host id ∙ or_from (has_unit kind x.units.nodes host id) (has_unit kind (nodes_of (map held rest)) host id) parts.0 more
-    at false = more
+    at : (b : Bool) → has_unit kind x.units.nodes host id ≡ false → has_unit kind (nodes_of (map held rest)) host id ≡ false → has_unit kind (nodes_of (map held (cond b (x ∷ rest) rest))) host id ≡ false
+    at true none more = has_both kind x.units.nodes (nodes_of (map held rest)) host id ∙ or_from (has_unit kind x.units.nodes host id) (has_unit kind (nodes_of (map held rest)) host id) none more
+    at false none more = more
 
 apart_then : (second : ℕ) (nodes : List Node) (live : List Hold) → AreApart nodes (nodes_of (map held live)) → AreApart nodes (nodes_of (held_at second live))
 apart_then second nodes live a host id = (
@@ -39,12 +35,14 @@ apart_drop zero live a = a
 apart_drop (suc i) [] a = a
 apart_drop (suc i) (x ∷ xs) a = apart_drop i xs a.1
 
--- a job is apart from what those behind it hold at a second
-pub apart_behind : (second : ℕ) (live : List Hold) (i : ℕ) (d : Hold) → AllApart (map held live) → i < length live → AreApart (get_or live i d).units.nodes (nodes_of (held_at second (drop (i + 1) live)))
-apart_behind second live i d a w =
-    let from = subst (λ xs. AllApart (map held xs)) (drop_more live i d w) (apart_drop i live a) in
-    apart_then second (get_or live i d).units.nodes (drop (i + 1) live) from.0
+module _ (second : ℕ) (live : List Hold) (i next : ℕ) (x : Hold) (within : i < length live) (is : x ≡ get_or live i x) (follows : i + 1 ≡ next) where
+  from : drop i live ≡ x ∷ drop next live
+  from = drop_more live i x within ∙ ap (λ h. h ∷ drop (i + 1) live) (sym is) ∙ ap (λ n. x ∷ drop n live) follows
 
--- what it holds, and what those behind it do
-pub nodes_from : (second : ℕ) (live : List Hold) (i : ℕ) (d : Hold) → i < length live → nodes_of (held_at second (drop i live)) ≡ nodes_of (held_at second (get_or live i d ∷ [])) ++ nodes_of (held_at second (drop (i + 1) live))
-nodes_from second live i d w = ap (λ xs. nodes_of (held_at second xs)) (drop_more live i d w) ∙ nodes_both second (get_or live i d ∷ []) (drop (i + 1) live)
+  -- a job is apart from what those behind it hold at a second
+  pub apart_behind : AllApart (map held live) → AreApart x.units.nodes (nodes_of (held_at second (drop next live)))
+  apart_behind a = apart_then second x.units.nodes (drop next live) (subst (λ xs. AllApart (map held xs)) from (apart_drop i live a)).0
+
+  -- what it holds, and what those behind it do
+  pub nodes_from : nodes_of (held_at second (drop i live)) ≡ nodes_of (held_at second (x ∷ [])) ++ nodes_of (held_at second (drop next live))
+  nodes_from = ap (λ xs. nodes_of (held_at second xs)) from ∙ nodes_both second (x ∷ []) (drop next live)
