@@ -1,6 +1,7 @@
 -- Jobs that ask for the same are answered the same.
-use Rattle.std.proofs.Common.{◌≡◌, ◌≢◌, ℕ, ◌<◌, ◌-◌, List, [], ◌∷◌, Option, Some, None, refl, sym, ap, ◌∙◌, subst}
+use Rattle.std.proofs.Common.{◌≡◌, ◌≢◌, ℕ, ◌<◌, ◌-◌, List, [], ◌∷◌, ◌++◌, Option, Some, None, refl, sym, ap, ◌∙◌, subst}
 use Rattle.std.specs.Prelude.{Contains, IsSomeAnd, min, option_map}
+use Rattle.std.specs.List.{AllByRecursion as Each}
 use Rattle.backfill.specs.declared.hold.Hold.{Hold}
 use Rattle.job_rules.proofs.Among.{among_from}
 use Rattle.job_rules.specs.Fits as fits
@@ -82,3 +83,7 @@ module _ (s : Scene) (are : AreInTime s.jobs) (head j k : StoredJob) (there : Co
 
 pub refused : (s : Scene) → AreInTime s.jobs → (head k : StoredJob) → Contains s.jobs k → 0 < waits_with k → k.id ≢ head.id → (Leaves s head k → ⊥) → IsRefused s head (asks_of k.spec)
 refused s are head k known above behind none j there same l = none (alike s are head j k there known above behind same l)
+
+pub refused_more : (s : Scene) (head : StoredJob) (all : List Asks) (asks : Asks) → Each (IsRefused s head) all → IsRefused s head asks → Each (IsRefused s head) (all ++ asks ∷ [])
+refused_more s head [] asks e more = (more, tt)
+refused_more s head (x ∷ xs) asks e more = (e.0, refused_more s head xs asks e.1 more)

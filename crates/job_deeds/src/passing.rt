@@ -73,7 +73,7 @@ pub struct Asks {
 }
 
 /// What a jobspec asks for.
-fn asks(spec: &JobSpec) -> Asks
+fn asked_by(spec: &JobSpec) -> Asks
     ensures { result ≡ asks_of spec.now }
 {
     Asks {
@@ -90,7 +90,7 @@ fn asks(spec: &JobSpec) -> Asks
 fn is_refused(refused: &[Asks], spec: &JobSpec) -> bool
     ensures { IsTrue result → Contains refused.now (asks_of spec.now) }
 {
-    let wanted = asks(spec);
+    let wanted = asked_by(spec);
     refused.contains(&wanted)
 }
 
@@ -100,7 +100,7 @@ fn keep_refused(refused: &mut Vec<Asks>, spec: &JobSpec) -> Result<(), AllocErro
         ⊎ (refused.new.items ≡ refused.old.items ++ asks_of spec.now ∷ [])) }
 {
     if refused.len() < KINDS {
-        refused.push(asks(spec))?;
+        refused.push(asked_by(spec))?;
     }
     Ok(())
 }
