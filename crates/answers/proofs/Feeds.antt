@@ -11,18 +11,17 @@ use Rattle.kvs_rules.specs.Brokers.{heard}
 use Rattle.kvs_rules.specs.Log as service
 use Rattle.kvs_rules.specs.Log.{same_command}
 use Rattle.kvs_rules.specs.Namespaces.{landed, primary}
-use Rattle.kvs_rules.specs.Sequence.{EachAfter, latest}
+use Rattle.kvs_rules.specs.Sequence.{EachAfter}
 use Rattle.kvs_rules.specs.Answers.{IsLegalLog}
 use Rattle.kvs_rules.proofs.Asking.{command_is}
 use Rattle.kvs_rules.proofs.Logs.{heard_within_landed}
 use Rattle.kvs_rules.proofs.Sequences.{each_along, each_push, latest_push, until-append}
-use Rattle.instance_rules.specs.Log as rules
-use Rattle.instance_rules.specs.Log.{JobReply, Log, Moment, Born, Fed, Gone, Issued, Replied, Served, Ticked, service_of}
+use Rattle.instance_rules.specs.Log.{JobReply, Moment, Born, Fed, Gone, Issued, Replied, Served, Ticked, service_of}
 use Rattle.instance_rules.specs.Watches.{IsLegalFeed, fed_at, fed_in_all, fed_with, last_fed}
 use Rattle.answers.specs.declared.chronicle.Entry.{Entry}
 use Rattle.answers.specs.declared.chronicle.Entry.TheVariants as entry
 use Rattle.workload.specs.declared.work.Workload.{Workload}
-use Rattle.answers.specs.Chronicle.{Setup, before_issue, is_issued, issues, top}
+use Rattle.answers.specs.Chronicle.{Setup, is_issued, issues, top}
 use Rattle.answers.specs.Commands.{broker_of}
 use Rattle.answers.specs.Floors.{floor}
 use Rattle.answers.specs.Jobs.{happening_of, instance_of, job_ask_at, job_reply_of, log_in}

@@ -27,6 +27,7 @@ pub mod Within
 pub mod Inside
 pub mod Marks
 pub mod Throughout
+pub mod Watching
 pub mod Keeping
 pub mod Having
 pub mod Named

@@ -141,7 +141,7 @@ module _ (set : Setup) (c : List Entry) (fits : HasTime set) (valid : AreValid s
   all_follow past more split i h = (all_tell past (past_legal past more split) more split i h).0.1
 
   -- the lines of each instance have their labels alone, where those of all do
-  labels_in : (past : List Entry) (i : ℕ) → HasOwnLabels set.work.lines → HasOwnLabels (setup_in set past i).work.lines
+  pub labels_in : (past : List Entry) (i : ℕ) → HasOwnLabels set.work.lines → HasOwnLabels (setup_in set past i).work.lines
   labels_in past i labels = by (birth_of past i)
     where
       by : (o : Option Birth) → HasOwnLabels (option_map_or (child_setup set) o (record set { work = work_for set.work None set.size })).work.lines

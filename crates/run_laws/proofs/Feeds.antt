@@ -1,5 +1,5 @@
 -- Along a legal chronicle each watch is fed the log of its job, each event once and in order.
-use Rattle.std.proofs.Common.{◌≡◌, ℕ, ◌+◌, ◌<◌, ◌≤◌, ◌^◌, List, [], ◌∷◌, ◌++◌, Bool, true, false, cond, ◌&&◌, eq-eqb, length, take, drop, Option, Some, None, IfSome, unwrap_or, filter_map, refl, sym, ap, ap₂, ◌∙◌, subst, arith, append-nil, append_assoc}
+use Rattle.std.proofs.Common.{◌≡◌, ℕ, ◌+◌, ◌<◌, ◌≤◌, ◌^◌, List, [], ◌∷◌, ◌++◌, Bool, true, false, cond, ◌&&◌, eq-eqb, length, take, drop, Option, Some, None, IfSome, IsSomeAnd, unwrap_or, refl, sym, ap, ap₂, ◌∙◌, subst, arith, append-nil, append_assoc}
 use Rattle.std.specs.List.{cons_option}
 use Rattle.std.proofs.lemmas.List.{length-append, take_all}
 use Rattle.std.proofs.lemmas.List.Elements.{filter_map-append}
@@ -14,22 +14,25 @@ use Rattle.kvs_rules.specs.Log.{same_command}
 use Rattle.kvs_rules.specs.Namespaces.{Setting, landed, primary, store_after}
 use Rattle.kvs_rules.specs.Sequence.{EachAfter}
 use Rattle.kvs_txn.specs.declared.txn.By.{By}
-use Rattle.manager_rules.specs.Jobs.{IsLogged}
+use Rattle.job_rules.proofs.Among.{among_from, each_at as each_among}
+use Rattle.manager_rules.specs.Jobs.{IsLogged, IsStored}
+use Rattle.manager_rules.specs.Limits.{names_shown}
 use Rattle.manager_rules.proofs.Unique.{logs_same}
 use Rattle.instance_rules.specs.Desks.{Names}
 use Rattle.instance_rules.specs.Log.{IsInstance, JobAsk, Watch}
-use Rattle.instance_rules.specs.Watches.{IsLegalFeed, fed_at, fed_in_all, fed_with, last_fed}
+use Rattle.instance_rules.specs.Watches.{HasWatched, IsLegalFeed, fed_at, fed_in_all, fed_with, last_fed}
 use Rattle.workload.specs.Laws.{HasOwnLabels}
 use Rattle.answers.specs.declared.chronicle.Entry.{Entry}
 use Rattle.answers.specs.declared.chronicle.Entry.TheVariants as entry
+use Rattle.answers.specs.declared.chronicle.Reply.TheVariants as reply
 use Rattle.answers.specs.Chronicle.{Setup, top}
-use Rattle.answers.specs.Jobs.{happenings_after, instance_of, log_in, second_of}
+use Rattle.answers.specs.Jobs.{happenings_after, instance_of, job_ask_at, log_in, second_of}
 use Rattle.answers.specs.Legal.{IsLegal, IsLegalEntry, IsSeenFeed}
 use Rattle.answers.specs.Services.{log_of, moment_of, setting_of}
-use Rattle.answers.proofs.Feeds.{WasFed, all_push, fed_now, last_push, told_of}
+use Rattle.answers.proofs.Feeds.{all_push, fed_now, last_push, told_of}
 use Rattle.answers.proofs.JobLogs.{happenings_after-append, service_kept}
 use Rattle.answers.proofs.Services.{log_push}
-use Rattle.run_laws.specs.Feeds.{AreFed, Feed, IsFedWith, SeesLog, WatchesSeeTheirLogs, feed_in, feeds_of}
+use Rattle.run_laws.specs.Feeds.{AreFed, Feed, IsFedWith, SeesLog, TellsLog, WatchesSeeTheirLogs, feed_in, feeds_of}
 use Rattle.run_laws.specs.Times.{KeepsTime}
 use Rattle.run_laws.specs.Views.{AtRoot}
 use Rattle.run_laws.proofs.EachJob.{apart}
@@ -251,3 +254,39 @@ module _ (set : Setup) (valid : IsInstance (instance_of set)) (labels : HasOwnLa
   pub sees_logs : (c : List Entry) → IsLegal set c → KeepsTime set c → WatchesSeeTheirLogs set c
   unfolding AllKnown Known
   sees_logs c legal timely by number is = (subst (Known set c by) is (all_known c legal timely by)).0
+
+  -- ---- what a watch is told
+
+  tells_at : (c : List Entry) → IsLegal set c → KeepsTime set c → (by : By) (label : List ℕ) (shown : List (List ℕ)) (number : ℕ) → job_ask_at set.work by ≡ Some (Watch label)
+      → HasWatched (instance_of set) (log_in set.work c) by label shown number → TellsLog set c by shown number
+  tells_at c legal timely by label shown number asks h = record {
+    sees = s;
+    told = h.told ∙ ap (names_shown set.terms.shown) logs;
+    over = (h.store, stands_there, (h.j, stored, sym id, h.over));
+  }
+    where
+      stands_there : store_after (setting_of set) (log_of set.work top c) primary number ≡ Some h.store
+      stands_there = ap (λ l. store_after (setting_of set) l primary number) (sym (service_kept set.work c)) ∙ h.standing
+
+      s : SeesLog set c by number
+      s = sees_logs c legal timely by number h.last
+
+      stored : IsStored h.store h.j
+      stored = each_among (IsStored h.store) h.jobs h.j h.are.stored (among_from h.jobs h.j h.known)
+
+      id : s.id ≡ h.j.id
+      id = names_one set labels c legal label h.j.id s.id stored.small h.names (subst (λ l. Names (instance_of set) (log_in set.work c) l s.id) (watch_same s.label label (sym s.asks ∙ asks)) s.names)
+
+      logs : h.events ≡ s.events
+      logs =
+          let same : s.logged.0 ≡ h.store = same_one s.logged.0 h.store (sym s.logged.1 ∙ stands_there) in
+          let there : IsLogged h.store h.j.id s.events = subst (λ st. IsLogged st h.j.id s.events) same (subst (λ id. IsLogged s.logged.0 id s.events) id s.logged.2) in
+          logs_same h.store h.j.id h.events s.events h.logged there
+
+  pub tells_log : (c : List Entry) → IsLegal set c → KeepsTime set c → (by : By) (shown : List (List ℕ)) (number : Option ℕ)
+      → IsLegalEntry set c (entry.Replied by.actor by.command (reply.Watched shown) number) → IsSomeAnd number (TellsLog set c by shown)
+  tells_log c legal timely by shown number fits = on number fits.grounds.grounds.2
+    where
+      on : (o : Option ℕ) → IsSomeAnd o (HasWatched (instance_of set) (log_in set.work c) by fits.grounds.grounds.0 shown) → IsSomeAnd o (TellsLog set c by shown)
+      on None h = h
+      on (Some n) h = tells_at c legal timely by fits.grounds.grounds.0 shown n (fits.grounds.made ∙ ap Some fits.grounds.grounds.1) h

@@ -4,7 +4,9 @@ use Rattle.event_log.specs.declared.event.Event.{Event}
 use Rattle.kvs_rules.specs.Log.{Log, same_command}
 use Rattle.kvs_rules.specs.Namespaces.{Setting}
 use Rattle.kvs_txn.specs.declared.txn.By.{By}
-use Rattle.manager_rules.specs.Jobs.{IsLogged}
+use Rattle.job_states.specs.declared.job.State.TheVariants as state
+use Rattle.manager_rules.specs.Jobs.{IsLogged, IsStored, StoredJob}
+use Rattle.manager_rules.specs.Limits.{names_shown}
 use Rattle.instance_rules.specs.Desks.{Names}
 use Rattle.instance_rules.specs.Log.{Watch}
 use Rattle.instance_rules.specs.Watches.{last_fed}
@@ -62,3 +64,14 @@ pub record SeesLog (set : Setup) (c : List Entry) (by : By) (number : ℕ) : Typ
 abbrev pub WatchesSeeTheirLogs : Setup → List Entry → Type 0
 WatchesSeeTheirLogs set c = (by : By) (number : ℕ)
     → last_fed by (log_in set.work c) ≡ Some number → SeesLog set c by number
+
+-- ---- what they tell
+
+-- a watch is told the names, as they are shown, of the events that it was fed: all there are, since
+-- its job is over
+pub record TellsLog (set : Setup) (c : List Entry) (by : By)
+    (shown : List (List ℕ)) (number : ℕ) : Type 0 where
+  pub sees : SeesLog set c by number
+  pub told : shown ≡ names_shown set.terms.shown sees.events
+  pub over : AtRoot (setting_of set) (log_of set.work top c) number (λ st. (j : StoredJob)
+      × IsStored st j × (j.id ≡ sees.id) × (j.job.state ≡ state.Inactive))
