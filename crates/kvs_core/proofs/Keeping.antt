@@ -1,6 +1,6 @@
 -- The roots of `primary`, and the store that each broker has.
 use Rattle.std.specs.Prelude.{slice_index}
-use Rattle.std.proofs.Common.{◌≡◌, ℕ, ◌<◌, ◌-◌, List, [], ◌∷◌, length, Some, cond, option_map, if◌then◌else◌, sym, ap, ◌∙◌, subst, arith, get_or}
+use Rattle.std.proofs.Common.{◌≡◌, ℕ, ◌<◌, ◌-◌, List, [], ◌∷◌, length, Some, cond, option_map, if◌then◌else◌, refl, sym, ap, ◌∙◌, subst, arith, get_or}
 use Rattle.std.specs.Option.{option_map_or}
 use Rattle.std.proofs.lemmas.Option.{slice_get-get_or}
 use Rattle.kvs_model.specs.History.{after, first_store}
