@@ -20,4 +20,5 @@ pub record IsReservation (spec : JobSpec) (grant : List Node)
 -- the job's, or none where it fits at no second from now on
 abbrev pub AsReserved : JobSpec → List Node → List Hold → ℕ → Option Reservation → Type 0
 AsReserved spec grant live now (Some r) = IsReservation spec grant live now r
-AsReserved spec grant live now None = (second : ℕ) → now ≤ second → FitsAt spec grant live second → ⊥
+AsReserved spec grant live now None =
+    (second : ℕ) → now ≤ second → FitsAt spec grant live second → ⊥

@@ -1,14 +1,16 @@
 //! The second that is reserved for the head of a queue, found by halving.
-ghost use Rattle.std.specs.Prelude.{◌≡◌, ◌≤◌, ◌<◌, ◌+◌, ◌++◌, ◌∷◌, [], ◌↔◌, length, IfOk, OnOk, IsTrue};
+ghost use Rattle.std.specs.Prelude.{◌≡◌, ◌≤◌, ◌<◌, ◌+◌, ◌++◌, ◌∷◌, [], ◌↔◌, List, length, IfOk, OnOk, IsTrue};
 ghost use Rattle.std.specs.List.{AllByRecursion as Each};
 ghost use Rattle.resource_set.specs.Units.{AreHosts};
-ghost use Rattle.job_rules.specs.Fits.{AreWithin, IsSpec, free_of, nodes_of};
+ghost use Rattle.resource_set.specs.declared.node.Node.{Node};
+ghost use Rattle.graph_match.specs.Rooms.{AreRooms};
+ghost use Rattle.job_rules.specs.Fits.{AreApart, AreWithin, IsSpec, free_of, nodes_of};
 ghost use Rattle.backfill.specs.Held.{AreHeld, held_at};
 ghost use Rattle.backfill.specs.Reserved.{FitsAt, IsReserved, KeepsReservation, Reserves};
 ghost use Rattle.backfill.specs.Reservations.{AsReserved, IsReservation};
 
 use crate::hold::Hold;
-use graph_match::Graph;
+use graph_match::{Graph, Space};
 use job_spec::JobSpec;
 use resource_set::Resources;
 use std::alloc::{AllocError, Global};
@@ -31,6 +33,21 @@ fn hold_at(graph: &mut Graph, place: usize, hold: &Hold, second: u64) -> Result<
     Ok(())
 }
 
+/// Lets live jobs hold what they have at a second, each under its place for its id.
+fn hold_all(graph: &mut Graph, live: &[Hold], second: u64) -> Result<(), AllocError>
+    requires free { graph.old.live ≡ [] }
+    requires held { AreHeld graph.old.grant live.now }
+    ensures grant { OnOk result (graph.new.grant ≡ graph.old.grant) }
+    ensures nodes { OnOk result (nodes_of graph.new.live
+        ≡ nodes_of (held_at second live.now)) }
+    ensures ids { OnOk result (Each (λ h. h.id < length live.now) graph.new.live) }
+{
+    for (place, hold) in live.iter().enumerate() {
+        hold_at(graph, place, hold, second)?;
+    }
+    Ok(())
+}
+
 /// The grant with what live jobs hold of it at a second.
 fn graph_at(
     alloc: Global,
@@ -46,27 +63,41 @@ fn graph_at(
     ensures ids { IfOk result (λ graph. Each (λ h. h.id < length live.now) graph.live) }
 {
     let mut graph = Graph::new(alloc, grant)?;
-    for (place, hold) in live.iter().enumerate() {
-        hold_at(&mut graph, place, hold, second)?;
-    }
+    hold_all(&mut graph, live, second)?;
     Ok(graph)
 }
 
-/// Whether some of the units that live jobs leave at a second satisfy a job.
-fn fits_at(
-    alloc: Global,
-    grant: &Resources,
-    live: &[Hold],
-    spec: &JobSpec,
-    second: u64,
-) -> Result<bool, AllocError>
+/// Takes what a job holds at a second in what is left beside other units.
+fn take_at(graph: &Graph, spec: &JobSpec, space: &mut Space, hold: &Hold, second: u64)
     requires spec { IsSpec spec.now }
-    requires grant { AreHosts grant.now.nodes }
-    requires held { AreHeld grant.now.nodes live.now }
-    ensures { IfOk result (λ fits. IsTrue fits ↔ FitsAt spec.now grant.now.nodes live.now second) }
+    requires nodes { AreWithin hold.now.units.nodes graph.now.grant }
+    requires left { (others : List Node) × AreApart hold.now.units.nodes others
+        × AreRooms spec.now graph.now.grant others space.old.rooms.items space.old.sum }
+    ensures { (others : List Node) → AreApart hold.now.units.nodes others
+        → AreRooms spec.now graph.now.grant others space.old.rooms.items space.old.sum
+        → AreRooms spec.now graph.now.grant
+        (nodes_of (held_at second (hold.now ∷ [])) ++ others) space.new.rooms.items space.new.sum }
 {
-    let graph = graph_at(alloc, grant, live, second)?;
-    Ok(graph.has_room(spec))
+    if hold.is_held_at(second) {
+        graph.take_in(spec, space, hold.units.nodes.as_slice());
+    }
+}
+
+/// Whether some of the units that live jobs leave at a second satisfy a job, told by how much is
+/// left on each host of a grant that is free.
+fn fits_at(graph: &Graph, live: &[Hold], spec: &JobSpec, second: u64) -> Result<bool, AllocError>
+    requires spec { IsSpec spec.now }
+    requires free { graph.now.live ≡ [] }
+    requires held { AreHeld graph.now.grant live.now }
+    ensures { IfOk result (λ fits. IsTrue fits ↔ FitsAt spec.now graph.now.grant live.now second) }
+{
+    let mut space = graph.space(spec)?;
+    let mut at = live.len();
+    while 0 < at {
+        at -= 1;
+        take_at(graph, spec, &mut space, &live[at], second);
+    }
+    Ok(graph.serves(spec, &space))
 }
 
 /// A second from this one on at which each live job that ends has ended.
@@ -84,31 +115,49 @@ fn last_end(live: &[Hold], now: u64) -> u64
 /// The least second at which a job fits, where it fits at the last one. What fits at a second fits
 /// later too, so each look at a second halves those that are left.
 fn least_fitting(
-    alloc: Global,
-    grant: &Resources,
+    graph: &Graph,
     live: &[Hold],
     spec: &JobSpec,
     now: u64,
     last: u64,
 ) -> Result<u64, AllocError>
     requires spec { IsSpec spec.now }
-    requires grant { AreHosts grant.now.nodes }
-    requires held { AreHeld grant.now.nodes live.now }
+    requires free { graph.now.live ≡ [] }
+    requires held { AreHeld graph.now.grant live.now }
     requires order { now ≤ last }
-    requires fits { FitsAt spec.now grant.now.nodes live.now last }
-    ensures { IfOk result (IsReserved spec.now grant.now.nodes live.now now) }
+    requires fits { FitsAt spec.now graph.now.grant live.now last }
+    ensures { IfOk result (IsReserved spec.now graph.now.grant live.now now) }
 {
     let mut low = now;
     let mut high = last;
     while low < high {
         let middle = low + (high - low) / 2;
-        if fits_at(alloc, grant, live, spec, middle)? {
+        if fits_at(graph, live, spec, middle)? {
             high = middle;
         } else {
             low = middle + 1;
         }
     }
     Ok(low)
+}
+
+/// The reserved second of a job, by a graph of the grant that is free.
+fn reserved_in(
+    graph: &Graph,
+    live: &[Hold],
+    spec: &JobSpec,
+    now: u64,
+) -> Result<Option<u64>, AllocError>
+    requires spec { IsSpec spec.now }
+    requires free { graph.now.live ≡ [] }
+    requires held { AreHeld graph.now.grant live.now }
+    ensures { IfOk result (Reserves spec.now graph.now.grant live.now now) }
+{
+    let last = last_end(live, now);
+    if !fits_at(graph, live, spec, last)? {
+        return Ok(None);
+    }
+    Ok(Some(least_fitting(graph, live, spec, now, last)?))
 }
 
 /// The reserved second of a job: the least one from now on at which the units that live jobs leave
@@ -126,11 +175,8 @@ pub fn reserve(
     requires held { AreHeld grant.now.nodes live.now }
     ensures { IfOk result (Reserves spec.now grant.now.nodes live.now now) }
 {
-    let last = last_end(live, now);
-    if !fits_at(alloc, grant, live, spec, last)? {
-        return Ok(None);
-    }
-    Ok(Some(least_fitting(alloc, grant, live, spec, now, last)?))
+    let graph = Graph::new(alloc, grant)?;
+    reserved_in(&graph, live, spec, now)
 }
 
 /// Whether the head of a queue has a reserved second and keeps it where the offer is one more live
@@ -167,8 +213,8 @@ pub struct Reservation {
 }
 
 impl Reservation {
-    /// The reserved second of a job, with what live jobs hold then, so that several offers can be asked
-    /// for; None exactly where it has none.
+    /// The reserved second of a job, with what live jobs hold then, so that several offers can be
+    /// asked for; None exactly where it has none.
     pub fn of(
         alloc: Global,
         grant: &Resources,
@@ -181,10 +227,11 @@ impl Reservation {
         requires held { AreHeld grant.now.nodes live.now }
         ensures { IfOk result (AsReserved spec.now grant.now.nodes live.now now) }
     {
-        let Some(second) = reserve(alloc, grant, live, spec, now)? else {
+        let mut graph = Graph::new(alloc, grant)?;
+        let Some(second) = reserved_in(&graph, live, spec, now)? else {
             return Ok(None);
         };
-        let graph = graph_at(alloc, grant, live, second)?;
+        hold_all(&mut graph, live, second)?;
         Ok(Some(Reservation { second, graph }))
     }
 

@@ -193,7 +193,7 @@ rooms_begun spec places live rooms sum k r s = record {
     rooms_is = r ∙ ap (map room_of) free
 
 -- the nodes' rooms bring as much as a job asks for where it can have what they leave
-room_for : (spec : JobSpec) (grant taken : List Node) (rooms : List Room) (sum : ℕ) → IsSpec spec → IsGrant grant → AreRooms spec grant taken rooms sum → CanFit spec grant (map (without_nodes taken) grant) ↔ (wanted spec ≤ sum)
+pub room_for : (spec : JobSpec) (grant taken : List Node) (rooms : List Room) (sum : ℕ) → IsSpec spec → IsGrant grant → AreRooms spec grant taken rooms sum → CanFit spec grant (map (without_nodes taken) grant) ↔ (wanted spec ≤ sum)
 room_for spec grant taken rooms sum is g a = (
   λ can. let many = can_fit_enough spec grant (map (without_nodes taken) grant) is (free_is grant taken g) can in omega (arith, many, same),
   λ many. enough_can_fit spec grant (map (without_nodes taken) grant) (free_is grant taken g) is (omega (arith, many, same)),

@@ -4,7 +4,7 @@ ghost use Rattle.std.specs.Bool.{OnFalse};
 ghost use Rattle.std.specs.List.{HoldsAt, AllByRecursion as Each};
 ghost use Rattle.std.specs.List.Sorted.{IsStrictlyIncreasing};
 ghost use Rattle.resource_set.specs.Units.{AreHosts};
-ghost use Rattle.job_rules.specs.Fits.{AreWithin, CanFit, HasIdSets, IsGrant, IsSpec, IsWithin, NeverFits, end_of, first_fit, free_of, sooner};
+ghost use Rattle.job_rules.specs.Fits.{AreWithin, CanFit, HasIdSets, IsGrant, IsSpec, IsWithin, NeverFits, end_of, first_fit, free_of, sooner, without_nodes};
 ghost use Rattle.job_rules.specs.Worths.{total, wanted as wanted_of, worth as worth_of};
 ghost use Rattle.resource_set.specs.declared.node.Node.{Node as Taken};
 ghost use Rattle.job_rules.specs.Fits.{AreApart, AreBlockers, AreLive, nodes_of};
@@ -18,7 +18,7 @@ ghost use Rattle.graph_match.specs.Rooms.{AreRooms, room_of, worth_of as worth_i
 use crate::fit::{Fit, JobList};
 use crate::place::Place;
 use crate::racks::{Cluster, Free};
-use crate::rooms::{Room, wanted, worth};
+use crate::rooms::{Room, Space, wanted, worth};
 use job_rules::Hold;
 use job_spec::JobSpec;
 use lists::Copied;
@@ -464,6 +464,47 @@ impl Graph {
             ↔ CanFit spec.now self.now.grant (free_of self.now.grant self.now.live) }
     {
         !is_busy(&self.places, spec)
+    }
+
+    /// How much is free on each host, and what that brings to a job.
+    pub fn space(&self, spec: &JobSpec) -> Result<Space, AllocError>
+        requires { IsSpec spec.now }
+        ensures { IfOk result (λ space. AreRooms spec.now self.now.grant (nodes_of self.now.live)
+            space.rooms.items space.sum) }
+    {
+        let alloc = *self.live.allocator();
+        let hosts = self.places.hosts();
+        let rooms = rooms(alloc, hosts)?;
+        let sum = brings(hosts, spec);
+        Ok(Space { rooms, sum })
+    }
+
+    /// Takes nodes' units in what is left where other nodes' units are taken. It takes no memory.
+    pub fn take_in(&self, spec: &JobSpec, space: &mut Space, nodes: &[Node])
+        requires spec { IsSpec spec.now }
+        requires nodes { AreWithin nodes.now self.now.grant }
+        requires left { (others : List Taken) × AreApart nodes.now others
+            × AreRooms spec.now self.now.grant others space.old.rooms.items space.old.sum }
+        ensures { (others : List Taken) → AreApart nodes.now others
+            → AreRooms spec.now self.now.grant others space.old.rooms.items space.old.sum
+            → AreRooms spec.now self.now.grant (nodes.now ++ others)
+            space.new.rooms.items space.new.sum }
+    {
+        let hosts = self.places.hosts();
+        let sum = take_back(hosts, spec, &mut space.rooms, space.sum, nodes);
+        space.sum = sum;
+    }
+
+    /// Whether what is left beside the units that are taken satisfies a job. It takes no memory.
+    pub fn serves(&self, spec: &JobSpec, space: &Space) -> bool
+        requires { IsSpec spec.now }
+        ensures { (taken : List Taken)
+            → AreRooms spec.now self.now.grant taken space.now.rooms.items space.now.sum
+            → IsTrue result
+            ↔ CanFit spec.now self.now.grant (map (without_nodes taken) self.now.grant) }
+    {
+        let _live = &self.live;
+        is_enough(spec, space.sum)
     }
 
     /// How much is free in a rack of 32 hosts in rank order; racks are counted from 0, and there is

@@ -12,6 +12,13 @@ pub struct Room {
     pub gpus: u32,
 }
 
+/// How much is left on each host of a grant, and what that brings to a job.
+#[derive(Drop)]
+pub struct Space {
+    pub rooms: Vec<Room>,
+    pub sum: u64,
+}
+
 /// How many slots have room on a host.
 pub fn slots_in(spec: &JobSpec, room: Room) -> u32
     requires { 1 ≤ spec.now.cores }

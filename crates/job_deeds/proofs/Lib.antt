@@ -1,4 +1,5 @@
 pub mod Finding
+pub mod Alike
 pub mod Places
 pub mod Rest
 pub mod Chosen

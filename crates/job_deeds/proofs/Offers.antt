@@ -87,7 +87,7 @@ are_held g jobs hold live same w = record {
 
 -- ---- it decides whether the job leaves the second that is reserved
 
-waits_in : (st : State) → is_state st state.Sched ≡ true → st ≡ state.Sched
+pub waits_in : (st : State) → is_state st state.Sched ≡ true → st ≡ state.Sched
 waits_in state.New e = cc
 waits_in state.Depend e = cc
 waits_in state.Priority e = cc

@@ -1,12 +1,12 @@
 //! The job that passes the first in the queue (EASY backfill).
-ghost use Rattle.std.specs.Prelude.{◌≡◌, ◌≢◌, ◌<◌, ◌↔◌, ℕ, false, Contains, IfOk, IsTrue, OnOk};
+ghost use Rattle.std.specs.Prelude.{◌≡◌, ◌≢◌, ◌<◌, ◌↔◌, ◌⊎◌, ◌++◌, ◌∷◌, [], ℕ, false, Contains, IfOk, IsTrue, OnOk};
 ghost use Rattle.std.specs.List.{AllByRecursion as Each};
 ghost use Rattle.backfill.specs.Reservations.{IsReservation};
 ghost use Rattle.job_rules.specs.Fits.{IsGrant};
 ghost use Rattle.job_spec.specs.Sound.{IsSpec};
 ghost use Rattle.manager_rules.specs.Scene.{Scene};
 ghost use Rattle.job_deeds.specs.Choices.{IsLook, IsSeen};
-ghost use Rattle.job_deeds.specs.Passing.{FindsRoom, IsFirstLeaving, IsOffer, IsPasserOf, Leaves, leases_of};
+ghost use Rattle.job_deeds.specs.Passing.{FindsRoom, IsFirstLeaving, IsOffer, IsPasserOf, Leaves, asks_of, leases_of};
 ghost use Rattle.job_deeds.specs.Waiting.{waits_with};
 
 use crate::decisions::Desk;
@@ -14,6 +14,7 @@ use crate::row::{Row, place_in};
 use crate::waiting::rank;
 use backfill::{Hold, Reservation};
 use graph_match::Fit;
+use job_spec::JobSpec;
 use lists::Copied;
 use manager_rules::Policy;
 use resource_set::Resources;
@@ -55,6 +56,53 @@ fn offer(desk: &Desk<'_>, row: &Row) -> Result<Option<Hold>, AllocError>
         Fit::Busy(_) => Ok(None),
         Fit::Never => Ok(None),
     }
+}
+
+/// How many kinds of refused jobs are kept through a look.
+const KINDS: usize = 8;
+
+/// What decides which units a job gets, and until when.
+#[derive(Clone, Copy, Debug, PartialEq, Eq)]
+pub struct Asks {
+    pub nodes: Option<u32>,
+    pub exclusive: bool,
+    pub slots: u32,
+    pub cores: u32,
+    pub gpus: u32,
+    pub duration: u64,
+}
+
+/// What a jobspec asks for.
+fn asked_by(spec: &JobSpec) -> Asks
+    ensures { result ≡ asks_of spec.now }
+{
+    Asks {
+        nodes: spec.nodes,
+        exclusive: spec.exclusive,
+        slots: spec.slots,
+        cores: spec.cores,
+        gpus: spec.gpus,
+        duration: spec.duration,
+    }
+}
+
+/// Whether a job asks for what a refused one asked for.
+fn is_refused(refused: &[Asks], spec: &JobSpec) -> bool
+    ensures { IsTrue result → Contains refused.now (asks_of spec.now) }
+{
+    let wanted = asked_by(spec);
+    refused.contains(&wanted)
+}
+
+/// Keeps what a refused job asks for, up to so many kinds.
+fn keep_refused(refused: &mut Vec<Asks>, spec: &JobSpec) -> Result<(), AllocError>
+    ensures { OnOk result ((refused.new.items ≡ refused.old.items)
+        ⊎ (refused.new.items ≡ refused.old.items ++ asks_of spec.now ∷ [])) }
+{
+    if refused.len() < KINDS {
+        refused.push(asked_by(spec))?;
+    }
+    Ok(())
 }
 
 /// Whether a job behind the first leaves the second that is reserved for it.
@@ -123,7 +171,8 @@ fn has_some(desk: &Desk<'_>, head: u64) -> bool
 }
 
 /// The first job behind the first in the queue that leaves the second that is reserved for it. The
-/// ids rise, so of those that wait with the same priority the first is met first.
+/// ids rise, so of those that wait with the same priority the first is met first. Jobs that ask for
+/// the same are answered the same, so one that is refused answers for them all.
 fn first_beside(
     alloc: Global,
     desk: &Desk<'_>,
@@ -142,14 +191,20 @@ fn first_beside(
 {
     let mut first = None;
     let mut most = 0;
+    let mut refused = Vec::new(alloc);
     for row in desk.rows {
         if !goes_before(row, head.id, most) {
             continue;
         }
-        if leaves(alloc, desk, grant, live, reserved, head, row)? {
-            first = Some(row.id);
-            most = rank(&row.job);
+        if is_refused(&refused, &row.spec) {
+            continue;
         }
+        if !leaves(alloc, desk, grant, live, reserved, head, row)? {
+            keep_refused(&mut refused, &row.spec)?;
+            continue;
+        }
+        first = Some(row.id);
+        most = rank(&row.job);
     }
     Ok(first)
 }

@@ -4,7 +4,7 @@ ghost use Rattle.resource_set.specs.Units.{AreHosts};
 ghost use Rattle.job_rules.specs.Fits.{IsSpec};
 ghost use Rattle.backfill.specs.Held.{AreHeld};
 
-use super::{graph_at, passes, reserve};
+use super::{Reservation, graph_at, passes, reserve};
 use crate::Hold;
 use graph_match::Fit;
 use idset::IdSet;
@@ -191,6 +191,29 @@ fn slots_wait_for_several_hosts(rt: HostRuntime) -> Result<(), Fail> {
     Ok(())
 }
 
+/// Whether a head keeps its second beside an offer, as its reservation tells it both times that it
+/// is asked.
+fn keeps_reservation(
+    alloc: Global,
+    grant: &Resources,
+    live: &[Hold],
+    head: &JobSpec,
+    offer: &Hold,
+) -> Result<(bool, bool), AllocError>
+    requires spec { IsSpec head.now }
+    requires grant { AreHosts grant.now.nodes }
+    requires held { AreHeld grant.now.nodes live.now }
+    requires beside { AreHeld grant.now.nodes (live.now ++ offer.now ∷ []) }
+{
+    match Reservation::of(alloc, grant, live, head, 0)? {
+        None => Ok((false, false)),
+        Some(mut reserved) => {
+            let first = reserved.keeps(grant, live, head, offer, 0)?;
+            Ok((first, reserved.keeps(grant, live, head, offer, 0)?))
+        }
+    }
+}
+
 /// Whether a head keeps its second where a job takes the first units that are left.
 fn keeps(
     rt: &impl Abort,
@@ -205,7 +228,12 @@ fn keeps(
     assert!(rt; is_spec(&head));
     match offer(alloc, &grant, &live, next)? {
         None => Ok(false),
-        Some(hold) => passes(alloc, &grant, &live, &head, &hold, 0),
+        Some(hold) => {
+            let passes = passes(alloc, &grant, &live, &head, &hold, 0)?;
+            let kept = keeps_reservation(alloc, &grant, &live, &head, &hold)?;
+            assert_eq!(rt; kept, (passes, passes));
+            Ok(passes)
+        }
     }
 }
 

@@ -6,8 +6,8 @@ abbrev pub invariant-loop-low : goal.invariant-loop-low
 invariant-loop-low l = record {
   from : l.now ≤ l.low;
   order : l.low ≤ l.high;
-  fits : FitsAt l.spec l.grant.nodes l.live l.high;
-  least : (sooner : ℕ) → l.now ≤ sooner → sooner < l.low → FitsAt l.spec l.grant.nodes l.live sooner → ⊥;
+  fits : FitsAt l.spec l.graph.grant l.live l.high;
+  least : (sooner : ℕ) → l.now ≤ sooner → sooner < l.low → FitsAt l.spec l.graph.grant l.live sooner → ⊥;
 }
 
 abbrev pub decreases-loop-low : goal.decreases-loop-low
