@@ -7,8 +7,6 @@ mod roll;
 mod space;
 mod telling;
 
-pub use roll::{
-    Roll, count_live, find_known, first_landing, first_news, is_news, let_rest,
-};
+pub use roll::{Roll, count_live, find_known, first_landing, first_news, is_news, let_rest};
 pub use space::{Rise, Ruling, Space, SpaceFault, is_landing, number_of};
 pub use telling::{KvsEvents, changing, denial, hearing, landing};

@@ -94,7 +94,13 @@ pub fn find_known(roll: &Roll, spaces: &Vec<Space>, name: &Bytes, broker: u32) -
     ensures { result ≡ position (is_known_to broker name.now) spaces.now.items }
 {
     match roll.find(name) {
-        Some(place) => { if 0 < spaces[place].known(broker) { Some(place) } else { None } }
+        Some(place) => {
+            if 0 < spaces[place].known(broker) {
+                Some(place)
+            } else {
+                None
+            }
+        }
         None => None,
     }
 }

@@ -12,8 +12,8 @@ returns-then-is_ready c =
     let at = ap (λ xs. get_or xs n 0) items in
     let inside = c.requires.within n 0 l in
     ap Some at ∙ sym (first-awake c.requires (is_ready) (rests-unready) n l
-        (λ d. ap (is_ready) (get_or_default c.args.spaces.now.items (get_or c.args.roll.now.awake n 0) d c.index.result.now inside ∙ ap (λ k. get_or c.args.spaces.now.items k c.index.result.now) (sym at) ∙ sym c.index.ensures) ∙ sym c.is_ready.ensures ∙ c.if-is_ready.true)
-        c.loop-place.invariant.before)
+    (λ d. ap (is_ready) (get_or_default c.args.spaces.now.items (get_or c.args.roll.now.awake n 0) d c.index.result.now inside ∙ ap (λ k. get_or c.args.spaces.now.items k c.index.result.now) (sym at) ∙ sym c.index.ensures) ∙ sym c.is_ready.ensures ∙ c.if-is_ready.true)
+    c.loop-place.invariant.before)
 
 pub returns : goal.returns
 returns c =
