@@ -1,5 +1,6 @@
 use Rattle.std.proofs.Common.{inl, refl, ◌≡◌, ◌∙◌, ◌<◌, ◌++◌, ◌∷◌, [], ◌^◌, suc, None, true, false, length, map, arith, get_or, ap, sym, subst, set as set₁, inr, ◌≤◌}
 use Rattle.std.specs.List.{AllByRecursion as Each, position}
+use Rattle.std.specs.Str.{bytes_eq}
 use Rattle.std.proofs.lemmas.List.{get_or_default}
 use Rattle.kvs_rules.specs.Answers.{IsLegalAfter}
 use Rattle.kvs_rules.specs.Log.{Happened}
@@ -26,7 +27,7 @@ use Rattle.kvs_core.proofs.Extending.{changing-inside, changing-told, history-in
 use Rattle.kvs_core.specs.Histories.{landings_in}
 use Rattle.kvs_core.proofs.Landing.{primary-there}
 use Rattle.kvs_space.specs.Roll.{IsRoll}
-use Rattle.kvs_space.proofs.Rolls.{roll-entered}
+use Rattle.kvs_space.proofs.Rolls.{named-at, roll-entered}
 use Rattle.kvs_core.proofs.service.Core.open.Goals as goal
 
 pub opened-requires-clause-other : goal.opened-requires-clause-other
@@ -34,6 +35,15 @@ opened-requires-clause-other c =
     let s = c.self.invariant.0 (ap (λ v. v.spent) c.self.view_is ∙ c.requires.ready) in
     let none = subst (λ v. (d : Row) → None ≡ position (is_named (get_or v.rows c.args.i d).namespace) v.spaces) (sym c.self.view_is) c.requires.new c.index-2.result.now in
     ap is_primary (c.in_ok-name.ensures ∙ ap (λ r. r.namespace) c.index-2.ensures) ∙ unnamed-other s (get_or c.self.inside.rows.items c.args.i c.index-2.result.now).namespace none
+
+pub enter-requires : goal.enter-requires
+enter-requires c =
+    let e = sym c.self.view_is in
+    let row = c.index.result.now in
+    let within = subst (λ v. c.args.i < length v.rows) e c.requires.within in
+    let none = subst (λ v. (d : Row) → None ≡ position (is_named (get_or v.rows c.args.i d).namespace) v.spaces) e c.requires.new row ∙ ap (λ r. position (is_named r.namespace) c.self.inside.spaces.items) (sym c.index.ensures) in
+    let name-is = c.in_ok-space.ensures.name ∙ c.in_ok-name.ensures ∙ ap (λ r. r.namespace) (c.index-2.ensures ∙ get_or_default c.self.inside.rows.items c.args.i c.index-2.result.now row within ∙ sym c.index.ensures) in
+    record { new = ap (λ n. position (bytes_eq n) c.self.inside.roll.names) (c.name-2.ensures ∙ name-is) ∙ named-at (c.self.invariant.1 (ap (λ v. v.spent) c.self.view_is ∙ c.requires.ready)) row.namespace ∙ sym none }
 
 pub invariant_of-self-2 : goal.invariant_of-self-2
 invariant_of-self-2 c = (
@@ -56,7 +66,7 @@ invariant_of-self-2 c = (
       (opened-sound s c.args.i within row c.index.ensures is none c.in_ok-space.space name-is c.in_ok-space.ensures.fresh c.in_ok-space.ensures.size c.in_ok-space.ensures.known (c.in_ok-space.ensures.sound c.self.inside.grant) few room c.put_stage.new.rows.items rows-are false),
   λ _.
       let same = c.name-2.ensures in
-      subst (λ r. IsRoll r c.push.new.self.items) (sym c.in_ok-enter.ensures)
+      subst (λ r. IsRoll r c.push.new.self.items) (sym c.in_ok-enter.ensures.entered)
       (subst (IsRoll (record { names = c.self.inside.roll.names ++ c.name-2.result.now ∷ []; awake = c.self.inside.roll.awake ++ length c.self.inside.roll.names ∷ [] })) (sym c.in_ok-push.ensures.items)
       (roll-entered (c.self.invariant.1 (ap (λ v. v.spent) c.self.view_is ∙ c.requires.ready)) c.in_ok-space.space c.name-2.result.now (sym same))),
 )

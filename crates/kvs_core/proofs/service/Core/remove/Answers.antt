@@ -1,5 +1,6 @@
 use Rattle.std.proofs.Common.{inl, refl, ◌≡◌, ◌∙◌, ◌<◌, ◌++◌, Some, true, false, length, map, arith, get_or, ap, sym, subst, set as set₁, inr, ◌≤◌}
 use Rattle.std.specs.List.{AllByRecursion as Each, position}
+use Rattle.std.proofs.lemmas.List.{length-set}
 use Rattle.kvs_rules.specs.Answers.{IsLegalAfter}
 use Rattle.kvs_rules.specs.Log.{Happened}
 use Rattle.kvs_requests.specs.declared.rows.Kind.TheVariants as kind
@@ -47,6 +48,20 @@ remove-requires-clause-other c =
     let found = subst (λ v. (d : Row) → Some c.args.k ≡ position (is_named (get_or v.rows c.args.i d).namespace) v.spaces) (sym c.self.view_is) c.requires.found any in
     let inside = found-within (is_named (get_or c.self.inside.rows.items c.args.i any).namespace) c.self.inside.spaces.items c.args.k found in
     other-primary s c.args.k inside c.requires.other c.index_mut-space.result.now c.index_mut-space.ensures.value
+
+pub let_rest-requires-clause-within : goal.let_rest-requires-clause-within
+let_rest-requires-clause-within c =
+    let found = subst (λ v. (d : Row) → Some c.args.k ≡ position (is_named (get_or v.rows c.args.i d).namespace) v.spaces) (sym c.self.view_is) c.requires.found any in
+    let inside = found-within (is_named (get_or c.self.inside.rows.items c.args.i any).namespace) c.self.inside.spaces.items c.args.k found in
+    let n = length-set c.self.inside.spaces.items c.args.k c.remove.new.self in
+    omega (arith, inside)
+
+pub let_rest-requires-clause-roll : goal.let_rest-requires-clause-roll
+let_rest-requires-clause-roll c =
+    let found = subst (λ v. (d : Row) → Some c.args.k ≡ position (is_named (get_or v.rows c.args.i d).namespace) v.spaces) (sym c.self.view_is) c.requires.found any in
+    let inside = found-within (is_named (get_or c.self.inside.rows.items c.args.i any).namespace) c.self.inside.spaces.items c.args.k found in
+    let removed = c.in_ok-number.ensures.removed in
+    roll-living (c.self.invariant.1 (ap (λ v. v.spent) c.self.view_is ∙ c.requires.ready)) c.args.k c.remove.new.self c.index_mut-space.result.now inside c.index_mut-space.ensures.value removed.name removed.was
 
 pub invariant_of-self-2 : goal.invariant_of-self-2
 invariant_of-self-2 c = (
