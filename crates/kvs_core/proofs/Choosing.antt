@@ -1,9 +1,10 @@
 -- The step that is made next is the first that can be made.
 use Rattle.std.proofs.Common.{◌≡◌, ℕ, ◌<◌, ◌⊎◌, inl, inr, ◌||◌, ◌==◌, List, [], ◌++◌, length, map, Bool, true, false, Option, Some, None, refl, sym, ap, ◌∙◌, subst, arith, true≢false, get_or}
 use Rattle.std.specs.Prelude.{slice_get, flat_map, nat_lt}
-use Rattle.std.specs.List.{filter, list_any, range_with_len}
+use Rattle.std.specs.List.{filter, list_any, position, range_with_len}
 use Rattle.std.specs.Option.{option_map_or}
-use Rattle.std.proofs.lemmas.Option.{slice_get_within}
+use Rattle.std.proofs.lemmas.Option.{slice_get_cases, slice_get_within}
+use Rattle.std.proofs.lemmas.List.Quantifiers.{position-Some}
 use Rattle.kvs_rules.specs.declared.events.KvsStep.{KvsStep}
 use Rattle.kvs_rules.specs.declared.events.KvsStep.TheVariants as kvs
 use Rattle.kvs_core.specs.declared.order.Hop.{Hop}
@@ -22,7 +23,8 @@ use Rattle.kvs_core.specs.Value.{CoreValue}
 use Rattle.kvs_space.proofs.Announced.{parent-below}
 use Rattle.kvs_core.proofs.Delivering.{coming}
 use Rattle.kvs_requests.proofs.Ways.{parent-le}
-use Rattle.kvs_space.proofs.Finding.{and-left, and-right, both-true, eq-is, eq-true, lt-is, lt-true, false-or-else}
+use Rattle.kvs_space.proofs.Finding.{and-left, and-right, both-true, eq-is, eq-true, found-passes, found-within, lt-is, lt-true, false-or-else}
+use Rattle.kvs_space.proofs.Rolls.{none-before}
 use Rattle.kvs_core.proofs.Ordering.{any-at, first-behind, first-front, first-link, first-range, no-link, none-of}
 
 -- a message is between brokers of the tree
@@ -93,6 +95,28 @@ no-delivery v is from to = by (can_step v (kvs.Deliver from to)) refl
     by : (b : Bool) → can_step v (kvs.Deliver from to) ≡ b → can_step v (kvs.Deliver from to) ≡ false
     by false e = e
     by true e = absurd (leads v None is from to e)
+
+-- the namespace in which something is ready first is the first that can land
+test-passes : (p : SpaceValue → Bool) (spaces : List SpaceValue) (k : ℕ) → k < length spaces → ((d : SpaceValue) → p (get_or spaces k d) ≡ true) → option_map_or p (slice_get spaces k) false ≡ true
+test-passes p spaces k l h = elim ((slice_get_cases spaces k).1) [
+  | inl c ↦ ap (λ o. option_map_or p o false) c.2 ∙ ap p (sym c.3) ∙ h c.0
+  | inr q ↦ absurd (let m = q.0 in omega arith)
+]
+
+test-fails : (p : SpaceValue → Bool) (spaces : List SpaceValue) (k : ℕ) → ((d : SpaceValue) → k < length spaces → p (get_or spaces k d) ≡ false) → option_map_or p (slice_get spaces k) false ≡ false
+test-fails p spaces k h = elim ((slice_get_cases spaces k).1) [
+  | inl c ↦ ap (λ o. option_map_or p o false) c.2 ∙ ap p (sym c.3) ∙ h c.0 c.1
+  | inr q ↦ ap (λ o. option_map_or p o false) q.1
+]
+
+pub ready-lands : (v : CoreValue) (k : ℕ) → Some k ≡ position is_ready v.spaces → can_step v (kvs.Land k) ≡ true
+ready-lands v k e = test-passes is_ready v.spaces k (found-within is_ready v.spaces k e) (λ d. found-passes is_ready v.spaces k d e)
+
+pub ready-first : (v : CoreValue) (k : ℕ) → Some k ≡ position is_ready v.spaces → (lower : ℕ) → lower < k → can_step v (kvs.Land lower) ≡ false
+ready-first v k e lower h = test-fails is_ready v.spaces lower (λ d l. (position-Some is_ready v.spaces k d (sym e)).2 lower h)
+
+pub unready-none : (v : CoreValue) → None ≡ position is_ready v.spaces → (number : ℕ) → can_step v (kvs.Land number) ≡ false
+unready-none v e number = test-fails is_ready v.spaces number (λ d l. none-before is_ready v.spaces (sym e) number d l)
 
 -- the three parts of the list of all steps
 abbrev links : CoreValue → List KvsStep

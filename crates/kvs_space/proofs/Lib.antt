@@ -6,3 +6,4 @@ pub mod Hearings
 pub mod Posting
 pub mod Opening
 pub mod Differing
+pub mod Rolls

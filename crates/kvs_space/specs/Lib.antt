@@ -2,4 +2,5 @@ pub mod Space
 pub mod Links
 pub mod Rulings
 pub mod Sound
+pub mod Roll
 pub mod Told

@@ -1,6 +1,6 @@
 -- A namespace at all brokers.
 use Rattle.std.specs.Prelude.{ℕ, zero, suc, ◌+◌, ◌++◌, map, flat_map, ◌-◌, nat_lt, ◌==◌, ◌&&◌, not, count_by, slice_get, min, Bool, List, [], Option, Some, None, length, slice_index, slice_index_or, cond}
-use Rattle.std.specs.List.{list_any}
+use Rattle.std.specs.List.{list_all, list_any}
 use Rattle.std.specs.Option.{option_map_or, option_map}
 use Rattle.std.specs.Str.{bytes_eq}
 use Rattle.kvs_txn.specs.declared.txn.By.{By}
@@ -95,3 +95,8 @@ link_at links broker = slice_index_or links broker []
 -- whether an announcement is on the way to the broker
 abbrev pub has_news : ℕ → SpaceValue → Bool
 has_news broker s = nat_lt 0 (length (link_at s.links broker))
+
+-- whether nothing happens in the namespace any more: it was removed, each broker has heard that, and
+-- nothing is ready to land
+abbrev pub is_at_rest : SpaceValue → Bool
+is_at_rest s = s.removed && not (is_ready s) && list_all (λ link. length link == 0) s.links

@@ -3,11 +3,10 @@
 #![tactic(auto)]
 
 mod links;
+mod roll;
 mod space;
 mod telling;
 
-pub use space::{
-    Rise, Ruling, Space, SpaceFault, count_live, find, find_known, first_news, is_landing, is_news,
-    number_of,
-};
+pub use roll::{Roll, count_live, find_known, first_landing, first_news, is_news, let_rest};
+pub use space::{Rise, Ruling, Space, SpaceFault, is_landing, number_of};
 pub use telling::{KvsEvents, changing, denial, hearing, landing};

@@ -1,5 +1,6 @@
 //! The numbers of landings on their way down the tree.
 ghost use Rattle.std.specs.Prelude.{◌≡◌, ℕ, ◌+◌, ◌<◌, ◌≤◌, ◌==◌, List, [], ◌∷◌, ◌++◌, nat_lt, length, OnOk, IfOk, option_to_list, slice_index, slice_set, IsSome, ◌↔◌};
+ghost use Rattle.std.specs.List.{list_all};
 ghost use Rattle.kvs_space.specs.Space.{link_at};
 ghost use Rattle.kvs_space.specs.Links.{AreTold, IsAnnounced, IsAnnouncedBut, IsNext};
 
@@ -53,6 +54,13 @@ impl Link {
     {
         self.numbers.is_empty()
     }
+}
+
+/// Whether nothing is on its way to any broker.
+pub fn are_empty(links: &Vec<Link>) -> bool
+    ensures { result ≡ list_all (λ link. length link == 0) links.now.items }
+{
+    links.iter().all(|link| link.is_empty())
 }
 
 /// Sends a number to each child of a broker.

@@ -5,15 +5,14 @@ ghost use Rattle.kvs_txn.specs.declared.answers.Refusal.{Refusal as RefusalValue
 ghost use Rattle.kvs_model.specs.Store.{Store as Contents};
 ghost use Rattle.kvs_model.specs.History.{after, after_groups, first_store};
 ghost use Rattle.kvs_rules.specs.Namespaces.{is_primary, primary, scope_of};
-ghost use Rattle.kvs_space.specs.Space.{seen, number_of, has_heard_end, is_known_to, live_in, is_named, has_news, link_at, is_ready};
+ghost use Rattle.kvs_space.specs.Space.{seen, number_of, has_heard_end, is_named, has_news, link_at, is_ready, is_at_rest};
 ghost use Rattle.kvs_space.specs.Sound.{IsSoundSpace, idle};
-ghost use Rattle.std.specs.List.{position, list_any};
 ghost use Rattle.std.specs.Option.{option_map, option_map_or};
 ghost use Rattle.kvs_space.specs.Rulings.{HasTaken, IsOfFirst, IsHearing, IsRemoving, IsRuled};
 ghost use Rattle.fence_merge.specs.Merging.{pushed, joined};
 ghost use Rattle.fence_merge.specs.Fences.{AreFences, fence_of};
 
-use crate::links::{Link, deliver, hear};
+use crate::links::{Link, are_empty, deliver, hear};
 use fence_merge::{JoinFault, Member, Merger, PushFault};
 use kvs_txn::{Group, GroupList, Refusal, Scope};
 use lists::{Bytes, Copied, ListOf};
@@ -388,6 +387,14 @@ impl Space {
         0 < self.merger.ready()
     }
 
+    /// Whether nothing happens in the namespace any more: it was removed, each broker has heard
+    /// that, and nothing is ready to land.
+    pub fn is_at_rest(&self) -> bool
+        ensures { result ≡ is_at_rest self.now }
+    {
+        self.removed && !self.is_ready() && are_empty(&self.links)
+    }
+
     /// Delivers the oldest announcement on the way to a broker.
     pub fn deliver(&mut self, fanout: u32, to: u32) -> Result<Rise, SpaceFault>
         requires sound { (grant : List ℕ) × IsSoundSpace fanout grant self.old }
@@ -492,49 +499,6 @@ impl Space {
             Ok(Ruling::Landed { number, groups })
         }
     }
-}
-
-/// The place in the table of the namespace of a name.
-pub fn find(spaces: &Vec<Space>, name: &Bytes) -> Option<usize>
-    ensures { result ≡ position (is_named name.now) spaces.now.items }
-{
-    spaces.iter().position(|space| space.is_named(name))
-}
-
-/// The place in the table of the namespace of a name, if a broker has heard of it.
-pub fn find_known(spaces: &Vec<Space>, name: &Bytes, broker: u32) -> Option<usize>
-    ensures { result ≡ position (is_known_to broker name.now) spaces.now.items }
-{
-    spaces
-        .iter()
-        .position(|space| space.is_named(name) && 0 < space.known(broker))
-}
-
-/// How many of the namespaces are live.
-pub fn count_live(spaces: &Vec<Space>) -> usize
-    ensures { result ≡ live_in spaces.now.items }
-{
-    let mut live = 0;
-    for space in spaces {
-        if !space.removed {
-            live += 1;
-        }
-    }
-    live
-}
-
-/// The place of the first namespace of which an announcement is on the way to a broker.
-pub fn first_news(spaces: &Vec<Space>, broker: u32) -> Option<usize>
-    ensures { result ≡ position (has_news broker) spaces.now.items }
-{
-    spaces.iter().position(|space| space.has_news(broker))
-}
-
-/// Whether an announcement is on the way to a broker.
-pub fn is_news(spaces: &Vec<Space>, broker: u32) -> bool
-    ensures { result ≡ list_any (has_news broker) spaces.now.items }
-{
-    spaces.iter().any(|space| space.has_news(broker))
 }
 
 /// Whether something is ready to land in the namespace of a place in the table.

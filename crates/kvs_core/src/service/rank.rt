@@ -16,7 +16,7 @@ use kvs_requests::{
     take_entrant,
 };
 use kvs_rules::{KvsAnswer, KvsStep};
-use kvs_space::{KvsEvents, Space, changing, count_live, find};
+use kvs_space::{KvsEvents, Space, changing, count_live, let_rest};
 use kvs_txn::By;
 use lists::{Copied, ListOf};
 
@@ -146,6 +146,7 @@ impl Core {
         let name = self.rows[i].namespace.copy()?;
         let space = Space::opened(self.alloc, name, self.size, self.fanout)?;
         let events = changing(self.alloc, space.name(), 0, by)?;
+        self.roll.enter(self.alloc, space.name())?;
         self.spaces.push(space)?;
         put_stage(
             &mut self.rows,
@@ -178,6 +179,7 @@ impl Core {
         let space = &mut self.spaces[k];
         let number = space.remove(self.alloc, self.fanout)?;
         let events = changing(self.alloc, space.name(), number, by)?;
+        let_rest(&mut self.roll, &self.spaces, k);
         dismiss(&mut self.rows, self.fanout, k);
         put_stage(
             &mut self.rows,
@@ -203,7 +205,7 @@ impl Core {
     {
         match kind_of(&self.rows[i]) {
             Kind::Create => {
-                if count_live(&self.spaces) < MOST_LIVE {
+                if count_live(&self.roll, &self.spaces) < MOST_LIVE {
                     return self.open(i);
                 }
                 self.turn_away(i, KvsAnswer::TooMany)?;
@@ -262,7 +264,7 @@ impl Core {
         ensures makes { IfOk result (Makes (KvsStep.Serve 0) self.old self.new) }
         ensures spent { OnErr result (self.new.spent ≡ true) }
     {
-        match find(&self.spaces, &self.rows[i].namespace) {
+        match self.roll.find(&self.rows[i].namespace) {
             Some(k) => self.take_up_in(i, k),
             None => self.take_up_new(i),
         }

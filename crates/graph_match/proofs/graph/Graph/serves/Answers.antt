@@ -15,7 +15,7 @@ returns c = λ taken.
     let b = c.is_enough.result in
     subst (λ v. AreRooms spec v.grant taken space.rooms.items space.sum → (b ≡ true) ↔ CanFit spec v.grant (map (without_nodes taken) v.grant)) c.self.view_is
     (λ a.
-        let room = room_for spec (map node_of c.self.inside.places) taken space.rooms.items space.sum c.requires c.self.invariant.grant a in (
-          λ t. room.1 (leb-true (wanted spec) space.sum (sym c.is_enough.ensures ∙ t)),
-          λ can. c.is_enough.ensures ∙ le-leb (wanted spec) space.sum (room.0 can),
-        ))
+    let room = room_for spec (map node_of c.self.inside.places) taken space.rooms.items space.sum c.requires c.self.invariant.grant a in (
+      λ t. room.1 (leb-true (wanted spec) space.sum (sym c.is_enough.ensures ∙ t)),
+      λ can. c.is_enough.ensures ∙ le-leb (wanted spec) space.sum (room.0 can),
+    ))

@@ -17,11 +17,12 @@ use Rattle.kvs_core.proofs.Fencing.{fence-sound, fence-fewer, fence-agrees, fenc
 use Rattle.kvs_core.proofs.Joining.{same-count}
 use Rattle.kvs_core.proofs.Moving.{found-there}
 use Rattle.kvs_core.proofs.Taking.{enters}
+use Rattle.kvs_space.proofs.Rolls.{roll-living}
 use Rattle.kvs_core.proofs.service.Core.admit.Goals as goal
 
 pub index_mut-space-requires : goal.index_mut-space-requires
 index_mut-space-requires c =
-    let s = c.self.invariant (ap (λ v. v.spent) c.self.view_is ∙ c.requires.ready) in
+    let s = c.self.invariant.0 (ap (λ v. v.spent) c.self.view_is ∙ c.requires.ready) in
     let e = sym c.self.view_is in
     let found₀ = subst (λ v. (d : Row) → Some c.args.k ≡ position (is_named (get_or v.rows c.args.i d).namespace) v.spaces) e c.requires.found in
     let f = found-within (is_named (get_or c.self.inside.rows.items c.args.i c.index.result.now).namespace) c.self.inside.spaces.items c.args.k (found₀ c.index.result.now) in
@@ -29,7 +30,7 @@ index_mut-space-requires c =
 
 pub take_entrant-entrant-requires-clause-enters : goal.take_entrant-entrant-requires-clause-enters
 take_entrant-entrant-requires-clause-enters c = λ d.
-    let s = c.self.invariant (ap (λ v. v.spent) c.self.view_is ∙ c.requires.ready) in
+    let s = c.self.invariant.0 (ap (λ v. v.spent) c.self.view_is ∙ c.requires.ready) in
     let e = sym c.self.view_is in
     let within = subst (λ v. c.args.i < length v.rows) e c.requires.within in
     let arrived = subst (λ v. (d : Row) → is_arrived (get_or v.rows c.args.i d) ≡ true) e c.requires.arrived d in
@@ -37,34 +38,50 @@ take_entrant-entrant-requires-clause-enters c = λ d.
     enters c.self.inside.fanout c.self.inside.size (value_of c.self.inside).spaces (get_or c.self.inside.rows.items c.args.i d).stage arrived lands (s.placed c.args.i d within).place
 
 pub invariant_of-self-in-Commit : goal.invariant_of-self-in-Commit
-invariant_of-self-in-Commit c = λ _.
-    let s = c.self.invariant (ap (λ v. v.spent) c.self.view_is ∙ c.requires.ready) in
-    let e = sym c.self.view_is in
-    let rows = c.self.inside.rows.items in
-    let row = c.index.result.now in
-    let within = subst (λ v. c.args.i < length v.rows) e c.requires.within in
-    let found₀ = subst (λ v. (d : Row) → Some c.args.k ≡ position (is_named (get_or v.rows c.args.i d).namespace) v.spaces) e c.requires.found in
-    let found = found₀ row ∙ ap (λ r. position (is_named r.namespace) c.self.inside.spaces.items) (sym c.index.ensures) in
-    let live = ap (λ x. x.removed) c.index_mut-space.ensures.value ∙ subst (λ v. (d : SpaceValue) → (get_or v.spaces c.args.k d).removed ≡ false) e c.requires.living c.index_mut-space.result.now in
-    let stage-is = ap (λ r. r.stage) c.index.ensures ∙ c.take_entrant-entrant.ensures.was row ∙ ap (λ x. stage.Arrived (ask_of x)) c.in-Commit.is in
-    let rows-are = c.take_entrant-entrant.ensures.rows row ∙ ap (λ r. set₁ rows c.args.i (with_stage (stage.Joined c.args.k (work_of c.take_entrant-entrant.result)) r)) (sym c.index.ensures)
-    ∙ ap (λ x. set₁ rows c.args.i (with_stage (stage.Joined c.args.k (work_of x)) row)) c.in-Commit.is in
-    commit-sound s c.args.i within row c.index.ensures c.args.k found c.in-Commit.txn stage-is c.index_mut-space.result.now c.push.new.self c.index_mut-space.ensures.value c.in_ok-push-in-Commit.ensures live c.take_entrant-entrant.new.rows.items rows-are false
+invariant_of-self-in-Commit c = (
+  λ _.
+      let s = c.self.invariant.0 (ap (λ v. v.spent) c.self.view_is ∙ c.requires.ready) in
+      let e = sym c.self.view_is in
+      let rows = c.self.inside.rows.items in
+      let row = c.index.result.now in
+      let within = subst (λ v. c.args.i < length v.rows) e c.requires.within in
+      let found₀ = subst (λ v. (d : Row) → Some c.args.k ≡ position (is_named (get_or v.rows c.args.i d).namespace) v.spaces) e c.requires.found in
+      let found = found₀ row ∙ ap (λ r. position (is_named r.namespace) c.self.inside.spaces.items) (sym c.index.ensures) in
+      let live = ap (λ x. x.removed) c.index_mut-space.ensures.value ∙ subst (λ v. (d : SpaceValue) → (get_or v.spaces c.args.k d).removed ≡ false) e c.requires.living c.index_mut-space.result.now in
+      let stage-is = ap (λ r. r.stage) c.index.ensures ∙ c.take_entrant-entrant.ensures.was row ∙ ap (λ x. stage.Arrived (ask_of x)) c.in-Commit.is in
+      let rows-are = c.take_entrant-entrant.ensures.rows row ∙ ap (λ r. set₁ rows c.args.i (with_stage (stage.Joined c.args.k (work_of c.take_entrant-entrant.result)) r)) (sym c.index.ensures)
+      ∙ ap (λ x. set₁ rows c.args.i (with_stage (stage.Joined c.args.k (work_of x)) row)) c.in-Commit.is in
+      commit-sound s c.args.i within row c.index.ensures c.args.k found c.in-Commit.txn stage-is c.index_mut-space.result.now c.push.new.self c.index_mut-space.ensures.value c.in_ok-push-in-Commit.ensures live c.take_entrant-entrant.new.rows.items rows-are false,
+  λ _.
+      let old = c.index_mut-space.result.now in
+      let found = subst (λ v. (d : Row) → Some c.args.k ≡ position (is_named (get_or v.rows c.args.i d).namespace) v.spaces) (sym c.self.view_is) c.requires.found c.index.result.now in
+      let inside = found-within (is_named (get_or c.self.inside.rows.items c.args.i c.index.result.now).namespace) c.self.inside.spaces.items c.args.k found in
+      let live = ap (λ x. x.removed) c.index_mut-space.ensures.value ∙ subst (λ v. (d : SpaceValue) → (get_or v.spaces c.args.k d).removed ≡ false) (sym c.self.view_is) c.requires.living old in
+      roll-living (c.self.invariant.1 (ap (λ v. v.spent) c.self.view_is ∙ c.requires.ready)) c.args.k c.push.new.self old inside c.index_mut-space.ensures.value (ap (λ x. x.name) c.in_ok-push-in-Commit.ensures) live,
+)
 
 pub invariant_of-self-in-Member : goal.invariant_of-self-in-Member
-invariant_of-self-in-Member c = λ _.
-    let s = c.self.invariant (ap (λ v. v.spent) c.self.view_is ∙ c.requires.ready) in
-    let e = sym c.self.view_is in
-    let rows = c.self.inside.rows.items in
-    let row = c.index.result.now in
-    let within = subst (λ v. c.args.i < length v.rows) e c.requires.within in
-    let found₀ = subst (λ v. (d : Row) → Some c.args.k ≡ position (is_named (get_or v.rows c.args.i d).namespace) v.spaces) e c.requires.found in
-    let found = found₀ row ∙ ap (λ r. position (is_named r.namespace) c.self.inside.spaces.items) (sym c.index.ensures) in
-    let live = ap (λ x. x.removed) c.index_mut-space.ensures.value ∙ subst (λ v. (d : SpaceValue) → (get_or v.spaces c.args.k d).removed ≡ false) e c.requires.living c.index_mut-space.result.now in
-    let stage-is = ap (λ r. r.stage) c.index.ensures ∙ c.take_entrant-entrant.ensures.was row ∙ ap (λ x. stage.Arrived (ask_of x)) c.in-Member.is in
-    let rows-are = c.take_entrant-entrant.ensures.rows row ∙ ap (λ r. set₁ rows c.args.i (with_stage (stage.Joined c.args.k (work_of c.take_entrant-entrant.result)) r)) (sym c.index.ensures)
-    ∙ ap (λ x. set₁ rows c.args.i (with_stage (stage.Joined c.args.k (work_of x)) row)) c.in-Member.is in
-    fence-sound s c.args.i within row c.index.ensures c.args.k found c.in-Member.name c.in-Member.count c.in-Member.txn stage-is c.index_mut-space.result.now c.join.new.self c.index_mut-space.ensures.value c.in_ok-join-in-Member.ensures.joined c.in_ok-join-in-Member.ensures.open live c.take_entrant-entrant.new.rows.items rows-are false
+invariant_of-self-in-Member c = (
+  λ _.
+      let s = c.self.invariant.0 (ap (λ v. v.spent) c.self.view_is ∙ c.requires.ready) in
+      let e = sym c.self.view_is in
+      let rows = c.self.inside.rows.items in
+      let row = c.index.result.now in
+      let within = subst (λ v. c.args.i < length v.rows) e c.requires.within in
+      let found₀ = subst (λ v. (d : Row) → Some c.args.k ≡ position (is_named (get_or v.rows c.args.i d).namespace) v.spaces) e c.requires.found in
+      let found = found₀ row ∙ ap (λ r. position (is_named r.namespace) c.self.inside.spaces.items) (sym c.index.ensures) in
+      let live = ap (λ x. x.removed) c.index_mut-space.ensures.value ∙ subst (λ v. (d : SpaceValue) → (get_or v.spaces c.args.k d).removed ≡ false) e c.requires.living c.index_mut-space.result.now in
+      let stage-is = ap (λ r. r.stage) c.index.ensures ∙ c.take_entrant-entrant.ensures.was row ∙ ap (λ x. stage.Arrived (ask_of x)) c.in-Member.is in
+      let rows-are = c.take_entrant-entrant.ensures.rows row ∙ ap (λ r. set₁ rows c.args.i (with_stage (stage.Joined c.args.k (work_of c.take_entrant-entrant.result)) r)) (sym c.index.ensures)
+      ∙ ap (λ x. set₁ rows c.args.i (with_stage (stage.Joined c.args.k (work_of x)) row)) c.in-Member.is in
+      fence-sound s c.args.i within row c.index.ensures c.args.k found c.in-Member.name c.in-Member.count c.in-Member.txn stage-is c.index_mut-space.result.now c.join.new.self c.index_mut-space.ensures.value c.in_ok-join-in-Member.ensures.joined c.in_ok-join-in-Member.ensures.open live c.take_entrant-entrant.new.rows.items rows-are false,
+  λ _.
+      let old = c.index_mut-space.result.now in
+      let found = subst (λ v. (d : Row) → Some c.args.k ≡ position (is_named (get_or v.rows c.args.i d).namespace) v.spaces) (sym c.self.view_is) c.requires.found c.index.result.now in
+      let inside = found-within (is_named (get_or c.self.inside.rows.items c.args.i c.index.result.now).namespace) c.self.inside.spaces.items c.args.k found in
+      let live = ap (λ x. x.removed) c.index_mut-space.ensures.value ∙ subst (λ v. (d : SpaceValue) → (get_or v.spaces c.args.k d).removed ≡ false) (sym c.self.view_is) c.requires.living old in
+      roll-living (c.self.invariant.1 (ap (λ v. v.spent) c.self.view_is ∙ c.requires.ready)) c.args.k c.join.new.self old inside c.index_mut-space.ensures.value (ap (λ x. x.name) c.in_ok-join-in-Member.ensures.joined) live,
+)
 
 pub join-requires-clause-same : goal.join-requires-clause-same
 join-requires-clause-same c =
@@ -78,7 +95,7 @@ join-requires-clause-same c =
 
 pub returns-in_ok-push-in-Commit-clause-moves : goal.returns-in_ok-push-in-Commit-clause-moves
 returns-in_ok-push-in-Commit-clause-moves c =
-    let s = c.self.invariant (ap (λ v. v.spent) c.self.view_is ∙ c.requires.ready) in
+    let s = c.self.invariant.0 (ap (λ v. v.spent) c.self.view_is ∙ c.requires.ready) in
     let e = sym c.self.view_is in
     let rows = c.self.inside.rows.items in
     let row = c.index.result.now in
@@ -104,7 +121,7 @@ returns-in_ok-push-in-Commit-clause-moves c =
 
 pub returns-in_ok-join-in-Member-clause-moves : goal.returns-in_ok-join-in-Member-clause-moves
 returns-in_ok-join-in-Member-clause-moves c =
-    let s = c.self.invariant (ap (λ v. v.spent) c.self.view_is ∙ c.requires.ready) in
+    let s = c.self.invariant.0 (ap (λ v. v.spent) c.self.view_is ∙ c.requires.ready) in
     let e = sym c.self.view_is in
     let rows = c.self.inside.rows.items in
     let row = c.index.result.now in

@@ -22,21 +22,24 @@ any : Row
 any = record { by = record { actor = 0; command = 0 }; broker = 0; namespace = []; need = 0; stage = stage.Joined 0 work.Commit }
 
 pub invariant_of-self : goal.invariant_of-self
-invariant_of-self c = λ ready.
-    let s = c.self.invariant ready in
-    let e = sym c.self.view_is in
-    let rows = c.self.inside.rows.items in
-    let row = get_or rows c.args.i any in
-    let within = subst (λ v. c.args.i < length v.rows) e c.requires.within in
-    let read : row ≡ get_or rows c.args.i row = get_or_default rows c.args.i any row within in
-    let found = subst (λ v. (d : Row) → Some c.args.k ≡ position (is_named (get_or v.rows c.args.i d).namespace) v.spaces) e c.requires.found any in
-    let look = subst (λ v. (d : Row) → kind_of (get_or v.rows c.args.i d).stage ≡ kind.Look) e c.requires.asked any in
-    let back = c.send_back.ensures in
-    returned-sound s c.args.i within row read c.args.k found back.asked (back.was any) look back.stage (back.goes any) c.send_back.new.rows.items (back.others any) c.self.inside.spent
+invariant_of-self c = (
+  λ ready.
+      let s = c.self.invariant.0 ready in
+      let e = sym c.self.view_is in
+      let rows = c.self.inside.rows.items in
+      let row = get_or rows c.args.i any in
+      let within = subst (λ v. c.args.i < length v.rows) e c.requires.within in
+      let read : row ≡ get_or rows c.args.i row = get_or_default rows c.args.i any row within in
+      let found = subst (λ v. (d : Row) → Some c.args.k ≡ position (is_named (get_or v.rows c.args.i d).namespace) v.spaces) e c.requires.found any in
+      let look = subst (λ v. (d : Row) → kind_of (get_or v.rows c.args.i d).stage ≡ kind.Look) e c.requires.asked any in
+      let back = c.send_back.ensures in
+      returned-sound s c.args.i within row read c.args.k found back.asked (back.was any) look back.stage (back.goes any) c.send_back.new.rows.items (back.others any) c.self.inside.spent,
+  λ ready. c.self.invariant.1 ready,
+)
 
 pub returns-clause-moves : goal.returns-clause-moves
 returns-clause-moves c =
-    let s = c.self.invariant (ap (λ v. v.spent) c.self.view_is ∙ c.requires.ready) in
+    let s = c.self.invariant.0 (ap (λ v. v.spent) c.self.view_is ∙ c.requires.ready) in
     let e = sym c.self.view_is in
     let rows = c.self.inside.rows.items in
     let row = get_or rows c.args.i any in

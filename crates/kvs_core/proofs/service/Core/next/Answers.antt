@@ -13,7 +13,7 @@ returns-in-Some-clause-first c =
     (delivery-first (value_of c.self.inside) sound c.in-Some.hop (record { news = c.in-Some.ensures.announced; carried = c.in-Some.ensures.carried }) c.in-Some.ensures.some)
   where
     sound : IsSound (value_of c.self.inside)
-    sound = c.self.invariant (ap (λ v. v.spent) c.self.view_is ∙ c.requires)
+    sound = c.self.invariant.0 (ap (λ v. v.spent) c.self.view_is ∙ c.requires)
 
 pub returns-in-Some-first_answer-clause-first : goal.returns-in-Some-first_answer-clause-first
 returns-in-Some-first_answer-clause-first c =

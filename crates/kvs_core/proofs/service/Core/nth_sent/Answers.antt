@@ -13,7 +13,7 @@ pub returns-in-Ok-clause-value : goal.returns-in-Ok-clause-value
 returns-in-Ok-clause-value c =
     let v = c.args.self.now in
     let from = c.args.from in
-    let sound = subst IsSound c.self.view_is (c.self.invariant (ap (λ v. v.spent) c.self.view_is ∙ c.requires.ready)) in
+    let sound = subst IsSound c.self.view_is (c.self.invariant.0 (ap (λ v. v.spent) c.self.view_is ∙ c.requires.ready)) in
     let above = c.saturating_sub.result / c.self.inside.fanout in
     let at : above ≡ parent v.fanout from = ap (λ n. n / c.self.inside.fanout) c.saturating_sub.ensures ∙ ap (λ v. (from - 1) / v.fanout) c.self.view_is in
     let below = min (from * v.fanout + 1) v.size in
@@ -25,7 +25,7 @@ pub returns-clause-value : goal.returns-clause-value
 returns-clause-value c =
     let v = c.args.self.now in
     let from = c.args.from in
-    let sound = subst IsSound c.self.view_is (c.self.invariant (ap (λ v. v.spent) c.self.view_is ∙ c.requires.ready)) in
+    let sound = subst IsSound c.self.view_is (c.self.invariant.0 (ap (λ v. v.spent) c.self.view_is ∙ c.requires.ready)) in
     let above = c.saturating_sub.result / c.self.inside.fanout in
     let at : above ≡ parent v.fanout from = ap (λ n. n / c.self.inside.fanout) c.saturating_sub.ensures ∙ ap (λ v. (from - 1) / v.fanout) c.self.view_is in
     let below = c.min-below.result in

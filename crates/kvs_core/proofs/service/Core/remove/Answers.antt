@@ -1,5 +1,6 @@
 use Rattle.std.proofs.Common.{inl, refl, ◌≡◌, ◌∙◌, ◌<◌, ◌++◌, Some, true, false, length, map, arith, get_or, ap, sym, subst, set as set₁, inr, ◌≤◌}
 use Rattle.std.specs.List.{AllByRecursion as Each, position}
+use Rattle.std.proofs.lemmas.List.{length-set}
 use Rattle.kvs_rules.specs.Answers.{IsLegalAfter}
 use Rattle.kvs_rules.specs.Log.{Happened}
 use Rattle.kvs_requests.specs.declared.rows.Kind.TheVariants as kind
@@ -25,6 +26,7 @@ use Rattle.kvs_rules.specs.declared.events.KvsStep.TheVariants as kvs
 use Rattle.kvs_core.proofs.Moving.{found-there}
 use Rattle.kvs_core.proofs.Extending.{changing-inside, changing-told, history-in, history-same, of-old, Inside}
 use Rattle.kvs_core.specs.Histories.{landings_in}
+use Rattle.kvs_space.proofs.Rolls.{roll-living}
 use Rattle.kvs_core.proofs.service.Core.remove.Goals as goal
 
 pub index_mut-space-requires : goal.index_mut-space-requires
@@ -35,37 +37,54 @@ index_mut-space-requires c =
 
 pub remove-requires-clause-sound : goal.remove-requires-clause-sound
 remove-requires-clause-sound c =
-    let s = c.self.invariant (ap (λ v. v.spent) c.self.view_is ∙ c.requires.ready) in
+    let s = c.self.invariant.0 (ap (λ v. v.spent) c.self.view_is ∙ c.requires.ready) in
     let found = subst (λ v. (d : Row) → Some c.args.k ≡ position (is_named (get_or v.rows c.args.i d).namespace) v.spaces) (sym c.self.view_is) c.requires.found any in
     let inside = found-within (is_named (get_or c.self.inside.rows.items c.args.i any).namespace) c.self.inside.spaces.items c.args.k found in
     (c.self.inside.grant, subst (IsSoundSpace c.self.inside.fanout c.self.inside.grant) (sym c.index_mut-space.ensures.value) (s.spaces c.args.k c.index_mut-space.result.now inside))
 
 pub remove-requires-clause-other : goal.remove-requires-clause-other
 remove-requires-clause-other c =
-    let s = c.self.invariant (ap (λ v. v.spent) c.self.view_is ∙ c.requires.ready) in
+    let s = c.self.invariant.0 (ap (λ v. v.spent) c.self.view_is ∙ c.requires.ready) in
     let found = subst (λ v. (d : Row) → Some c.args.k ≡ position (is_named (get_or v.rows c.args.i d).namespace) v.spaces) (sym c.self.view_is) c.requires.found any in
     let inside = found-within (is_named (get_or c.self.inside.rows.items c.args.i any).namespace) c.self.inside.spaces.items c.args.k found in
     other-primary s c.args.k inside c.requires.other c.index_mut-space.result.now c.index_mut-space.ensures.value
 
+pub let_rest-requires-clause-within : goal.let_rest-requires-clause-within
+let_rest-requires-clause-within c =
+    let found = subst (λ v. (d : Row) → Some c.args.k ≡ position (is_named (get_or v.rows c.args.i d).namespace) v.spaces) (sym c.self.view_is) c.requires.found any in
+    let inside = found-within (is_named (get_or c.self.inside.rows.items c.args.i any).namespace) c.self.inside.spaces.items c.args.k found in
+    let n = length-set c.self.inside.spaces.items c.args.k c.remove.new.self in
+    omega (arith, inside)
+
+pub let_rest-requires-clause-roll : goal.let_rest-requires-clause-roll
+let_rest-requires-clause-roll c =
+    let found = subst (λ v. (d : Row) → Some c.args.k ≡ position (is_named (get_or v.rows c.args.i d).namespace) v.spaces) (sym c.self.view_is) c.requires.found any in
+    let inside = found-within (is_named (get_or c.self.inside.rows.items c.args.i any).namespace) c.self.inside.spaces.items c.args.k found in
+    let removed = c.in_ok-number.ensures.removed in
+    roll-living (c.self.invariant.1 (ap (λ v. v.spent) c.self.view_is ∙ c.requires.ready)) c.args.k c.remove.new.self c.index_mut-space.result.now inside c.index_mut-space.ensures.value removed.name removed.was
+
 pub invariant_of-self-2 : goal.invariant_of-self-2
-invariant_of-self-2 c = λ _.
-    let s = c.self.invariant (ap (λ v. v.spent) c.self.view_is ∙ c.requires.ready) in
-    let e = sym c.self.view_is in
-    let row = c.index.result.now in
-    let old = c.index_mut-space.result.now in
-    let within = subst (λ v. c.args.i < length v.rows) e c.requires.within in
-    let found = subst (λ v. (d : Row) → Some c.args.k ≡ position (is_named (get_or v.rows c.args.i d).namespace) v.spaces) e c.requires.found row ∙ ap (λ r. position (is_named r.namespace) c.self.inside.spaces.items) (sym c.index.ensures) in
-    let inside = found-within (is_named row.namespace) c.self.inside.spaces.items c.args.k found in
-    let ar = arrived-ask row (ap is_arrived c.index.ensures ∙ subst (λ v. (d : Row) → is_arrived (get_or v.rows c.args.i d) ≡ true) e c.requires.arrived row) in
-    let remove = ap (λ r. kind_of r.stage) c.index.ensures ∙ subst (λ v. (d : Row) → kind_of (get_or v.rows c.args.i d).stage ≡ kind.Remove) e c.requires.asked row in
-    let is = ar.is ∙ ap stage.Arrived (removes ar.asked (sym (ap kind_of ar.is) ∙ remove)) in
-    let sound = c.in_ok-number.ensures.sound c.self.inside.grant (subst (IsSoundSpace c.self.inside.fanout c.self.inside.grant) (sym c.index_mut-space.ensures.value) (s.spaces c.args.k old inside)) in
-    let rows-are = c.put_stage.ensures row ∙ ap (λ r. set₁ c.dismiss.new.rows.items c.args.i (with_stage (stage.Landed c.args.k c.in_ok-number.number work.Remove) r)) (dismissed-row s c.args.i within row c.index.ensures is c.args.k c.dismiss.new.rows.items c.dismiss.ensures) in
-    removal-sound s c.args.i within row c.index.ensures is c.args.k found c.requires.other old c.remove.new.self c.index_mut-space.ensures.value c.in_ok-number.number c.in_ok-number.ensures.removed c.dismiss.new.rows.items c.dismiss.ensures sound c.put_stage.new.rows.items rows-are false
+invariant_of-self-2 c = (
+  λ _.
+      let s = c.self.invariant.0 (ap (λ v. v.spent) c.self.view_is ∙ c.requires.ready) in
+      let e = sym c.self.view_is in
+      let row = c.index.result.now in
+      let old = c.index_mut-space.result.now in
+      let within = subst (λ v. c.args.i < length v.rows) e c.requires.within in
+      let found = subst (λ v. (d : Row) → Some c.args.k ≡ position (is_named (get_or v.rows c.args.i d).namespace) v.spaces) e c.requires.found row ∙ ap (λ r. position (is_named r.namespace) c.self.inside.spaces.items) (sym c.index.ensures) in
+      let inside = found-within (is_named row.namespace) c.self.inside.spaces.items c.args.k found in
+      let ar = arrived-ask row (ap is_arrived c.index.ensures ∙ subst (λ v. (d : Row) → is_arrived (get_or v.rows c.args.i d) ≡ true) e c.requires.arrived row) in
+      let remove = ap (λ r. kind_of r.stage) c.index.ensures ∙ subst (λ v. (d : Row) → kind_of (get_or v.rows c.args.i d).stage ≡ kind.Remove) e c.requires.asked row in
+      let is = ar.is ∙ ap stage.Arrived (removes ar.asked (sym (ap kind_of ar.is) ∙ remove)) in
+      let sound = c.in_ok-number.ensures.sound c.self.inside.grant (subst (IsSoundSpace c.self.inside.fanout c.self.inside.grant) (sym c.index_mut-space.ensures.value) (s.spaces c.args.k old inside)) in
+      let rows-are = c.put_stage.ensures row ∙ ap (λ r. set₁ c.dismiss.new.rows.items c.args.i (with_stage (stage.Landed c.args.k c.in_ok-number.number work.Remove) r)) (dismissed-row s c.args.i within row c.index.ensures is c.args.k c.dismiss.new.rows.items c.dismiss.ensures) in
+      removal-sound s c.args.i within row c.index.ensures is c.args.k found c.requires.other old c.remove.new.self c.index_mut-space.ensures.value c.in_ok-number.number c.in_ok-number.ensures.removed c.dismiss.new.rows.items c.dismiss.ensures sound c.put_stage.new.rows.items rows-are false,
+  λ _. c.let_rest.ensures,
+)
 
 pub returns-clause-makes : goal.returns-clause-makes
 returns-clause-makes c =
-    let s = c.self.invariant (ap (λ v. v.spent) c.self.view_is ∙ c.requires.ready) in
+    let s = c.self.invariant.0 (ap (λ v. v.spent) c.self.view_is ∙ c.requires.ready) in
     let e = sym c.self.view_is in
     let row = c.index.result.now in
     let old = c.index_mut-space.result.now in

@@ -18,7 +18,7 @@ use Rattle.kvs_core.proofs.service.Core.take_up_in.Goals as goal
 
 pub turn_away-requires-clause-fits : goal.turn_away-requires-clause-fits
 turn_away-requires-clause-fits c = λ set log a d.
-    let s = c.self.invariant (ap (λ v. v.spent) c.self.view_is ∙ c.requires.ready) in
+    let s = c.self.invariant.0 (ap (λ v. v.spent) c.self.view_is ∙ c.requires.ready) in
     let e = sym c.self.view_is in
     let within = subst (λ v. c.args.i < length v.rows) e c.requires.within in
     let row = get_or c.self.inside.rows.items c.args.i d in
