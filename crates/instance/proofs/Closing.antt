@@ -97,6 +97,7 @@ moment_answers work c (entry.Got other broker reference) by h = never _ (happene
 moment_answers work c (entry.Dropped other broker reference) by h = never _ (happened_not by (top == other) (event.Dropped broker reference) refl) h
 moment_answers work c (entry.Replied a k given number) by h = answered_so by (record { actor = a; command = k }) number (answer_of given) true h
 moment_answers work c (entry.Told from to) by h = absurd (true≢false (sym h))
+moment_answers work c (entry.Watched actor command number first count) by h = absurd (true≢false (sym h))
 moment_answers work c (entry.Ticked second) by h = absurd (true≢false (sym h))
 moment_answers work c (entry.Born child parent job label second grant) by h = absurd (true≢false (sym h))
 moment_answers work c (entry.Gone child parent job shut) by h = absurd (true≢false (sym h))

@@ -135,6 +135,7 @@ module _ (set : Setup) (by : By) (asks : IsSome (job_ask_at set.work by)) where
   here c (entry.Got i b reference) legal early is = absurd (true≢false (sym is))
   here c (entry.Dropped i b reference) legal early is = absurd (true≢false (sym is))
   here c (entry.Told from to) legal early is = absurd (true≢false (sym is))
+  here c (entry.Watched actor command number first count) legal early is = absurd (true≢false (sym is))
   here c (entry.Ticked second) legal early is = absurd (true≢false (sym is))
   here c (entry.Born child parent job label second grant) legal early is = absurd (true≢false (sym is))
   here c (entry.Gone child parent job shut) legal early is = absurd (true≢false (sym is))
