@@ -16,7 +16,7 @@ use Rattle.instance.specs.answers.Chronicle.{issues_of, replies_to, top}
 use Rattle.instance.specs.answers.Commands.{broker_of}
 use Rattle.instance.specs.answers.Services.{log_of}
 use Rattle.instance.specs.answers.Entering.{entered}
-use Rattle.instance.specs.answers.Stretches.{ComesBeforeReply, IsContentAt, IsIssueStretch, IsKvsStretch, IsReplyOf, IsReplyStretch}
+use Rattle.instance.specs.answers.Stretches.{ComesBeforeReply, IsContentAt, IsFeedStretch, IsIssueStretch, IsKvsStretch, IsReplyOf, IsReplyStretch}
 use Rattle.instance.specs.answers.declared.chronicle.Entry.{Entry}
 use Rattle.instance.specs.answers.declared.chronicle.Entry.TheVariants as entry
 use Rattle.instance.specs.answers.declared.chronicle.Reply.{Reply}
@@ -206,6 +206,10 @@ module _ (actors : List Actor) (label : Option (List ℕ)) (work : Workload) (ac
   quiet_before (entry.Born child parent job name second grant) h = absurd h
   quiet_before (entry.Gone child parent job shut) h = absurd h
   quiet_before entry.Closed h = absurd h
+
+  -- and so is a feed of its watch
+  pub quiet_feed : (made : List Entry) → IsFeedStretch actor made → Each (IsQuiet actors label) made
+  quiet_feed made f = subst (Each (IsQuiet actors label)) (sym f.split) (record { made = home; silent = λ i a. record { issues = refl; replies = λ k. refl }; nothing = tt }, tt)
 
   quiet_all_before : (es : List Entry) → Each (ComesBeforeReply work actor) es → Each (IsQuiet actors label) es
   quiet_all_before [] h = tt

@@ -24,6 +24,7 @@ mod Ranges
 mod Leaving
 mod Ending
 mod Closing
+mod Stilling
 mod Settling
 mod Ordering
 mod Beginning

@@ -5,18 +5,19 @@ use Rattle.std.specs.List.{range_with_len}
 use Rattle.std.specs.Option.{option_map_or}
 use Rattle.std.proofs.lemmas.Bool.{and_parts, ltb-true}
 use Rattle.std.proofs.lemmas.Option.{get_or_from_slice_get, slice_get_within}
-use Rattle.instance.specs.Steps.{can_answer as instance_can_answer}
+use Rattle.instance.specs.Steps.{can_answer as instance_can_answer, can_feed as instance_can_feed}
 use Rattle.world.specs.Acting.{IsGoneAt, IsPlacedIn}
 use Rattle.hierarchy.specs.Births.{is_at, label_of, numbers}
 use Rattle.hierarchy.proofs.Numbering.{numbers_are}
 use Rattle.homes.specs.Homes.{home_in}
 use Rattle.world.specs.Sound.{IsSound}
 use Rattle.homes.specs.Times.{at_home}
-use Rattle.world.specs.Steps.{can_answer, can_issue}
+use Rattle.world.specs.Steps.{can_answer, can_feed, can_issue}
 use Rattle.world.specs.Value.{WorldValue}
 use Rattle.homes.specs.declared.homes.Home.{Home}
 use Rattle.homes.specs.declared.homes.Place.{Place}
 use Rattle.homes.proofs.Finding.{option_found, item_read}
+use Rattle.world.proofs.Ordering.{feed_at}
 
 -- ---- places
 
@@ -32,6 +33,13 @@ placed_at places actor number e p read = by (slice_get places actor) refl e
     by (Some q) at e =
         let same : q ≡ p = sym (read ∙ get_or_from_slice_get places actor q p at) in
         record { here = at ∙ ap Some same; home = ap (λ (x : Place). x.home) (sym same) ∙ e }
+
+pub placed_there : (places : List Place) (actor number : ℕ) → IsPlacedIn places actor number → (p : Place) × (slice_get places actor ≡ Some p) × (p.home ≡ Some number)
+placed_there places actor number e = by (slice_get places actor) refl e
+  where
+    by : (o : Option Place) → slice_get places actor ≡ o → option_and_then (λ (q : Place). q.home) o ≡ Some number → (p : Place) × (slice_get places actor ≡ Some p) × (p.home ≡ Some number)
+    by None at e = cc
+    by (Some q) at e = (q, at, e)
 
 pub placed_within : (places : List Place) (actor number : ℕ) → IsPlacedIn places actor number → actor < length places
 placed_within places actor number e = by (slice_get places actor) refl e
@@ -88,6 +96,23 @@ module _ (v : WorldValue) (actor i : ℕ) (p : Place) (h : Home) (standing : sli
 
   pub answers_left : h.gone ≡ true → p.waits ≡ true → can_answer v actor ≡ true
   answers_left gone waits = answer_so ∙ ap₂ (λ b w. cond b w (instance_can_answer h.instance actor)) gone waits
+
+  -- that can be fed
+  feed_so : can_feed v actor ≡ (not h.gone && instance_can_feed h.instance actor)
+  feed_so = feed_at v actor i p h standing home here
+
+  pub feeds_in : h.gone ≡ false → can_feed v actor ≡ instance_can_feed h.instance actor
+  feeds_in living = feed_so ∙ ap (λ b. not b && instance_can_feed h.instance actor) living
+
+  pub feeds_living : can_feed v actor ≡ true → (h.gone ≡ false) × (instance_can_feed h.instance actor ≡ true)
+  feeds_living can = of (and_parts (not h.gone) (instance_can_feed h.instance actor) (sym feed_so ∙ can))
+    where
+      of : (not h.gone ≡ true) × (instance_can_feed h.instance actor ≡ true) → (h.gone ≡ false) × (instance_can_feed h.instance actor ≡ true)
+      of parts = (by h.gone parts.0, parts.1)
+        where
+          by : (b : Bool) → not b ≡ true → b ≡ false
+          by true e = cc
+          by false e = refl
 
   -- and for whom a command can be issued
   pub issue_so : can_issue v actor ≡ (not p.waits && nat_lt p.next (length v.set.work.lines))
