@@ -114,6 +114,7 @@ module _ (set : Setup) where
   lands_so c (entry.Ticked second) number authors groups h = cc
   lands_so c (entry.Born child parent job label second grant) number authors groups h = cc
   lands_so c (entry.Gone child parent job shut) number authors groups h = cc
+  lands_so c (entry.Watched a k n first count) number authors groups h = cc
   lands_so c entry.Closed number authors groups h = cc
 
 module _ (set : Setup) (by : By) (asks : is_some (job_ask_at set.work by) ≡ true) where
@@ -216,6 +217,7 @@ module _ (set : Setup) (by : By) (none : job_ask_at set.work by ≡ None) where
   entry_asked c (entry.Ticked second) legal h = no_author by h
   entry_asked c (entry.Born child parent job label second grant) legal h = no_author by h
   entry_asked c (entry.Gone child parent job shut) legal h = no_author by h
+  entry_asked c (entry.Watched a k n first count) legal h = no_author by h
   entry_asked c entry.Closed legal h = no_author by h
 
   IsAskedThere : Log → Type 0

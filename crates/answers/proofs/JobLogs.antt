@@ -1,5 +1,5 @@
 -- The log of the top instance has the log of its service in it, and the issues of its job commands.
-use Rattle.std.proofs.Common.{◌≡◌, ℕ, zero, suc, ◌≤◌, ◌==◌, ◌&&◌, ◌||◌, List, [], ◌∷◌, ◌++◌, Bool, true, false, cond, Option, Some, None, is_some, option_map, filter_map, refl, sym, ap, ap₂, ◌∙◌, subst, arith, true≢false}
+use Rattle.std.proofs.Common.{◌≡◌, ℕ, zero, suc, ◌≤◌, ◌==◌, ◌&&◌, ◌||◌, List, [], ◌∷◌, ◌++◌, Bool, true, false, cond, Option, Some, None, is_some, option_map, filter_map, refl, sym, ap, ap₂, ◌∙◌, subst, arith, append-nil, append_assoc, true≢false}
 use Rattle.std.specs.Prelude.{Contains, slice_get}
 use Rattle.std.specs.Option.{option_and_then, option_map_or}
 use Rattle.std.specs.List.{AllByRecursion as Each, cons_option, list_any}
@@ -70,6 +70,7 @@ replied_kept : (work : Workload) (c : List Entry) (actor number : ℕ) (given : 
     ≡ moment_of work top c (entry.Replied actor number given at_)
 replied_kept work c actor number (reply.Submitted id) at_ = refl
 replied_kept work c actor number (reply.BadSpec fault) at_ = refl
+replied_kept work c actor number (reply.Checked reason) at_ = refl
 replied_kept work c actor number reply.NoJob at_ = refl
 replied_kept work c actor number reply.Raised at_ = refl
 replied_kept work c actor number reply.Ended at_ = refl
@@ -82,6 +83,7 @@ replied_kept work c actor number (reply.Behind id) at_ = refl
 replied_kept work c actor number reply.Held at_ = refl
 replied_kept work c actor number reply.Ready at_ = refl
 replied_kept work c actor number (reply.EndedWith status) at_ = refl
+replied_kept work c actor number (reply.Watched shown) at_ = refl
 replied_kept work c actor number (reply.Advanced second) at_ = refl
 replied_kept work c actor number reply.Shut at_ = refl
 replied_kept work c actor number given at_ = kept (moment_of work top c (entry.Replied actor number given at_))
@@ -98,7 +100,19 @@ entry_kept work c (entry.Replied actor number given at_) = replied_kept work c a
 entry_kept work c (entry.Ticked second) = refl
 entry_kept work c (entry.Born child parent job label second grant) = unserved (parent == top) (Born job) refl
 entry_kept work c (entry.Gone child parent job shut) = unserved (parent == top) (Gone job shut) refl
+entry_kept work c (entry.Watched actor command number first count) = refl
 entry_kept work c e = kept (moment_of work top c e)
+
+-- the moments of further entries stand behind those of the first
+pub happenings_after-append : (work : Workload) (c xs ys : List Entry) → happenings_after work c (xs ++ ys) ≡ happenings_after work c xs ++ happenings_after work (c ++ xs) ys
+happenings_after-append work c [] ys = ap (λ b. happenings_after work b ys) (sym (append-nil c))
+happenings_after-append work c (x ∷ xs) ys =
+    ap (cons_option (happening_of work c x)) (happenings_after-append work (c ++ x ∷ []) xs ys ∙ ap (λ b. happenings_after work (c ++ x ∷ []) xs ++ happenings_after work b ys) (append_assoc c (x ∷ []) xs))
+    ∙ sym (joined (happening_of work c x) _ _)
+  where
+    joined : (o : Option Moment) (xs ys : Log) → cons_option o xs ++ ys ≡ cons_option o (xs ++ ys)
+    joined None xs ys = refl
+    joined (Some m) xs ys = refl
 
 pub only : {A : Type 0} (x y : A) → Contains (x ∷ []) y → y ≡ x
 only x y (zero, low, e) = sym e
@@ -181,6 +195,7 @@ module _ (work : Workload) (by : By) (asks : is_some (job_ask_at work by) ≡ tr
   entry_issues c (entry.Ticked second) = refl
   entry_issues c (entry.Born child parent job label second grant) = unissued (parent == top) (Born job) refl
   entry_issues c (entry.Gone child parent job shut) = unissued (parent == top) (Gone job shut) refl
+  entry_issues c (entry.Watched actor command number first count) = refl
   entry_issues c e = served_none (moment_of work top c e)
 
   until_option : (o : Option Moment) (log : Log) (b : Bool) → issues_in by o ≡ b → until (issues_now by) (cons_option o log) ≡ cond b [] (cons_option o (until (issues_now by) log))

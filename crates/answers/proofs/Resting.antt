@@ -1,6 +1,6 @@
 -- Where a workload has no command on jobs or time, no job stands in the store, the manager has
 -- nothing to do, and nothing keeps a run from its end.
-use Rattle.std.proofs.Common.{◌≡◌, ◌⊎◌, inl, inr, ℕ, ◌==◌, suc, List, [], ◌∷◌, ◌++◌, Bool, true, false, cond, length, Option, Some, None, option_map, unwrap_or, Result, Ok, Err, refl, sym, ap, ap₂, ◌∙◌, subst, arith, append-nil, append_assoc}
+use Rattle.std.proofs.Common.{◌≡◌, ◌⊎◌, inl, inr, ℕ, ◌==◌, suc, List, [], ◌∷◌, ◌++◌, Bool, true, false, cond, length, Option, Some, None, option_map, unwrap_or, Result, Ok, Err, refl, sym, ap, ap₂, ◌∙◌, subst, arith, append-nil}
 use Rattle.std.specs.Prelude.{Contains, IfSome, is_some, option_and_then}
 use Rattle.std.specs.Option.{option_map_or}
 use Rattle.std.specs.List.{AllByRecursion as Each, cons_option}
@@ -40,14 +40,14 @@ use Rattle.workload.specs.declared.work.Workload.{Workload}
 use Rattle.answers.specs.declared.chronicle.Entry.{Entry}
 use Rattle.answers.specs.declared.chronicle.Entry.TheVariants as entry
 use Rattle.answers.specs.Chronicle.{Setup, top}
-use Rattle.answers.specs.Jobs.{IsWithoutJobs, happening_of, happenings_after, instance_of, job_ask_at, job_reply_of, log_in}
+use Rattle.answers.specs.Jobs.{IsWithoutJobs, happening_of, instance_of, job_ask_at, job_reply_of, log_in}
 use Rattle.answers.specs.Legal.{IsLegal, IsLegalEntry}
 use Rattle.answers.specs.Runs.{family_of}
 use Rattle.answers.specs.Services.{log_of, moment_of, setting_of}
 use Rattle.answers.specs.Whole.{HasComeToRest, HasToldAll}
 use Rattle.answers.proofs.Carried.{lands_so, legal_in}
 use Rattle.answers.proofs.Alone.{family_closes}
-use Rattle.answers.proofs.JobLogs.{asks_nothing, no_advance, service_kept}
+use Rattle.answers.proofs.JobLogs.{asks_nothing, happenings_after-append, no_advance, service_kept}
 use Rattle.answers.proofs.Services.{log_push, never_resumes}
 
 none_in : {A P : Type 0} (x : A) → Contains [] x → P
@@ -58,16 +58,6 @@ as_user (author.User id) h = tt
 as_user author.Manager h = h
 
 -- ---- what an entry says of a child
-
-happenings_after-append : (work : Workload) (c xs ys : List Entry) → happenings_after work c (xs ++ ys) ≡ happenings_after work c xs ++ happenings_after work (c ++ xs) ys
-happenings_after-append work c [] ys = ap (λ b. happenings_after work b ys) (sym (append-nil c))
-happenings_after-append work c (x ∷ xs) ys =
-    ap (cons_option (happening_of work c x)) (happenings_after-append work (c ++ x ∷ []) xs ys ∙ ap (λ b. happenings_after work (c ++ x ∷ []) xs ++ happenings_after work b ys) (append_assoc c (x ∷ []) xs))
-    ∙ sym (joined (happening_of work c x) _ _)
-  where
-    joined : (o : Option Moment) (xs ys : Log) → cons_option o xs ++ ys ≡ cons_option o (xs ++ ys)
-    joined None xs ys = refl
-    joined (Some m) xs ys = refl
 
 -- neither a birth nor an end
 abbrev IsOfNoChild : Entry → Type 0
@@ -98,6 +88,7 @@ module _ (id : ℕ) where
   entry_tells work c (entry.Ticked second) h = refl
   entry_tells work c (entry.Born child parent job label second grant) h = absurd h
   entry_tells work c (entry.Gone child parent job shut) h = absurd h
+  entry_tells work c (entry.Watched actor command number first count) h = refl
   entry_tells work c e h = served_tells (moment_of work top c e)
 
   still_none : (o : Option Moment) (log : Log) → told_of o ≡ None → child_of log id ≡ None → child_of (log ++ cons_option o []) id ≡ None

@@ -105,6 +105,7 @@ module _ (actors : List Actor) (label : Option (List ℕ)) (i : ℕ) (by : By) (
   own_issue (entry.Ticked second) is = absurd (none true (entry.Ticked second) refl is)
   own_issue (entry.Born child parent job name second grant) is = absurd (none (parent == i) _ refl is)
   own_issue (entry.Gone child parent job shut) is = absurd (none (parent == i) _ refl is)
+  own_issue (entry.Watched actor command number first count) is = absurd (none (is_at actors label actor) _ refl is)
   own_issue entry.Closed is = absurd (none true entry.Closed refl is)
 
 -- ---- within what is issued

@@ -107,6 +107,7 @@ module _ (set : Setup) (tops : IsOfTop set) where
   own_same (entry.Ticked second) h at = refl
   own_same (entry.Born child parent job label second grant) h at = absurd h
   own_same (entry.Gone child parent job shut) h at = absurd h
+  own_same (entry.Watched actor command number first count) h at = ap (λ b. cond b (Some (entry.Watched actor command number first count)) None) (at_top set tops actor)
   own_same entry.Closed h at = refl
 
   own_all : (c : List Entry) → IsChildless c → Each IsAtTop c → filter_map (own_entry set.work.actors None top) c ≡ c

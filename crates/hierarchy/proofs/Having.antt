@@ -60,6 +60,7 @@ module _ (work : Workload) (own : List Entry) (id : ℕ) where
   says_nothing actors label i (entry.Ticked second) n b = untold true (entry.Ticked second) refl
   says_nothing actors label i (entry.Born child parent job name second grant) n b = cc
   says_nothing actors label i (entry.Gone child parent job shut) n b = absurd (true≢false n)
+  says_nothing actors label i (entry.Watched actor command number first count) n b = untold (is_at actors label actor) (entry.Watched actor command number first count) refl
   says_nothing actors label i entry.Closed n b = untold true entry.Closed refl
 
 -- ---- along a run
@@ -236,6 +237,7 @@ module _ (set : Setup) where
     with_entry actors label i (entry.Ticked second) tick = with_one true (entry.Ticked second) (tick second refl)
     with_entry actors label i (entry.Born child parent job name second grant) tick = with_one (parent == i) (entry.Born child top job name second grant) tt
     with_entry actors label i (entry.Gone child parent job shut) tick = with_one (parent == i) (entry.Gone child top job shut) tt
+    with_entry actors label i (entry.Watched actor command number first count) tick = with_one (is_at actors label actor) (entry.Watched actor command number first count) tt
     with_entry actors label i entry.Closed tick = with_one true entry.Closed tt
 
   ends_step : (xs : List Entry) (e : Entry) → EachAfter (IsLegalRunEntry set) [] xs → IsLegalRunEntry set xs e → AreEndsFirst xs → AreEndsFirst (xs ++ e ∷ [])

@@ -220,7 +220,7 @@ module _ (set : Setup) (past : List Entry) where
     pub theirs : is_at set.work.actors (label_of past home) actor ≡ true
     pub own : IsOwn home f
 
-  replied_in : (actor command : ℕ) (given : Reply) (number : Option ℕ) → IsLegalRunEntry set past (entry.Replied actor command given number)
+  pub replied_in : (actor command : ℕ) (given : Reply) (number : Option ℕ) → IsLegalRunEntry set past (entry.Replied actor command given number)
       → has_living_home set.work.actors past actor ≡ true → IsAtHome actor (entry.Replied actor command given number)
   replied_in actor command given number l home =
       let found = any_from (λ i. lives past i && is_at set.work.actors (label_of past i) actor) (numbers past) home in
@@ -228,7 +228,7 @@ module _ (set : Setup) (past : List Entry) where
       let e : Entry = entry.Replied actor command given number in
       record { home = found.0; living = parts.0; theirs = parts.1; own = own_legal e refl refl l found.0 parts.0 e (ap (λ b. only_if b e) parts.1) }
 
-  at_home : (actor : ℕ) (f : Entry) (h : IsAtHome actor f) (P : Setup → List Entry → Type 0) → P (setup_in set past h.home) (own_of set past h.home) → AtHome set past actor P
+  pub at_home : (actor : ℕ) (f : Entry) (h : IsAtHome actor f) (P : Setup → List Entry → Type 0) → P (setup_in set past h.home) (own_of set past h.home) → AtHome set past actor P
   at_home actor f h P p = record { home = h.home; theirs = h.theirs; held = (h.living, p) }
 
   numbered : (actor command : ℕ) (given : Reply) (number : Option ℕ) → IsLegalRunEntry set past (entry.Replied actor command given number)

@@ -1,16 +1,10 @@
 -- A label names one job: that of the one line that submits it. So no birth has a label that another one has.
-use Rattle.std.proofs.Common.{◌≡◌, ℕ, zero, suc, ◌+◌, ◌<◌, ◌^◌, ◌==◌, inl, inr, List, [], ◌∷◌, ◌++◌, Bool, true, false, cond, ◌||◌, Option, Some, None, is_some, option_map, filter_map, refl, sym, ap, ap₂, ◌∙◌, subst, arith, append-nil, append_assoc, true≢false, bytes_eq}
-use Rattle.std.specs.Prelude.{Contains, find, if◌then◌else◌, slice_get, unwrap_or}
+use Rattle.std.proofs.Common.{◌≡◌, ℕ, ◌<◌, ◌^◌, ◌==◌, inl, inr, List, [], ◌∷◌, ◌++◌, Bool, true, false, cond, Option, Some, None, is_some, option_map, refl, sym, ap, ap₂, ◌∙◌, subst, append-nil, append_assoc, true≢false, bytes_eq}
+use Rattle.std.specs.Prelude.{find, unwrap_or}
 use Rattle.std.specs.List.{cons_option, list_any}
-use Rattle.std.specs.Option.{option_and_then}
-use Rattle.std.proofs.lemmas.Bool.{eq-eqb, eqb-true, or_parts, or_right}
-use Rattle.std.proofs.lemmas.List.Elements.{Contains-append_left, filter_map-append}
+use Rattle.std.proofs.lemmas.Bool.{eq-eqb, or_parts}
 use Rattle.std.proofs.lemmas.List.Folds.{list_any-append}
-use Rattle.std.proofs.lemmas.Slice.Eq.{bytes_eq-Decides}
 use Rattle.job_rules.proofs.Among.{Among, among_from, each_at as each_among}
-use Rattle.kvs_rules.specs.Log as service
-use Rattle.kvs_rules.specs.Namespaces.{primary}
-use Rattle.kvs_rules.specs.declared.events.KvsEvent.TheVariants as event
 use Rattle.kvs_rules.specs.Sequence.{EachAfter, latest}
 use Rattle.kvs_rules.proofs.Sequences.{each_at}
 use Rattle.kvs_txn.specs.declared.txn.By.{By}
@@ -20,20 +14,19 @@ use Rattle.manager_rules.specs.Jobs.{IsStored}
 use Rattle.manager_rules.specs.Times.{IsBirthDue}
 use Rattle.instance_rules.specs.Desks.{HasSubmitted, Names}
 use Rattle.instance_rules.specs.Family.{Living, OfLiving}
-use Rattle.instance_rules.specs.Log as rules
-use Rattle.instance_rules.specs.Log.{Born, Gone, Issued, Log, Moment, Replied, Served, Ticked, child_of, child_told, served, service_of}
+use Rattle.instance_rules.specs.Log.{Born, Gone, Log, Moment, child_of, child_told}
 use Rattle.workload.specs.Actors.{are_together}
 use Rattle.workload.specs.Laws.{HasOwnLabels}
-use Rattle.workload.specs.Tallies.{declares, is_declared}
+use Rattle.workload.specs.Tallies.{declares}
 use Rattle.workload.specs.declared.work.Command.{Command}
-use Rattle.workload.specs.declared.work.Command.TheVariants as command
-use Rattle.workload.specs.declared.work.Line.{Line}
 use Rattle.workload.specs.declared.work.Workload.{Workload}
 use Rattle.answers.specs.Chronicle.{Setup, top}
 use Rattle.answers.specs.Commands.{command_at}
-use Rattle.answers.specs.Jobs.{happenings_after, instance_of, job_ask_of, log_in}
+use Rattle.answers.specs.Jobs.{happenings_after, instance_of, log_in}
 use Rattle.answers.specs.declared.chronicle.Entry.{Entry}
 use Rattle.answers.specs.declared.chronicle.Entry.TheVariants as entry
+use Rattle.run_laws.proofs.Once.{begins_one}
+use Rattle.run_laws.proofs.Submits.{asks_submit, one_line, submitted_later}
 use Rattle.hierarchy.specs.Births.{Birth, birth_in, birth_of, births, ends, is_at, is_birth_of, is_born, is_gone, label_of, lives}
 use Rattle.hierarchy.specs.Families.{living_in}
 use Rattle.hierarchy.specs.Growing.{GoesOn}
@@ -42,88 +35,12 @@ use Rattle.hierarchy.specs.Own.{own_entry, own_of, only_if, setup_in}
 use Rattle.hierarchy.proofs.Holding.{child_asked}
 use Rattle.hierarchy.proofs.Members.{member, member_lives}
 use Rattle.hierarchy.proofs.Nested.{happenings_joined}
-use Rattle.hierarchy.proofs.Once.{begins_one}
 use Rattle.hierarchy.proofs.OneEntry.{one_home}
 use Rattle.hierarchy.proofs.Owning.{alive, born_kept, label_kept, lives_on, own_push, setup_kept}
 use Rattle.hierarchy.proofs.Parts.{none_of_others}
 use Rattle.hierarchy.proofs.Steps.{command_same}
 
--- ---- a label stands in one submission
-
-abbrev commands : ℕ → List Line → List Command
-commands actor lines = filter_map (λ line. if line.actor == actor then Some line.command else None) lines
-
--- a command of these lines is the first line's, or one of those behind it
-data Stands (line : Line) (lines : List Line) (actor k : ℕ) (c : Command) : Type 0 where
-  first : line.actor ≡ actor → k ≡ 0 → line.command ≡ c → Stands line lines actor k c
-  behind : (j : ℕ) → slice_get (commands actor lines) j ≡ Some c → k ≡ j + cond (line.actor == actor) 1 0 → Stands line lines actor k c
-
-stands : (line : Line) (lines : List Line) (actor k : ℕ) (c : Command) → slice_get (commands actor (line ∷ lines)) k ≡ Some c → Stands line lines actor k c
-stands line lines actor k c is = by (line.actor == actor) refl k is
-  where
-    by : (b : Bool) → (line.actor == actor) ≡ b → (k : ℕ) → slice_get (cons_option (if b then Some line.command else None) (commands actor lines)) k ≡ Some c → Stands line lines actor k c
-    by true own zero is = let same : line.command ≡ c = cc in first (eqb-true line.actor actor own) refl same
-    by true own (suc j) is = behind j is (rw own (omega arith))
-    by false own k is = behind k is (rw own (omega arith))
-
-declared_in : (label : List ℕ) (lines : List Line) (actor k : ℕ) (c : Command) → slice_get (commands actor lines) k ≡ Some c → declares label c ≡ true → is_declared label lines ≡ true
-declared_in label [] actor k c is d = cc
-declared_in label (line ∷ lines) actor k c is d = elim (stands line lines actor k c is) [
-  | first own k0 same ↦ ap (λ b. b || is_declared label lines) (ap (declares label) same ∙ d)
-  | behind j there count ↦ or_right (declares label line.command) (is_declared label lines) (declared_in label lines actor j c there d)
-]
-
-record Split (label : List ℕ) (lines : List Line) : Type 0 where
-  before : List Line
-  line : Line
-  after : List Line
-  cut : lines ≡ before ++ line ∷ after
-  says : declares label line.command ≡ true
-
-split_of : (label : List ℕ) (lines : List Line) → is_declared label lines ≡ true → Split label lines
-split_of label [] h = absurd (true≢false (sym h))
-split_of label (line ∷ lines) h = by (declares label line.command) refl h (λ more. split_of label lines more)
-  where
-    by : (b : Bool) → declares label line.command ≡ b → (b || is_declared label lines) ≡ true → (is_declared label lines ≡ true → Split label lines) → Split label (line ∷ lines)
-    by true is h again = record { before = []; line = line; after = lines; cut = refl; says = is }
-    by false is h again = let s = again h in record { before = line ∷ s.before; line = s.line; after = s.after; cut = ap (λ l. line ∷ l) s.cut; says = s.says }
-
-labels_behind : (line : Line) (lines : List Line) → HasOwnLabels (line ∷ lines) → HasOwnLabels lines
-labels_behind line lines h before x after label cut says =
-    (or_parts (declares label line.command) (is_declared label before) (h (line ∷ before) x after label (ap (λ l. line ∷ l) cut) says)).1
-
-label_once : (label : List ℕ) (line : Line) (lines : List Line) → HasOwnLabels (line ∷ lines) → declares label line.command ≡ true → is_declared label lines ≡ true → ⊥
-label_once label line lines h here more =
-    let s = split_of label lines more in
-    let none = h (line ∷ s.before) s.line s.after label (ap (λ l. line ∷ l) s.cut) s.says in
-    true≢false (sym here ∙ (or_parts (declares label line.command) (is_declared label s.before) none).0)
-
-one_line : (label : List ℕ) (lines : List Line) → HasOwnLabels lines → (a m b n : ℕ) (c d : Command) → slice_get (commands a lines) m ≡ Some c → declares label c ≡ true
-    → slice_get (commands b lines) n ≡ Some d → declares label d ≡ true → (a ≡ b) × (m ≡ n)
-one_line label [] h a m b n c d x says y too = cc
-one_line label (line ∷ lines) h a m b n c d x says y too = elim (stands line lines a m c x) [
-  | first own k0 same ↦ elim (stands line lines b n d y) [
-    | first mine k1 also ↦ (sym own ∙ mine, k0 ∙ sym k1)
-    | behind j there count ↦ absurd (label_once label line lines h (ap (declares label) same ∙ says) (declared_in label lines b j d there too))
-  ]
-  | behind i here counted ↦ elim (stands line lines b n d y) [
-    | first mine k1 also ↦ absurd (label_once label line lines h (ap (declares label) also ∙ too) (declared_in label lines a i c here says))
-    | behind j there count ↦
-        let both = one_line label lines (labels_behind line lines h) a i b j c d here says there too in
-        (both.0, counted ∙ ap₂ (λ k x. k + cond (line.actor == x) 1 0) both.1 both.0 ∙ sym count)
-  ]
-]
-
 -- ---- submissions
-
-asks_submit : (o : Option Command) (label : List ℕ) (urgency : ℕ) (needs : List rules.Named) (text : List ℕ) → option_and_then job_ask_of o ≡ Some (rules.Submit label urgency needs text)
-    → (c : Command) × (o ≡ Some c) × (declares label c ≡ true)
-asks_submit None label urgency needs text is = cc
-asks_submit (Some c) label urgency needs text is = (c, refl, of c is)
-  where
-    of : (c : Command) → job_ask_of c ≡ Some (rules.Submit label urgency needs text) → declares label c ≡ true
-    of (command.Submit other urgent depends spec) is = let same : other ≡ label = cc in (bytes_eq-Decides other label).1 same
-    of _ is = cc
 
 -- the submission of a label in an instance of the run is its one line there, by an actor of the instance
 record IsSubmittedBy (set : Setup) (c : List Entry) (i : ℕ) (label : List ℕ) (by : By) : Type 0 where
@@ -143,22 +60,6 @@ submitted_by set c i label id log n = by (is_at set.work.actors (label_of c i) n
     by false is = let none = none_of_others set c i n.by is in let never : None ≡ Some s.0 = sym none ∙ s.1 in cc
 
 -- ---- logs grow
-
--- what a command has begun it has begun later too
-submitted_later : (log more : Log) (by : By) (id : ℕ) → HasSubmitted log by id → HasSubmitted (log ++ more) by id
-submitted_later log more by id h = (
-  h.0,
-  record {
-    authors = h.1.authors;
-    groups = h.1.groups;
-    landing = subst (λ l. Contains l (service.Happened (event.Landed primary h.0 h.1.authors h.1.groups))) (sym (filter_map-append served log more))
-        (Contains-append_left (service_of log) (service_of more) (service.Happened (event.Landed primary h.0 h.1.authors h.1.groups)) h.1.landing);
-    group = h.1.group;
-    one = h.1.one;
-    alone = h.1.alone;
-    begins = h.1.begins;
-  },
-)
 
 -- a child that is told of stays told of
 told_stays : (id : ℕ) (log : Log) (o : Option (Bool × Bool)) → is_some o ≡ true → is_some (latest (child_told id) o log) ≡ true

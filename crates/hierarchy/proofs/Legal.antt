@@ -183,6 +183,7 @@ module _ (set : Setup) (tops : IsOfTop set) where
     grounds_so (entry.Ticked second) n l t = tick_run c h at second t
     grounds_so (entry.Born child parent job label second grant) n l t = absurd n
     grounds_so (entry.Gone child parent job shut) n l t = absurd n
+    grounds_so (entry.Watched actor command number first count) n l t = has_living_top set tops c h at actor
     grounds_so entry.Closed n l t = whole_run (c ++ entry.Closed ∷ []) (push_each IsOfNoChild c entry.Closed h tt) (push_each IsAtTop c entry.Closed at tt) l.grounds
 
     time_so : (e : Entry) → IsOfNoChild e → IsLegalRunEntry set c e → ComesInTime set c e

@@ -19,7 +19,6 @@ pub mod Resting
 pub mod Finish
 pub mod Parts
 pub mod Labels
-pub mod Once
 pub mod Homes
 pub mod Settling
 pub mod Numbering
@@ -28,6 +27,7 @@ pub mod Within
 pub mod Inside
 pub mod Marks
 pub mod Throughout
+pub mod Watching
 pub mod Keeping
 pub mod Having
 pub mod Named

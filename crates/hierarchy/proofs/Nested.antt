@@ -21,7 +21,7 @@ use Rattle.resource_set.specs.Units.{units_of}
 use Rattle.resource_set.specs.declared.node.Resources.{Resources}
 use Rattle.workload.specs.declared.work.Workload.{Workload}
 use Rattle.instance_rules.specs.Family.{AreNested, IsNestedAs, LiesIn, Living, OfLiving, below, itself}
-use Rattle.instance_rules.specs.Log.{Born, IsInstance, Issued, JobReply, Moment, Replied, Served, Ticked, child_of}
+use Rattle.instance_rules.specs.Log.{Born, Fed, IsInstance, Issued, JobReply, Moment, Replied, Served, Ticked, child_of}
 use Rattle.answers.specs.Chronicle.{Setup, top}
 use Rattle.answers.specs.Jobs.{happening_of, happenings_after, instance_of, job_ask_at, job_reply_of, log_in, second_of}
 use Rattle.answers.specs.Services.{moment_of}
@@ -98,12 +98,17 @@ module _ (id : ℕ) where
   unfolding Says
   ticked_says second = inl refl
 
+  fed_says : (by : By) (number first count : ℕ) → Says (Some (Fed by number first count))
+  unfolding Says
+  fed_says by number first count = inl refl
+
   entry_says : (work : Workload) (own : List Entry) (e : Entry) → is_end e ≡ false → Says (happening_of work own e)
   entry_says work own (entry.Issued actor number) n = issued_says (is_some (job_ask_at work (record { actor = actor; command = number }))) (record { actor = actor; command = number }) _
   entry_says work own (entry.Replied actor command given number) n = replied_says (record { actor = actor; command = command }) number (job_reply_of given) _
   entry_says work own (entry.Born child parent job label second grant) n = born_says (parent == top) job
   entry_says work own (entry.Gone child parent job shut) n = absurd (true≢false n)
   entry_says work own (entry.Ticked second) n = ticked_says second
+  entry_says work own (entry.Watched actor command number first count) n = fed_says (record { actor = actor; command = command }) number first count
   entry_says work own e n = served_says (moment_of work top own e)
 
 -- the child of the job lives by the log of its instance
@@ -263,6 +268,7 @@ own_not_end actors label i (entry.Told from to) f n is = only (is_at actors labe
 own_not_end actors label i (entry.Ticked second) f n is = let same : entry.Ticked second ≡ f = cc in ap is_end (sym same)
 own_not_end actors label i (entry.Born child parent job name second grant) f n is = only (parent == i) _ f refl is
 own_not_end actors label i (entry.Gone child parent job shut) f n is = absurd (true≢false n)
+own_not_end actors label i (entry.Watched actor command number first count) f n is = only (is_at actors label actor) _ f refl is
 own_not_end actors label i entry.Closed f n is = let same : entry.Closed ≡ f = cc in ap is_end (sym same)
 
 module _ (s : Setup) (own : List Entry) (b : Birth) (h : NestedIn s own b) where

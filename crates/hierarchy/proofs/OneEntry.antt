@@ -75,6 +75,7 @@ module _ (actors : List Actor) (label : Option (List ℕ)) (i actor : ℕ) (here
   sees_issues (entry.Ticked second) = refl
   sees_issues (entry.Born child parent job name second grant) = only_sees (issues_of actor) (parent == i) _ _ refl (λ no. refl)
   sees_issues (entry.Gone child parent job shut) = only_sees (issues_of actor) (parent == i) _ _ refl (λ no. refl)
+  sees_issues (entry.Watched a command number first count) = only_sees (issues_of actor) (is_at actors label a) _ _ refl (λ no. refl)
   sees_issues entry.Closed = refl
 
   sees_replies : (k : ℕ) (e : Entry) → Sees (replies_to (record { actor = actor; command = k })) (own_entry actors label i e) e
@@ -90,6 +91,7 @@ module _ (actors : List Actor) (label : Option (List ℕ)) (i actor : ℕ) (here
   sees_replies k (entry.Ticked second) = refl
   sees_replies k (entry.Born child parent job name second grant) = only_sees (replies_to (record { actor = actor; command = k })) (parent == i) _ _ refl (λ no. refl)
   sees_replies k (entry.Gone child parent job shut) = only_sees (replies_to (record { actor = actor; command = k })) (parent == i) _ _ refl (λ no. refl)
+  sees_replies k (entry.Watched a command number first count) = only_sees (replies_to (record { actor = actor; command = k })) (is_at actors label a) _ _ refl (λ no. refl)
   sees_replies k entry.Closed = refl
 
   -- what its actors do stands in the own chronicle behind the entry too
@@ -138,6 +140,7 @@ module _ (set : Setup) (c : List Entry) (i : ℕ) (f : Entry) (made : IsMadeIn s
       of (entry.Dropped instance broker reference) m = (refl, refl)
       of (entry.Replied actor command given number) m = (refl, refl)
       of (entry.Told from to) m = (refl, refl)
+      of (entry.Watched actor command number first count) m = (refl, refl)
       of _ m = absurd m
 
   -- it is one of its own chronicle
@@ -156,6 +159,7 @@ module _ (set : Setup) (c : List Entry) (i : ℕ) (f : Entry) (made : IsMadeIn s
       of (entry.Dropped instance broker reference) m = ap (λ b. only_if b (entry.Dropped top broker reference)) same ∙ ap (λ n. Some (entry.Dropped n broker reference)) (sym m)
       of (entry.Replied actor command given number) m = ap (λ b. only_if b (entry.Replied actor command given number)) m
       of (entry.Told from to) m = ap (λ b. only_if b (entry.Told from to)) m
+      of (entry.Watched actor command number first count) m = ap (λ b. only_if b (entry.Watched actor command number first count)) m
       of _ m = absurd m
 
   -- and of nobody else's
@@ -185,6 +189,7 @@ module _ (set : Setup) (c : List Entry) (i : ℕ) (f : Entry) (made : IsMadeIn s
       of (entry.Dropped instance broker reference) m = ap (λ b. only_if b (entry.Dropped top broker reference)) other
       of (entry.Replied actor command given number) m = ap (λ b. only_if b (entry.Replied actor command given number)) (away actor m)
       of (entry.Told from to) m = ap (λ b. only_if b (entry.Told from to)) (away from m)
+      of (entry.Watched actor command number first count) m = ap (λ b. only_if b (entry.Watched actor command number first count)) (away actor m)
       of _ m = absurd m
 
 -- ---- an entry that is no birth and no end leaves those that live

@@ -63,6 +63,7 @@ entry_ticks work c (entry.Replied actor number given at_) = replied_ticks (recor
 entry_ticks work c (entry.Ticked second) = refl
 entry_ticks work c (entry.Born child parent job label second grant) = child_ticks (parent == top) (Born job) refl
 entry_ticks work c (entry.Gone child parent job shut) = child_ticks (parent == top) (Gone job shut) refl
+entry_ticks work c (entry.Watched actor command number first count) = refl
 entry_ticks work c e = served_ticks (moment_of work top c e)
 
 second_push : (s : Setup) (own : List Entry) (e : Entry) → second_of s (own ++ e ∷ []) ≡ unwrap_or (ticks e) (second_of s own)
@@ -99,6 +100,7 @@ own_ticks actors label i e = of e
     of (entry.Ticked second) = refl
     of (entry.Born child parent job name second grant) = only (parent == i) _ refl
     of (entry.Gone child parent job shut) = only (parent == i) _ refl
+    of (entry.Watched actor command number first count) = only (is_at actors label actor) _ refl
     of entry.Closed = refl
 
 -- ---- the top

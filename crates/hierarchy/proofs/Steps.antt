@@ -117,6 +117,7 @@ module _ (set : Setup) (c : List Entry) (on : GoesOn set c) (i : ℕ) (h : lives
   made_grounds (entry.Dropped instance broker reference) m l = h
   made_grounds (entry.Replied actor command given number) m l = replies_so set c (setup_in set c i) (own_of set c i) (record { actor = actor; command = command }) number given (home_lives set c i actor h m) l.grounds
   made_grounds (entry.Told from to) m l = home_lives set c i from h m
+  made_grounds (entry.Watched actor command number first count) m l = home_lives set c i actor h m
   made_grounds _ m l = absurd m
 
   made_follows : (f : Entry) → IsMadeIn set.work.actors (label_of c i) f → IsLegalEntry (setup_in set c i) (own_of set c i) f → FollowsOwn set c (entered_in i f)

@@ -20,6 +20,7 @@ use Rattle.kvs_txn.specs.declared.answers.Query.{Query}
 use Rattle.kvs_txn.specs.declared.txn.By.{By}
 use Rattle.kvs_txn.specs.declared.txn.Group.{Group}
 use Rattle.tree_rules.specs.Texts.{root_reference}
+use Rattle.workload.specs.Laws.{HasOwnLabels}
 use Rattle.answers.specs.Chronicle.{Setup, before_issue, replies_to, top}
 use Rattle.answers.specs.Commands.{ask_at, broker_of, command_at, subject_at}
 use Rattle.answers.specs.Floors.{floor, knows_after, number_in, roots_named}
@@ -29,6 +30,7 @@ use Rattle.answers.specs.declared.chronicle.Entry.{Entry}
 use Rattle.answers.specs.declared.chronicle.Entry.TheVariants as entry
 use Rattle.answers.specs.declared.chronicle.Reply.{Reply}
 use Rattle.answers.specs.declared.chronicle.Reply.TheVariants as reply
+use Rattle.run_laws.specs.Feeds.{TellsLog, WatchesSeeTheirLogs}
 use Rattle.run_laws.specs.Jobs.{store_of}
 use Rattle.run_laws.specs.Reserved.{HeadsKeepTheirSeconds, IsNamed}
 use Rattle.run_laws.specs.Views.{JobsFollowWithRoots, LogsGrowWithRoots}
@@ -181,6 +183,19 @@ abbrev pub JobsFollowInAll : Setup → List Entry → Type 0
 JobsFollowInAll set c = InAllLiving set c
     (λ s own. JobsFollowWithRoots (setting_of s) (log_of s.work top own))
 
+-- ---- a watch is fed the log of its job, each event once and in order
+
+-- what a watch was fed so far is the whole log of its job at the root at which it was fed last
+abbrev pub WatchesSeeTheirLogsInAll : Setup → List Entry → Type 0
+WatchesSeeTheirLogsInAll set c = InAllLiving set c WatchesSeeTheirLogs
+
+-- and it is told the names of these events, once its job is over
+abbrev pub WatchesTellTheirLogs : Setup → List Entry → Type 0
+WatchesTellTheirLogs set c = (past more : List Entry) (actor command : ℕ) (shown : List (List ℕ))
+    (number : Option ℕ) → c ≡ past ++ entry.Replied actor command (reply.Watched shown) number ∷ more
+    → let by : By = record { actor = actor; command = command } in
+    AtHome set past actor (λ s own. IsSomeAnd number (TellsLog s own by shown))
+
 -- ---- while a job stays the first in the queue, its reserved second never rises
 
 -- under both policies, and no tick goes above it
@@ -236,7 +251,9 @@ pub record AreReplied (set : Setup) (c : List Entry) : Type 0 where
 -- read sees a root no older than its actor had seen or was told; each committer is answered once
 -- its own broker has heard the landing; the numbers that an actor's replies name never fall; each
 -- event of a job lands where it is due, stored logs replay and only grow, and what later roots tell
--- of jobs follows from what earlier ones told; while a job stays the first in the queue, the second
+-- of jobs follows from what earlier ones told; each watch is fed the log of its job, each event once
+-- and in order, and is told the names of what it was fed, where no two submissions have one label;
+-- while a job stays the first in the queue, the second
 -- that is reserved for it never rises, where hosts have names of hosts; live allocations are
 -- disjoint, satisfy their jobs and are within the grant; the grant of each living child lies within
 -- what a live job of its living parent holds; and every command has its one reply
@@ -248,6 +265,8 @@ pub record KeepsItsPromises (set : Setup) (c : List Entry) : Type 0 where
   pub due : EventsAreDue set c
   pub grows : LogsGrowInAll set c
   pub follows : JobsFollowInAll set c
+  pub fed : HasOwnLabels set.work.lines → WatchesSeeTheirLogsInAll set c
+  pub told : HasOwnLabels set.work.lines → WatchesTellTheirLogs set c
   pub reserved : IsNamed set.resources → HeadsKeepTheirSecondsInAll set c
   pub live : JobsStaySoundInAll set c
   pub nested : ChildrenStayNested set c

@@ -5,6 +5,7 @@ ghost use Rattle.instance_rules.specs.Family.{AreNested, MayClose, MayTick};
 ghost use Rattle.instance_rules.specs.Legal.{IsSound};
 ghost use Rattle.run_laws.specs.Jobs.{JobsStaySound, LogsOnlyGrow};
 ghost use Rattle.run_laws.specs.Times.{HasTime, KeepsTime, seconds_issued};
+ghost use Rattle.workload.specs.Laws.{HasOwnLabels};
 ghost use Rattle.workload.specs.Tallies.{seconds_in};
 ghost use Rattle.answers.specs.declared.chronicle.Entry.{Entry};
 ghost use Rattle.answers.specs.Chronicle.{Setup};
@@ -17,7 +18,7 @@ ghost use Rattle.hierarchy.specs.Families.{family_of, left_in, second_in};
 ghost use Rattle.hierarchy.specs.Laws.{AreValid, IsChildless, IsKept, IsOfOthers, IsOfTop};
 ghost use Rattle.hierarchy.specs.Legal.{AreOwnLegal, IsLegalRun, IsSettledRun, is_end};
 ghost use Rattle.hierarchy.specs.Own.{own_of, setup_in};
-ghost use Rattle.hierarchy.specs.Promises.{ChildrenStayNested, JobsFollowInAll, JobsStaySoundInAll, LogsGrowInAll};
+ghost use Rattle.hierarchy.specs.Promises.{ChildrenStayNested, JobsFollowInAll, JobsStaySoundInAll, LogsGrowInAll, WatchesSeeTheirLogsInAll};
 ghost use Rattle.hierarchy.specs.Whole.{IsWholeRun};
 
 /// Where all actors are of the top and nothing is born, a run is legal, whole and settled exactly
@@ -91,9 +92,9 @@ pub fn time_stays_within_the_run()
 {}
 
 /// All the way through a legal run jobs stay sound in each living instance, children stay nested in
-/// their parents, logs only grow, and what later roots tell of jobs follows from what earlier ones
-/// told: where what each instance is given is within its ranges, and
-/// the seconds of all have their place in 64 bits.
+/// their parents, logs only grow, what later roots tell of jobs follows from what earlier ones told,
+/// and each watch is fed the log of its job, where no two submissions have one label: where what
+/// each instance is given is within its ranges, and the seconds of all have their place in 64 bits.
 pub fn a_run_stays_sound()
     ensures sound { (set : Setup) (c : List Entry) → HasTime set → AreValid set c
         → IsLegalRun set c → JobsStaySoundInAll set c }
@@ -103,6 +104,8 @@ pub fn a_run_stays_sound()
         → IsLegalRun set c → LogsGrowInAll set c }
     ensures follows { (set : Setup) (c : List Entry) → HasTime set → AreValid set c
         → IsLegalRun set c → JobsFollowInAll set c }
+    ensures fed { (set : Setup) (c : List Entry) → HasTime set → AreValid set c
+        → HasOwnLabels set.work.lines → IsLegalRun set c → WatchesSeeTheirLogsInAll set c }
 {}
 
 /// At the end of a run the own chronicle of each living instance is legal.

@@ -1,6 +1,6 @@
 -- Watches are fed all that is new, and without limits none is turned away.
-use Rattle.std.proofs.Common.{◌≡◌, ◌≤◌, ℕ, ◌+◌, append-nil, append_assoc, subst, arith, List, [], ◌∷◌, ◌++◌, ◌&&◌, Option, Some, None, refl, sym, ap, ap₂, ◌∙◌, inl, inr}
-use Rattle.std.specs.Prelude.{◌↔◌, filter_map, sum, unwrap_or, if◌then◌else◌, false, true}
+use Rattle.std.proofs.Common.{◌≡◌, ◌≤◌, ℕ, ◌+◌, append-nil, append_assoc, subst, arith, List, [], ◌∷◌, ◌++◌, ◌&&◌, Option, Some, None, refl, sym, ap, ap₂, ◌∙◌}
+use Rattle.std.specs.Prelude.{filter_map, sum, unwrap_or, if◌then◌else◌, false, true}
 use Rattle.std.specs.List.{cons_option}
 use Rattle.std.proofs.lemmas.Bool.{eq-eqb}
 use Rattle.std.proofs.lemmas.List.Elements.{filter_map-append}
@@ -15,9 +15,8 @@ use Rattle.kvs_txn.specs.declared.txn.By.{By}
 use Rattle.manager_rules.specs.Keys.{job_path}
 use Rattle.manager_rules.specs.Limits.{no_limits, verdict_of}
 use Rattle.instance_rules.specs.Desks.{is_old}
-use Rattle.instance_rules.specs.Family.{Living, WaitsForEnd}
 use Rattle.instance_rules.specs.Legal.{IsLegalMoment}
-use Rattle.instance_rules.specs.Log.{Advance, Born, Cancel, Checked, Fed, Gone, Info, Instance, IsBuilt, Issued, JobAsk, Jobs, Log, Moment, Raise, Replied, ResultOf, Served, Shutdown, StateOf, Submit, Ticked, Urge, Watch, Watched, Why, now_of, ticked}
+use Rattle.instance_rules.specs.Log.{Advance, Born, Cancel, Checked, Fed, Gone, Info, Instance, IsBuilt, Issued, JobAsk, Jobs, Log, Moment, Raise, Replied, ResultOf, Served, Shutdown, StateOf, Submit, Ticked, Urge, Watch, Why, now_of, ticked}
 use Rattle.instance_rules.specs.Replies.{IsLegalReply, IsTurnedAway}
 use Rattle.instance_rules.specs.Watches.{IsFedAll, IsLegalFeed, fed_in_all, fed_with, last_fed}
 

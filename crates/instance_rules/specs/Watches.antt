@@ -1,5 +1,5 @@
 -- Watches of jobs: what each is fed of its job's log, and what it tells.
-use Rattle.std.specs.Prelude.{◌≡◌, ℕ, ◌+◌, ◌<◌, ◌≤◌, List, Option, Some, None, IfSome, Contains, length, filter_map, sum, if◌then◌else◌}
+use Rattle.std.specs.Prelude.{◌≡◌, ℕ, ◌+◌, ◌<◌, ◌≤◌, ◌^◌, List, Option, Some, None, IfSome, Contains, length, filter_map, sum, if◌then◌else◌}
 use Rattle.event_log.specs.declared.event.Event.{Event}
 use Rattle.job_states.specs.declared.job.State.TheVariants as state
 use Rattle.kvs_model.specs.Store.{Store}
@@ -51,6 +51,7 @@ pub record IsLegalFeed (inst : Instance) (log : Log) (by : By) (number first cou
   pub store : Store
   pub standing : store_after inst.service (service_of log) primary number ≡ Some store
   pub id : ℕ
+  pub small : id < 2 ^ 64
   pub names : Names inst log label id
   pub events : List Event
   pub logged : IsLogged store id events

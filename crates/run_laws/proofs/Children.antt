@@ -62,6 +62,7 @@ module _ (set : Setup) where
   untold c (entry.Ticked second) id h = refl
   untold c (entry.Born child parent job label second grant) id h = absurd h
   untold c (entry.Gone child parent job shut) id h = absurd h
+  untold c (entry.Watched actor command number first count) id h = refl
   untold c e id h = served_untold id (moment_of set.work top c e)
 
   NoChild : List Entry → Type 0

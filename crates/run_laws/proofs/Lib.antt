@@ -5,6 +5,9 @@ pub mod Sounds
 pub mod Lines
 pub mod Times
 pub mod Views
+pub mod Once
+pub mod Submits
+pub mod Feeds
 pub mod Over
 pub mod Heads
 pub mod Ticks

@@ -74,6 +74,7 @@ entry_ticks work c (entry.Replied actor number given at_) = replied_ticks (recor
 entry_ticks work c (entry.Ticked second) = refl
 entry_ticks work c (entry.Born child parent job label second grant) = child_ticks (parent == top) (Born job) refl
 entry_ticks work c (entry.Gone child parent job shut) = child_ticks (parent == top) (Gone job shut) refl
+entry_ticks work c (entry.Watched actor command number first count) = refl
 entry_ticks work c e = served_ticks (moment_of work top c e)
 
 pub second_push : (set : Setup) (c : List Entry) (e : Entry) → second_of set (c ++ e ∷ []) ≡ unwrap_or (ticks e) (second_of set c)

@@ -6,5 +6,5 @@ pub mod laws;
 
 pub use laws::{
     heads_keep_their_seconds, jobs_stay_sound, logs_only_grow, time_stays_within,
-    what_roots_tell_of_jobs_goes_on,
+    watches_see_their_logs, what_roots_tell_of_jobs_goes_on,
 };

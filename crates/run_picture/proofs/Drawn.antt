@@ -95,6 +95,7 @@ born_is (entry.Replied actor command given number) b is = cc
 born_is (entry.Told from to) b is = cc
 born_is (entry.Ticked second) b is = cc
 born_is (entry.Gone child parent job shut) b is = cc
+born_is (entry.Watched actor command number first count) b is = cc
 born_is entry.Closed b is = cc
 
 -- a birth tells how many brokers its instance has
@@ -219,6 +220,7 @@ no_birth (entry.Replied actor command given number) b = refl
 no_birth (entry.Told from to) b = refl
 no_birth (entry.Ticked second) b = refl
 no_birth (entry.Gone child parent job shut) b = refl
+no_birth (entry.Watched actor command number first count) b = refl
 no_birth entry.Closed b = refl
 
 pub adds_none : (c : List Entry) (r : Rows) (e : Entry) (picture : List Scene) → birth_in e ≡ None → AddsBorn c r e picture picture

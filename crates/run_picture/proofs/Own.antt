@@ -139,6 +139,7 @@ quiet_moment work own (entry.Told from to) q = tt
 quiet_moment work own (entry.Ticked second) q = tt
 quiet_moment work own (entry.Born child parent job label second grant) q = tt
 quiet_moment work own (entry.Gone child parent job shut) q = tt
+quiet_moment work own (entry.Watched actor command number first count) q = tt
 quiet_moment work own entry.Closed q = tt
 
 -- ---- a landing in `primary`

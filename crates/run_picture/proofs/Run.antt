@@ -86,6 +86,7 @@ quiet_own actors label i (entry.Told from to) p f is = subst IsQuietEntry (only_
 quiet_own actors label i (entry.Ticked second) p f is = let same : entry.Ticked second ≡ f = cc in subst IsQuietEntry same tt
 quiet_own actors label i (entry.Born child parent job name second grant) p f is = subst IsQuietEntry (only_is _ _ f is).1 tt
 quiet_own actors label i (entry.Gone child parent job shut) p f is = subst IsQuietEntry (only_is _ _ f is).1 tt
+quiet_own actors label i (entry.Watched actor command number first count) p f is = subst IsQuietEntry (only_is _ _ f is).1 tt
 quiet_own actors label i entry.Closed p f is = let same : entry.Closed ≡ f = cc in subst IsQuietEntry same tt
 
 -- ---- one entry
@@ -425,6 +426,7 @@ enter_other i places (entry.Told from to) f l h t b g = enter_passed i places (e
 enter_other i places (entry.Ticked second) f l h t b g = absurd (t second refl)
 enter_other i places (entry.Born child parent job label second grant) f l h t b g = absurd (b child parent job label second grant refl)
 enter_other i places (entry.Gone child parent job shut) f l h t b g = absurd (g child parent job shut refl)
+enter_other i places (entry.Watched actor command number first count) f l h t b g = enter_passed i places (entry.Watched actor command number first count) f refl refl refl tt
 enter_other i places entry.Closed f l h t b g = enter_passed i places entry.Closed f refl refl refl tt
 
 -- a landing or a hearing in another instance or another namespace

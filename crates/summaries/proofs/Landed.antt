@@ -73,6 +73,7 @@ entered work c (entry.Told from to) = refl
 entered work c (entry.Ticked second) = refl
 entered work c (entry.Born child parent job label second grant) = refl
 entered work c (entry.Gone child parent job shut) = refl
+entered work c (entry.Watched actor command number first count) = refl
 entered work c entry.Closed = refl
 
 of_cons : (o : Option Moment) (log : List Moment) → filter_map (groups_landed primary) (cons_option o log) ≡ cons_option (of o) (filter_map (groups_landed primary) log)

@@ -43,6 +43,7 @@ module _ (actors : List Actor) where
   same (entry.Ticked second) = refl
   same (entry.Born child parent job name second grant) = nothing (parent == top) (entry.Born child top job name second grant) refl
   same (entry.Gone child parent job shut) = nothing (parent == top) (entry.Gone child top job shut) refl
+  same (entry.Watched actor command number first count) = nothing _ (entry.Watched actor command number first count) refl
   same entry.Closed = refl
 
   behind : (o : Option Entry) (es : List Entry) → filter_map groups_landed_by (cons_option o es) ≡ cons_option (landed_by o) (filter_map groups_landed_by es)

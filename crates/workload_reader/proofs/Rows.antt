@@ -58,6 +58,26 @@ every_verb : with_lines empty (lines_of (codes "actor a 0\na append k hello\na u
 }
 every_verb = refl
 
+-- a watch has a label alone, which nobody need submit
+a_watch : with_lines empty (lines_of (codes "actor a 0\na watch j")) ≡ record {
+  actors = record { name = codes "a"; rank = 0; of = None } ∷ [];
+  lines = record { actor = 0; command = command.Watch (codes "j") } ∷ [];
+  grant = None;
+}
+a_watch = refl
+
+watched_by_nobodys_label : fault_in 4 empty 1 (lines_of (codes "actor a 0\na watch j")) ≡ None
+unfolding verb_faults
+watched_by_nobodys_label = refl
+
+watch_without_label : fault_in 4 empty 1 (lines_of (codes "actor a 0\na watch")) ≡ Some (line_fault.BadCommand 2)
+unfolding verb_faults
+watch_without_label = refl
+
+watch_of_two : fault_in 4 empty 1 (lines_of (codes "actor a 0\na watch j k")) ≡ Some (line_fault.BadCommand 2)
+unfolding verb_faults
+watch_of_two = refl
+
 one_target : fault_in 4 empty 1 (lines_of (codes "actor a 0\na symlink l")) ≡ Some (line_fault.BadCommand 2)
 unfolding verb_faults
 one_target = refl

@@ -1,5 +1,5 @@
 -- What each verb asks, and in which order its faults are tested.
-use Rattle.std.specs.Prelude.{ℕ, ◌+◌, nat_le, nat_lt, List, [], ◌∷◌, Bool, true, not, is_some, unwrap_or, ◌&&◌, ◌||◌, Option, Some, None, Result, length, map, codes, if◌then◌else◌}
+use Rattle.std.specs.Prelude.{ℕ, ◌+◌, nat_le, nat_lt, List, [], ◌∷◌, Bool, true, not, is_some, unwrap_or, ◌&&◌, ◌||◌, Option, Some, None, length, map, codes, if◌then◌else◌}
 use Rattle.std.specs.Option.{option_map_or}
 use Rattle.std.specs.Str.{bytes_eq}
 use Rattle.kvs_txn.specs.Keys.{components}

@@ -1,5 +1,5 @@
 //! Texts of numbers, authors and replies that no run comes to.
-use answers::chronicle::{Chronicle, Entry, Reply};
+use answers::chronicle::{Chronicle, Entry, NameTexts, Reply};
 use answers::printing::{print_answers, print_journal};
 use kvs_txn::{Author, AuthorNames, By, Cause, Found, Group, Refusal, Txn};
 use lists::{Bytes, ListOf};
@@ -137,6 +137,39 @@ fn print_at_their_ends(alloc: Global) -> Result<bool, AllocError> {
     let busy = prints_reply(alloc, alone, Some(22), "why 22 Busy\n")?;
     let clashed = prints_reply(alloc, clash, None, "refused 1 Clash\n")?;
     Ok(advanced && valued && busy && clashed)
+}
+
+/// The names of these events.
+fn names(alloc: Global, events: &[&str]) -> Result<NameTexts, AllocError> {
+    let mut names = ListOf::new(alloc);
+    for event in events {
+        names.push(Bytes::of(alloc, event.as_bytes())?)?;
+    }
+    Ok(names)
+}
+
+/// Whether what a watch is told and fed, and what a limit turns away, print so.
+fn watches_print(alloc: Global) -> Result<bool, AllocError> {
+    let watched = Reply::Watched(names(alloc, &["submit", "clean"])?);
+    let unseen = Reply::Watched(names(alloc, &[])?);
+    let fed = Entry::Watched {
+        actor: 0,
+        command: 2,
+        number: 3,
+        first: 0,
+        count: 1,
+    };
+    let told = prints_reply(alloc, watched, Some(10), "watched 10 submit clean\n")?;
+    let nothing = prints_reply(alloc, unseen, Some(10), "watched 10\n")?;
+    let checked = prints_reply(alloc, Reply::Checked(7), None, "Checked 7\n")?;
+    let entered = prints_entry(alloc, fed, "watched 0 2 3 0 1\n")?;
+    Ok(told && nothing && checked && entered)
+}
+
+#[test]
+fn watches_and_limits_have_their_texts(rt: HostRuntime) -> Result<(), Fail> {
+    assert!(rt; watches_print(rt.alloc())?);
+    Ok(())
 }
 
 #[test]

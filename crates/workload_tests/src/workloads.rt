@@ -67,7 +67,7 @@ fn has_its_fault(alloc: Global, case: &Long) -> Result<bool, Fail> {
     Ok(found == fault_in(line, told))
 }
 
-const AT_THE_LIMITS: [Long; 25] = [
+const AT_THE_LIMITS: [Long; 28] = [
     (&[255], b"", 0, b"", 0, Told::NotUtf8),
     (b"grant", b" ", MOST_LINE - 5, b"", 1, Told::Unformed),
     (
@@ -94,6 +94,9 @@ const AT_THE_LIMITS: [Long; 25] = [
         2,
         Told::Past(Which::Value),
     ),
+    (b"actor a 0\na watch", b" j", 1, b"", 0, Told::Fine),
+    (b"actor a 0\na watch", b" j", 0, b"", 2, Told::Unformed),
+    (b"actor a 0\na watch", b" j", 2, b"", 2, Told::Unformed),
     (b"", b"x", MOST_LINE, b"\n", 1, Told::Unknown),
     (b"", b"x", MOST_LINE + 1, b"\n", 1, Told::Past(Which::Line)),
     (b"#", b"x", MOST_LINE - 2, b"\r\n", 0, Told::Fine),
