@@ -1,11 +1,13 @@
 //! A store, on which transactions take effect whole or not at all.
 ghost use Rattle.std.specs.Prelude.{◌≡◌, ◌∷◌, [], Ok, Err, Some, IfOk, OnOk, OnErr, IfErr, codes};
-ghost use Rattle.kvs_model.specs.Store.{IsStore, Directory, empty_store};
+ghost use Rattle.std.specs.Option.{option_copied};
+ghost use Rattle.kvs_model.specs.Store.{IsStore, Directory, empty_store, node_at};
 ghost use Rattle.kvs_model.specs.History.{first_store};
 ghost use Rattle.kvs_model.specs.Operation.{effect};
 ghost use Rattle.kvs_model.specs.OneStore.{own_walk};
 ghost use Rattle.plain_store.specs.Held.{store_of, undone, written};
 ghost use Rattle.plain_store.specs.Effects.{IsRefusalOf, Answers};
+ghost use Rattle.plain_store.specs.Values.{value_in};
 
 use crate::operations::operate;
 use crate::slots::{Item, Table};
@@ -173,5 +175,15 @@ impl Store {
         ensures { IfOk result (λ found. found ≡ own_walk self.now query path.now) }
     {
         look(self.alloc, &self.table, query, path.as_slice())
+    }
+
+    /// The value at a path, if one stands there. No link is followed.
+    pub fn value(&self, path: &Path) -> Option<&Bytes>
+        ensures { option_copied result ≡ value_in (node_at self.now path.now) }
+    {
+        match self.table.at(path.as_slice()) {
+            Some(Item::Value(bytes)) => Some(bytes),
+            _ => None,
+        }
     }
 }
