@@ -28,6 +28,8 @@ impl Instance {
         ensures makes { IfOk result (Makes self.old (Step.Feed actor) self.new) }
         ensures spent { OnErr result (self.new.spent ≡ true) }
     {
+        // the root at which the watch is fed is what its broker has heard of
+        self.core().standing();
         self.spent = true;
         let command = self.seats[actor as usize].issued.saturating_sub(1);
         let fed = self.services.feed(By { actor, command })?;
