@@ -27,7 +27,7 @@ fn run(
     seed: Option<u64>,
     terms: Terms,
     sink: &mut MemSink,
-) -> Result<u32, Fail> {
+) -> Result<u8, Fail> {
     let mut words = Vec::new(alloc);
     for word in ["run", "--size", "1"] {
         words.push(String::from_str(alloc, word)?)?;

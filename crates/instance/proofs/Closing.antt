@@ -11,24 +11,12 @@ use Rattle.services.specs.kvs_rules.declared.events.KvsEvent.{KvsEvent}
 use Rattle.services.specs.kvs_rules.declared.events.KvsEvent.TheVariants as event
 use Rattle.services.specs.kvs_rules.Log.{IsOpen, Log, Moment, Happened, Asked, IsPending, is_asked, is_answered, answers_now, same_command}
 use Rattle.services.specs.kvs_rules.Namespaces.{Request, is_live, landed}
-use Rattle.services.specs.kvs_rules.Brokers.{heard}
 use Rattle.services.specs.kvs_model.Store.{Name}
-use Rattle.services.specs.kvs_rules.declared.events.KvsStep.{KvsStep}
 use Rattle.services.specs.kvs_rules.Quiet.{IsQuiet, IsShortFence}
-use Rattle.services.specs.manager_rules.Times.{IsIdle}
-use Rattle.services.specs.instance_rules.Family.{HasTarget, IsLeftAdvance, IsLeftResult, Living}
-use Rattle.services.specs.instance_rules.Legal.{OfDesk}
 use Rattle.services.specs.instance_rules.Log as rules
 use Rattle.services.specs.instance_rules.Log.{Instance, Log as InstanceLog, service_of}
-use Rattle.services.specs.job_clock.Standing.{IsLiving}
-use Rattle.services.specs.job_service.Children.{is_due as jobs_due}
 use Rattle.services.specs.job_service.Replies.{can_reply}
-use Rattle.services.specs.job_service.Still.{awaited}
-use Rattle.services.specs.job_states.declared.job.State.{State}
-use Rattle.services.specs.kvs_core.Agrees.{Agrees}
-use Rattle.services.specs.Agrees.{AgreesServices}
-use Rattle.services.specs.Steps.{IsStill, can_step, can_take}
-use Rattle.services.specs.Value.{ServicesValue}
+use Rattle.services.specs.Steps.{can_take}
 use Rattle.services.proofs.Waiting.{open_asks, taken_waits}
 use Rattle.services.specs.workload.declared.work.Line.{Line}
 use Rattle.services.specs.workload.declared.work.Workload.{Workload}
@@ -38,9 +26,8 @@ use Rattle.services.specs.answers.declared.chronicle.Reply.{Reply}
 use Rattle.services.specs.answers.declared.chronicle.Reply.TheVariants as reply
 use Rattle.services.specs.answers.Chronicle.{top, is_issued, issues_of, replies_to, answer_of}
 use Rattle.services.specs.answers.Commands.{ask_at, broker_of, command_at, subject_at}
-use Rattle.services.specs.answers.Jobs.{HasNoAdvance, instance_of, job_ask_at, living_of, log_in}
+use Rattle.services.specs.answers.Jobs.{instance_of, job_ask_at, log_in}
 use Rattle.services.specs.answers.Services.{setting_of, log_of, moment_of, moments_after}
-use Rattle.services.specs.answers.Whole.{HasComeToRest}
 use Rattle.services.proofs.answers_proofs.JobLogs.{asks_no_service}
 use Rattle.services.proofs.answers_proofs.Services.{asked_issued, issued_below, or_cases}
 use Rattle.services.proofs.answers_proofs.Floors.{asked_so}
@@ -51,11 +38,8 @@ use Rattle.instance.specs.declared.seats.Waiting.TheVariants as waiting
 use Rattle.instance.specs.Seats.{is_free, replied_of, last_command, has_come}
 use Rattle.instance.specs.Closings.{closings_at, closings_of, fence_at, fence_of, is_served, left_reply, open_command, unfinished_as, waits_in}
 use Rattle.instance.specs.Agrees.{command_of, Waits, ActorStands, IsSeat}
-use Rattle.instance.specs.Family.{bearing, is_due, targets_left}
-use Rattle.instance.specs.Steps.{IsOver, can_post, has_answer}
-use Rattle.instance.specs.Value.{InstanceValue}
+use Rattle.instance.specs.Steps.{IsOver, has_answer}
 use Rattle.instance.proofs.Owning.{Own, DoesAgree}
-use Rattle.instance.proofs.Families.{has_rest, is_living, no_advance_left}
 use Rattle.instance.proofs.Listing.{any_counted, none_counted}
 use Rattle.instance.proofs.Logs.{log_issued, log_open, served_log}
 use Rattle.instance.proofs.Leaving.{IsStuck, IsDone, IsLeft, IsServedCause, IsStuckResult, IsShortAsk, IsAboveAsk, asks_so, fence_command, wait_command, free_finished, free_unserved, in_fence, left_asks, numbers_of, seat_told, seated, states_of, unseated}

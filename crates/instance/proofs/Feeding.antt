@@ -1,15 +1,13 @@
 -- What a feed of a watch leaves of an instance.
 use Rattle.std.proofs.Common.{◌≡◌, ℕ, ◌-◌, ◌<◌, ◌≤◌, ◌&&◌, List, [], ◌∷◌, Bool, true, false, is_some, Option, Some, None, refl, sym, ap, ◌∙◌, subst, arith, true≢false}
-use Rattle.std.specs.Prelude.{nat_le, slice_get}
+use Rattle.std.specs.Prelude.{slice_get}
 use Rattle.std.specs.Option.{option_map_or}
 use Rattle.std.proofs.lemmas.Bool.{leb-true}
-use Rattle.std.proofs.lemmas.Option.{slice_get_within}
 use Rattle.services.specs.kvs_rules.Brokers.{heard}
 use Rattle.services.specs.kvs_rules.Log.{Log}
 use Rattle.services.specs.kvs_rules.Namespaces.{primary}
 use Rattle.services.specs.kvs_txn.declared.txn.By.{By}
 use Rattle.services.specs.instance_rules.Log as rules
-use Rattle.services.specs.instance_rules.Log.{Log as InstanceLog}
 use Rattle.services.specs.job_service.Feeds.{can_feed}
 use Rattle.services.specs.job_service.declared.feeds.Fed.{Fed}
 use Rattle.services.specs.kvs_core.Seen.{primary_heard}

@@ -20,7 +20,6 @@ use Rattle.services.specs.job_commands.declared.row.Row.{Row}
 use Rattle.services.specs.job_commands.declared.row.Stage.{Stage}
 use Rattle.services.specs.job_commands.declared.row.Stage.TheVariants as stage
 use Rattle.services.proofs.job_commands_proofs.Tables.{found}
-use Rattle.services.specs.job_replies.Ready.{is_ready}
 use Rattle.services.specs.job_service.declared.refusals.Refused.{Refused}
 use Rattle.services.specs.job_service.Agrees.{AgreesJobs}
 use Rattle.services.specs.job_service.Refusals.{fault_for, is_refusal_of, row_in}
@@ -194,11 +193,11 @@ module _ (v : JobServiceValue) (inst : Instance) (log : Log) (h : AgreesJobs v i
       subst (AsksJob inst log) (sym r.2) (ap is_some legal.made, legal.waits)
 
   ready_open : (by : By) → is_ready_in v by ≡ true → AsksJob inst log by
-  ready_open by t = on (row_in v.commands by) refl t
+  ready_open by t = on _ (row_in v.commands by) refl t
     where
-      on : (o : Option Row) → row_in v.commands by ≡ o → option_map_or (is_ready v.commands.labels v.manager v.second) o false ≡ true → AsksJob inst log by
-      on None e s = absurd (true≢false (sym s))
-      on (Some row) e s =
+      on : (p : Row → Bool) (o : Option Row) → row_in v.commands by ≡ o → option_map_or p o false ≡ true → AsksJob inst log by
+      on p None e s = absurd (true≢false (sym s))
+      on p (Some row) e s =
           let f = found by v.commands.rows row e in
           let agrees = h.commands.rows row f.0 in
           subst (AsksJob inst log) f.1 (ap is_some agrees.asks, agrees.waits)

@@ -13,7 +13,6 @@ use Rattle.services.proofs.kvs_rules_proofs.Sequences.{each_along}
 use Rattle.services.specs.instance_rules.Log as rules
 use Rattle.services.specs.instance_rules.Log.{Instance, IsOpen, JobReply, Log, Moment, replies_now}
 use Rattle.services.specs.job_commands.declared.row.Row.{Row}
-use Rattle.services.specs.job_replies.Ready.{is_ready}
 use Rattle.services.specs.job_service.declared.refusals.Refused.{Refused}
 use Rattle.services.specs.job_service.Agrees.{AgreesJobs}
 use Rattle.services.specs.job_service.Feeds.{can_feed}
@@ -74,7 +73,7 @@ module _ (v : JobServiceValue) (inst : Instance) (log : Log) (a : AgreesJobs v i
   pub reply_waits : can_reply v by ≡ true → IsWaitingCommand inst log by
   reply_waits can = elim (or_cases (is_some (fault_for v.refused by)) (is_ready_in v by) (both_right (not (is_kept_back v by)) _ can)) [
     | inl refused ↦ by_refusal (find (is_refusal_of by) v.refused) refl refused
-    | inr ready ↦ by_row (is_ready v.commands.labels v.manager v.second) (row_in v.commands by) refl ready
+    | inr ready ↦ by_row _ (row_in v.commands by) refl ready
   ]
 
   pub feed_waits : can_feed v by ≡ true → IsWaitingCommand inst log by
