@@ -27,6 +27,7 @@ use Rattle.job_service.proofs.job_landings_proofs.Serving.{desk_same}
 use Rattle.job_service.specs.job_landings.Landings.{happening}
 use Rattle.job_service.specs.job_submissions.declared.faults.Fault.{Fault}
 use Rattle.job_service.specs.job_submissions.declared.faults.Fault.TheVariants as fault
+use Rattle.job_service.proofs.Feeding.{fed_kept}
 use Rattle.job_service.specs.Agrees.{AgreesJobs, IsUntold}
 use Rattle.job_service.specs.Due.{Owes}
 use Rattle.job_service.specs.Refusals.{reply_to}
@@ -135,6 +136,7 @@ module _ (stays : CoreStays) (v : JobServiceValue) (inst : Instance) where
     second = latest_push ticked inst.start log (Served m) ∙ a.second;
     owes = subst (Owes v.manager.posted v.found) (sym (desk_same v.commands inst log m v.manager.book.jobs)) a.owes;
     labelled = a.labelled;
+    fed = fed_kept v.feeds inst log (Served m) (λ by. refl) (λ by. refl) a.fed;
     refused = λ r c.
         let l = a.refused r c in
         legal_kept inst log (Served m) r.by r.fault refl (beside r.by (subst IsSome (sym l.made) refl)).decides l;
