@@ -94,10 +94,14 @@ fn a_watch_shows_two_events(rt: HostRuntime) -> Result<(), Fail> {
 #[test]
 fn a_watch_shows_the_same_events_in_any_order(rt: HostRuntime) -> Result<(), Fail> {
     let alloc = rt.alloc();
-    let told = b" submit validate depend priority alloc start finish release free clean\nadvanced 10\n";
+    let told =
+        b" submit validate depend priority alloc start finish release free clean\nadvanced 10\n";
     for seed in 1..11 {
         let mut sink = MemSink::new(alloc, 4096, 4096, Vec::new(alloc))?;
-        assert_eq!(rt; run(alloc, WATCHED, Some(seed), Terms::PLAIN, &mut sink)?, 0);
+        assert_eq!(rt;
+            run(alloc, WATCHED, Some(seed), Terms::PLAIN, &mut sink)?,
+            0
+        );
         assert!(rt; sink.taken().ends_with(told.as_slice()), "seed {seed}");
     }
     Ok(())

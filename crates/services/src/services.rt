@@ -36,7 +36,6 @@ mod walk;
 
 use content_service::ContentService;
 use content_service::laws::others_leave_the_contents;
-use job_service::{Fed, JobService};
 use job_service::job_commands::JobAsk;
 use job_service::job_replies::Told;
 use job_service::kvs_core::laws::content_moments_leave_the_core;
@@ -46,6 +45,7 @@ use job_service::kvs_txn::By;
 use job_service::lists::Bytes;
 use job_service::manager_rules::Terms;
 use job_service::resource_set::Resources;
+use job_service::{Fed, JobService};
 use std::alloc::{AllocError, Global};
 use std::marker::Model;
 
