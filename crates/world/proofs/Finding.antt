@@ -12,12 +12,12 @@ use Rattle.hierarchy.proofs.Numbering.{numbers_are}
 use Rattle.homes.specs.Homes.{home_in}
 use Rattle.world.specs.Sound.{IsSound}
 use Rattle.homes.specs.Times.{at_home}
-use Rattle.world.specs.Steps.{can_answer, can_feed, can_issue}
+use Rattle.world.specs.Steps.{can_answer, can_feed, can_issue, of_home}
 use Rattle.world.specs.Value.{WorldValue}
 use Rattle.homes.specs.declared.homes.Home.{Home}
 use Rattle.homes.specs.declared.homes.Place.{Place}
 use Rattle.homes.proofs.Finding.{option_found, item_read}
-use Rattle.world.proofs.Ordering.{feed_at}
+use Rattle.world.proofs.Ordering.{feed_at, living_so}
 
 -- ---- places
 
@@ -55,6 +55,28 @@ pub issuer_at : (v : WorldValue) (actor : ℕ) → can_issue v actor ≡ true �
 issuer_at v actor can p read =
     let f = option_found (slice_get v.places actor) (λ (p : Place). is_some p.home && (not p.waits && nat_lt p.next (length v.set.work.lines))) can in
     item_read v.places actor f.it p f.is read
+
+-- an actor whose watch can be fed has a place, and lives in its instance
+pub feeder_at : (v : WorldValue) (actor : ℕ) → can_feed v actor ≡ true → (p : Place) → p ≡ get_or v.places actor p → slice_get v.places actor ≡ Some p
+feeder_at v actor can p read =
+    let f = option_found (slice_get v.places actor) (λ (p : Place). at_home v.homes (λ h. not h.gone && instance_can_feed h.instance actor) p) can in
+    item_read v.places actor f.it p f.is read
+
+pub feeder_lives : (v : WorldValue) (actor number : ℕ) (p : Place) → slice_get v.places actor ≡ Some p → p.home ≡ Some number → can_feed v actor ≡ true
+    → of_home v number (λ h. instance_can_feed h.instance actor) ≡ true
+feeder_lives v actor number p here home can =
+    let says : Home → Bool = λ h. not h.gone && instance_can_feed h.instance actor in
+    let there : option_map_or says (slice_get v.homes number) false ≡ true =
+    sym (ap (λ o. option_map_or (λ (p : Place). at_home v.homes (λ h. not h.gone && instance_can_feed h.instance actor) p) o false) here
+    ∙ ap (λ o. option_map_or (λ i. option_map_or (λ (h : Home). not h.gone && instance_can_feed h.instance actor) (slice_get v.homes i) false) o false) home)
+    ∙ can in
+    let h = option_found (slice_get v.homes number) says there in
+    let parts = and_parts (not h.it.gone) (instance_can_feed h.it.instance actor) h.so in
+    ap (λ o. option_map_or (λ (h : Home). instance_can_feed h.instance actor) o false) (living_so v.homes number h.it h.is (alive h.it.gone parts.0)) ∙ parts.1
+  where
+    alive : (b : Bool) → not b ≡ true → b ≡ false
+    alive true e = cc
+    alive false e = refl
 
 -- ---- the instance of an actor
 
@@ -103,16 +125,6 @@ module _ (v : WorldValue) (actor i : ℕ) (p : Place) (h : Home) (standing : sli
 
   pub feeds_in : h.gone ≡ false → can_feed v actor ≡ instance_can_feed h.instance actor
   feeds_in living = feed_so ∙ ap (λ b. not b && instance_can_feed h.instance actor) living
-
-  pub feeds_living : can_feed v actor ≡ true → (h.gone ≡ false) × (instance_can_feed h.instance actor ≡ true)
-  feeds_living can = of (and_parts (not h.gone) (instance_can_feed h.instance actor) (sym feed_so ∙ can))
-    where
-      of : (not h.gone ≡ true) × (instance_can_feed h.instance actor ≡ true) → (h.gone ≡ false) × (instance_can_feed h.instance actor ≡ true)
-      of parts = (by h.gone parts.0, parts.1)
-        where
-          by : (b : Bool) → not b ≡ true → b ≡ false
-          by true e = cc
-          by false e = refl
 
   -- and for whom a command can be issued
   pub issue_so : can_issue v actor ≡ (not p.waits && nat_lt p.next (length v.set.work.lines))
