@@ -25,6 +25,7 @@ mod Leaving
 mod Ending
 mod Closing
 mod Stilling
+mod Feeding
 mod Settling
 mod Ordering
 mod Beginning
