@@ -7,7 +7,6 @@ ghost use Rattle.flux_commands.specs.Drawn.{AreDrawnWords};
 ghost use Rattle.flux_commands.specs.Faults.{status_of, HasReadCause, IsComplete, IsRefused, IsTaken, IsUnrefused};
 ghost use Rattle.flux_commands.specs.Sides.{side, FailsAt, IsWritten};
 ghost use Rattle.world.specs.workload.Limits.{most_commands};
-ghost use Rattle.world.specs.manager_rules.Terms.{AreBuilt};
 ghost use Rattle.flux.specs.Runs.{HasRun};
 ghost use Rattle.flux.specs.Generated.{HasSummary};
 ghost use Rattle.flux.specs.Commands.{AreWords, IsOutput};
@@ -33,7 +32,6 @@ fn run_workload<S: Source, K: Sink>(
     sink: &mut K,
 ) -> Run
     requires options { AreWithin options }
-    requires terms { AreBuilt terms }
     ensures status { result.status ≡ status_of result.fault }
     ensures known { result.status ≢ 2 }
     ensures done { result.status ≡ 0 → (text : List ℕ)
@@ -72,7 +70,6 @@ fn run_workload<S: Source, K: Sink>(
 /// Runs the workload that is drawn, and writes the summary of its run.
 fn run_drawn<K: Sink>(alloc: Global, terms: Terms, generation: Generation, sink: &mut K) -> Run
     requires count { generation.count ≤ most_commands }
-    requires terms { AreBuilt terms }
     ensures status { result.status ≡ status_of result.fault }
     ensures unrefused { IsUnrefused result.status }
     ensures done { result.status ≡ 0 → (text : List ℕ) × HasSummary terms generation result text
@@ -118,7 +115,6 @@ pub fn flux<S: Source, K: Sink>(
     sink: &mut K,
     terms: Terms,
 ) -> Run
-    requires { AreBuilt terms }
     ensures status { result.status ≡ status_of result.fault }
     // the headline: what was written prints the one chronicle, which is legal and whole, and
     // settled where the words ask for no shuffle, or is the summary of such a chronicle, or the

@@ -6,7 +6,6 @@ ghost use Rattle.world.specs.homes.Grant.{grant_text};
 ghost use Rattle.world.specs.hierarchy.Headline.{IsTrueRun};
 ghost use Rattle.world.specs.hierarchy.Promises.{KeepsItsPromises};
 ghost use Rattle.world.specs.hierarchy.Stretches.{AreRunStretches};
-ghost use Rattle.world.specs.manager_rules.Terms.{AreBuilt};
 ghost use Rattle.summaries.specs.Summary.{IsSummary};
 ghost use Rattle.flux.specs.Runs.{setup_of};
 
@@ -42,7 +41,6 @@ pub fn play_drawn(alloc: Global, terms: Terms, work: Workload) -> Result<Played,
     requires built { All (λ line. IsBuilt line.command) work.lines }
     requires labels { HasOwnLabels work.lines }
     requires few { KeepsTallies work.lines }
-    requires terms { AreBuilt terms }
     ensures run { IfOk result (λ played. (answers : List ℕ)
         × IsTrueRun (setup_of terms generated_options work) true false
         played.ended.chronicle answers) }

@@ -8,7 +8,6 @@ ghost use Rattle.world.specs.hierarchy.Laws.{AreValid};
 ghost use Rattle.world.specs.hierarchy.Legal.{IsSettledRun};
 ghost use Rattle.world.specs.hierarchy.Promises.{KeepsItsPromises};
 ghost use Rattle.world.specs.hierarchy.Stretches.{AreRunStretches};
-ghost use Rattle.world.specs.manager_rules.Terms.{AreBuilt};
 ghost use Rattle.world.specs.Choice.{order_of};
 ghost use Rattle.world.specs.declared.order.Order.TheVariants as order;
 ghost use Rattle.flux.specs.Runs.{is_settled, schedule_of, setup_of, terms_of};
@@ -43,9 +42,7 @@ fn schedule_of(options: Options) -> Schedule
 /// The terms on which a run serves its jobs: where its options ask for backfill, jobs may pass the
 /// first in the queue.
 fn terms_of(terms: Terms, options: Options) -> Terms
-    requires { AreBuilt terms }
-    ensures value { result ≡ terms_of terms options }
-    ensures built { AreBuilt result }
+    ensures { result ≡ terms_of terms options }
 {
     if options.backfill {
         Terms {
@@ -101,7 +98,6 @@ fn begun(alloc: Global, terms: Terms, options: Options, work: Workload) -> Resul
     requires built { All (λ line. IsBuilt line.command) work.lines }
     requires labels { HasOwnLabels work.lines }
     requires few { KeepsTallies work.lines }
-    requires terms { AreBuilt terms }
     ensures ready { IfOk result (λ world. world.spent ≡ false) }
     ensures set { IfOk result (λ world. world.set ≡ setup_of terms options work) }
     ensures order { IfOk result (λ world. world.order ≡ order_of (schedule_of options)) }
@@ -123,7 +119,6 @@ fn run(alloc: Global, terms: Terms, options: Options, work: Workload) -> Result<
     requires built { All (λ line. IsBuilt line.command) work.lines }
     requires labels { HasOwnLabels work.lines }
     requires few { KeepsTallies work.lines }
-    requires terms { AreBuilt terms }
     ensures run { IfOk result (λ played. IsTrueRun (setup_of terms options work)
         (is_settled options) options.journal played.ended.chronicle played.text.items) }
     ensures stretches { IfOk result (λ played. AreRunStretches (setup_of terms options work)
@@ -167,7 +162,6 @@ pub fn play(
     requires built { All (λ line. IsBuilt line.command) work.lines }
     requires labels { HasOwnLabels work.lines }
     requires few { KeepsTallies work.lines }
-    requires terms { AreBuilt terms }
     ensures run { IfOk result (λ played. IsTrueRun (setup_of terms options work)
         (is_settled options) options.journal played.ended.chronicle played.text.items) }
     ensures stretches { IfOk result (λ played. AreRunStretches (setup_of terms options work)

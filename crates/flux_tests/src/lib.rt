@@ -7,3 +7,5 @@ mod orders;
 mod priorities;
 #[cfg(test)]
 mod runs;
+#[cfg(test)]
+mod terms;

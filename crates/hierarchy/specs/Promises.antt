@@ -192,7 +192,8 @@ WatchesSeeTheirLogsInAll set c = InAllLiving set c WatchesSeeTheirLogs
 -- and it is told the names of these events, once its job is over
 abbrev pub WatchesTellTheirLogs : Setup → List Entry → Type 0
 WatchesTellTheirLogs set c = (past more : List Entry) (actor command : ℕ) (shown : List (List ℕ))
-    (number : Option ℕ) → c ≡ past ++ entry.Replied actor command (reply.Watched shown) number ∷ more
+    (number : Option ℕ)
+    → c ≡ past ++ entry.Replied actor command (reply.Watched shown) number ∷ more
     → let by : By = record { actor = actor; command = command } in
     AtHome set past actor (λ s own. IsSomeAnd number (TellsLog s own by shown))
 
@@ -251,12 +252,12 @@ pub record AreReplied (set : Setup) (c : List Entry) : Type 0 where
 -- read sees a root no older than its actor had seen or was told; each committer is answered once
 -- its own broker has heard the landing; the numbers that an actor's replies name never fall; each
 -- event of a job lands where it is due, stored logs replay and only grow, and what later roots tell
--- of jobs follows from what earlier ones told; each watch is fed the log of its job, each event once
--- and in order, and is told the names of what it was fed, where no two submissions have one label;
--- while a job stays the first in the queue, the second
--- that is reserved for it never rises, where hosts have names of hosts; live allocations are
--- disjoint, satisfy their jobs and are within the grant; the grant of each living child lies within
--- what a live job of its living parent holds; and every command has its one reply
+-- of jobs follows from what earlier ones told; each watch is fed the log of its job, each event
+-- once and in order, and is told the names of what it was fed, where no two submissions have one
+-- label; while a job stays the first in the queue, the second that is reserved for it never rises,
+-- where hosts have names of hosts; live allocations are disjoint, satisfy their jobs and are within
+-- the grant; the grant of each living child lies within what a live job of its living parent holds;
+-- and every command has its one reply
 pub record KeepsItsPromises (set : Setup) (c : List Entry) : Type 0 where
   pub published : RootsArePlain set c
   pub reads : ReadsAreFresh set c

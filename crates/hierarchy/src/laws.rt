@@ -92,9 +92,10 @@ pub fn time_stays_within_the_run()
 {}
 
 /// All the way through a legal run jobs stay sound in each living instance, children stay nested in
-/// their parents, logs only grow, what later roots tell of jobs follows from what earlier ones told,
-/// and each watch is fed the log of its job, where no two submissions have one label: where what
-/// each instance is given is within its ranges, and the seconds of all have their place in 64 bits.
+/// their parents, logs only grow, what later roots tell of jobs follows from what earlier ones
+/// told, and each watch is fed the log of its job, where no two submissions have one label: where
+/// what each instance is given is within its ranges, and the seconds of all have their place in 64
+/// bits.
 pub fn a_run_stays_sound()
     ensures sound { (set : Setup) (c : List Entry) → HasTime set → AreValid set c
         → IsLegalRun set c → JobsStaySoundInAll set c }

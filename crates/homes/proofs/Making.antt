@@ -16,7 +16,7 @@ use Rattle.instance.specs.answers.Chronicle.{issues_of, replies_to, top}
 use Rattle.instance.specs.answers.Commands.{broker_of}
 use Rattle.instance.specs.answers.Services.{log_of}
 use Rattle.instance.specs.answers.Entering.{entered}
-use Rattle.instance.specs.answers.Stretches.{ComesBeforeReply, IsContentAt, IsIssueStretch, IsKvsStretch, IsReplyOf, IsReplyStretch}
+use Rattle.instance.specs.answers.Stretches.{ComesBeforeReply, IsContentAt, IsFeedStretch, IsIssueStretch, IsKvsStretch, IsReplyOf, IsReplyStretch}
 use Rattle.instance.specs.answers.declared.chronicle.Entry.{Entry}
 use Rattle.instance.specs.answers.declared.chronicle.Entry.TheVariants as entry
 use Rattle.instance.specs.answers.declared.chronicle.Reply.{Reply}
@@ -74,6 +74,7 @@ module _ (actors : List Actor) (label : Option (List ℕ)) where
   quiet_content broker (entry.Heard i b space number) h = absurd h
   quiet_content broker (entry.Replied a k given number) h = absurd h
   quiet_content broker (entry.Told from to) h = absurd h
+  quiet_content broker (entry.Watched actor command number first count) h = absurd h
   quiet_content broker (entry.Ticked second) h = absurd h
   quiet_content broker (entry.Born child parent job name second grant) h = absurd h
   quiet_content broker (entry.Gone child parent job shut) h = absurd h
@@ -142,6 +143,7 @@ entered_nothing i (entry.Got n b reference) h = tt
 entered_nothing i (entry.Dropped n b reference) h = tt
 entered_nothing i (entry.Replied a k given number) h = tt
 entered_nothing i (entry.Told from to) h = tt
+entered_nothing i (entry.Watched actor command number first count) h = tt
 entered_nothing i (entry.Ticked second) h = absurd h
 entered_nothing i (entry.Born child parent job name second grant) h = tt
 entered_nothing i (entry.Gone child parent job shut) h = tt
@@ -156,6 +158,7 @@ unshut_by work (entry.Got i b reference) h = refl
 unshut_by work (entry.Dropped i b reference) h = refl
 unshut_by work (entry.Replied a k given number) h = refl
 unshut_by work (entry.Told from to) h = refl
+unshut_by work (entry.Watched actor command number first count) h = refl
 unshut_by work (entry.Ticked second) h = refl
 unshut_by work (entry.Born child parent job name second grant) h = refl
 unshut_by work (entry.Gone child parent job shut) h = refl
@@ -198,10 +201,15 @@ module _ (actors : List Actor) (label : Option (List ℕ)) (work : Workload) (ac
   quiet_before (entry.Denied i space authors group refusal) h = absurd h
   quiet_before (entry.Heard i b space number) h = absurd h
   quiet_before (entry.Replied a k given number) h = absurd h
+  quiet_before (entry.Watched a k number first count) h = absurd h
   quiet_before (entry.Ticked second) h = absurd h
   quiet_before (entry.Born child parent job name second grant) h = absurd h
   quiet_before (entry.Gone child parent job shut) h = absurd h
   quiet_before entry.Closed h = absurd h
+
+  -- and so is a feed of its watch
+  pub quiet_feed : (made : List Entry) → IsFeedStretch actor made → Each (IsQuiet actors label) made
+  quiet_feed made f = subst (Each (IsQuiet actors label)) (sym f.split) (record { made = home; silent = λ i a. record { issues = refl; replies = λ k. refl }; nothing = tt }, tt)
 
   quiet_all_before : (es : List Entry) → Each (ComesBeforeReply work actor) es → Each (IsQuiet actors label) es
   quiet_all_before [] h = tt
@@ -216,6 +224,7 @@ module _ (actors : List Actor) (label : Option (List ℕ)) (work : Workload) (ac
   each_reply (entry.Got i b reference) h = absurd h
   each_reply (entry.Dropped i b reference) h = absurd h
   each_reply (entry.Told from to) h = absurd h
+  each_reply (entry.Watched a k number first count) h = absurd h
   each_reply (entry.Ticked second) h = absurd h
   each_reply (entry.Born child parent job name second grant) h = absurd h
   each_reply (entry.Gone child parent job shut) h = absurd h

@@ -9,7 +9,6 @@ ghost use Rattle.hierarchy.specs.Own.{own_of, setup_in};
 ghost use Rattle.instance.specs.Agrees.{AgreesOwn};
 ghost use Rattle.instance.specs.Family.{bearing};
 ghost use Rattle.instance.specs.Makes.{Bears};
-ghost use Rattle.instance.specs.manager_rules.Terms.{AreBuilt};
 ghost use Rattle.instance.specs.resource_set.Valid.{IsR};
 ghost use Rattle.instance.specs.workload.Laws.{HasOwnLabels, IsBuilt, IsWithin, KeepsTallies};
 ghost use Rattle.homes.specs.Inside.{AreSettled, IsChildHome};
@@ -84,7 +83,6 @@ pub fn child_home(
     requires built { All (λ l. IsBuilt l.command) work.now.lines }
     requires labels { HasOwnLabels work.now.lines }
     requires few { KeepsTallies work.now.lines }
-    requires terms { AreBuilt terms }
     requires grant { IsR grant.now }
     requires some { 1 ≤ length grant.now.nodes }
     requires early { second + 2000000000 < 2 ^ 64 }

@@ -56,15 +56,15 @@ none_then None h f = f h
 none_then (Some x) h f = tt
 
 -- an entry that is a moment of the instance, and is neither about a command nor about the service
-record IsApart (set : Setup) (c : List Entry) (e : Entry) (m : Moment) : Type 0 where
-  happens : happening_of set.work c e ≡ Some m
-  unserved : moment_of set.work top c e ≡ None
-  unissued : (a : ℕ) → issues_of a e ≡ false
-  unreplied : (by : By) → replies_to by e ≡ false
-  unseen : (a : ℕ) (space : Name) → floor set.work (c ++ e ∷ []) a space ≡ floor set.work c a space
-  early : IsEarlierEntry e
+pub record IsApart (set : Setup) (c : List Entry) (e : Entry) (m : Moment) : Type 0 where
+  pub happens : happening_of set.work c e ≡ Some m
+  pub unserved : moment_of set.work top c e ≡ None
+  pub unissued : (a : ℕ) → issues_of a e ≡ false
+  pub unreplied : (by : By) → replies_to by e ≡ false
+  pub unseen : (a : ℕ) (space : Name) → floor set.work (c ++ e ∷ []) a space ≡ floor set.work c a space
+  pub early : IsEarlierEntry e
 
-apart_agrees : (v : Own) → DoesAgree v → (e : Entry) (m : Moment) → IsApart v.set v.chronicle e m → (services : ServicesValue) → IsTallied (stepped v.instance.seats services) v.set.work.lines →
+pub apart_agrees : (v : Own) → DoesAgree v → (e : Entry) (m : Moment) → IsApart v.set v.chronicle e m → (services : ServicesValue) → IsTallied (stepped v.instance.seats services) v.set.work.lines →
     IsLegalEntry v.set v.chronicle e → AgreesServices services (instance_of v.set) (log_in v.set.work v.chronicle ++ m ∷ []) → AgreesOwn (stepped v.instance.seats services) v.set (v.chronicle ++ e ∷ [])
 apart_agrees v h e m apart services tallied legal agrees =
     let log : Log = log_of v.set.work top v.chronicle in

@@ -11,24 +11,12 @@ use Rattle.services.specs.kvs_rules.declared.events.KvsEvent.{KvsEvent}
 use Rattle.services.specs.kvs_rules.declared.events.KvsEvent.TheVariants as event
 use Rattle.services.specs.kvs_rules.Log.{IsOpen, Log, Moment, Happened, Asked, IsPending, is_asked, is_answered, answers_now, same_command}
 use Rattle.services.specs.kvs_rules.Namespaces.{Request, is_live, landed}
-use Rattle.services.specs.kvs_rules.Brokers.{heard}
 use Rattle.services.specs.kvs_model.Store.{Name}
-use Rattle.services.specs.kvs_rules.declared.events.KvsStep.{KvsStep}
 use Rattle.services.specs.kvs_rules.Quiet.{IsQuiet, IsShortFence}
-use Rattle.services.specs.manager_rules.Times.{IsIdle}
-use Rattle.services.specs.instance_rules.Family.{HasTarget, IsLeftAdvance, IsLeftResult, Living}
-use Rattle.services.specs.instance_rules.Legal.{OfDesk}
 use Rattle.services.specs.instance_rules.Log as rules
 use Rattle.services.specs.instance_rules.Log.{Instance, Log as InstanceLog, service_of}
-use Rattle.services.specs.job_clock.Standing.{IsLiving}
-use Rattle.services.specs.job_service.Children.{is_due as jobs_due}
 use Rattle.services.specs.job_service.Replies.{can_reply}
-use Rattle.services.specs.job_service.Still.{awaited}
-use Rattle.services.specs.job_states.declared.job.State.{State}
-use Rattle.services.specs.kvs_core.Agrees.{Agrees}
-use Rattle.services.specs.Agrees.{AgreesServices}
-use Rattle.services.specs.Steps.{IsStill, can_step, can_take}
-use Rattle.services.specs.Value.{ServicesValue}
+use Rattle.services.specs.Steps.{can_take}
 use Rattle.services.proofs.Waiting.{open_asks, taken_waits}
 use Rattle.services.specs.workload.declared.work.Line.{Line}
 use Rattle.services.specs.workload.declared.work.Workload.{Workload}
@@ -38,9 +26,8 @@ use Rattle.services.specs.answers.declared.chronicle.Reply.{Reply}
 use Rattle.services.specs.answers.declared.chronicle.Reply.TheVariants as reply
 use Rattle.services.specs.answers.Chronicle.{top, is_issued, issues_of, replies_to, answer_of}
 use Rattle.services.specs.answers.Commands.{ask_at, broker_of, command_at, subject_at}
-use Rattle.services.specs.answers.Jobs.{HasNoAdvance, instance_of, job_ask_at, living_of, log_in}
+use Rattle.services.specs.answers.Jobs.{instance_of, job_ask_at, log_in}
 use Rattle.services.specs.answers.Services.{setting_of, log_of, moment_of, moments_after}
-use Rattle.services.specs.answers.Whole.{HasComeToRest}
 use Rattle.services.proofs.answers_proofs.JobLogs.{asks_no_service}
 use Rattle.services.proofs.answers_proofs.Services.{asked_issued, issued_below, or_cases}
 use Rattle.services.proofs.answers_proofs.Floors.{asked_so}
@@ -51,11 +38,8 @@ use Rattle.instance.specs.declared.seats.Waiting.TheVariants as waiting
 use Rattle.instance.specs.Seats.{is_free, replied_of, last_command, has_come}
 use Rattle.instance.specs.Closings.{closings_at, closings_of, fence_at, fence_of, is_served, left_reply, open_command, unfinished_as, waits_in}
 use Rattle.instance.specs.Agrees.{command_of, Waits, ActorStands, IsSeat}
-use Rattle.instance.specs.Family.{bearing, is_due, targets_left}
-use Rattle.instance.specs.Steps.{IsOver, can_post, has_answer}
-use Rattle.instance.specs.Value.{InstanceValue}
+use Rattle.instance.specs.Steps.{IsOver, has_answer}
 use Rattle.instance.proofs.Owning.{Own, DoesAgree}
-use Rattle.instance.proofs.Families.{has_rest, is_living, no_advance_left}
 use Rattle.instance.proofs.Listing.{any_counted, none_counted}
 use Rattle.instance.proofs.Logs.{log_issued, log_open, served_log}
 use Rattle.instance.proofs.Leaving.{IsStuck, IsDone, IsLeft, IsServedCause, IsStuckResult, IsShortAsk, IsAboveAsk, asks_so, fence_command, wait_command, free_finished, free_unserved, in_fence, left_asks, numbers_of, seat_told, seated, states_of, unseated}
@@ -97,6 +81,7 @@ moment_answers work c (entry.Got other broker reference) by h = never _ (happene
 moment_answers work c (entry.Dropped other broker reference) by h = never _ (happened_not by (top == other) (event.Dropped broker reference) refl) h
 moment_answers work c (entry.Replied a k given number) by h = answered_so by (record { actor = a; command = k }) number (answer_of given) true h
 moment_answers work c (entry.Told from to) by h = absurd (true≢false (sym h))
+moment_answers work c (entry.Watched actor command number first count) by h = absurd (true≢false (sym h))
 moment_answers work c (entry.Ticked second) by h = absurd (true≢false (sym h))
 moment_answers work c (entry.Born child parent job label second grant) by h = absurd (true≢false (sym h))
 moment_answers work c (entry.Gone child parent job shut) by h = absurd (true≢false (sym h))
@@ -200,7 +185,7 @@ module _ (v : Own) (h : DoesAgree v) where
       on waiting.Shutdown is = absurd (true≢false (ap (has_come v.instance.services (last_command a seat)) (sym is) ∙ idle_so))
 
   -- where nobody can be replied to, no answer waits to be taken
-  none_taken : ((a : ℕ) → has_answer v.instance.services v.instance.seats a ≡ false) → (by : By) → can_take v.instance.services by ≡ false
+  pub none_taken : ((a : ℕ) → has_answer v.instance.services v.instance.seats a ≡ false) → (by : By) → can_take v.instance.services by ≡ false
   none_taken idle by = on (can_take v.instance.services by) refl
     where
       on : (b : Bool) → can_take v.instance.services by ≡ b → b ≡ false
@@ -235,8 +220,13 @@ module _ (v : Own) (h : DoesAgree v) where
 
     -- where its actor can't be replied to, it can't be told, and doesn't shut the instance down
     module _ (idle : has_answer v.instance.services v.instance.seats by.actor ≡ false) where
-      abbrev IsLeftOpen : Type 0
-      IsLeftOpen = (can_reply v.instance.services.jobs by ≡ false) × (job_ask_at v.set.work by ≢ Some rules.Shutdown)
+      pub record IsLeftOpen : Type 0 where
+        pub untold : can_reply v.instance.services.jobs by ≡ false
+        pub other : job_ask_at v.set.work by ≢ Some rules.Shutdown
+        pub seat : Seat
+        pub sits : slice_get v.instance.seats by.actor ≡ Some seat
+        pub busy : seat.waiting ≡ waiting.Jobs
+        pub last : by.command ≡ seat.issued - 1
 
       at_seat_of : (seat : Seat) → slice_get v.instance.seats by.actor ≡ Some seat → IsLeftOpen
       at_seat_of seat at = on seat.waiting refl
@@ -286,10 +276,15 @@ module _ (v : Own) (h : DoesAgree v) where
               absurd (unserved (ap (λ n. is_asked (command_of by.actor n) log) (last waiting.Service is refl) ∙ w.1))
           on waiting.Jobs is =
               let w = subst (Waits v.set log by.actor seat.issued) is mine.1.waits in
-              let this : by.command ≡ seat.issued - 1 = last waiting.Jobs is refl in (
-                ap (λ n. can_reply v.instance.services.jobs (command_of by.actor n)) this ∙ come waiting.Jobs is,
-                λ e. w.3 (sym (ap (λ n. job_ask_at v.set.work (command_of by.actor n)) this) ∙ e),
-              )
+              let this : by.command ≡ seat.issued - 1 = last waiting.Jobs is refl in
+              record {
+                untold = ap (λ n. can_reply v.instance.services.jobs (command_of by.actor n)) this ∙ come waiting.Jobs is;
+                other = λ e. w.3 (sym (ap (λ n. job_ask_at v.set.work (command_of by.actor n)) this) ∙ e);
+                seat = seat;
+                sits = at;
+                busy = is;
+                last = this;
+              }
           on waiting.Shutdown is = absurd (true≢false (come waiting.Shutdown is))
 
       pub left_open : IsLeftOpen
@@ -303,14 +298,14 @@ module _ (v : Own) (h : DoesAgree v) where
           sit (Some seat) at = at_seat_of seat at
 
   -- where nobody can be replied to, no job command can be told
-  none_told : ((a : ℕ) → has_answer v.instance.services v.instance.seats a ≡ false) → (by : By) → can_reply v.instance.services.jobs by ≡ false
+  pub none_told : ((a : ℕ) → has_answer v.instance.services v.instance.seats a ≡ false) → (by : By) → can_reply v.instance.services.jobs by ≡ false
   none_told idle by = on (can_reply v.instance.services.jobs by) refl
     where
       on : (b : Bool) → can_reply v.instance.services.jobs by ≡ b → b ≡ false
       on false t = refl
       on true t =
           let w = reply_waits v.instance.services.jobs inst now h.agrees.jobs by t in
-          absurd (true≢false (sym t ∙ (left_open by w.asks w.waits (idle by.actor)).0))
+          absurd (true≢false (sym t ∙ (left_open by w.asks w.waits (idle by.actor)).untold))
 
   -- each open job command waits for the result of a job that isn't over
   abbrev pub AreResults : Type 0
@@ -511,82 +506,3 @@ module _ (v : Own) (h : DoesAgree v) where
             fences : (cause : IsServedCause v seat.subject by) (space name : Name) → option_map_or (λ f. bytes_eq space seat.subject && bytes_eq name f.0) (option_and_then fence_of (command_at v.set.work by)) false ≡ in_fence v seat.subject by (inl cause) space name
             fences (inl f) space name = ap (λ c. option_map_or (λ f. bytes_eq space seat.subject && bytes_eq name f.0) (option_and_then fence_of c) false) f.command
             fences (inr w) space name = ap (λ c. option_map_or (λ f. bytes_eq space seat.subject && bytes_eq name f.0) (option_and_then fence_of c) false) w.command
-
-nothing_found : {A : Type 0} (o : Option A) → is_some o ≡ false → o ≡ None
-nothing_found None e = refl
-nothing_found (Some x) e = absurd (true≢false e)
-
--- nothing can be made but an issue or the end
-pub record CanDoNothing (v : InstanceValue) : Type 0 where
-  pub steps : (s : KvsStep) → can_step v.services s ≡ false
-  pub answers : (a : ℕ) → has_answer v.services v.seats a ≡ false
-  pub due : is_due v ≡ false
-
--- there the services are still
-pub still_so : (v : Own) → DoesAgree v → CanDoNothing v.instance → IsStill v.instance.services
-still_so v h rest = record {
-  steps = rest.steps;
-  answers = none_taken v h rest.answers;
-  due = rest.due;
-  untold = none_told v h rest.answers;
-}
-
--- nothing is due where nothing is found and no child is to be born
-abbrev pub IsFreeSo : ServicesValue → Type 0
-IsFreeSo services = ((s : KvsStep) → can_step services s ≡ false) → ((by : By) → can_take services by ≡ false)
-    → services.jobs.found ≡ None → services.jobs.bearing ≡ None → jobs_due services.jobs ≡ false
-
--- so for the instance, by what it has to post
-pub free_so : (v : Own) → DoesAgree v → IsFreeSo v.instance.services → ((s : KvsStep) → can_step v.instance.services s ≡ false)
-    → ((a : ℕ) → has_answer v.instance.services v.instance.seats a ≡ false) → can_post v.instance ≡ false → bearing v.instance ≡ None → is_due v.instance ≡ false
-free_so v h free steps answers posts unborn = free steps (none_taken v h answers) (nothing_found v.instance.services.jobs.found posts) unborn
-
--- the core stands where the log of the service leaves it
-pub core_agrees : (v : Own) → DoesAgree v → Agrees v.instance.services.jobs.manager.core (setting_of v.set) (log_of v.set.work top v.chronicle)
-core_agrees v h = subst (Agrees v.instance.services.jobs.manager.core (setting_of v.set)) (served_log v.set.work v.chronicle) h.agrees.jobs.core
-
--- what the services promise where they are still
-pub record IsStillSo (v : Own) : Type 0 where
-  pub quiet : (i : Instance) (l : InstanceLog) → AgreesServices v.instance.services i l → IsStill v.instance.services → IsQuiet i.service (service_of l)
-  pub heard : (i : Instance) (l : InstanceLog) → AgreesServices v.instance.services i l → IsStill v.instance.services → (broker : ℕ) (space : Name) → broker < i.service.size → is_live (service_of l) space ≡ true → IsSome (heard (service_of l) broker space)
-  pub idle : (i : Instance) (l : InstanceLog) → AgreesServices v.instance.services i l → IsStill v.instance.services → OfDesk i l IsIdle
-  pub advanced : (i : Instance) (l : InstanceLog) (living : Living) → AgreesServices v.instance.services i l → IsStill v.instance.services → targets_left v.instance ≡ [] → IsLiving i l living → (target : ℕ) → HasTarget living target → ⊥
-  pub left : (i : Instance) (l : InstanceLog) (living : Living) → AgreesServices v.instance.services i l → IsStill v.instance.services → IsLiving i l living → (by : By) → IsSome (i.asks by) → i.asks by ≢ Some rules.Shutdown → rules.IsOpen by l → IsSome (awaited v.instance.services.jobs by) ⊎ IsLeftAdvance living by
-  pub results : (i : Instance) (l : InstanceLog) (living : Living) → AgreesServices v.instance.services i l → IsLiving i l living → (by : By) (where_ : State) → awaited v.instance.services.jobs by ≡ Some where_ → IsLeftResult living by where_
-
-module _ (v : Own) (h : DoesAgree v) (rest : CanDoNothing v.instance) (promise : IsStillSo v) where
-  still_here : IsStill v.instance.services
-  still_here = still_so v h rest
-
-  pub quiet_so : IsQuiet (setting_of v.set) (log_of v.set.work top v.chronicle)
-  quiet_so = subst (IsQuiet (setting_of v.set)) (served_log v.set.work v.chronicle) (promise.quiet (instance_of v.set) (log_in v.set.work v.chronicle) h.agrees still_here)
-
-  pub heard_so : (broker : ℕ) (space : Name) → broker < v.set.size → is_live (log_of v.set.work top v.chronicle) space ≡ true → IsSome (heard (log_of v.set.work top v.chronicle) broker space)
-  heard_so =
-      subst (λ l. (broker : ℕ) (space : Name) → broker < v.set.size → is_live l space ≡ true → IsSome (heard l broker space)) (served_log v.set.work v.chronicle)
-      (promise.heard (instance_of v.set) (log_in v.set.work v.chronicle) h.agrees still_here)
-
-  -- the instance has come to rest
-  pub rest_so : HasComeToRest v.set v.chronicle
-  rest_so = has_rest v.set v.chronicle (promise.quiet (instance_of v.set) (log_in v.set.work v.chronicle) h.agrees still_here).told
-      (promise.idle (instance_of v.set) (log_in v.set.work v.chronicle) h.agrees still_here)
-
-  -- and no advance waits
-  pub advanced_so : targets_left v.instance ≡ [] → HasNoAdvance v.set v.chronicle
-  advanced_so late = no_advance_left v.set v.chronicle (λ living is. promise.advanced (instance_of v.set) (log_in v.set.work v.chronicle) living h.agrees still_here late is)
-
-  -- the job commands that are open wait for results
-  pub results_so : targets_left v.instance ≡ [] → AreResults v h
-  results_so late by asks waits = of (promise.left (instance_of v.set) (log_in v.set.work v.chronicle) (living_of v.set v.chronicle) h.agrees still_here (is_living v.set v.chronicle) by asks (left_open v h by asks waits (rest.answers by.actor)).1 waits)
-    where
-      on : (o : Option State) → awaited v.instance.services.jobs by ≡ o → IsSome o → IsStuckResult v by
-      on None e some = absurd (true≢false (sym some))
-      on (Some where_) e some = record {
-        where_ = where_;
-        awaits = e;
-        left = promise.results (instance_of v.set) (log_in v.set.work v.chronicle) (living_of v.set v.chronicle) h.agrees (is_living v.set v.chronicle) by where_ e;
-      }
-
-      of : IsSome (awaited v.instance.services.jobs by) ⊎ IsLeftAdvance (living_of v.set v.chronicle) by → IsStuckResult v by
-      of (inl some) = on (awaited v.instance.services.jobs by) refl some
-      of (inr a) = absurd (advanced_so late (rules.now_of (instance_of v.set) (rules.before_issue by (log_in v.set.work v.chronicle)) + a.seconds) (record { by = by; seconds = a.seconds; asks = a.asks; waits = a.waits; is = refl }))

@@ -49,7 +49,8 @@ use Rattle.instance.proofs.Ranges.{counted_flat, counted_none, counted_one, coun
 use Rattle.instance.proofs.Commanding.{own_length}
 use Rattle.instance.proofs.Leaving.{IsCause, IsDone, IsLeft, IsStuckFence, ends_at, in_fence, numbers_of, seat_told, states_of, told_of}
 use Rattle.services.proofs.answers_proofs.Carried.{unasked_uncarried}
-use Rattle.instance.proofs.Closing.{AreResults, CanDoNothing, IsStillSo, advanced_so, heard_so, left_of, past_all, quiet_so, rest_so, results_so}
+use Rattle.instance.proofs.Closing.{AreResults, left_of, past_all}
+use Rattle.instance.proofs.Stilling.{CanDoNothing, IsStillSo, advanced_so, heard_so, quiet_so, rest_so, results_so}
 use Rattle.instance.proofs.Families.{advanced_at_end, rests_at_end, same_living}
 use Rattle.instance.proofs.Logs.{log_closed, log_without, served_log}
 use Rattle.instance.proofs.Results.{unissued_uncarried}
@@ -110,6 +111,7 @@ none_issued by (entry.Heard i b space number ∷ es) h = absurd h.0
 none_issued by (entry.Got i b reference ∷ es) h = absurd h.0
 none_issued by (entry.Dropped i b reference ∷ es) h = absurd h.0
 none_issued by (entry.Told from to ∷ es) h = absurd h.0
+none_issued by (entry.Watched actor command number first count ∷ es) h = absurd h.0
 none_issued by (entry.Ticked second ∷ es) h = absurd h.0
 none_issued by (entry.Born child parent job label second grant ∷ es) h = absurd h.0
 none_issued by (entry.Gone child parent job shut ∷ es) h = absurd h.0
@@ -125,6 +127,7 @@ none_ended (entry.Heard i b space number ∷ es) h = absurd h.0
 none_ended (entry.Got i b reference ∷ es) h = absurd h.0
 none_ended (entry.Dropped i b reference ∷ es) h = absurd h.0
 none_ended (entry.Told from to ∷ es) h = absurd h.0
+none_ended (entry.Watched actor command number first count ∷ es) h = absurd h.0
 none_ended (entry.Ticked second ∷ es) h = absurd h.0
 none_ended (entry.Born child parent job label second grant ∷ es) h = absurd h.0
 none_ended (entry.Gone child parent job shut ∷ es) h = absurd h.0
@@ -149,7 +152,7 @@ module _ (v : Own) (h : DoesAgree v) (over : IsOver v.set.work.lines v.instance)
   whole = told ++ entry.Closed ∷ []
 
   rest : CanDoNothing v.instance
-  rest = record { steps = over.steps; answers = over.answers; due = over.due }
+  rest = record { steps = over.steps; feeds = over.feeds; answers = over.answers; due = over.due }
 
   quiet : IsQuiet (setting_of v.set) log
   quiet = quiet_so v h rest promise

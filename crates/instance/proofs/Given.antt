@@ -34,7 +34,6 @@ use Rattle.services.specs.workload.Tallies.{declares}
 use Rattle.instance.specs.Agrees.{is_of}
 use Rattle.services.specs.tap.Factors.{priority_by}
 use Rattle.services.specs.manager_rules.declared.terms.Terms.{Terms}
-use Rattle.services.specs.manager_rules.Terms.{AreBuilt}
 
 -- ---- commands stand in lines
 
@@ -220,15 +219,15 @@ unique_labels set own a b label urgency other needs named text more asks_a asks_
 -- ---- the whole
 
 pub is_given : (set : Setup) (size fanout : ℕ) (hash : Hash) (grant : Resources) (birth : ℕ) (terms : Terms) → set.size ≡ size → set.fanout ≡ fanout → set.hash ≡ hash → set.grant ≡ r_text grant → set.resources ≡ grant → set.base ≡ None → set.terms ≡ terms → set.birth ≡ birth
-    → AreBuilt terms → IsGrant grant.nodes → IsWithin set.size set.work → All (λ a. a.rank < set.size) set.work.actors → All (λ l. IsBuilt l.command) set.work.lines → HasOwnLabels set.work.lines → IsGiven (instance_of set) size fanout hash grant birth terms
-is_given set size fanout hash grant birth terms brokers children hashed text resources anew same born offered granted within ranks built own = record {
+    → IsGrant grant.nodes → IsWithin set.size set.work → All (λ a. a.rank < set.size) set.work.actors → All (λ l. IsBuilt l.command) set.work.lines → HasOwnLabels set.work.lines → IsGiven (instance_of set) size fanout hash grant birth terms
+is_given set size fanout hash grant birth terms brokers children hashed text resources anew same born granted within ranks built own = record {
   hash = hashed;
   served = record {
     valid = is_instance set (is_setup set within built anew (text ∙ ap r_text (sym resources)) (subst (λ (r : Resources). IsGrant r.nodes) (sym resources) granted));
     unique = unique_labels set own;
     ranks = in_ranks set within built ranks;
     served = record {
-      built = built_instance set anew (subst AreBuilt (sym same) offered);
+      built = built_instance set anew;
       answer = ap (λ t. priority_by t.weights) same;
       policy = ap (λ t. t.policy) same;
       limits = ap (λ t. t.limits) same;

@@ -188,6 +188,7 @@ is_fence t (command.Info label key) name count txn e = cc
 is_fence t command.Jobs name count txn e = cc
 is_fence t (command.Why label) name count txn e = cc
 is_fence t (command.ResultOf label) name count txn e = cc
+is_fence t (command.Watch label) name count txn e = cc
 is_fence t (command.Advance seconds) name count txn e = cc
 is_fence t command.Shutdown name count txn e = cc
 
@@ -221,6 +222,7 @@ is_wait t (command.Info label key) number e = cc
 is_wait t command.Jobs number e = cc
 is_wait t (command.Why label) number e = cc
 is_wait t (command.ResultOf label) number e = cc
+is_wait t (command.Watch label) number e = cc
 is_wait t (command.Advance seconds) number e = cc
 is_wait t command.Shutdown number e = cc
 

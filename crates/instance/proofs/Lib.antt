@@ -24,6 +24,8 @@ mod Ranges
 mod Leaving
 mod Ending
 mod Closing
+mod Stilling
+mod Feeding
 mod Settling
 mod Ordering
 mod Beginning

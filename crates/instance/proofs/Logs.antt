@@ -165,6 +165,7 @@ entry_closes work c (entry.Heard i b space number) h = absurd h
 entry_closes work c (entry.Got i b reference) h = absurd h
 entry_closes work c (entry.Dropped i b reference) h = absurd h
 entry_closes work c (entry.Told from to) h = absurd h
+entry_closes work c (entry.Watched actor command number first count) h = absurd h
 entry_closes work c (entry.Ticked second) h = absurd h
 entry_closes work c (entry.Born child parent job label second grant) h = absurd h
 entry_closes work c (entry.Gone child parent job shut) h = absurd h
@@ -235,6 +236,7 @@ module _ (work : Workload) (by : By) where
   entry_replies : (c : List Entry) (e : Entry) → replies_to by e ≡ false → replies_in by (happening_of work c e) ≡ false
   entry_replies c (entry.Issued a k) h = issued_replies (record { actor = a; command = k }) (is_some (job_ask_at work (record { actor = a; command = k }))) (moment_of work top c (entry.Issued a k))
   entry_replies c (entry.Replied a k given at_) h = told_replies (record { actor = a; command = k }) at_ (job_reply_of given) (moment_of work top c (entry.Replied a k given at_)) h
+  entry_replies c (entry.Watched actor command number first count) h = refl
   entry_replies c (entry.Ticked second) h = refl
   entry_replies c (entry.Born child parent job label second grant) h = child_replies (parent == top) (Born job) refl
   entry_replies c (entry.Gone child parent job shut) h = child_replies (parent == top) (Gone job shut) refl
@@ -243,6 +245,7 @@ module _ (work : Workload) (by : By) where
   entry_issues : (c : List Entry) (e : Entry) → issues by e ≡ false → issues_in by (happening_of work c e) ≡ false
   entry_issues c (entry.Issued a k) h = issued_issues (record { actor = a; command = k }) (is_some (job_ask_at work (record { actor = a; command = k }))) (moment_of work top c (entry.Issued a k)) h
   entry_issues c (entry.Replied a k given at_) h = told_issues (record { actor = a; command = k }) at_ (job_reply_of given) (moment_of work top c (entry.Replied a k given at_))
+  entry_issues c (entry.Watched actor command number first count) h = refl
   entry_issues c (entry.Ticked second) h = refl
   entry_issues c (entry.Born child parent job label second grant) h = child_issues (parent == top) (Born job) refl
   entry_issues c (entry.Gone child parent job shut) h = child_issues (parent == top) (Gone job shut) refl

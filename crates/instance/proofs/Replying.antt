@@ -153,6 +153,7 @@ hands_on given x told unanswered early rests e = record {
 pub of_jobs : (given : Reply) (told : JobReply) → job_reply_of given ≡ Some told → IsOfJobs given told
 of_jobs (reply.Submitted id) told e = hands_on (reply.Submitted id) (rules.Submitted id) told refl refl (λ set c by number h. h) e
 of_jobs (reply.BadSpec fault) told e = hands_on (reply.BadSpec fault) (rules.BadSpec fault) told refl refl (λ set c by number h. h) e
+of_jobs (reply.Checked reason) told e = hands_on (reply.Checked reason) (rules.Checked reason) told refl refl (λ set c by number h. h) e
 of_jobs reply.NoJob told e = hands_on reply.NoJob rules.NoJob told refl refl (λ set c by number h. h) e
 of_jobs reply.Raised told e = hands_on reply.Raised rules.Raised told refl refl (λ set c by number h. h) e
 of_jobs reply.Ended told e = hands_on reply.Ended rules.Ended told refl refl (λ set c by number h. h) e
@@ -165,6 +166,7 @@ of_jobs (reply.Behind id) told e = hands_on (reply.Behind id) (rules.Behind id) 
 of_jobs reply.Held told e = hands_on reply.Held rules.Held told refl refl (λ set c by number h. h) e
 of_jobs reply.Ready told e = hands_on reply.Ready rules.Ready told refl refl (λ set c by number h. h) e
 of_jobs (reply.EndedWith status) told e = hands_on (reply.EndedWith status) (rules.EndedWith status) told refl refl (λ set c by number h. h) e
+of_jobs (reply.Watched shown) told e = hands_on (reply.Watched shown) (rules.Watched shown) told refl refl (λ set c by number h. h) e
 of_jobs (reply.Advanced second) told e = hands_on (reply.Advanced second) (rules.Advanced second) told refl refl (λ set c by number h. h) e
 of_jobs reply.Shut told e = hands_on reply.Shut rules.Shut told refl refl (λ set c by number h. h) e
 of_jobs _ told e = none_told told e

@@ -1,4 +1,4 @@
--- What job commands are told, and what is left of those that wait for a result.
+-- What job commands are told, and what is left of those that wait for the end of a job.
 use Rattle.std.proofs.Common.{◌≡◌, ◌⊎◌, inl, inr, ℕ, suc, arith, List, [], ◌∷◌, ◌++◌, Bool, true, false, ◌&&◌, ◌||◌, cond, not, Option, Some, None, find, is_some, refl, sym, ap, ◌∙◌, subst, true≢false}
 use Rattle.std.specs.Prelude.{Contains, IsSome}
 use Rattle.std.specs.Option.{option_map, option_map_or}
@@ -20,7 +20,6 @@ use Rattle.services.specs.job_commands.declared.row.Row.{Row}
 use Rattle.services.specs.job_commands.declared.row.Stage.{Stage}
 use Rattle.services.specs.job_commands.declared.row.Stage.TheVariants as stage
 use Rattle.services.proofs.job_commands_proofs.Tables.{found}
-use Rattle.services.specs.job_replies.Ready.{is_ready}
 use Rattle.services.specs.job_service.declared.refusals.Refused.{Refused}
 use Rattle.services.specs.job_service.Agrees.{AgreesJobs}
 use Rattle.services.specs.job_service.Refusals.{fault_for, is_refusal_of, row_in}
@@ -42,7 +41,6 @@ use Rattle.services.specs.answers.Whole.{HasClosingGrounds, has_ended, is_closin
 use Rattle.services.specs.workload.declared.work.Workload.{Workload}
 use Rattle.instance.proofs.Families.{same_living}
 use Rattle.instance.proofs.Logs.{job_replied, log_issued, log_unissued, log_with, served_log}
-use Rattle.services.proofs.answers_proofs.JobLogs.{unwatched}
 
 -- ---- a reply that hands on what became of a command
 
@@ -69,6 +67,7 @@ module _ (set : Setup) (c : List Entry) (by : By) (number : Option ℕ) where
   pub told_grounds : (given : Reply) (r : JobReply) → job_reply_of given ≡ Some r → IsFor r → HasReplyGrounds set c by number given
   told_grounds (reply.Submitted id) r e h = subst IsFor (same_told _ r e) h
   told_grounds (reply.BadSpec fault) r e h = subst IsFor (same_told _ r e) h
+  told_grounds (reply.Checked reason) r e h = subst IsFor (same_told _ r e) h
   told_grounds reply.NoJob r e h = subst IsFor (same_told _ r e) h
   told_grounds reply.Raised r e h = subst IsFor (same_told _ r e) h
   told_grounds reply.Ended r e h = subst IsFor (same_told _ r e) h
@@ -81,6 +80,7 @@ module _ (set : Setup) (c : List Entry) (by : By) (number : Option ℕ) where
   told_grounds reply.Held r e h = subst IsFor (same_told _ r e) h
   told_grounds reply.Ready r e h = subst IsFor (same_told _ r e) h
   told_grounds (reply.EndedWith status) r e h = subst IsFor (same_told _ r e) h
+  told_grounds (reply.Watched shown) r e h = subst IsFor (same_told _ r e) h
   told_grounds (reply.Advanced second) r e h = subst IsFor (same_told _ r e) h
   told_grounds reply.Shut r e h = subst IsFor (same_told _ r e) h
   told_grounds _ r e h = nothing_told r e
@@ -115,48 +115,56 @@ uncarried set c by none =
     let parts = neither (is_landed by (service_of (log_in set.work c))) (is_denied by (service_of (log_in set.work c))) none in
     (ap (is_landed by) (sym log) ∙ parts.0, ap (is_denied by) (sym log) ∙ parts.1)
 
--- a command that waits for a result was carried out by none
-waits_undecided : (log : Log) (by : By) (label : List ℕ) (asked : JobAsk) (s : Stage) → told asked ≡ rules.ResultOf label → StageAgrees log by asked s → is_decided by log ≡ false
-waits_undecided log by label asked stage.Waits e h = h
-waits_undecided log by label asked (stage.Landed number) e h = on asked e h.1
+-- a command that waits for the end of a job was carried out by none
+asks_end : rules.JobAsk → Bool
+asks_end (rules.ResultOf label) = true
+asks_end (rules.Watch label) = true
+asks_end _ = false
+
+waits_undecided : (log : Log) (by : By) (asked : JobAsk) (s : Stage) → asks_end (told asked) ≡ true → StageAgrees log by asked s → is_decided by log ≡ false
+waits_undecided log by asked stage.Waits e h = h
+waits_undecided log by asked (stage.Landed number) e h = on asked e h.1
   where
-    on : (a : JobAsk) → told a ≡ rules.ResultOf label → HasLanded log by number a → is_decided by log ≡ false
-    on (ask.Submit l urgency needs text) e landed = cc
-    on (ask.Cancel l) e landed = cc
-    on (ask.Raise l kind severity note) e landed = cc
-    on (ask.Urge l urgency) e landed = cc
+    on : (a : JobAsk) → asks_end (told a) ≡ true → HasLanded log by number a → is_decided by log ≡ false
+    on (ask.Submit l urgency needs text) e landed = absurd (true≢false (sym e))
+    on (ask.Cancel l) e landed = absurd (true≢false (sym e))
+    on (ask.Raise l kind severity note) e landed = absurd (true≢false (sym e))
+    on (ask.Urge l urgency) e landed = absurd (true≢false (sym e))
     on _ e landed = absurd landed
 
-result_undecided : (v : CommandsValue) (inst : Instance) (log : Log) → AgreesCommands v inst log → (by : By) (label : List ℕ) → inst.asks by ≡ Some (rules.ResultOf label) → IsOpen by log → is_decided by log ≡ false
-result_undecided v inst log h by label asks waits =
-    let row : HasRow v by = h.all by (ask.ResultOf label) asks waits in
+end_undecided : (v : CommandsValue) (inst : Instance) (log : Log) → AgreesCommands v inst log → (by : By) (asked : JobAsk) → asks_end (told asked) ≡ true → inst.asks by ≡ Some (told asked) → IsOpen by log → is_decided by log ≡ false
+end_undecided v inst log h by asked end asks waits =
+    let row : HasRow v by = h.all by asked asks waits in
     let agrees = h.rows row.0 row.1 in
-    let same : told row.0.ask ≡ rules.ResultOf label = one (sym agrees.asks ∙ ap inst.asks row.2 ∙ asks) in
-    subst (λ b. is_decided b log ≡ false) row.2 (waits_undecided log row.0.by label row.0.ask row.0.stage same agrees.staged)
+    let same : told row.0.ask ≡ told asked = one (sym agrees.asks ∙ ap inst.asks row.2 ∙ asks) in
+    subst (λ b. is_decided b log ≡ false) row.2 (waits_undecided log row.0.by row.0.ask row.0.stage (ap asks_end same ∙ end) agrees.staged)
   where
     one : {x y : rules.JobAsk} → ◌≡◌ {A = Option rules.JobAsk} (Some x) (Some y) → x ≡ y
     one e = cc
 
--- a command that is left for a job asks for its result: none watches one
-asks_result : (set : Setup) (own : List Entry) (by : By) (where_ : State) (left : IsLeftResult (living_of set own) by where_) → job_ask_at set.work by ≡ Some (rules.ResultOf left.label)
-asks_result set own by where_ left = elim left.asks [
-  | inl asks ↦ asks
-  | inr watches ↦ absurd (unwatched set.work by left.label watches.0)
+-- a command that is left for a job asks for its result, or watches it
+asks_so : (set : Setup) (own : List Entry) (by : By) (where_ : State) → IsLeftResult (living_of set own) by where_ → (asked : JobAsk) × (asks_end (told asked) ≡ true) × (job_ask_at set.work by ≡ Some (told asked))
+asks_so set own by where_ left = elim left.asks [
+  | inl asks ↦ (ask.ResultOf left.label, refl, asks)
+  | inr watches ↦ (ask.Watch left.label, refl, watches.0)
 ]
 
 module _ (set : Setup) (c own : List Entry) (same : log_in set.work c ≡ log_in set.work own) (v : JobServiceValue) (h : AgreesJobs v (instance_of set) (log_in set.work own)) where
   -- one that is left at the end, in a chronicle with the same log
   pub result_uncarried : (by : By) (where_ : State) → IsLeftResult (living_of set own) by where_ → IsUncarried set c by
-  result_uncarried by where_ left = uncarried set c by (ap (is_decided by) same ∙ result_undecided v.commands (instance_of set) (log_in set.work own) h.commands by left.label (asks_result set own by where_ left) left.waits)
+  result_uncarried by where_ left = uncarried set c by (ap (is_decided by) same ∙ undecided (asks_so set own by where_ left))
+    where
+      undecided : (asked : JobAsk) × (asks_end (told asked) ≡ true) × (job_ask_at set.work by ≡ Some (told asked)) → is_decided by (log_in set.work own) ≡ false
+      undecided a = end_undecided v.commands (instance_of set) (log_in set.work own) h.commands by a.0 a.1 a.2 left.waits
 
   -- one that isn't issued
   pub unissued_uncarried : (by : By) → IsSome (job_ask_at set.work by) → is_issued by own ≡ false → IsUncarried set c by
   unissued_uncarried by asks none = uncarried set c by (ap (is_decided by) same ∙ (h.untold by asks (log_unissued set.work by own none)).undecided)
 
--- what a closing reply to a command that waits for a result rests on
+-- what a closing reply to a command that waits for the end of a job rests on
 pub left_grounds : (set : Setup) (c own closings : List Entry) → log_in set.work c ≡ log_in set.work own → (by : By) (where_ : State) → IsLeftResult (living_of set own) by where_ → HasClosingGrounds set c closings by (reply.UnfinishedJob where_)
 left_grounds set c own closings same by where_ left = (
-  sym (log_issued set.work by c (ap is_some (asks_result set own by where_ left))) ∙ ap (rules.is_issued by) same ∙ left.waits.issued,
+  sym (log_issued set.work by c (ap is_some (asks_so set own by where_ left).2)) ∙ ap (rules.is_issued by) same ∙ left.waits.issued,
   subst (λ l. IsLeftResult l by where_) (sym (same_living set c own same)) left,
 )
 
@@ -185,11 +193,11 @@ module _ (v : JobServiceValue) (inst : Instance) (log : Log) (h : AgreesJobs v i
       subst (AsksJob inst log) (sym r.2) (ap is_some legal.made, legal.waits)
 
   ready_open : (by : By) → is_ready_in v by ≡ true → AsksJob inst log by
-  ready_open by t = on (row_in v.commands by) refl t
+  ready_open by t = on _ (row_in v.commands by) refl t
     where
-      on : (o : Option Row) → row_in v.commands by ≡ o → option_map_or (is_ready v.commands.labels v.manager v.second) o false ≡ true → AsksJob inst log by
-      on None e s = absurd (true≢false (sym s))
-      on (Some row) e s =
+      on : (p : Row → Bool) (o : Option Row) → row_in v.commands by ≡ o → option_map_or p o false ≡ true → AsksJob inst log by
+      on p None e s = absurd (true≢false (sym s))
+      on p (Some row) e s =
           let f = found by v.commands.rows row e in
           let agrees = h.commands.rows row f.0 in
           subst (AsksJob inst log) f.1 (ap is_some agrees.asks, agrees.waits)

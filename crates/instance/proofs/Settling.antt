@@ -22,7 +22,8 @@ use Rattle.instance.specs.declared.seats.Waiting.{Waiting}
 use Rattle.instance.specs.declared.seats.Waiting.TheVariants as waiting
 use Rattle.instance.specs.Agrees.{ActorStands, Waits, command_of}
 use Rattle.instance.specs.Seats.{has_come, is_free, last_command, replied_of}
-use Rattle.instance.proofs.Closing.{CanDoNothing, IsStillSo, answered_replied, quiet_so, rest_so, still_so}
+use Rattle.instance.proofs.Closing.{answered_replied}
+use Rattle.instance.proofs.Stilling.{CanDoNothing, IsStillSo, quiet_so, rest_so, still_here}
 use Rattle.instance.proofs.Families.{is_living}
 use Rattle.instance.proofs.Listing.{any_counted, none_counted}
 use Rattle.instance.proofs.Logs.{log_open, served_log}
@@ -68,11 +69,11 @@ module _ (v : Own) (h : DoesAgree v) (rest : CanDoNothing v.instance) (promise :
     -- it asks something of jobs or of time
     by_jobs : IsSome (job_ask_at v.set.work by) → job_ask_at v.set.work by ≢ Some Shutdown → HasToWait (living_of v.set v.chronicle) by
     by_jobs asks other =
-        of (promise.left (instance_of v.set) now (living_of v.set v.chronicle) h.agrees (still_so v h rest) (is_living v.set v.chronicle) by asks other (log_open v.set.work by v.chronicle asks waiting_now.0 unreplied))
+        of (promise.left (instance_of v.set) now (living_of v.set v.chronicle) h.agrees (still_here v h rest promise) (is_living v.set v.chronicle) by asks other (log_open v.set.work by v.chronicle asks waiting_now.0 unreplied))
       where
         result : (o : Option State) → awaited v.instance.services.jobs by ≡ o → IsSome o → HasToWait (living_of v.set v.chronicle) by
         result None is some = absurd (true≢false (sym some))
-        result (Some where_) is some = inr (inr (where_, promise.results (instance_of v.set) now (living_of v.set v.chronicle) h.agrees (is_living v.set v.chronicle) by where_ is))
+        result (Some where_) is some = inr (inr (where_, promise.results (instance_of v.set) now (living_of v.set v.chronicle) h.agrees (still_here v h rest promise) (is_living v.set v.chronicle) by where_ is))
 
         of : IsSome (awaited v.instance.services.jobs by) ⊎ IsLeftAdvance (living_of v.set v.chronicle) by → HasToWait (living_of v.set v.chronicle) by
         of (inl some) = result (awaited v.instance.services.jobs by) refl some

@@ -42,6 +42,7 @@ jobs_told (ask.Info label key) = refl
 jobs_told ask.Jobs = refl
 jobs_told (ask.Why label) = refl
 jobs_told (ask.ResultOf label) = refl
+jobs_told (ask.Watch label) = refl
 jobs_told (ask.Advance seconds) = refl
 
 seconds_told : (a : JobAsk) → seconds_asked a ≡ seconds_by (told a)
@@ -54,6 +55,7 @@ seconds_told (ask.Info label key) = refl
 seconds_told ask.Jobs = refl
 seconds_told (ask.Why label) = refl
 seconds_told (ask.ResultOf label) = refl
+seconds_told (ask.Watch label) = refl
 seconds_told (ask.Advance seconds) = refl
 
 -- how many jobs a command submits
@@ -89,6 +91,7 @@ one_job (ask.Info label key) h = absurd (true≢false (sym h))
 one_job ask.Jobs h = absurd (true≢false (sym h))
 one_job (ask.Why label) h = absurd (true≢false (sym h))
 one_job (ask.ResultOf label) h = absurd (true≢false (sym h))
+one_job (ask.Watch label) h = absurd (true≢false (sym h))
 one_job (ask.Advance seconds) h = absurd (true≢false (sym h))
 
 -- ---- where nothing is issued
@@ -140,6 +143,7 @@ module _ (v : InstanceValue) (lines : List Line) (h : IsTallied v lines) (few : 
       on ask.Jobs is = tt
       on (ask.Why label) is = tt
       on (ask.ResultOf label) is = tt
+      on (ask.Watch label) is = tt
 
 -- once it is issued, it is counted
 module _ (v : InstanceValue) (lines : List Line) (h : IsTallied v lines) (a : ℕ) (seat new : Seat) (m : MovesOn v.seats lines a seat new.next) (after : InstanceValue) (seats : after.seats ≡ set v.seats a new) (d : Line) where

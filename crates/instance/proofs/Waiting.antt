@@ -1,4 +1,4 @@
--- A job command that can be told what became of it is open, and one that was replied to in the chronicle was so in the log.
+-- A job command that can be told what became of it is open, and a watch that can be fed, and one that was replied to in the chronicle was so in the log.
 use Rattle.std.proofs.Common.{◌≡◌, ℕ, suc, List, [], ◌∷◌, ◌++◌, Bool, true, false, ◌||◌, ◌&&◌, inl, inr, not, cond, Option, Some, None, is_some, refl, sym, ap, ◌∙◌, subst, arith, true≢false}
 use Rattle.std.specs.Prelude.{Contains, IsSome, find, option_and_then}
 use Rattle.std.specs.Option.{option_map, option_map_or}
@@ -13,9 +13,9 @@ use Rattle.services.proofs.kvs_rules_proofs.Sequences.{each_along}
 use Rattle.services.specs.instance_rules.Log as rules
 use Rattle.services.specs.instance_rules.Log.{Instance, IsOpen, JobReply, Log, Moment, replies_now}
 use Rattle.services.specs.job_commands.declared.row.Row.{Row}
-use Rattle.services.specs.job_replies.Ready.{is_ready}
 use Rattle.services.specs.job_service.declared.refusals.Refused.{Refused}
 use Rattle.services.specs.job_service.Agrees.{AgreesJobs}
+use Rattle.services.specs.job_service.Feeds.{can_feed}
 use Rattle.services.specs.job_service.Refusals.{fault_for, is_refusal_of, row_in}
 use Rattle.services.specs.job_service.Replies.{can_reply, is_kept_back, is_ready_in}
 use Rattle.services.specs.job_service.Value.{JobServiceValue}
@@ -63,9 +63,9 @@ module _ (v : JobServiceValue) (inst : Instance) (log : Log) (a : AgreesJobs v i
       let legal = a.refused r there.0 in
       subst (IsWaitingCommand inst log) (sym (command_is by r.by there.1)) (record { asks = ap is_some legal.made; waits = legal.waits })
 
-  by_row : (o : Option Row) → row_in v.commands by ≡ o → option_map_or (is_ready v.commands.labels v.manager v.second) o false ≡ true → IsWaitingCommand inst log by
-  by_row None e t = absurd (true≢false (sym t))
-  by_row (Some row) e t =
+  by_row : (p : Row → Bool) (o : Option Row) → row_in v.commands by ≡ o → option_map_or p o false ≡ true → IsWaitingCommand inst log by
+  by_row p None e t = absurd (true≢false (sym t))
+  by_row p (Some row) e t =
       let there = found_in (λ (row : Row). same_command by row.by) v.commands.rows row e in
       let agrees = a.commands.rows row there.0 in
       subst (IsWaitingCommand inst log) (sym (command_is by row.by there.1)) (record { asks = ap is_some agrees.asks; waits = agrees.waits })
@@ -73,8 +73,11 @@ module _ (v : JobServiceValue) (inst : Instance) (log : Log) (a : AgreesJobs v i
   pub reply_waits : can_reply v by ≡ true → IsWaitingCommand inst log by
   reply_waits can = elim (or_cases (is_some (fault_for v.refused by)) (is_ready_in v by) (both_right (not (is_kept_back v by)) _ can)) [
     | inl refused ↦ by_refusal (find (is_refusal_of by) v.refused) refl refused
-    | inr ready ↦ by_row (row_in v.commands by) refl ready
+    | inr ready ↦ by_row _ (row_in v.commands by) refl ready
   ]
+
+  pub feed_waits : can_feed v by ≡ true → IsWaitingCommand inst log by
+  feed_waits can = by_row _ (row_in v.commands by) refl can
 
 -- ---- replies to job commands
 
@@ -135,6 +138,7 @@ module _ (set : Setup) (by : By) (asks : IsSome (job_ask_at set.work by)) where
   here c (entry.Got i b reference) legal early is = absurd (true≢false (sym is))
   here c (entry.Dropped i b reference) legal early is = absurd (true≢false (sym is))
   here c (entry.Told from to) legal early is = absurd (true≢false (sym is))
+  here c (entry.Watched actor command number first count) legal early is = absurd (true≢false (sym is))
   here c (entry.Ticked second) legal early is = absurd (true≢false (sym is))
   here c (entry.Born child parent job label second grant) legal early is = absurd (true≢false (sym is))
   here c (entry.Gone child parent job shut) legal early is = absurd (true≢false (sym is))

@@ -1,4 +1,4 @@
--- The actors that can be replied to or issued a command, in the order in which these steps are
+-- The actors that can be fed, replied to or issued a command, in the order in which these steps are
 -- made, and the posts of the job manager.
 use Rattle.std.specs.Prelude.{ℕ, ◌==◌, ◌&&◌, List, [], ◌∷◌, Bool, false, Option, Some, None, length, filter_map, slice_get, option_and_then, if◌then◌else◌}
 use Rattle.std.specs.List.{filter, range_with_len}
@@ -8,8 +8,12 @@ use Rattle.instance.specs.declared.seats.Seat.{Seat}
 use Rattle.instance.specs.Seats.{is_free}
 use Rattle.services.specs.answers.declared.steps.Step.{Step}
 use Rattle.services.specs.answers.declared.steps.Step.TheVariants as step
-use Rattle.instance.specs.Steps.{can_answer, can_post}
+use Rattle.instance.specs.Steps.{can_answer, can_feed, can_post}
 use Rattle.instance.specs.Value.{InstanceValue}
+
+-- the actors whose open watch can be fed
+abbrev pub feeds : InstanceValue → List ℕ
+feeds v = filter (can_feed v) (range_with_len 0 (length v.seats))
 
 -- the actors whose open command can be replied
 abbrev pub answers : InstanceValue → List ℕ

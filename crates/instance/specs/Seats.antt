@@ -1,5 +1,5 @@
 -- Where an actor stands in its commands.
-use Rattle.std.specs.Prelude.{◌≡◌, ℕ, ◌-◌, max, nat_lt, slice_get, slice_set, List, [], ◌∷◌, ◌++◌, Bool, true, false, Option, Some, None, is_some, unwrap_or, length, if◌then◌else◌}
+use Rattle.std.specs.Prelude.{◌≡◌, ℕ, ◌-◌, ◌&&◌, max, nat_le, nat_lt, slice_get, slice_set, List, [], ◌∷◌, ◌++◌, Bool, true, false, Option, Some, None, is_some, unwrap_or, length, if◌then◌else◌}
 use Rattle.std.specs.Option.{option_map_or, option_map}
 use Rattle.std.specs.List.{cons_option}
 use Rattle.services.specs.kvs_txn.declared.txn.By.{By}
@@ -8,7 +8,9 @@ use Rattle.services.specs.kvs_model.Store.{Name}
 use Rattle.services.specs.kvs_rules.declared.events.KvsAsk.{KvsAsk}
 use Rattle.services.specs.kvs_rules.Log.{Log, Asked}
 use Rattle.services.specs.kvs_rules.Namespaces.{Setting}
+use Rattle.services.specs.job_service.Feeds.{can_feed}
 use Rattle.services.specs.job_service.Replies.{can_reply}
+use Rattle.services.specs.kvs_core.Seen.{primary_heard}
 use Rattle.services.specs.Steps.{can_take}
 use Rattle.services.specs.Value.{ServicesValue}
 use Rattle.services.specs.workload.declared.work.Command.{Command}
@@ -111,3 +113,16 @@ has_come services by waiting.Using = true
 has_come services by waiting.Service = can_take services by
 has_come services by waiting.Jobs = can_reply services.jobs by
 has_come services by waiting.Shutdown = true
+
+-- whether the actor waits for what becomes of a job, or for time
+abbrev pub is_at_jobs : Waiting → Bool
+is_at_jobs waiting.Jobs = true
+is_at_jobs _ = false
+
+-- whether the command of the actor at this seat is a watch that can be fed: its broker has heard of
+-- all that the actor has seen, and of more events of the job than the watch was fed
+abbrev pub is_fed_next : ServicesValue → By → Seat → Bool
+is_fed_next services by seat = is_at_jobs seat.waiting
+    && (nat_le (floor_in seat.floors seat.subject)
+    (primary_heard services.jobs.manager.core seat.broker)
+    && can_feed services.jobs by)

@@ -8,7 +8,6 @@ ghost use Rattle.services.specs.answers.Legal.{HasSettled};
 ghost use Rattle.services.specs.answers.Services.{log_of};
 ghost use Rattle.services.specs.job_service.Still.{awaited};
 ghost use Rattle.services.specs.kvs_model.Store.{Name};
-ghost use Rattle.services.specs.manager_rules.Terms.{AreBuilt};
 ghost use Rattle.services.specs.resource_set.Valid.{IsR};
 ghost use Rattle.services.specs.resource_set.Writing.{r_text};
 ghost use Rattle.services.specs.Asks.{Keeps};
@@ -30,6 +29,7 @@ ghost use Rattle.instance.specs.Seats.{has_come, is_telling};
 ghost use Rattle.instance.specs.Steps.{IsAtRest, IsOver, can_answer, can_issue, can_post};
 
 mod family;
+mod feeding;
 mod walk;
 
 use crate::floors::Floors;
@@ -258,7 +258,6 @@ impl Instance {
         requires labels { HasOwnLabels work.now.lines }
         requires few { KeepsTallies work.now.lines }
         requires early { birth + 2000000000 < 2 ^ 64 }
-        requires terms { AreBuilt terms }
         ensures ready { IfOk result (λ v. v.spent ≡ false) }
         ensures agrees { IfOk result (λ v. (set : Setup) → set.size ≡ setting.size
             → set.fanout ≡ setting.fanout → set.hash ≡ setting.hash → set.grant ≡ r_text grant.now
@@ -494,8 +493,8 @@ impl Instance {
         close_off(self.alloc, core, jobs, lines, &self.seats)
     }
 
-    /// Where no step of the services and no reply can be made and nothing is posted or due, the
-    /// instance has settled: all its brokers are told, nothing is due by its chronicle, and each
+    /// Where no step of the services, no feed and no reply can be made and nothing is posted or due,
+    /// the instance has settled: all its brokers are told, nothing is due by its chronicle, and each
     /// open command has to wait. Nothing is due either where nothing is to be posted and no child
     /// is to be born.
     pub fn still(&self)

@@ -131,6 +131,9 @@ pub fn order_of(alloc: Global, command: &Command) -> Result<Ordered, AllocError>
         Command::ResultOf { label } => JobAsk::ResultOf {
             label: label.copy()?,
         },
+        Command::Watch { label } => JobAsk::Watch {
+            label: label.copy()?,
+        },
         Command::Advance { seconds } => JobAsk::Advance { seconds: *seconds },
         Command::Shutdown => return Ok(Ordered::Shutdown),
         _ => return Ok(Ordered::Nothing),

@@ -10,8 +10,8 @@ ghost use Rattle.services.specs.kvs_core.Requests.{AsksAtRest};
 ghost use Rattle.services.specs.workload.Laws.{IsBuilt};
 ghost use Rattle.services.specs.kvs_txn.Staged.{most_ops};
 ghost use Rattle.services.specs.answers.Commands.{ask_of, op_of, subject_of};
-ghost use Rattle.instance.specs.Seats.{room_behind, with_op, waiting_after, waits_for, ops_after, space_after, seat_floor, moment_asked, AreTold, IsTheAsk, has_come, is_free};
-ghost use Rattle.instance.specs.Steps.{has_issue, has_answer, next_of};
+ghost use Rattle.instance.specs.Seats.{room_behind, with_op, waiting_after, waits_for, ops_after, space_after, seat_floor, moment_asked, AreTold, IsTheAsk, has_come, is_at_jobs, is_fed_next, is_free};
+ghost use Rattle.instance.specs.Steps.{has_issue, has_answer, has_feed, next_of};
 
 use crate::floors::Floors;
 use services::Services;
@@ -143,6 +143,7 @@ fn waits_for(command: &Command) -> Waiting
         | Command::Jobs
         | Command::Why { .. }
         | Command::ResultOf { .. }
+        | Command::Watch { .. }
         | Command::Advance { .. } => Waiting::Jobs,
         _ => Waiting::Service,
     }
@@ -163,6 +164,7 @@ fn subject_of(alloc: Global, command: &Command, own: &Bytes) -> Result<Bytes, Al
         | Command::Jobs
         | Command::Why { .. }
         | Command::ResultOf { .. }
+        | Command::Watch { .. }
         | Command::Advance { .. }
         | Command::Shutdown => Bytes::of(alloc, b"primary"),
         _ => own.copy(),
@@ -312,6 +314,39 @@ pub fn has_answer(services: &Services, seats: &[Seat], actor: u32) -> bool
         Some(seat) => {
             let command = seat.issued.saturating_sub(1);
             has_come(services, By { actor, command }, seat.waiting)
+        }
+        None => false,
+    }
+}
+
+/// Whether an actor waits for what becomes of a job, or for time.
+fn is_at_jobs(waiting: Waiting) -> bool
+    ensures { result ≡ is_at_jobs waiting }
+{
+    matches!(waiting, Waiting::Jobs)
+}
+
+/// Whether the command of the actor at this seat is a watch that can be fed: its broker has heard
+/// of all that the actor has seen, and of more events of the job than the watch was fed.
+fn is_fed_next(services: &Services, by: By, seat: &Seat) -> bool
+    requires { services.now.spent ≡ false }
+    ensures { result ≡ is_fed_next services.now by seat.now }
+{
+    let heard = services.core().heard_primary(seat.broker);
+    is_at_jobs(seat.waiting)
+        && seat.floors.of(&seat.subject) <= heard
+        && services.jobs().can_feed(by)
+}
+
+/// Whether the open command of an actor is a watch that can be fed.
+pub fn has_feed(services: &Services, seats: &[Seat], actor: u32) -> bool
+    requires { services.now.spent ≡ false }
+    ensures { result ≡ has_feed services.now seats.now actor }
+{
+    match seats.get(actor as usize) {
+        Some(seat) => {
+            let command = seat.issued.saturating_sub(1);
+            is_fed_next(services, By { actor, command }, seat)
         }
         None => false,
     }

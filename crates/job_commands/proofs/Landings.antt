@@ -171,6 +171,7 @@ module _ (inst : Instance) (by : By) (group : Group) (authors : List (Option By)
       event_lands ask.Jobs e = asks_event ask.Jobs e
       event_lands (ask.Why label) e = asks_event (ask.Why label) e
       event_lands (ask.ResultOf label) e = asks_event (ask.ResultOf label) e
+      event_lands (ask.Watch label) e = asks_event (ask.Watch label) e
       event_lands (ask.Advance seconds) e = asks_event (ask.Advance seconds) e
 
       names_before : (label : List ℕ) (id : ℕ) → Names inst later label id → Names inst log label id
@@ -215,6 +216,7 @@ module _ (inst : Instance) (by : By) (group : Group) (authors : List (Option By)
       lands ask.Jobs e = let same = asked e in cc
       lands (ask.Why l) e = let same = asked e in cc
       lands (ask.ResultOf l) e = let same = asked e in cc
+      lands (ask.Watch l) e = let same = asked e in cc
       lands (ask.Advance seconds) e = let same = asked e in cc
 
       named_now : Names inst later label id

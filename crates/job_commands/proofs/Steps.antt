@@ -419,6 +419,7 @@ no_shutdown (ask.Info label key) e = cc
 no_shutdown ask.Jobs e = cc
 no_shutdown (ask.Why label) e = cc
 no_shutdown (ask.ResultOf label) e = cc
+no_shutdown (ask.Watch label) e = cc
 no_shutdown (ask.Advance seconds) e = cc
 
 module _ (v : CommandsValue) (inst : Instance) (log : Log) (by : By) (asks : inst.asks by ≡ Some rules.Shutdown) (h : AgreesCommands v inst log) where

@@ -25,6 +25,7 @@ told (ask.Info label k) = rules.Info label (key_of k)
 told ask.Jobs = rules.Jobs
 told (ask.Why label) = rules.Why label
 told (ask.ResultOf label) = rules.ResultOf label
+told (ask.Watch label) = rules.Watch label
 told (ask.Advance seconds) = rules.Advance seconds
 
 -- the label under which a job is submitted

@@ -65,6 +65,9 @@ pub enum JobAsk {
     ResultOf {
         label: Bytes,
     },
+    Watch {
+        label: Bytes,
+    },
     /// So many seconds.
     Advance {
         seconds: u64,

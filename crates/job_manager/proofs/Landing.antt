@@ -39,7 +39,7 @@ as-user (author.User id) e = tt
 store-stays : (st new : Store) (txn : Txn) → IsStore st → effect st txn scope.Primary ≡ Ok new → IsStore new
 store-stays st new txn is e = subst (λ r. IfOk r IsStore) e (IsStore-ops_effect txn.author scope.Primary 1 txn.ops st is)
 
-user-stands : (grant : Resources) (jobs : List StoredJob) (st new : Store) (txn : Txn) → is_manager txn.author ≡ false → Stands grant jobs st → effect st txn scope.Primary ≡ Ok new → Stands grant jobs new
+pub user-stands : (grant : Resources) (jobs : List StoredJob) (st new : Store) (txn : Txn) → is_manager txn.author ≡ false → Stands grant jobs st → effect st txn scope.Primary ≡ Ok new → Stands grant jobs new
 user-stands grant jobs st new txn user h e =
     let users = as-user txn.author user in
     record {
@@ -50,15 +50,15 @@ user-stands grant jobs st new txn user h e =
     }
 
 -- through a transaction that takes effect
-after-one : (P Q : Store → Type 0) (r : Result Store Refusal) (more : Store → Option Store) (new : Store)
+pub after-one : (P Q : Store → Type 0) (r : Result Store Refusal) (more : Store → Option Store) (new : Store)
     → ((mid : Store) → r ≡ Ok mid → Q mid) → ((mid : Store) → Q mid → more mid ≡ Some new → P new) → option_and_then more (landed_on r) ≡ Some new → P new
 after-one P Q (Ok mid) more new here rest e = rest mid (here mid refl) e
 after-one P Q (Err refusal) more new here rest e = cc
 
-same-store : (P : Store → Type 0) (st new : Store) → (let o : Option Store = Some st in o ≡ Some new) → P st → P new
+pub same-store : (P : Store → Type 0) (st new : Store) → (let o : Option Store = Some st in o ≡ Some new) → P st → P new
 same-store P st new e h = let same : st ≡ new = cc in subst P same h
 
-users-land : (grant : Resources) (jobs : List StoredJob) (groups : List Group) → posts_in groups ≡ [] → (st new : Store) → Stands grant jobs st → after_groups scope.Primary groups st ≡ Some new → Stands grant jobs new
+pub users-land : (grant : Resources) (jobs : List StoredJob) (groups : List Group) → posts_in groups ≡ [] → (st new : Store) → Stands grant jobs st → after_groups scope.Primary groups st ≡ Some new → Stands grant jobs new
 users-land grant jobs [] none st new h e = same-store (Stands grant jobs) st new e h
 users-land grant jobs (g ∷ gs) none st new h e = by (is_manager g.txn.author) refl (λ rest mid k f. users-land grant jobs gs rest mid new k f)
   where
@@ -89,7 +89,7 @@ module _ (book : BookValue) (sets : IsGrant book.grant.nodes) (post : Post) (was
   abbrev After : Store → Type 0
   After st = Stands book.grant (jobs_after post book.jobs) st
 
-  post-lands : (groups : List Group) → posts_in groups ≡ group_of post ∷ [] → (st new : Store) → Stands book.grant book.jobs st → after_groups scope.Primary groups st ≡ Some new → After new
+  pub post-lands : (groups : List Group) → posts_in groups ≡ group_of post ∷ [] → (st new : Store) → Stands book.grant book.jobs st → after_groups scope.Primary groups st ≡ Some new → After new
   post-lands [] one st new h e = cc
   post-lands (g ∷ gs) one st new h e = by (is_manager g.txn.author) refl (λ rest mid k f. post-lands gs rest mid new k f)
     where
@@ -109,10 +109,10 @@ module _ (book : BookValue) (sets : IsGrant book.grant.nodes) (post : Post) (was
 
 -- ---- landings one behind another
 
-abbrev flat : List (List Group) → List Group
+abbrev pub flat : List (List Group) → List Group
 flat landings = flat_map (λ groups. groups) landings
 
-through : (P Q : Store → Type 0) (o : Option Store) (more : Store → Option Store) (new : Store)
+pub through : (P Q : Store → Type 0) (o : Option Store) (more : Store → Option Store) (new : Store)
     → ((mid : Store) → o ≡ Some mid → Q mid) → ((mid : Store) → Q mid → more mid ≡ Some new → P new) → option_and_then more o ≡ Some new → P new
 through P Q (Some mid) more new here rest e = rest mid (here mid refl) e
 through P Q None more new here rest e = cc

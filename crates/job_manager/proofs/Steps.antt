@@ -1,6 +1,7 @@
 -- A manager through its calls.
-use Rattle.std.proofs.Common.{◌≡◌, ◌≢◌, ◌<◌, ℕ, List, [], ◌∷◌, ◌++◌, length, Bool, true, false, Option, Some, None, refl, sym, ap, ◌∙◌, subst}
-use Rattle.std.specs.Prelude.{◌||◌, IsSome, flat_map}
+use Rattle.std.proofs.Common.{◌≡◌, ◌≢◌, ◌<◌, inl, inr, ℕ, List, [], ◌∷◌, ◌++◌, length, Bool, true, false, Option, Some, None, refl, sym, ap, ◌∙◌, subst, append-nil}
+use Rattle.std.specs.Prelude.{◌||◌, Contains, IsSome, flat_map}
+use Rattle.job_rules.proofs.Among.{among_from}
 use Rattle.std.specs.List.{list_any}
 use Rattle.std.specs.Option.{option_map_or}
 use Rattle.job_rules.specs.Fits.{IsGrant}
@@ -20,22 +21,24 @@ use Rattle.resource_set.specs.declared.node.Resources.{Resources}
 use Rattle.job_book.specs.Contract.{IsKept}
 use Rattle.job_book.specs.Value.{BookValue}
 use Rattle.manager_rules.specs.Jobs.{AreJobsOf, HasOnlyJobs, ids_of}
-use Rattle.manager_rules.specs.Posts.{Desk, Does, IsDesk, IsDuePost, Post, Submits, group_of, txn_of}
+use Rattle.manager_rules.specs.Posts.{Desk, Does, IsDesk, IsDuePost, Post, Submits, group_of, jobs_after, txn_of}
 use Rattle.manager_rules.specs.Sound.{IsSoundStore}
 use Rattle.manager_rules.proofs.Others.{first_jobs}
 use Rattle.manager_rules.proofs.Taking.{first_only}
 use Rattle.manager_rules.specs.declared.policy.Policy.{Policy}
 use Rattle.job_manager.specs.Follows.{after_post}
-use Rattle.job_manager.specs.Managed.{IsManaged, IsOutstanding, WasDuePost}
+use Rattle.job_manager.specs.Managed.{AreRoots, IsManaged, IsOutstanding, WasDuePost}
+use Rattle.job_manager.specs.Places.{ArePlaces, LogPlaces}
 use Rattle.job_manager.specs.Posts.{command_of}
 use Rattle.job_manager.specs.Value.{ManagerValue}
 use Rattle.job_manager.proofs.Landing.{Stands, after-behind, post-through, users-through}
+use Rattle.job_manager.proofs.Roots.{IsBefore, along, first-roots, roots-on, same-roots}
 
 -- ---- at the beginning
 
-pub begins : (v : CoreValue) (book : BookValue) (grant : Resources) (policy : Policy) (text : List ℕ) → v.spent ≡ false → newest_of v ≡ first_store text → posted v ≡ [] → book ≡ record { grant = grant; policy = policy; jobs = [] } → IsKept book → IsStore (first_store text) → (spent : Bool)
-    → IsManaged (record { spent = spent; core = v; book = book; posted = None })
-begins v book grant policy text ready newest none is kept store spent =
+pub begins : (v : CoreValue) (book : BookValue) (grant : Resources) (policy : Policy) (text : List ℕ) → v.spent ≡ false → newest_of v ≡ first_store text → history_of v ≡ [] → v.grant ≡ text → posted v ≡ [] → book ≡ record { grant = grant; policy = policy; jobs = [] } → IsKept book → IsStore (first_store text) → (spent : Bool)
+    → IsManaged (record { spent = spent; core = v; book = book; posted = None; places = [] })
+begins v book grant policy text ready newest unlanded granted none is kept store spent =
     let jobs : AreJobsOf (newest_of v) book.jobs = subst (λ st. AreJobsOf st book.jobs) (sym newest) (subst (λ b. AreJobsOf (first_store text) b.jobs) (sym is) (first_jobs text)) in
     record {
       ready = ready;
@@ -44,6 +47,8 @@ begins v book grant policy text ready newest none is kept store spent =
       only = subst (λ st. HasOnlyJobs st (ids_of book.jobs)) (sym newest) (subst (λ b. HasOnlyJobs (first_store text) (ids_of b.jobs)) (sym is) (first_only text));
       sound = record { jobs = book.jobs; are = jobs; sound = kept.sound };
       outstanding = none;
+      places = record { all = λ id c. absurd (among_from [] id (subst (λ b. Contains (ids_of b.jobs) id) is c)); right = λ id path e. (let no : None ≡ Some path = e in cc) };
+      roots = first-roots book.grant.nodes v unlanded (newest ∙ ap first_store (sym granted)) (record { jobs = book.jobs; are = jobs; sound = kept.sound });
     }
 
 -- ---- a post
@@ -115,7 +120,7 @@ some-landed (x ∷ xs) e h = by (list_any has (groups_in x)) refl (some-landed x
 abbrev pub IsKeptStore : CoreValue → Type 0
 IsKeptStore v = after scope.Primary (history_of v) (length (history_of v)) (first_store v.grant) ≡ Some (newest_of v)
 
-module _ (v : ManagerValue) (m : IsManaged v) (core : CoreValue) (events : List KvsEvent) (extends : Extends v.core core events) (kept : IsKeptStore v.core) (now : IsKeptStore core) where
+module _ (v : ManagerValue) (m : IsManaged v) (core : CoreValue) (events : List KvsEvent) (extends : Extends v.core core events) (kept : IsKeptStore v.core) (now : IsKeptStore core) (sets : IsGrant v.book.grant.nodes) where
   through : after scope.Primary (landings_in events) (length (landings_in events)) (newest_of v.core) ≡ Some (newest_of core)
   through =
       after-behind (first_store v.core.grant) (history_of v.core) (landings_in events) (newest_of v.core) (newest_of core) kept
@@ -125,17 +130,25 @@ module _ (v : ManagerValue) (m : IsManaged v) (core : CoreValue) (events : List 
   stood : Stands v.book.grant v.book.jobs (newest_of v.core)
   stood = record { store = m.store; are = m.jobs; only = m.only; sound = m.sound }
 
-  pub stays : core.spent ≡ false → posts_landed events ++ posted core ≡ posted v.core → posts_landed events ≡ [] → (spent : Bool) → IsManaged (record { spent = spent; core = core; book = v.book; posted = v.posted })
+  on-roots : IsBefore v.book sets (landings_in events) (newest_of v.core) → AreRoots v.book.grant.nodes core
+  on-roots h =
+      roots-on v.book.grant.nodes v.core core (landings_in events) extends.history extends.grant kept m.roots
+      (along v.book sets (landings_in events) (newest_of v.core) (newest_of core) h through)
+
+  pub stays : core.spent ≡ false → posts_landed events ++ posted core ≡ posted v.core → posts_landed events ≡ [] → (spent : Bool) → IsManaged (record { spent = spent; core = core; book = v.book; posted = v.posted; places = v.places })
   stays ready order none spent =
       let s = users-through v.book.grant v.book.jobs (landings_in events) (sym extends.inside ∙ none) (newest_of v.core) (newest_of core) stood through in
       let same : posted core ≡ posted v.core = ap (λ gs. gs ++ posted core) (sym none) ∙ order in
-      record { ready = ready; store = s.store; jobs = s.are; only = s.only; sound = s.sound; outstanding = left v.posted same m.outstanding }
+      record { ready = ready; store = s.store; jobs = s.are; only = s.only; sound = s.sound; outstanding = left v.posted same m.outstanding; roots = before none; places = m.places }
     where
+      before : posts_landed events ≡ [] → AreRoots v.book.grant.nodes core
+      before none = on-roots (inl (v.book.jobs, sym extends.inside ∙ none, stood))
+
       left : (o : Option Post) → posted core ≡ posted v.core → IsOutstanding v.core v.book o → IsOutstanding core v.book o
       left None e h = e ∙ h
       left (Some post) e h = (e ∙ h.0, h.1)
 
-  module _ (sets : IsGrant v.book.grant.nodes) (post : Post) (waits : v.posted ≡ Some post) (order : posts_landed events ++ posted core ≡ posted v.core) (some : posts_landed events ≢ []) where
+  module _ (post : Post) (waits : v.posted ≡ Some post) (order : posts_landed events ++ posted core ≡ posted v.core) (some : posts_landed events ≢ []) where
     out : (posted v.core ≡ group_of post ∷ []) × WasDuePost v.book post
     out = subst (IsOutstanding v.core v.book) waits m.outstanding
 
@@ -155,8 +168,8 @@ module _ (v : ManagerValue) (m : IsManaged v) (core : CoreValue) (events : List 
     pub was-due-post : WasDuePost v.book post
     was-due-post = out.1
 
-    pub lands : core.spent ≡ false → (book : BookValue) → book ≡ after_post post v.book → (spent : Bool) → IsManaged (record { spent = spent; core = core; book = book; posted = None })
-    lands ready book is spent =
+    pub lands : core.spent ≡ false → (book : BookValue) → book ≡ after_post post v.book → (places : LogPlaces) → ArePlaces (jobs_after post v.book.jobs) places → (spent : Bool) → IsManaged (record { spent = spent; core = core; book = book; posted = None; places = places })
+    lands ready book is places placed spent =
         let s = post-through v.book sets post out.1 (landings_in events) (sym extends.inside ∙ split.0) (newest_of v.core) (newest_of core) stood through in
         record {
           ready = ready;
@@ -165,6 +178,8 @@ module _ (v : ManagerValue) (m : IsManaged v) (core : CoreValue) (events : List 
           only = subst (λ b. HasOnlyJobs (newest_of core) (ids_of b.jobs)) (sym is) s.only;
           sound = subst (λ b. IsSoundStore b.grant.nodes (newest_of core)) (sym is) s.sound;
           outstanding = split.1;
+          places = subst (λ b. ArePlaces b.jobs places) (sym is) placed;
+          roots = subst (λ b. AreRoots b.grant.nodes core) (sym is) (on-roots (inr (post, out.1, sym extends.inside ∙ split.0, stood)));
         }
 
 -- where nothing was posted, nothing of the manager's lands
@@ -172,3 +187,29 @@ pub nothing : (v : ManagerValue) → IsManaged v → v.posted ≡ None → (core
 nothing v m free core events order some =
     let none : posted v.core ≡ [] = subst (IsOutstanding v.core v.book) free m.outstanding in
     some-landed events some (none-left (posts_landed events) (posted core) (order ∙ none))
+
+-- ---- where nothing lands
+
+module _ (v : ManagerValue) (m : IsManaged v) (core : CoreValue) (extends : Extends v.core core []) (kept : IsKeptStore v.core) (now : IsKeptStore core) where
+  newest-same : newest_of core ≡ newest_of v.core
+  newest-same =
+      let history : history_of core ≡ history_of v.core = extends.history ∙ append-nil (history_of v.core) in
+      let there : Some (newest_of core) ≡ Some (newest_of v.core) = sym now ∙ ap (λ h. after scope.Primary h (length h) (first_store core.grant)) history ∙ ap (λ g. after scope.Primary (history_of v.core) (length (history_of v.core)) (first_store g)) extends.grant ∙ kept in
+      cc
+
+  pub kept-managed : core.spent ≡ false → (posts : Option Post) → IsOutstanding core v.book posts → (spent : Bool) → IsManaged (record { spent = spent; core = core; book = v.book; posted = posts; places = v.places })
+  kept-managed ready posts outstanding spent = record {
+    ready = ready;
+    store = subst IsStore (sym newest-same) m.store;
+    jobs = subst (λ st. AreJobsOf st v.book.jobs) (sym newest-same) m.jobs;
+    only = subst (λ st. HasOnlyJobs st (ids_of v.book.jobs)) (sym newest-same) m.only;
+    sound = subst (IsSoundStore v.book.grant.nodes) (sym newest-same) m.sound;
+    outstanding = outstanding;
+    roots = same-roots v.book.grant.nodes v.core core extends kept now m.roots;
+    places = m.places;
+  }
+
+-- what waits is the same
+pub waits-same : (old core : CoreValue) (book : BookValue) (o : Option Post) → posted core ≡ posted old → IsOutstanding old book o → IsOutstanding core book o
+waits-same old core book None e h = e ∙ h
+waits-same old core book (Some post) e h = (e ∙ h.0, h.1)

@@ -1,4 +1,5 @@
 pub mod Posts
+pub mod Places
 pub mod Value
 pub mod Managed
 pub mod Follows

@@ -11,6 +11,7 @@ value_of w = record {
   core = w.core;
   book = w.book;
   posted = option_map post_of w.posted;
+  places = w.places;
 }
 
 abbrev pub IsFitInside : Inside → Type 0

@@ -5,6 +5,7 @@
 pub mod keys;
 pub mod laws;
 pub mod manager;
+mod places;
 pub mod post;
 mod txns;
 

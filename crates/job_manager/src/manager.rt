@@ -1,6 +1,7 @@
 //! A job manager over the key-value service of its instance.
 ghost use Rattle.std.specs.Prelude.{◌≡◌, ◌<◌, ◌≤◌, ◌++◌, ℕ, All, None, Some, [], ◌∷◌, false, true, is_some, length, IfOk, OnErr, OnOk};
 ghost use Rattle.std.specs.List.{list_any};
+ghost use Rattle.std.specs.Option.{option_copied};
 ghost use Rattle.kvs_core.specs.Agrees.{Agrees};
 ghost use Rattle.kvs_core.specs.Makes.{Makes};
 ghost use Rattle.kvs_core.specs.Posted.{groups_in};
@@ -19,8 +20,10 @@ ghost use Rattle.store_laws.specs.Posts.{is_manager};
 ghost use Rattle.manager_rules.specs.Posts.{Does, Submits};
 ghost use Rattle.job_manager.specs.Follows.{Follows, Keeps, Places, after_post};
 ghost use Rattle.job_manager.specs.Managed.{IsManaged, WasDuePost};
+ghost use Rattle.job_manager.specs.Places.{log_seen};
 ghost use Rattle.job_manager.specs.Posts.{is_posted_for, post_of, told};
 
+use crate::places::LogPlaces;
 use crate::post::{Post, Submission};
 use crate::txns::{command_of, txn_of};
 use job_book::Book;
@@ -45,6 +48,7 @@ pub struct Manager {
     book: Book,
     /// What waits in the service to land.
     posted: Option<Post>,
+    places: LogPlaces,
 }
 
 impl Model for Manager {
@@ -142,6 +146,7 @@ impl Manager {
             core,
             book,
             posted: None,
+            places: LogPlaces::new(alloc),
         })
     }
 
@@ -270,7 +275,10 @@ impl Manager {
         self.core.standing();
         if has_post(&events) {
             match self.posted.take() {
-                Some(post) => follow(&mut self.book, post)?,
+                Some(post) => {
+                    self.places.follow(&post)?;
+                    follow(&mut self.book, post)?;
+                }
                 None => unreachable!(),
             }
             // ids rise, and live jobs hold units of the grant
@@ -292,6 +300,21 @@ impl Manager {
         ensures { result.now ≡ self.now.book }
     {
         &self.book
+    }
+
+    /// The log of a job, in the store of `primary` that a broker has, if it is there. This takes no
+    /// memory.
+    pub fn log_at(&self, broker: u32, id: u64) -> Option<&Bytes>
+        requires ready { self.now.spent ≡ false }
+        requires within { broker < self.now.core.size }
+        ensures { option_copied result ≡ log_seen self.now.core broker id }
+    {
+        // each root is sound, and since then logs have only grown
+        self.keeps();
+        match self.places.get(id) {
+            Some(path) => self.core.kept(broker, path),
+            None => None,
+        }
     }
 
     /// Whether something waits to land that was posted.

@@ -305,6 +305,7 @@ module _ (v : CommandsValue) (manager : ManagerValue) (now : ℕ) (inst : Instan
       let there = subst (λ x. IsJobOf x j) (some_same (sym named)) is in
       job-told (rules.ResultOf l) made undecided (rules.EndedWith j.job.status)
       (l, refl, at-job l j there (λ st k. (k.job.state ≡ state.Inactive) × (k.job.status ≡ j.job.status)) (inactive j.job.state fit, refl)) given number (ap job_reply_of said) at
+  of-job (ask.Watch l) label made undecided named j is fit given number said at = cc
   of-job (ask.Advance seconds) label made undecided named j is fit given number said at = cc
 
   -- what is told of a label
@@ -330,6 +331,7 @@ module _ (v : CommandsValue) (manager : ManagerValue) (now : ℕ) (inst : Instan
       (refl, at-last (λ st all. map state_by (states_of jobs) ≡ map state_of all) (states-same jobs)) given number (ap job_reply_of said) at
   open-legal (ask.Why l) e undecided ready given number (said, at) = of-label (ask.Why l) l (made e) undecided refl (λ h. (l, refl, h)) ready given number said at
   open-legal (ask.ResultOf l) e undecided ready given number (said, at) = of-label (ask.ResultOf l) l (made e) undecided refl (λ h. (l, refl, h)) ready given number said at
+  open-legal (ask.Watch l) e undecided ready given number (said, at) = of-label (ask.Watch l) l (made e) undecided refl (λ h. (l, refl, h)) ready given number said at
   open-legal (ask.Advance seconds) e undecided ready given number (said, at) =
       let begun : row.issued ≡ now_of inst (before_issue row.by log) = row-agrees.issued in
       let over : (row.issued ≤ now) × (seconds ≤ now - row.issued) = both ready in
@@ -376,6 +378,7 @@ module _ (v : CommandsValue) (manager : ManagerValue) (now : ℕ) (inst : Instan
   landed-legal ask.Jobs landing e carried ready given number said = cc
   landed-legal (ask.Why l) landing e carried ready given number said = cc
   landed-legal (ask.ResultOf l) landing e carried ready given number said = cc
+  landed-legal (ask.Watch l) landing e carried ready given number said = cc
   landed-legal (ask.Advance seconds) landing e carried ready given number said = cc
 
   pub told-legal : is_ready v.labels manager now row ≡ true → (given : Reply) (number : Option ℕ) → IsTold v.labels manager now row given number → MayTell inst log row.by given number

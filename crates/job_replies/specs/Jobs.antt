@@ -109,6 +109,8 @@ IsToldOpen labels manager now issued (ask.Why label) given number =
     IsSaidNow labels manager now (ask.Why label) label given number
 IsToldOpen labels manager now issued (ask.ResultOf label) given number =
     IsSaidNow labels manager now (ask.ResultOf label) label given number
+IsToldOpen labels manager now issued (ask.Watch label) given number =
+    IsSaidNow labels manager now (ask.Watch label) label given number
 IsToldOpen labels manager now issued (ask.Advance seconds) given number =
     (given ≡ reply.Advanced (issued + seconds)) × (number ≡ None)
 

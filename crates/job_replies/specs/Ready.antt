@@ -26,6 +26,7 @@ label_of (ask.Info label key) = Some label
 label_of ask.Jobs = None
 label_of (ask.Why label) = Some label
 label_of (ask.ResultOf label) = Some label
+label_of (ask.Watch label) = Some label
 label_of (ask.Advance seconds) = None
 
 -- the job that a label names, and its state
@@ -66,6 +67,7 @@ fits (ask.Info label key) where_ = true
 fits ask.Jobs where_ = false
 fits (ask.Why label) where_ = true
 fits (ask.ResultOf label) where_ = is_inactive where_
+fits (ask.Watch label) where_ = false
 fits (ask.Advance seconds) where_ = false
 
 -- whether a command about the job of a label can be told: there is none, or its state answers

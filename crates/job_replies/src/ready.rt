@@ -19,7 +19,8 @@ pub fn label_of(ask: &JobAsk) -> Option<&Bytes>
         | JobAsk::StateOf { label }
         | JobAsk::Info { label, .. }
         | JobAsk::Why { label }
-        | JobAsk::ResultOf { label } => Some(label),
+        | JobAsk::ResultOf { label }
+        | JobAsk::Watch { label } => Some(label),
         JobAsk::Submit { .. } | JobAsk::Jobs | JobAsk::Advance { .. } => None,
     }
 }
@@ -48,7 +49,9 @@ fn fits(ask: &JobAsk, state: State) -> bool
         JobAsk::Urge { .. } => matches!(state, State::Run | State::Cleanup | State::Inactive),
         JobAsk::ResultOf { .. } => matches!(state, State::Inactive),
         JobAsk::StateOf { .. } | JobAsk::Info { .. } | JobAsk::Why { .. } => true,
-        JobAsk::Submit { .. } | JobAsk::Jobs | JobAsk::Advance { .. } => false,
+        JobAsk::Submit { .. } | JobAsk::Jobs | JobAsk::Watch { .. } | JobAsk::Advance { .. } => {
+            false
+        }
     }
 }
 

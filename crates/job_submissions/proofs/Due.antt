@@ -20,7 +20,7 @@ use Rattle.job_spec.specs.declared.spec.Depend.{Depend}
 use Rattle.job_spec.specs.declared.spec.JobSpec.{JobSpec}
 use Rattle.manager_rules.proofs.Submitting.{submit_lists}
 use Rattle.manager_rules.specs.Jobs.{AreNeeds, StoredJob, distinct, ids_of, listed_in}
-use Rattle.manager_rules.specs.Limits.{no_limits, verdict_of}
+use Rattle.manager_rules.specs.Limits.{verdict_of}
 use Rattle.manager_rules.specs.Posts as posts
 use Rattle.manager_rules.specs.Posts.{IsNewId, IsOpenSubmit, IsSubmission, Submission, submit_event}
 use Rattle.job_submissions.specs.Faults.{AreKnown}
@@ -100,14 +100,14 @@ submit-is inst log v row urgency named text needs s names =
 -- ---- what is made is due
 
 module _ (v : CommandsValue) (inst : Instance) (log : Log) (jobs : List StoredJob) (x : Submission)
-    (h : AgreesCommands v inst log) (kind : IsInstance inst) (unlimited : inst.limits ≡ no_limits) (short : length v.issued ≤ 2 ^ 14) (labelled : AreLabelled v.labels jobs)
-    (smalls : Each (λ j. j.id < 2 ^ 64) jobs) (soon : 1000 * (now_of inst log - inst.birth) < 2 ^ 40) (made : IsMade v jobs (now_of inst log) inst.birth x)
+    (h : AgreesCommands v inst log) (kind : IsInstance inst) (short : length v.issued ≤ 2 ^ 14) (labelled : AreLabelled v.labels jobs)
+    (smalls : Each (λ j. j.id < 2 ^ 64) jobs) (soon : 1000 * (now_of inst log - inst.birth) < 2 ^ 40) (made : IsMade inst.limits v jobs (now_of inst log) inst.birth x)
     (open-then : (by : By) → IsOpen by log → Contains (seconds_open inst log by) (now_of inst (before_issue by log)))
     (new-id : (by : By) (id : ℕ) → IsIdOf v inst.birth by id → (label : List ℕ) → job_at label v.labels ≢ Some id) where
   abbrev row : Row
   row = made.row
 
-  abbrev m : IsMadeOf v.labels jobs (now_of inst log) inst.birth row x
+  abbrev m : IsMadeOf inst.limits v.labels jobs (now_of inst log) inst.birth row x
   m = made.made
 
   agrees : RowAgrees inst log row
@@ -154,7 +154,7 @@ module _ (v : CommandsValue) (inst : Instance) (log : Log) (jobs : List StoredJo
         (submit-is inst log v row m.urgency m.named m.text m.needs m.submits m.accepted.names));
     text = m.built.told;
     accepted = m.accepted.reads ∙ ap Ok (sym m.built.read);
-    passed = ap (λ limits. verdict_of limits x.spec) unlimited;
+    passed = ap (verdict_of inst.limits) m.built.read ∙ m.accepted.passed;
     known = known-all;
     id = record {
       second = row.issued;
@@ -172,7 +172,7 @@ module _ (v : CommandsValue) (inst : Instance) (log : Log) (jobs : List StoredJo
 
 -- ---- where none is made none is due
 
-pub none-due : (v : CommandsValue) (inst : Instance) (log : Log) (jobs : List StoredJob) (x : Submission) → ((row : Row) → Contains v.rows row → MakesNone v.labels jobs row) →
+pub none-due : (v : CommandsValue) (inst : Instance) (log : Log) (jobs : List StoredJob) (x : Submission) → ((row : Row) → Contains v.rows row → MakesNone inst.limits v.labels jobs row) →
     IsSubmission (desk_of v inst log jobs).scene inst.birth (submits_of v inst log) x → ⊥
 none-due v inst log jobs x none due =
     let k = made-from (λ (r : Row). submit_at v inst log r r.stage) v.rows due.from (among_from (submits_of v inst log) due.from due.waits) in
@@ -187,6 +187,7 @@ none-due v inst log jobs x none due =
         let needs-are : needs.0 ≡ due.from.needs = ap (λ (f : posts.Submit). f.needs) needs.2 in
         none row stands urgency named text x.spec needs.0 (record { waits = is; label = label; asks = asks }) (record {
           reads = ap spec_reading text-is ∙ due.accepted;
+          passed = due.passed;
           names = needs.1;
           depends = front (λ need. Contains (ids_of jobs) need.on) x.spec.depends due.from.needs due.known;
           known = subst (AreKnown jobs) (sym needs-are) (back (λ need. Contains (ids_of jobs) need.on) x.spec.depends due.from.needs due.known);

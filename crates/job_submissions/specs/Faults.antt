@@ -1,5 +1,5 @@
 -- Why submissions are refused.
-use Rattle.std.specs.Prelude.{◌≡◌, ◌⊎◌, ℕ, Bool, true, false, List, Option, Some, None, Result, Ok, Err, Contains, is_some}
+use Rattle.std.specs.Prelude.{◌≡◌, ◌≢◌, ◌⊎◌, ℕ, Bool, true, false, List, Option, Some, None, Result, Ok, Err, Contains, is_some}
 use Rattle.std.specs.List.{AllByRecursion as Each}
 use Rattle.job_spec.specs.declared.faults.SpecFault.{SpecFault}
 use Rattle.job_spec.specs.declared.spec.Depend.{Depend}
@@ -14,6 +14,8 @@ use Rattle.job_commands.specs.Rows.{CommandsValue, Labels, job_at}
 use Rattle.job_commands.specs.declared.ask.Named.{Named}
 use Rattle.manager_rules.specs.Dependencies.{job_at as job_with}
 use Rattle.manager_rules.specs.Jobs.{StoredJob, ids_of}
+use Rattle.manager_rules.specs.Limits.{verdict_of}
+use Rattle.manager_rules.specs.declared.terms.Limits.{Limits}
 use Rattle.job_submissions.specs.declared.faults.Fault.{Fault}
 use Rattle.job_submissions.specs.declared.faults.Fault.TheVariants as fault
 
@@ -54,9 +56,13 @@ LacksSome inst log jobs depends named =
     ⊎ ((n : rules.Named) × Contains named n × NamesNone inst log n.label jobs)
 
 -- the submission is refused so, or not
-abbrev pub IsVerdict : CommandsValue → List StoredJob → List Named → List ℕ → Option Fault → Type 0
-IsVerdict v jobs named text None = (spec : JobSpec) × (spec_reading text ≡ Ok spec)
-    × Lacks v.labels jobs spec.depends named false
-IsVerdict v jobs named text (Some (fault.BadSpec number)) = IsReadAs text (Err number)
-IsVerdict v jobs named text (Some fault.NoJob) = (spec : JobSpec) × (spec_reading text ≡ Ok spec)
+abbrev pub IsVerdict : Limits → CommandsValue → List StoredJob → List Named → List ℕ → Option Fault
+    → Type 0
+IsVerdict limits v jobs named text None = (spec : JobSpec) × (spec_reading text ≡ Ok spec)
+    × (verdict_of limits spec ≡ 0) × Lacks v.labels jobs spec.depends named false
+IsVerdict limits v jobs named text (Some (fault.BadSpec number)) = IsReadAs text (Err number)
+IsVerdict limits v jobs named text (Some (fault.Checked reason)) = (spec : JobSpec)
+    × (spec_reading text ≡ Ok spec) × (verdict_of limits spec ≡ reason) × (reason ≢ 0)
+IsVerdict limits v jobs named text (Some fault.NoJob) = (spec : JobSpec)
+    × (spec_reading text ≡ Ok spec) × (verdict_of limits spec ≡ 0)
     × Lacks v.labels jobs spec.depends named true

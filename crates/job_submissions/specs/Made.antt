@@ -14,13 +14,17 @@ use Rattle.job_commands.specs.declared.row.Row.{Row}
 use Rattle.job_commands.specs.declared.row.Stage.TheVariants as stage
 use Rattle.manager_rules.specs.Deeds.{event_with, number_member}
 use Rattle.manager_rules.specs.Jobs.{AreNeeds, StoredJob, ids_of}
+use Rattle.manager_rules.specs.Limits.{verdict_of}
 use Rattle.manager_rules.specs.Posts.{Submission, depends_member}
+use Rattle.manager_rules.specs.declared.terms.Limits.{Limits}
 use Rattle.job_submissions.specs.Faults.{AreKnown}
 
--- the text is this accepted jobspec, the labels name these dependencies, and all are on jobs
-pub record IsAccepted (labels : Labels) (jobs : List StoredJob) (named : List Named) (text : List ℕ)
-    (spec : JobSpec) (needs : List Depend) : Type 0 where
+-- the text is this accepted jobspec, no limit turns it away, the labels name these dependencies,
+-- and all are on jobs
+pub record IsAccepted (limits : Limits) (labels : Labels) (jobs : List StoredJob)
+    (named : List Named) (text : List ℕ) (spec : JobSpec) (needs : List Depend) : Type 0 where
   pub reads : spec_reading text ≡ Ok spec
+  pub passed : verdict_of limits spec ≡ 0
   pub names : needs_of labels named ≡ Some needs
   pub depends : AreKnown jobs spec.depends
   pub known : AreKnown jobs needs
@@ -50,29 +54,29 @@ pub record IsBuilt (now birth : ℕ) (row : Row) (urgency : ℕ) (needs : List D
   pub command : x.command ≡ row.by
 
 -- the submission is made of the row at this second, in an instance that was born at another
-pub record IsMadeOf (labels : Labels) (jobs : List StoredJob) (now birth : ℕ) (row : Row)
-    (x : Submission) : Type 0 where
+pub record IsMadeOf (limits : Limits) (labels : Labels) (jobs : List StoredJob) (now birth : ℕ)
+    (row : Row) (x : Submission) : Type 0 where
   pub urgency : ℕ
   pub named : List Named
   pub needs : List Depend
   pub text : List ℕ
   pub spec : JobSpec
   pub submits : Submits row urgency named text
-  pub accepted : IsAccepted labels jobs named text spec needs
+  pub accepted : IsAccepted limits labels jobs named text spec needs
   pub built : IsBuilt now birth row urgency needs text spec x
 
 -- the row submits nothing that is accepted
-abbrev pub MakesNone : Labels → List StoredJob → Row → Type 0
-MakesNone labels jobs row = (urgency : ℕ) (named : List Named) (text : List ℕ) (spec : JobSpec)
+abbrev pub MakesNone : Limits → Labels → List StoredJob → Row → Type 0
+MakesNone limits labels jobs row = (urgency : ℕ) (named : List Named) (text : List ℕ) (spec : JobSpec)
     (needs : List Depend) → Submits row urgency named text
-    → IsAccepted labels jobs named text spec needs → ⊥
+    → IsAccepted limits labels jobs named text spec needs → ⊥
 
 -- the submission is made of one of the open commands
-pub record IsMade (v : CommandsValue) (jobs : List StoredJob) (now birth : ℕ) (x : Submission)
-    : Type 0 where
+pub record IsMade (limits : Limits) (v : CommandsValue) (jobs : List StoredJob) (now birth : ℕ)
+    (x : Submission) : Type 0 where
   pub row : Row
   pub stands : Contains v.rows row
-  pub made : IsMadeOf v.labels jobs now birth row x
+  pub made : IsMadeOf limits v.labels jobs now birth row x
 
 -- each job has a label
 abbrev pub AreLabelled : Labels → List StoredJob → Type 0

@@ -3,10 +3,12 @@ ghost use Rattle.std.specs.Prelude.{◌≡◌, IfOk};
 ghost use Rattle.job_submissions.specs.Faults.{IsReadAs, IsVerdict, Lacks};
 
 use crate::depends::{are_known, named_needs};
+use crate::limits::verdict;
 use job_book::Book;
 use job_commands::{Commands, NamedList};
 use job_spec::JobSpec;
 use lists::Bytes;
+use manager_rules::Limits;
 use std::alloc::{AllocError, Global};
 
 /// Why a submission is refused.
@@ -14,6 +16,8 @@ use std::alloc::{AllocError, Global};
 pub enum Fault {
     /// The number of its jobspec's fault, from 1 to 7.
     BadSpec(u32),
+    /// It asks for more than a limit allows, which has this reason, from 1 to 99.
+    Checked(u32),
     /// A dependency is on no job.
     NoJob,
 }
@@ -51,19 +55,24 @@ fn lacks_job(
 }
 
 /// Why a submission with these dependencies and this text is refused, if it is: its text tells no
-/// jobspec, or a dependency is on no job of the book, one of the jobspec or one on the job of a
-/// label.
+/// jobspec, a limit turns it away, or a dependency is on no job of the book, one of the jobspec or
+/// one on the job of a label.
 pub fn fault_of(
     alloc: Global,
     commands: &Commands,
     book: &Book,
+    limits: Limits,
     named: &NamedList,
     text: &Bytes,
 ) -> Result<Option<Fault>, AllocError>
-    ensures { IfOk result (IsVerdict commands.now book.now.jobs named.now text.now) }
+    ensures { IfOk result (IsVerdict limits commands.now book.now.jobs named.now text.now) }
 {
     match read(alloc, text.as_slice())? {
         Ok(spec) => {
+            let reason = verdict(limits, &spec);
+            if reason != 0 {
+                return Ok(Some(Fault::Checked(reason)));
+            }
             if lacks_job(alloc, commands, book, &spec, named)? {
                 return Ok(Some(Fault::NoJob));
             }

@@ -11,7 +11,6 @@ ghost use Rattle.job_commands.specs.declared.ask.Named.{Named};
 ghost use Rattle.job_spec.specs.declared.spec.Depend.{Depend};
 ghost use Rattle.job_submissions.specs.Faults.{Lacks, LacksSome};
 ghost use Rattle.job_submissions.specs.Made.{AreLabelled, IsMade, MakesNone};
-ghost use Rattle.manager_rules.specs.Limits.{no_limits};
 ghost use Rattle.manager_rules.specs.Posts.{IsSubmission, Submission};
 ghost use Rattle.manager_rules.specs.Jobs.{StoredJob};
 
@@ -27,16 +26,15 @@ pub fn what_is_lacking_is_so_by_the_log()
 {}
 
 /// A submission that is made of the open commands at the present second is due, where each job has
-/// a label and may ask for anything; and where none can be made none is due.
+/// a label; and where none can be made none is due.
 pub fn what_is_made_is_due()
     ensures some { (v : CommandsValue) (inst : Instance) (log : Log) (jobs : List StoredJob)
-        (x : Submission) → AgreesCommands v inst log → IsInstance inst → inst.limits ≡ no_limits
-        → length v.issued ≤ 2 ^ 14 → AreLabelled v.labels jobs → Each (λ j. j.id < 2 ^ 64) jobs
+        (x : Submission) → AgreesCommands v inst log → IsInstance inst → length v.issued ≤ 2 ^ 14 → AreLabelled v.labels jobs → Each (λ j. j.id < 2 ^ 64) jobs
         → 1000 * (now_of inst log - inst.birth) < 2 ^ 40
-        → IsMade v jobs (now_of inst log) inst.birth x
+        → IsMade inst.limits v jobs (now_of inst log) inst.birth x
         → IsSubmission (desk_of v inst log jobs).scene inst.birth (submits_of v inst log) x }
     ensures none { (v : CommandsValue) (inst : Instance) (log : Log) (jobs : List StoredJob)
-        (x : Submission) → ((row : Row) → Contains v.rows row → MakesNone v.labels jobs row)
+        (x : Submission) → ((row : Row) → Contains v.rows row → MakesNone inst.limits v.labels jobs row)
         → IsSubmission (desk_of v inst log jobs).scene inst.birth (submits_of v inst log) x → ⊥ }
 {
     open_commands_are_open_at_their_issue();

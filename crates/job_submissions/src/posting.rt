@@ -12,12 +12,14 @@ ghost use Rattle.job_submissions.specs.Made.{IsAccepted, IsBuilt, IsMade, IsMade
 use crate::depends::{are_known, named_needs};
 use crate::events::submit_event;
 use crate::faults::read;
+use crate::limits::verdict;
 use job_book::Book;
 use job_commands::{Commands, JobAsk, NamedList, Row, Stage};
 use job_manager::Submission;
 use job_spec::{JobSpec, Needs};
 use job_texts::needs_of;
 use lists::{Bytes, Copied};
+use manager_rules::Limits;
 use std::alloc::{AllocError, Global};
 
 /// The id of a millisecond since an instance's birth, a rank and a sequence number (RFC 19).
@@ -37,23 +39,27 @@ struct Accepted {
     needs: Needs,
 }
 
-/// The jobspec that a text tells with the dependencies on the jobs of labels, where it is accepted
-/// and all its dependencies are on jobs of the book.
+/// The jobspec that a text tells with the dependencies on the jobs of labels, where it is accepted,
+/// no limit turns it away, and all its dependencies are on jobs of the book.
 fn take_up(
     alloc: Global,
     commands: &Commands,
     book: &Book,
+    limits: Limits,
     named: &NamedList,
     text: &Bytes,
 ) -> Result<Option<Accepted>, AllocError>
-    ensures some { IfOk result (λ found. IfSome found (λ a. IsAccepted commands.now.labels
+    ensures some { IfOk result (λ found. IfSome found (λ a. IsAccepted limits commands.now.labels
         book.now.jobs named.now text.now a.spec a.needs)) }
     ensures none { IfOk result (λ found. IfNone found ((spec : Spec) (needs : List Need)
-        → IsAccepted commands.now.labels book.now.jobs named.now text.now spec needs → ⊥)) }
+        → IsAccepted limits commands.now.labels book.now.jobs named.now text.now spec needs → ⊥)) }
 {
     let Ok(spec) = read(alloc, text.as_slice())? else {
         return Ok(None);
     };
+    if verdict(limits, &spec) != 0 {
+        return Ok(None);
+    }
     if !are_known(book, spec.depends.as_slice()) {
         return Ok(None);
     }
@@ -103,6 +109,7 @@ fn of_row(
     alloc: Global,
     commands: &Commands,
     book: &Book,
+    limits: Limits,
     now: u64,
     birth: u64,
     row: &Row,
@@ -112,10 +119,10 @@ fn of_row(
     requires marked { AreMarkedBy commands.now now }
     requires short { length commands.now.issued ≤ 2 ^ 14 }
     requires stands { Contains commands.now.rows row.now }
-    ensures some { IfOk result (λ found. IfSome found (λ x. IsMadeOf commands.now.labels
+    ensures some { IfOk result (λ found. IfSome found (λ x. IsMadeOf limits commands.now.labels
         book.now.jobs now birth row.now (told x))) }
     ensures none { IfOk result (λ found. IfNone found
-        (MakesNone commands.now.labels book.now.jobs row.now)) }
+        (MakesNone limits commands.now.labels book.now.jobs row.now)) }
 {
     let (
         Stage::Waits,
@@ -129,7 +136,7 @@ fn of_row(
     else {
         return Ok(None);
     };
-    let Some(taken) = take_up(alloc, commands, book, needs, text)? else {
+    let Some(taken) = take_up(alloc, commands, book, limits, needs, text)? else {
         return Ok(None);
     };
     let x = make(alloc, now, birth, row, *urgency, text.copy()?, taken)?;
@@ -137,12 +144,13 @@ fn of_row(
 }
 
 /// The first submission that is due at this second, of an instance that was born at another: of the
-/// commands that wait in their order, the first whose jobspec is accepted and whose dependencies
-/// are all on jobs of the book.
+/// commands that wait in their order, the first whose jobspec is accepted, which no limit turns
+/// away, and whose dependencies are all on jobs of the book.
 pub fn submission(
     alloc: Global,
     commands: &Commands,
     book: &Book,
+    limits: Limits,
     now: u64,
     birth: u64,
 ) -> Result<Option<Submission>, AllocError>
@@ -151,13 +159,13 @@ pub fn submission(
     requires marked { AreMarkedBy commands.now now }
     requires short { length commands.now.issued ≤ 2 ^ 14 }
     ensures some { IfOk result (λ found. IfSome found (λ x.
-        IsMade commands.now book.now.jobs now birth (told x))) }
+        IsMade limits commands.now book.now.jobs now birth (told x))) }
     ensures none { IfOk result (λ found. IfNone found
         ((row : Open) → Contains commands.now.rows row
-        → MakesNone commands.now.labels book.now.jobs row)) }
+        → MakesNone limits commands.now.labels book.now.jobs row)) }
 {
     for row in commands.rows() {
-        if let Some(x) = of_row(alloc, commands, book, now, birth, row)? {
+        if let Some(x) = of_row(alloc, commands, book, limits, now, birth, row)? {
             return Ok(Some(x));
         }
     }

@@ -70,7 +70,7 @@ module _ (set : Setup) where
   root_stays c e number P (st, was, held) = (
     st,
     ap (λ l. store_after (setting_of set) l primary number) (log_push set.work top c e)
-    ∙ store_kept (setting_of set) (log_of set.work top c) (cons_option (moment_of set.work top c e) []) primary number st was,
+        ∙ store_kept (setting_of set) (log_of set.work top c) (cons_option (moment_of set.work top c e) []) primary number st was,
     held,
   )
 

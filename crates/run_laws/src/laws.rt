@@ -72,8 +72,8 @@ pub fn heads_keep_their_seconds()
 {}
 
 /// Along a legal chronicle each watch is fed the log of its job, each event once and in order: what
-/// it was fed so far is the whole log at the root at which it was fed last. And it is told the names
-/// of these events, once its job is over there. No two submissions may have one label.
+/// it was fed so far is the whole log at the root at which it was fed last. And it is told the
+/// names of these events, once its job is over there. No two submissions may have one label.
 pub fn watches_see_their_logs()
     ensures fed { (set : Setup) (c : List Entry) → IsInstance (instance_of set)
         → HasOwnLabels set.work.lines → KeepsTime set c → IsLegal set c

@@ -9,7 +9,6 @@ use Rattle.job_service.specs.resource_set.declared.node.Resources.{Resources}
 use Rattle.services.specs.Agrees.{IsGiven}
 use Rattle.job_service.specs.tap.Factors.{priority_by}
 use Rattle.job_service.specs.manager_rules.declared.terms.Terms.{Terms}
-use Rattle.job_service.specs.manager_rules.Terms.{AreBuilt}
 
 module _ (size fanout : ℕ) (hash : Hash) (grant : Resources) (birth : ℕ) (terms : Terms) where
   abbrev pub plain : Instance
@@ -26,8 +25,8 @@ module _ (size fanout : ℕ) (hash : Hash) (grant : Resources) (birth : ℕ) (te
     rank = λ by. 0;
   }
 
-  pub plain_given : AreBuilt terms → IsGrant grant.nodes → IsGiven plain size fanout hash grant birth terms
-  plain_given built sets = record {
+  pub plain_given : IsGrant grant.nodes → IsGiven plain size fanout hash grant birth terms
+  plain_given sets = record {
     served = record {
       valid = record {
         answers = λ ask. (omega arith, omega arith);
@@ -40,7 +39,7 @@ module _ (size fanout : ℕ) (hash : Hash) (grant : Resources) (birth : ℕ) (te
       unique = λ a b label urgency other needs named text more ea eb. cc;
       ranks = λ by some. absurd (true≢false (sym some));
       served = record {
-        built = record { limits = built; start = refl; unwatched = λ by label e. cc };
+        built = record { start = refl };
         answer = refl;
         policy = refl;
         limits = refl;

@@ -16,7 +16,7 @@ use Rattle.job_service.specs.kvs_rules.declared.events.KvsEvent.TheVariants as e
 use Rattle.job_service.specs.kvs_txn.declared.txn.By.{By}
 use Rattle.content_service.specs.Makes.{IsOfContents as IsContentEvent}
 use Rattle.job_service.specs.instance_rules.Legal.{IsLegalMoment}
-use Rattle.job_service.specs.instance_rules.Log.{Born, Gone, Instance, JobAsk, JobReply, Log, Moment, Served, Issued, Replied, SinceIssued, Submit, Ticked, is_issued, is_replied, issues_now, replies_now, service_of, ticked}
+use Rattle.job_service.specs.instance_rules.Log.{Born, Fed, Gone, Instance, JobAsk, JobReply, Log, Moment, Served, Issued, Replied, SinceIssued, Submit, Ticked, is_issued, is_replied, issues_now, replies_now, service_of, ticked}
 use Rattle.job_service.specs.instance_rules.Replies.{FindsNoJob, IsLegalReply, LacksJob}
 use Rattle.job_service.proofs.job_commands_proofs.Logs.{open_kept, service_push, undecided_kept}
 use Rattle.job_service.proofs.job_commands_proofs.Steps.{beside_agrees}
@@ -27,6 +27,7 @@ use Rattle.job_service.proofs.job_landings_proofs.Serving.{desk_same}
 use Rattle.job_service.specs.job_landings.Landings.{happening}
 use Rattle.job_service.specs.job_submissions.declared.faults.Fault.{Fault}
 use Rattle.job_service.specs.job_submissions.declared.faults.Fault.TheVariants as fault
+use Rattle.job_service.proofs.Feeding.{fed_kept}
 use Rattle.job_service.specs.Agrees.{AgreesJobs, IsUntold}
 use Rattle.job_service.specs.Due.{Owes}
 use Rattle.job_service.specs.Refusals.{reply_to}
@@ -53,6 +54,9 @@ born_is log job = service_push log (Born job) ∙ append-nil (service_of log)
 pub gone_is : (log : Log) (job : ℕ) (shut : Bool) → service_of (log ++ Gone job shut ∷ []) ≡ service_of log
 gone_is log job shut = service_push log (Gone job shut) ∙ append-nil (service_of log)
 
+pub fed_is : (log : Log) (by : By) (number first count : ℕ) → service_of (log ++ Fed by number first count ∷ []) ≡ service_of log
+fed_is log by number first count = service_push log (Fed by number first count) ∙ append-nil (service_of log)
+
 -- what may follow the log of the instance may follow that of its service
 pub legal_there : (inst : Instance) (es : List KvsEvent) (log : Log) → EachAfter (IsLegalMoment inst) log (map happening es) → IsLegalAfter inst.service (service_of log) (map service.Happened es)
 legal_there inst [] log legal = tt
@@ -76,6 +80,13 @@ finds_kept inst log m by _ h = absurd h.2
 
 legal_kept : (inst : Instance) (log : Log) (m : Moment) (by : By) (f : Fault) → replies_now by m ≡ false → decides_now by m ≡ false → IsLegalReply inst log by (reply_to f) None → IsLegalReply inst (log ++ m ∷ []) by (reply_to f) None
 legal_kept inst log m by (fault.BadSpec n) quiet aside h = record {
+  ask = h.ask;
+  made = h.made;
+  waits = open_kept by log m quiet h.waits;
+  tells = undecided_kept by log m aside h.tells;
+  grounds = h.grounds;
+}
+legal_kept inst log m by (fault.Checked reason) quiet aside h = record {
   ask = h.ask;
   made = h.made;
   waits = open_kept by log m quiet h.waits;
@@ -125,6 +136,7 @@ module _ (stays : CoreStays) (v : JobServiceValue) (inst : Instance) where
     second = latest_push ticked inst.start log (Served m) ∙ a.second;
     owes = subst (Owes v.manager.posted v.found) (sym (desk_same v.commands inst log m v.manager.book.jobs)) a.owes;
     labelled = a.labelled;
+    fed = fed_kept v.feeds inst log (Served m) (λ by. refl) (λ by. refl) a.fed;
     refused = λ r c.
         let l = a.refused r c in
         legal_kept inst log (Served m) r.by r.fault refl (beside r.by (subst IsSome (sym l.made) refl)).decides l;

@@ -6,13 +6,18 @@ use Rattle.job_service.specs.kvs_rules.declared.events.KvsAsk.{KvsAsk}
 use Rattle.job_service.specs.kvs_rules.declared.events.KvsAsk.TheVariants as ask
 use Rattle.job_service.specs.kvs_rules.declared.events.KvsAnswer.{KvsAnswer}
 use Rattle.job_service.specs.kvs_rules.declared.events.KvsEvent.TheVariants as event
+use Rattle.job_service.specs.kvs_rules.Brokers.{heard}
 use Rattle.job_service.specs.kvs_rules.Log.{Asked, Happened}
+use Rattle.job_service.specs.kvs_rules.Namespaces.{primary}
 use Rattle.job_service.specs.kvs_txn.declared.txn.By.{By}
 use Rattle.job_service.specs.answers.Jobs.{job_reply_of}
 use Rattle.job_service.specs.answers.declared.chronicle.Reply.{Reply}
 use Rattle.job_service.specs.instance_rules.Legal.{IsLegalMoment}
-use Rattle.job_service.specs.instance_rules.Log.{Instance, JobReply, Log, Replied, Served}
+use Rattle.job_service.specs.instance_rules.Log as moment
+use Rattle.job_service.specs.instance_rules.Log.{Instance, JobReply, Log, Replied, Served, service_of}
 use Rattle.job_service.specs.instance_rules.Replies.{IsLegalReply}
+use Rattle.job_service.specs.instance_rules.Watches.{IsLegalFeed}
+use Rattle.job_service.specs.declared.feeds.Fed.{Fed}
 use Rattle.job_service.specs.Agrees.{IsNewAsk}
 use Rattle.job_service.specs.Times.{KeepsCounts}
 use Rattle.services.specs.Agrees.{AgreesServices}
@@ -64,3 +69,11 @@ pub record Answers (new : ServicesValue) (inst : Instance)
   pub hands : job_reply_of given ≡ Some reply
   pub legal : IsLegalReply inst log by reply number
   pub agrees : AgreesServices new inst (log ++ Replied by reply number ∷ [])
+
+-- the watch is fed so many events behind so many, at the number that its broker has heard of
+-- `primary`; its rules allow that, and the services agree with it
+pub record Feeds (new : ServicesValue) (inst : Instance)
+    (log : Log) (by : By) (fed : Fed) : Type 0 where
+  pub number : heard (service_of log) (inst.rank by) primary ≡ Some fed.number
+  pub legal : IsLegalFeed inst log by fed.number fed.first fed.count
+  pub agrees : AgreesServices new inst (log ++ moment.Fed by fed.number fed.first fed.count ∷ [])

@@ -5,6 +5,7 @@ use Rattle.job_service.specs.kvs_rules.declared.events.KvsStep.{KvsStep}
 use Rattle.job_service.specs.kvs_core.Steps.{can_step as core_can_step, can_take as core_can_take}
 use Rattle.content_service.specs.Steps.{can_step as contents_can_step, can_take as contents_can_take}
 use Rattle.job_service.specs.Children.{is_due}
+use Rattle.job_service.specs.Feeds.{can_feed}
 use Rattle.job_service.specs.Replies.{can_reply}
 use Rattle.services.specs.Value.{ServicesValue}
 
@@ -16,10 +17,16 @@ can_step v s = core_can_step v.jobs.manager.core s || contents_can_step v.conten
 abbrev pub can_take : ServicesValue → By → Bool
 can_take v by = core_can_take v.jobs.manager.core by || contents_can_take v.contents by
 
--- nothing but time can go on: no step can be made, no answer waits to be taken, nothing is posted
--- or due, and no job command can be told
-pub record IsStill (v : ServicesValue) : Type 0 where
+-- the key-value service and the contents have come to rest: no step can be made, and no answer waits
+-- to be taken
+pub record HaveRested (v : ServicesValue) : Type 0 where
   pub steps : (s : KvsStep) → can_step v s ≡ false
   pub answers : (by : By) → can_take v by ≡ false
+
+-- nothing but time can go on: nothing is posted or due besides, no job command can be told, and no
+-- watch can be fed
+pub record IsStill (v : ServicesValue) : Type 0 where
+  pub rested : HaveRested v
   pub due : is_due v.jobs ≡ false
   pub untold : (by : By) → can_reply v.jobs by ≡ false
+  pub unfed : (by : By) → can_feed v.jobs by ≡ false

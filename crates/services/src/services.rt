@@ -1,7 +1,7 @@
 //! The services.
 ghost use Rattle.std.specs.Prelude.{◌≡◌, ◌≢◌, ◌⊎◌, ◌<◌, ◌≤◌, ◌+◌, ◌^◌, ◌++◌, ◌∷◌, [], ℕ, true, false, None, Some, is_some, slice_get, IsSome, IfOk, IfSome, OnErr, OnOk};
 ghost use Rattle.job_service.specs.kvs_model.Store.{Name};
-ghost use Rattle.job_service.specs.kvs_rules.Namespaces.{is_live};
+ghost use Rattle.job_service.specs.kvs_rules.Namespaces.{is_live, landed, primary};
 ghost use Rattle.job_service.specs.kvs_rules.Quiet.{IsQuiet};
 ghost use Rattle.job_service.specs.kvs_rules.Brokers.{heard};
 ghost use Rattle.content_service.specs.Asks.{is_content};
@@ -13,29 +13,29 @@ ghost use Rattle.job_service.specs.job_clock.Standing.{IsLiving};
 ghost use Rattle.job_service.specs.job_commands.Asks.{told};
 ghost use Rattle.job_service.specs.Agrees.{HasRoom, IsNewCommand, MayIssue};
 ghost use Rattle.job_service.specs.Children.{is_due, may_end};
+ghost use Rattle.job_service.specs.Feeds.{can_feed};
 ghost use Rattle.job_service.specs.Replies.{can_reply};
 ghost use Rattle.job_service.specs.Still.{awaited};
 ghost use Rattle.job_service.specs.Times.{Counts, HasTime, MayPassTo, targets_left};
 ghost use Rattle.job_service.specs.job_rules.Fits.{IsGrant};
 ghost use Rattle.job_service.specs.job_states.declared.job.State.{State};
 ghost use Rattle.job_service.specs.kvs_txn.declared.txn.By.{By as Command};
-ghost use Rattle.job_service.specs.manager_rules.Terms.{AreBuilt};
 ghost use Rattle.job_service.specs.manager_rules.Times.{IsIdle};
 ghost use Rattle.job_service.specs.resource_set.Valid.{IsR};
 ghost use Rattle.services.specs.Agrees.{AgreesServices, IsGiven};
-ghost use Rattle.services.specs.Asks.{AgreesOnce, Answers, IsServedAsk, Keeps, MayAsk, Tells};
+ghost use Rattle.services.specs.Asks.{AgreesOnce, Answers, Feeds, IsServedAsk, Keeps, MayAsk, Tells};
 ghost use Rattle.services.specs.Makes.{Makes};
 ghost use Rattle.services.specs.Order.{possible};
 ghost use Rattle.job_service.specs.kvs_requests.Rows.{IsKnownAsk};
+ghost use Rattle.job_service.specs.kvs_core.Seen.{primary_heard};
 ghost use Rattle.job_service.specs.kvs_core.Steps.{can_step as core_can_step, can_take as core_can_take};
 ghost use Rattle.content_service.specs.Steps.{can_step as contents_can_step, can_take as contents_can_take};
-ghost use Rattle.services.specs.Steps.{IsStill, can_step, can_take};
+ghost use Rattle.services.specs.Steps.{HaveRested, IsStill, can_step, can_take};
 
 mod walk;
 
 use content_service::ContentService;
 use content_service::laws::others_leave_the_contents;
-use job_service::JobService;
 use job_service::job_commands::JobAsk;
 use job_service::job_replies::Told;
 use job_service::kvs_core::laws::content_moments_leave_the_core;
@@ -45,6 +45,7 @@ use job_service::kvs_txn::By;
 use job_service::lists::Bytes;
 use job_service::manager_rules::Terms;
 use job_service::resource_set::Resources;
+use job_service::{Fed, JobService};
 use std::alloc::{AllocError, Global};
 use std::marker::Model;
 
@@ -95,7 +96,6 @@ impl Services {
         requires fanout { (1 ≤ setting.fanout) × (setting.fanout ≤ 32) }
         requires grant { IsR grant.now }
         requires early { birth + 2000000000 < 2 ^ 64 }
-        requires terms { AreBuilt terms }
         ensures ready { IfOk result (λ v. v.spent ≡ false) }
         ensures size { IfOk result (λ v. v.size ≡ setting.size) }
         ensures start { IfOk result (λ v. (v.jobs.submitted ≡ 0) × (v.jobs.span ≡ 0)) }
@@ -361,6 +361,24 @@ impl Services {
         Ok(told)
     }
 
+    /// Feeds an open watch of a job the events that it lacks, at the root of `primary` that its
+    /// broker has heard of. After an error the services are spent.
+    pub fn feed(&mut self, by: By) -> Result<Fed, AllocError>
+        requires ready { self.old.spent ≡ false }
+        requires can { can_feed self.old.jobs by ≡ true }
+        ensures ready { OnOk result (self.new.spent ≡ false) }
+        ensures keeps { OnOk result (Keeps self.old self.new) }
+        ensures spent { OnErr result (self.new.spent ≡ true) }
+        ensures feeds { IfOk result (λ fed. (inst : Instance) (log : Log)
+            → AgreesServices self.old inst log
+            → Feeds self.new inst log by fed) }
+    {
+        self.spent = true;
+        let fed = self.jobs.feed(by)?;
+        self.spent = false;
+        Ok(fed)
+    }
+
     /// Posts what was found to be due, which then waits in the key-value service to land. After an
     /// error the services are spent.
     pub fn post(&mut self) -> Result<(), CoreFault>
@@ -439,18 +457,21 @@ impl Services {
         Ok(())
     }
 
-    /// Where nothing but time can go on, each broker has heard the last landing and of each live
-    /// namespace, nothing is due, and a command waits for a number that hasn't landed, for members
-    /// of a fence that haven't come, for a second that hasn't, or for the result of a job that
-    /// isn't over. Where no target is left besides, no advance is. Nothing is due where no step of
+    /// Where the key-value service and the contents have come to rest, each broker has heard the
+    /// last landing and of each live namespace. Where nothing but time can go on, nothing is due
+    /// besides, and a command waits for a number that hasn't landed, for members of a fence that
+    /// haven't come, for a second that hasn't, or for the end of a job that isn't over. Where no target is left besides, no advance is. Nothing is due where no step of
     /// the key-value service can be made, nothing is to be posted and no child is to be born.
     pub fn still(&self)
         requires { self.now.spent ≡ false }
         ensures quiet { (inst : Instance) (log : Log) → AgreesServices self.now inst log
-            → IsStill self.now → IsQuiet inst.service (service_of log) }
+            → HaveRested self.now → IsQuiet inst.service (service_of log) }
         ensures heard { (inst : Instance) (log : Log) → AgreesServices self.now inst log
-            → IsStill self.now → (broker : ℕ) (space : Name) → broker < inst.service.size
+            → HaveRested self.now → (broker : ℕ) (space : Name) → broker < inst.service.size
             → is_live (service_of log) space ≡ true → IsSome (heard (service_of log) broker space) }
+        ensures last { (inst : Instance) (log : Log) → AgreesServices self.now inst log
+            → HaveRested self.now → (broker : ℕ) → broker < inst.service.size
+            → primary_heard self.now.jobs.manager.core broker ≡ landed (service_of log) primary }
         ensures idle { (inst : Instance) (log : Log) → AgreesServices self.now inst log
             → IsStill self.now → OfDesk inst log IsIdle }
         ensures advanced { (inst : Instance) (log : Log) (l : Living)
@@ -465,11 +486,12 @@ impl Services {
             → (by : Command) → IsSome (inst.asks by) → inst.asks by ≢ Some Shutdown
             → IsOpen by log → IsSome (awaited self.now.jobs by) ⊎ IsLeftAdvance l by }
         ensures results { (inst : Instance) (log : Log) (l : Living)
-            → AgreesServices self.now inst log → IsLiving inst log l → (by : Command)
-            (where_ : State) → awaited self.now.jobs by ≡ Some where_ → IsLeftResult l by where_ }
+            → AgreesServices self.now inst log → IsStill self.now → IsLiving inst log l
+            → (by : Command) (where_ : State) → awaited self.now.jobs by ≡ Some where_ → IsLeftResult l by where_ }
     {
         // where none of the three can go on, what each has left is known
         self.core().still();
+        self.core().standing();
         self.contents.still();
         self.jobs.still();
     }

@@ -27,10 +27,11 @@ pub both_parts : (v : WorldValue) → by_instances v ++ by_the_run v ≡ before_
 both_parts v =
     let end = by_the_run v in
     append_assoc (steps_of v kind.Turn) _ end
-    ∙ ap (λ xs. steps_of v kind.Turn ++ xs) (append_assoc (steps_of v kind.Reply) _ end
+    ∙ ap (λ xs. steps_of v kind.Turn ++ xs) (append_assoc (steps_of v kind.Feed) _ end
+    ∙ ap (λ xs. steps_of v kind.Feed ++ xs) (append_assoc (steps_of v kind.Reply) _ end
     ∙ ap (λ xs. steps_of v kind.Reply ++ xs) (append_assoc (steps_of v kind.Post) _ end
     ∙ ap (λ xs. steps_of v kind.Post ++ xs) (append_assoc (steps_of v kind.Birth) _ end
-    ∙ ap (λ xs. steps_of v kind.Birth ++ xs) (append_assoc (steps_of v kind.End) [] end))))
+    ∙ ap (λ xs. steps_of v kind.Birth ++ xs) (append_assoc (steps_of v kind.End) [] end)))))
 
 listed_at : (xs : List Step) (number : ℕ) (s : Step) → nth xs number ≡ Ok s → Contains xs s
 listed_at xs number s e =
@@ -40,6 +41,7 @@ listed_at xs number s e =
 now_made : (v : WorldValue) → v.closed ≡ false → (s : Step) → can_make v s ≡ true → CanMake v s
 now_made v runs (step.Issue actor) can = (runs, can)
 now_made v runs (step.Kvs i s) can = (runs, can)
+now_made v runs (step.Feed actor) can = (runs, can)
 now_made v runs (step.Answer actor) can = (runs, can)
 now_made v runs (step.Post i) can = (runs, can)
 now_made v runs step.Tick can = (runs, can)

@@ -5,18 +5,19 @@ use Rattle.std.specs.List.{range_with_len}
 use Rattle.std.specs.Option.{option_map_or}
 use Rattle.std.proofs.lemmas.Bool.{and_parts, ltb-true}
 use Rattle.std.proofs.lemmas.Option.{get_or_from_slice_get, slice_get_within}
-use Rattle.instance.specs.Steps.{can_answer as instance_can_answer}
+use Rattle.instance.specs.Steps.{can_answer as instance_can_answer, can_feed as instance_can_feed}
 use Rattle.world.specs.Acting.{IsGoneAt, IsPlacedIn}
 use Rattle.hierarchy.specs.Births.{is_at, label_of, numbers}
 use Rattle.hierarchy.proofs.Numbering.{numbers_are}
 use Rattle.homes.specs.Homes.{home_in}
 use Rattle.world.specs.Sound.{IsSound}
 use Rattle.homes.specs.Times.{at_home}
-use Rattle.world.specs.Steps.{can_answer, can_issue}
+use Rattle.world.specs.Steps.{can_answer, can_feed, can_issue, of_home}
 use Rattle.world.specs.Value.{WorldValue}
 use Rattle.homes.specs.declared.homes.Home.{Home}
 use Rattle.homes.specs.declared.homes.Place.{Place}
 use Rattle.homes.proofs.Finding.{option_found, item_read}
+use Rattle.world.proofs.Ordering.{feed_at, living_so}
 
 -- ---- places
 
@@ -33,6 +34,13 @@ placed_at places actor number e p read = by (slice_get places actor) refl e
         let same : q ≡ p = sym (read ∙ get_or_from_slice_get places actor q p at) in
         record { here = at ∙ ap Some same; home = ap (λ (x : Place). x.home) (sym same) ∙ e }
 
+pub placed_there : (places : List Place) (actor number : ℕ) → IsPlacedIn places actor number → (p : Place) × (slice_get places actor ≡ Some p) × (p.home ≡ Some number)
+placed_there places actor number e = by (slice_get places actor) refl e
+  where
+    by : (o : Option Place) → slice_get places actor ≡ o → option_and_then (λ (q : Place). q.home) o ≡ Some number → (p : Place) × (slice_get places actor ≡ Some p) × (p.home ≡ Some number)
+    by None at e = cc
+    by (Some q) at e = (q, at, e)
+
 pub placed_within : (places : List Place) (actor number : ℕ) → IsPlacedIn places actor number → actor < length places
 placed_within places actor number e = by (slice_get places actor) refl e
   where
@@ -47,6 +55,28 @@ pub issuer_at : (v : WorldValue) (actor : ℕ) → can_issue v actor ≡ true �
 issuer_at v actor can p read =
     let f = option_found (slice_get v.places actor) (λ (p : Place). is_some p.home && (not p.waits && nat_lt p.next (length v.set.work.lines))) can in
     item_read v.places actor f.it p f.is read
+
+-- an actor whose watch can be fed has a place, and lives in its instance
+pub feeder_at : (v : WorldValue) (actor : ℕ) → can_feed v actor ≡ true → (p : Place) → p ≡ get_or v.places actor p → slice_get v.places actor ≡ Some p
+feeder_at v actor can p read =
+    let f = option_found (slice_get v.places actor) (λ (p : Place). at_home v.homes (λ h. not h.gone && instance_can_feed h.instance actor) p) can in
+    item_read v.places actor f.it p f.is read
+
+pub feeder_lives : (v : WorldValue) (actor number : ℕ) (p : Place) → slice_get v.places actor ≡ Some p → p.home ≡ Some number → can_feed v actor ≡ true
+    → of_home v number (λ h. instance_can_feed h.instance actor) ≡ true
+feeder_lives v actor number p here home can =
+    let says : Home → Bool = λ h. not h.gone && instance_can_feed h.instance actor in
+    let there : option_map_or says (slice_get v.homes number) false ≡ true =
+    sym (ap (λ o. option_map_or (λ (p : Place). at_home v.homes (λ h. not h.gone && instance_can_feed h.instance actor) p) o false) here
+    ∙ ap (λ o. option_map_or (λ i. option_map_or (λ (h : Home). not h.gone && instance_can_feed h.instance actor) (slice_get v.homes i) false) o false) home)
+    ∙ can in
+    let h = option_found (slice_get v.homes number) says there in
+    let parts = and_parts (not h.it.gone) (instance_can_feed h.it.instance actor) h.so in
+    ap (λ o. option_map_or (λ (h : Home). instance_can_feed h.instance actor) o false) (living_so v.homes number h.it h.is (alive h.it.gone parts.0)) ∙ parts.1
+  where
+    alive : (b : Bool) → not b ≡ true → b ≡ false
+    alive true e = cc
+    alive false e = refl
 
 -- ---- the instance of an actor
 
@@ -88,6 +118,13 @@ module _ (v : WorldValue) (actor i : ℕ) (p : Place) (h : Home) (standing : sli
 
   pub answers_left : h.gone ≡ true → p.waits ≡ true → can_answer v actor ≡ true
   answers_left gone waits = answer_so ∙ ap₂ (λ b w. cond b w (instance_can_answer h.instance actor)) gone waits
+
+  -- that can be fed
+  feed_so : can_feed v actor ≡ (not h.gone && instance_can_feed h.instance actor)
+  feed_so = feed_at v actor i p h standing home here
+
+  pub feeds_in : h.gone ≡ false → can_feed v actor ≡ instance_can_feed h.instance actor
+  feeds_in living = feed_so ∙ ap (λ b. not b && instance_can_feed h.instance actor) living
 
   -- and for whom a command can be issued
   pub issue_so : can_issue v actor ≡ (not p.waits && nat_lt p.next (length v.set.work.lines))

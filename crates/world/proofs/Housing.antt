@@ -1,6 +1,6 @@
--- An actor that its instance can reply to has its place there.
+-- An actor that waits in an instance has its place there.
 use Rattle.std.proofs.Common.{◌≡◌, ◌∙◌, ℕ, zero, suc, ◌+◌, ◌<◌, ◌≤◌, inl, inr, List, ◌++◌, Bool, true, false, cond, Option, Some, None, length, refl, sym, ap, subst, arith}
-use Rattle.std.specs.Prelude.{count_by, drop, find, option_map, slice_get, slice_index_or, take}
+use Rattle.std.specs.Prelude.{count_by, drop, find, not, option_map, slice_get, slice_index_or, take}
 use Rattle.std.specs.List.{range_with_len}
 use Rattle.std.proofs.lemmas.Option.{slice_get_read, slice_get_within}
 use Rattle.std.proofs.lemmas.List.{length-map, take-append-drop}
@@ -16,14 +16,11 @@ use Rattle.hierarchy.proofs.OneEntry.{one_home}
 use Rattle.hierarchy.proofs.Steps.{work_in}
 use Rattle.hierarchy.proofs.Within.{no_lines}
 use Rattle.instance.specs.Agrees.{ActorStands, AgreesOwn, Waits, is_of}
-use Rattle.instance.specs.Seats.{has_come, last_command}
-use Rattle.instance.specs.Steps.{can_answer}
+use Rattle.instance.specs.Seats.{is_free}
 use Rattle.instance.specs.declared.seats.Seat.{Seat}
 use Rattle.instance.specs.declared.seats.Waiting.{Waiting}
 use Rattle.instance.specs.declared.seats.Waiting.TheVariants as waiting
 use Rattle.instance.specs.kvs_rules.Log.{Log}
-use Rattle.instance.specs.services.Value.{ServicesValue}
-use Rattle.instance.specs.kvs_txn.declared.txn.By.{By}
 use Rattle.instance.specs.workload.declared.work.Line.{Line}
 use Rattle.homes.specs.Homes.{AreReady, home_in, living_at}
 use Rattle.world.specs.Sound.{IsRunning}
@@ -34,7 +31,7 @@ use Rattle.homes.specs.declared.homes.Home.{Home}
 use Rattle.homes.specs.declared.homes.Origin.{Origin}
 use Rattle.homes.specs.declared.homes.Place.{Place}
 use Rattle.homes.proofs.Members.{from_start, item_at}
-use Rattle.world.proofs.Ordering.{AreOwnLines, AreSeated, living_is, says_some}
+use Rattle.world.proofs.Ordering.{AreOwnLines, AreSeated, is_busy, living_is, says_some}
 
 -- ---- the one number that passes
 
@@ -66,15 +63,15 @@ module _ (set : Setup) (c : List Entry) (on : GoesOn set c) (i actor : ℕ) wher
       (λ k low high here. one_home set.work.actors c on.labelled k i actor ((born_exactly set c k on.run).1 (omega (arith, high))) ((born_exactly set c i on.run).1 below) here at)
 
 -- whoever waits has a command
-come_some : (set : Setup) (log : Log) (services : ServicesValue) (by : By) (a issued : ℕ) (w : Waiting) → Waits set log a issued w → has_come services by w ≡ true → 0 < issued
-come_some set log services by a issued waiting.Nothing h e = cc
-come_some set log services by a issued waiting.Staged h e = h.0
-come_some set log services by a issued waiting.TxnFull h e = h.0
-come_some set log services by a issued (waiting.Tell to) h e = h.0
-come_some set log services by a issued waiting.Using h e = h.0
-come_some set log services by a issued waiting.Service h e = h.0
-come_some set log services by a issued waiting.Jobs h e = h.0
-come_some set log services by a issued waiting.Shutdown h e = h.0
+busy_some : (set : Setup) (log : Log) (a issued : ℕ) (w : Waiting) → Waits set log a issued w → not (is_free w) ≡ true → 0 < issued
+busy_some set log a issued waiting.Nothing h e = cc
+busy_some set log a issued waiting.Staged h e = h.0
+busy_some set log a issued waiting.TxnFull h e = h.0
+busy_some set log a issued (waiting.Tell to) h e = h.0
+busy_some set log a issued waiting.Using h e = h.0
+busy_some set log a issued waiting.Service h e = h.0
+busy_some set log a issued waiting.Jobs h e = h.0
+busy_some set log a issued waiting.Shutdown h e = h.0
 
 -- a beginning of the lines has no more of an actor than all
 count_front : (a : ℕ) (lines : List Line) (n : ℕ) → count_by (is_of a) (take n lines) ≤ count_by (is_of a) lines
@@ -99,14 +96,14 @@ module _ (set : Setup) (c : List Entry) (i actor : ℕ) where
   pub actors_of : length (setup_in set c i).work.actors ≡ length set.work.actors
   actors_of = (let w = work_in set (birth_of c i) in ap (λ work. length work.actors) w.1 ∙ length-map set.work.actors (placed w.0))
 
-  -- an actor that the instance can reply to has a line there
-  pub has_line : (h : Home) (own : List Entry) → AgreesOwn h.instance (setup_in set c i) own → can_answer h.instance actor ≡ true
+  -- an actor that waits in the instance has a line there
+  pub has_line : (h : Home) (own : List Entry) → AgreesOwn h.instance (setup_in set c i) own → is_busy h.instance actor ≡ true
       → (actor < length set.work.actors) × (0 < count_by (is_of actor) (setup_in set c i).work.lines)
-  has_line h own agrees can =
-      let seat = says_some (λ (seat : Seat). has_come h.instance.services (last_command actor seat) seat.waiting) (slice_get h.instance.seats actor) can in
+  has_line h own agrees busy =
+      let seat = says_some (λ (seat : Seat). not (is_free seat.waiting)) (slice_get h.instance.seats actor) busy in
       let below = slice_get_within h.instance.seats actor seat.0 seat.1 in
       let stands : ActorStands (setup_in set c i) (log_of (setup_in set c i).work top own) own actor (Some seat.0) = subst (ActorStands (setup_in set c i) (log_of (setup_in set c i).work top own) own actor) seat.1 (agrees.actors actor) in
-      let some = come_some (setup_in set c i) (log_of (setup_in set c i).work top own) h.instance.services (last_command actor seat.0) actor seat.0.issued seat.0.waiting stands.1.waits seat.2 in
+      let some = busy_some (setup_in set c i) (log_of (setup_in set c i).work top own) actor seat.0.issued seat.0.waiting stands.1.waits seat.2 in
       let passed = stands.1.placed.passed in
       let front = count_front actor (setup_in set c i).work.lines seat.0.next in
       let seated : length h.instance.seats ≡ length set.work.actors = agrees.seated ∙ actors_of in
@@ -130,9 +127,9 @@ module _ (v : WorldValue) (runs : IsRunning v) where
   own_lines actor p e below d = (runs.places.each actor p e).next.here d below
 
   pub seated : AreSeated v
-  seated i actor h here alive can =
+  seated i actor h here alive busy =
       let lives = (runs.homes.each i h here).lives alive in
-      let has = has_line v.set v.chronicle i actor h (own_of v.set v.chronicle i) lives.agrees can in
+      let has = has_line v.set v.chronicle i actor h (own_of v.set v.chronicle i) lives.agrees busy in
       let born : i < length (numbers v.chronicle) = subst (λ n. i < n) runs.homes.all (slice_get_within v.homes i h here) in
       let place = item_at v.places actor (subst (λ n. actor < n) (sym runs.places.all) has.0) in
       (place.0, place.1, (runs.places.each actor place.0 place.1).home ∙ home_is v.set v.chronicle runs.on i actor born (at_home v.set v.chronicle i actor has.1))

@@ -47,6 +47,7 @@ issue_here set c (entry.Got i b reference) actor legal is = cc
 issue_here set c (entry.Dropped i b reference) actor legal is = cc
 issue_here set c (entry.Replied a k given number) actor legal is = cc
 issue_here set c (entry.Told from to) actor legal is = cc
+issue_here set c (entry.Watched other command number first count) actor legal is = cc
 issue_here set c (entry.Ticked second) actor legal is = cc
 issue_here set c (entry.Born child parent job name second grant) actor legal is = cc
 issue_here set c (entry.Gone child parent job shut) actor legal is = cc

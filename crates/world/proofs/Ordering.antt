@@ -15,14 +15,19 @@ use Rattle.instance.specs.workload.declared.work.Line.{Line}
 use Rattle.instance.specs.answers.declared.steps.Step.{Step}
 use Rattle.instance.specs.answers.declared.steps.Step.TheVariants as step
 use Rattle.instance.specs.Family.{bearing, may_end}
-use Rattle.instance.specs.Order.{answers}
-use Rattle.instance.specs.Seats.{has_come, last_command}
-use Rattle.instance.specs.Steps.{can_answer as instance_can_answer, can_post}
+use Rattle.instance.specs.Order.{answers, feeds}
+use Rattle.instance.specs.Seats.{has_come, is_at_jobs, is_fed_next, is_free, last_command}
+use Rattle.instance.specs.Steps.{can_answer as instance_can_answer, can_feed as instance_can_feed, can_post}
+use Rattle.instance.specs.Value.{InstanceValue}
 use Rattle.instance.specs.declared.seats.Seat.{Seat}
+use Rattle.instance.specs.declared.seats.Waiting.{Waiting}
+use Rattle.instance.specs.declared.seats.Waiting.TheVariants as waiting
+use Rattle.instance.specs.kvs_txn.declared.txn.By.{By}
+use Rattle.instance.specs.services.Value.{ServicesValue}
 use Rattle.homes.specs.Homes.{ListTurns, if_living, living_at}
 use Rattle.world.specs.Order.{before_end, is_next, issue_at, issues, left_in, only_if, steps_at, steps_in, steps_left, steps_of, waits_in}
 use Rattle.homes.specs.Times.{at_home, may_go}
-use Rattle.world.specs.Steps.{IsOver, can_answer, can_issue, can_make, can_tick, is_job, of_home}
+use Rattle.world.specs.Steps.{IsOver, can_answer, can_feed, can_issue, can_make, can_tick, is_job, of_home}
 use Rattle.world.specs.Value.{WorldValue}
 use Rattle.homes.specs.declared.homes.Home.{Home}
 use Rattle.homes.specs.declared.homes.Origin.{Origin}
@@ -65,9 +70,32 @@ go_at homes h o parent origin here alive =
 
 -- ---- what is asked of the lists
 
--- an actor that its instance can reply to has its place there
+-- whether the actor waits for something in its instance
+abbrev pub is_busy : InstanceValue → ℕ → Bool
+is_busy v actor = option_map_or (λ seat. not (is_free seat.waiting)) (slice_get v.seats actor) false
+
+come_busy : (services : ServicesValue) (by : By) (w : Waiting) → has_come services by w ≡ true → not (is_free w) ≡ true
+come_busy services by waiting.Nothing e = cc
+come_busy services by _ e = refl
+
+jobs_busy : (w : Waiting) → is_at_jobs w ≡ true → not (is_free w) ≡ true
+jobs_busy waiting.Nothing e = cc
+jobs_busy _ e = refl
+
+-- one that can be replied to does, and one that can be fed
+pub answered_busy : (v : InstanceValue) (actor : ℕ) → instance_can_answer v actor ≡ true → is_busy v actor ≡ true
+answered_busy v actor can =
+    let seat = says_some (λ (seat : Seat). has_come v.services (last_command actor seat) seat.waiting) (slice_get v.seats actor) can in
+    ap (λ o. option_map_or (λ (s : Seat). not (is_free s.waiting)) o false) seat.1 ∙ come_busy v.services (last_command actor seat.0) seat.0.waiting seat.2
+
+pub fed_busy : (v : InstanceValue) (actor : ℕ) → instance_can_feed v actor ≡ true → is_busy v actor ≡ true
+fed_busy v actor can =
+    let seat = says_some (λ (seat : Seat). is_fed_next v.services (last_command actor seat) seat) (slice_get v.seats actor) can in
+    ap (λ o. option_map_or (λ (s : Seat). not (is_free s.waiting)) o false) seat.1 ∙ jobs_busy seat.0.waiting (both (is_at_jobs seat.0.waiting) _ seat.2).0
+
+-- an actor that waits in an instance has its place there
 abbrev pub AreSeated : WorldValue → Type 0
-AreSeated v = (i actor : ℕ) (h : Home) → slice_get v.homes i ≡ Some h → h.gone ≡ false → instance_can_answer h.instance actor ≡ true
+AreSeated v = (i actor : ℕ) (h : Home) → slice_get v.homes i ≡ Some h → h.gone ≡ false → is_busy h.instance actor ≡ true
     → (p : Place) × (slice_get v.places actor ≡ Some p) × (p.home ≡ Some i)
 
 -- the next line of each actor is one of its own
@@ -101,19 +129,30 @@ module _ (v : WorldValue) where
   abbrev replied : List Step
   replied = steps_of v kind.Reply ++ posted
 
+  abbrev fed : List Step
+  fed = steps_of v kind.Feed ++ replied
+
+  -- what comes behind the steps of the services
+  in_fed : (s : Step) → Contains fed s → Contains (before_end v) s
+  in_fed s c = Contains-append_right (steps_of v kind.Turn) fed s c
+
+  in_replied : (s : Step) → Contains replied s → Contains (before_end v) s
+  in_replied s c = in_fed s (Contains-append_right (steps_of v kind.Feed) replied s c)
+
   in_kind : (k : Kind) (s : Step) → Contains (steps_of v k) s → Contains (before_end v) s
-  in_kind kind.Turn s c = Contains-append_left (steps_of v kind.Turn) replied s c
-  in_kind kind.Reply s c = Contains-append_right (steps_of v kind.Turn) replied s (Contains-append_left (steps_of v kind.Reply) posted s c)
-  in_kind kind.Post s c = Contains-append_right (steps_of v kind.Turn) replied s (Contains-append_right (steps_of v kind.Reply) posted s
+  in_kind kind.Turn s c = Contains-append_left (steps_of v kind.Turn) fed s c
+  in_kind kind.Feed s c = in_fed s (Contains-append_left (steps_of v kind.Feed) replied s c)
+  in_kind kind.Reply s c = in_replied s (Contains-append_left (steps_of v kind.Reply) posted s c)
+  in_kind kind.Post s c = in_replied s (Contains-append_right (steps_of v kind.Reply) posted s
       (Contains-append_left (steps_of v kind.Post) born s c))
-  in_kind kind.Birth s c = Contains-append_right (steps_of v kind.Turn) replied s (Contains-append_right (steps_of v kind.Reply) posted s
+  in_kind kind.Birth s c = in_replied s (Contains-append_right (steps_of v kind.Reply) posted s
       (Contains-append_right (steps_of v kind.Post) born s (Contains-append_left (steps_of v kind.Birth) ended s c)))
-  in_kind kind.End s c = Contains-append_right (steps_of v kind.Turn) replied s (Contains-append_right (steps_of v kind.Reply) posted s
+  in_kind kind.End s c = in_replied s (Contains-append_right (steps_of v kind.Reply) posted s
       (Contains-append_right (steps_of v kind.Post) born s (Contains-append_right (steps_of v kind.Birth) ended s
       (Contains-append_left (steps_of v kind.End) timed s c))))
 
   in_timed : (s : Step) → Contains timed s → Contains (before_end v) s
-  in_timed s c = Contains-append_right (steps_of v kind.Turn) replied s (Contains-append_right (steps_of v kind.Reply) posted s
+  in_timed s c = in_replied s (Contains-append_right (steps_of v kind.Reply) posted s
       (Contains-append_right (steps_of v kind.Post) born s (Contains-append_right (steps_of v kind.Birth) ended s
       (Contains-append_right (steps_of v kind.End) timed s c))))
 
@@ -158,6 +197,13 @@ module _ (v : WorldValue) where
       ∙ ap (λ o. option_map_or (λ i. option_map_or (λ h. if h.gone then p.waits else instance_can_answer h.instance actor) (slice_get v.homes i) false) o false) home
       ∙ ap (λ o. option_map_or (λ h. if h.gone then p.waits else instance_can_answer h.instance actor) o false) here
 
+  pub feed_at : (actor i : ℕ) (p : Place) (h : Home) → slice_get v.places actor ≡ Some p → p.home ≡ Some i → slice_get v.homes i ≡ Some h
+      → can_feed v actor ≡ (not h.gone && instance_can_feed h.instance actor)
+  feed_at actor i p h place home here =
+      ap (λ o. option_map_or (λ p. at_home v.homes (λ h. not h.gone && instance_can_feed h.instance actor) p) o false) place
+      ∙ ap (λ o. option_map_or (λ i. option_map_or (λ h. not h.gone && instance_can_feed h.instance actor) (slice_get v.homes i) false) o false) home
+      ∙ ap (λ o. option_map_or (λ h. not h.gone && instance_can_feed h.instance actor) o false) here
+
   -- ---- what is listed can be made
 
   module _ (seated : AreSeated v) where
@@ -172,6 +218,7 @@ module _ (v : WorldValue) where
 
       left : h.gone ≡ true → (k : Kind) → Contains (steps_left v k i) s → can_make v s ≡ true
       left gone kind.Turn c = absurd (nobody s c)
+      left gone kind.Feed c = absurd (nobody s c)
       left gone kind.Reply c =
           let m = from_map step.Answer (left_in v.places i) s c in
           let w = from_filter (waits_in v.places i) (range_with_len 0 (length v.places)) m.0 m.1 in
@@ -193,10 +240,16 @@ module _ (v : WorldValue) where
             let m = from_map (step.Kvs i) (turns h.instance.services) s c in
             let w = from_filter (can_step h.instance.services) (all_steps h.instance.services.size (length h.instance.services.jobs.manager.core.spaces)) m.0 m.1 in
             subst (λ t. can_make v t ≡ true) m.2 (of_is i h (λ h. can_step h.instance.services m.0) here alive w.1)
+        lived kind.Feed c =
+            let m = from_map step.Feed (feeds h.instance) s c in
+            let w = from_filter (instance_can_feed h.instance) (range_with_len 0 (length h.instance.seats)) m.0 m.1 in
+            let p = seated i m.0 h here alive (fed_busy h.instance m.0 w.1) in
+            subst (λ t. can_make v t ≡ true) m.2
+            (feed_at m.0 i p.0 h p.1 p.2 here ∙ ap (λ b. not b && instance_can_feed h.instance m.0) alive ∙ w.1)
         lived kind.Reply c =
             let m = from_map step.Answer (answers h.instance) s c in
             let w = from_filter (instance_can_answer h.instance) (range_with_len 0 (length h.instance.seats)) m.0 m.1 in
-            let p = seated i m.0 h here alive w.1 in
+            let p = seated i m.0 h here alive (answered_busy h.instance m.0 w.1) in
             subst (λ t. can_make v t ≡ true) m.2
             (answer_at m.0 i p.0 h p.1 p.2 here ∙ ap (λ b. if b then p.0.waits else instance_can_answer h.instance m.0) alive ∙ w.1)
         lived kind.Post c =
@@ -241,17 +294,20 @@ module _ (v : WorldValue) where
 
     -- what is listed can be made
     pub possible : (s : Step) → Contains (before_end v) s → can_make v s ≡ true
-    possible s c = elim (Contains-append_cases (steps_of v kind.Turn) replied s c) [
+    possible s c = elim (Contains-append_cases (steps_of v kind.Turn) fed s c) [
       | inl d ↦ made_of kind.Turn s d
-      | inr c ↦ elim (Contains-append_cases (steps_of v kind.Reply) posted s c) [
-        | inl d ↦ made_of kind.Reply s d
-        | inr c ↦ elim (Contains-append_cases (steps_of v kind.Post) born s c) [
-          | inl d ↦ made_of kind.Post s d
-          | inr c ↦ elim (Contains-append_cases (steps_of v kind.Birth) ended s c) [
-            | inl d ↦ made_of kind.Birth s d
-            | inr c ↦ elim (Contains-append_cases (steps_of v kind.End) timed s c) [
-              | inl d ↦ made_of kind.End s d
-              | inr d ↦ made_timed s d
+      | inr c ↦ elim (Contains-append_cases (steps_of v kind.Feed) replied s c) [
+        | inl d ↦ made_of kind.Feed s d
+        | inr c ↦ elim (Contains-append_cases (steps_of v kind.Reply) posted s c) [
+          | inl d ↦ made_of kind.Reply s d
+          | inr c ↦ elim (Contains-append_cases (steps_of v kind.Post) born s c) [
+            | inl d ↦ made_of kind.Post s d
+            | inr c ↦ elim (Contains-append_cases (steps_of v kind.Birth) ended s c) [
+              | inl d ↦ made_of kind.Birth s d
+              | inr c ↦ elim (Contains-append_cases (steps_of v kind.End) timed s c) [
+                | inl d ↦ made_of kind.End s d
+                | inr d ↦ made_timed s d
+              ]
             ]
           ]
         ]
@@ -279,6 +335,13 @@ module _ (v : WorldValue) where
       in_living kind.Reply i h (step.Answer actor) here alive (in_map step.Answer (answers h.instance) actor
       (in_filter (instance_can_answer h.instance) (range_with_len 0 (length h.instance.seats)) actor can (in_range 0 (length h.instance.seats) actor (omega arith) (omega (arith, below)))))
 
+  listed_feed : (actor i : ℕ) (h : Home) → slice_get v.homes i ≡ Some h → h.gone ≡ false → instance_can_feed h.instance actor ≡ true → Contains (before_end v) (step.Feed actor)
+  listed_feed actor i h here alive can =
+      let seat = says_some (λ (seat : Seat). is_fed_next h.instance.services (last_command actor seat) seat) (slice_get h.instance.seats actor) can in
+      let below = slice_get_within h.instance.seats actor seat.0 seat.1 in
+      in_living kind.Feed i h (step.Feed actor) here alive (in_map step.Feed (feeds h.instance) actor
+      (in_filter (instance_can_feed h.instance) (range_with_len 0 (length h.instance.seats)) actor can (in_range 0 (length h.instance.seats) actor (omega arith) (omega (arith, below)))))
+
   listed_issue : AreOwnLines v → (actor : ℕ) → can_issue v actor ≡ true → Contains (before_end v) (step.Issue actor)
   listed_issue own actor can =
       let p = says_some (λ (p : Place). is_some p.home && (not p.waits && nat_lt p.next (length v.set.work.lines))) (slice_get v.places actor) can in
@@ -296,6 +359,15 @@ module _ (v : WorldValue) where
   pub listed : AreOwnLines v → (s : Step) → IsNoTurn s → can_make v s ≡ true → Contains (before_end v) s
   listed own (step.Issue actor) other can = listed_issue own actor can
   listed own (step.Kvs i s) other can = absurd other
+  listed own (step.Feed actor) other can =
+      let p = says_some (λ (p : Place). at_home v.homes (λ h. not h.gone && instance_can_feed h.instance actor) p) (slice_get v.places actor) can in
+      let i = says_some (λ i. option_map_or (λ (h : Home). not h.gone && instance_can_feed h.instance actor) (slice_get v.homes i) false) p.0.home p.2 in
+      let h = says_some (λ (h : Home). not h.gone && instance_can_feed h.instance actor) (slice_get v.homes i.0) i.2 in
+      by i.0 h.0 h.1 h.0.gone refl h.2
+    where
+      by : (i : ℕ) (h : Home) → slice_get v.homes i ≡ Some h → (b : Bool) → h.gone ≡ b → (not b && instance_can_feed h.instance actor) ≡ true → Contains (before_end v) (step.Feed actor)
+      by i h here true gone is = cc
+      by i h here false alive is = listed_feed actor i h here alive is
   listed own (step.Answer actor) other can =
       let p = says_some (λ (p : Place). at_home v.homes (λ h. if h.gone then p.waits else instance_can_answer h.instance actor) p) (slice_get v.places actor) can in
       let i = says_some (λ i. option_map_or (λ (h : Home). if h.gone then p.0.waits else instance_can_answer h.instance actor) (slice_get v.homes i) false) p.0.home p.2 in
@@ -338,6 +410,7 @@ module _ (v : WorldValue) where
       never : (s : Step) → can_make v s ≡ true → ⊥
       never (step.Issue actor) can = some (before_end v) (step.Issue actor) (listed own (step.Issue actor) tt can) none
       never (step.Kvs i s) can = served i s can
+      never (step.Feed actor) can = some (before_end v) (step.Feed actor) (listed own (step.Feed actor) tt can) none
       never (step.Answer actor) can = some (before_end v) (step.Answer actor) (listed own (step.Answer actor) tt can) none
       never (step.Post i) can = some (before_end v) (step.Post i) (listed own (step.Post i) tt can) none
       never (step.Birth i job) can = some (before_end v) (step.Birth i job) (listed own (step.Birth i job) tt can) none

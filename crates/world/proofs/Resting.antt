@@ -18,9 +18,9 @@ use Rattle.hierarchy.proofs.Homes.{in_family_only}
 use Rattle.hierarchy.proofs.Numbering.{born_exactly}
 use Rattle.hierarchy.proofs.Resting.{all_rest}
 use Rattle.instance.specs.Family.{OfOwn, bearing, is_due, is_end_due, may_end}
-use Rattle.instance.specs.Order.{answers}
-use Rattle.instance.specs.Seats.{has_come, last_command}
-use Rattle.instance.specs.Steps.{IsAtRest, IsStart, can_answer, can_post}
+use Rattle.instance.specs.Order.{answers, feeds}
+use Rattle.instance.specs.Seats.{has_come, is_fed_next, last_command}
+use Rattle.instance.specs.Steps.{IsAtRest, IsStart, can_answer, can_feed, can_post}
 use Rattle.instance.specs.Value.{InstanceValue}
 use Rattle.instance.specs.declared.seats.Seat.{Seat}
 use Rattle.instance.specs.instance_rules.Family.{IsEndOf, Living, OfLiving}
@@ -90,6 +90,7 @@ born_plain i (Some job) t a issue = elim a [ inl e ↦ subst IsStart (sym e) iss
 module _ (v : WorldValue) where
   in_plain : (k : Kind) (i : ℕ) (h : Home) (t : Step) → Among t (steps_in v k i h) → IsStart t → ⊥
   in_plain kind.Turn i h t a issue = (let m = among_map (step.Kvs i) (possible h.instance.services) t a in subst IsStart (sym m.2) issue)
+  in_plain kind.Feed i h t a issue = (let m = among_map step.Feed (feeds h.instance) t a in subst IsStart (sym m.2) issue)
   in_plain kind.Reply i h t a issue = (let m = among_map step.Answer (answers h.instance) t a in subst IsStart (sym m.2) issue)
   in_plain kind.Post i h t a issue = only_plain (can_post h.instance) (step.Post i) t (λ bad. bad) a issue
   in_plain kind.Birth i h t a issue = born_plain i (bearing h.instance) t a issue
@@ -97,6 +98,7 @@ module _ (v : WorldValue) where
 
   left_plain : (k : Kind) (i : ℕ) (t : Step) → Among t (steps_left v k i) → IsStart t → ⊥
   left_plain kind.Turn i t a issue = absurd a
+  left_plain kind.Feed i t a issue = absurd a
   left_plain kind.Reply i t a issue = (let m = among_map step.Answer (left_in v.places i) t a in subst IsStart (sym m.2) issue)
   left_plain kind.Post i t a issue = absurd a
   left_plain kind.Birth i t a issue = absurd a
@@ -138,11 +140,23 @@ module _ (v : WorldValue) where
         let here : Among (i, h) (enumerate_from 0 v.homes) = subst (λ n. Among (n, h) (enumerate_from 0 v.homes)) zeroth (among_from (enumerate_from 0 v.homes) (0 + i, h) (in_enumerated 0 v.homes i h e)) in
         map_none step.Answer (left_in v.places i)
         (sym (ap (λ b. if b then steps_left v kind.Reply i else steps_in v kind.Reply i h) gone)
-        ∙ flat_none (steps_at v kind.Reply) (enumerate_from 0 v.homes) (i, h) here (flat_none (steps_of v) kinds kind.Reply (inr (inl refl)) none))
+        ∙ flat_none (steps_at v kind.Reply) (enumerate_from 0 v.homes) (i, h) here (flat_none (steps_of v) kinds kind.Reply (inr (inr (inl refl))) none))
 
     module _ (i : ℕ) (h : Home) (e : slice_get v.homes i ≡ Some h) (living : h.gone ≡ false) where
       no_turn : possible h.instance.services ≡ []
       no_turn = map_none (step.Kvs i) (possible h.instance.services) (kind_none kind.Turn (inl refl) i h e living)
+
+      no_feed : (actor : ℕ) → can_feed h.instance actor ≡ false
+      no_feed actor = by (can_feed h.instance actor) refl
+        where
+          by : (b : Bool) → can_feed h.instance actor ≡ b → can_feed h.instance actor ≡ false
+          by false is = is
+          by true is =
+              let seat = says_some (λ (seat : Seat). is_fed_next h.instance.services (last_command actor seat) seat) (slice_get h.instance.seats actor) is in
+              let low = slice_get_within h.instance.seats actor seat.0 seat.1 in
+              let there = among_kept (can_feed h.instance) (range_with_len 0 (length h.instance.seats)) actor
+              (among_from (range_with_len 0 (length h.instance.seats)) actor (in_range 0 (length h.instance.seats) actor (omega arith) (omega (arith, low)))) is in
+              absurd (subst (Among actor) (map_none step.Feed (feeds h.instance) (kind_none kind.Feed (inr (inl refl)) i h e living)) there)
 
       no_answer : (actor : ℕ) → can_answer h.instance actor ≡ false
       no_answer actor = by (can_answer h.instance actor) refl
@@ -154,24 +168,24 @@ module _ (v : WorldValue) where
               let low = slice_get_within h.instance.seats actor seat.0 seat.1 in
               let there = among_kept (can_answer h.instance) (range_with_len 0 (length h.instance.seats)) actor
               (among_from (range_with_len 0 (length h.instance.seats)) actor (in_range 0 (length h.instance.seats) actor (omega arith) (omega (arith, low)))) is in
-              absurd (subst (Among actor) (map_none step.Answer (answers h.instance) (kind_none kind.Reply (inr (inl refl)) i h e living)) there)
+              absurd (subst (Among actor) (map_none step.Answer (answers h.instance) (kind_none kind.Reply (inr (inr (inl refl))) i h e living)) there)
 
       no_post : can_post h.instance ≡ false
-      no_post = by (can_post h.instance) (kind_none kind.Post (inr (inr (inl refl))) i h e living)
+      no_post = by (can_post h.instance) (kind_none kind.Post (inr (inr (inr (inl refl)))) i h e living)
         where
           by : (b : Bool) → only_if b (step.Post i) ≡ [] → b ≡ false
           by false is = refl
           by true is = cc
 
       no_birth : bearing h.instance ≡ None
-      no_birth = by (bearing h.instance) (kind_none kind.Birth (inr (inr (inr (inl refl)))) i h e living)
+      no_birth = by (bearing h.instance) (kind_none kind.Birth (inr (inr (inr (inr (inl refl))))) i h e living)
         where
           by : (o : Option ℕ) → cons_option (option_map (step.Birth i) o) [] ≡ [] → o ≡ None
           by None is = refl
           by (Some job) is = cc
 
       pub no_going : may_go v.homes h ≡ false
-      no_going = by (may_go v.homes h) (kind_none kind.End (inr (inr (inr (inr (inl refl))))) i h e living)
+      no_going = by (may_go v.homes h) (kind_none kind.End (inr (inr (inr (inr (inr (inl refl)))))) i h e living)
         where
           by : (b : Bool) → only_if b (step.End i) ≡ [] → b ≡ false
           by false is = refl
@@ -243,6 +257,7 @@ module _ (v : WorldValue) (sound : IsSound v) (runs : v.closed ≡ false) where
   pub each_rests : ListTurns v.homes → EachLiving TellsRest v.homes → by_instances v ≡ [] → EachLiving (λ h. IsAtRest h.instance) v.homes
   each_rests listed rest none i h e living = record {
     steps = listed i h e (no_turn v none i h e living);
+    feeds = no_feed v none i h e living;
     answers = no_answer v none i h e living;
     due = (rest i h e living).free (setup_in v.set v.chronicle i) (own_of v.set v.chronicle i) (home_agrees v sound runs i h e living)
         (listed i h e (no_turn v none i h e living)) (no_answer v none i h e living) (no_post v none i h e living) (no_birth v none i h e living);

@@ -6,7 +6,7 @@ use Rattle.instance.specs.services.Order.{possible}
 use Rattle.instance.specs.answers.declared.steps.Step.{Step}
 use Rattle.instance.specs.answers.declared.steps.Step.TheVariants as step
 use Rattle.instance.specs.Family.{bearing}
-use Rattle.instance.specs.Order.{answers}
+use Rattle.instance.specs.Order.{answers, feeds}
 use Rattle.instance.specs.Steps.{can_post}
 use Rattle.homes.specs.Times.{may_go}
 use Rattle.world.specs.Steps.{can_issue, can_tick}
@@ -34,6 +34,7 @@ only_if can s = if can then s ∷ [] else []
 -- the steps of a kind that a living instance can make
 abbrev pub steps_in : WorldValue → Kind → ℕ → Home → List Step
 steps_in v kind.Turn i h = map (step.Kvs i) (possible h.instance.services)
+steps_in v kind.Feed i h = map step.Feed (feeds h.instance)
 steps_in v kind.Reply i h = map step.Answer (answers h.instance)
 steps_in v kind.Post i h = only_if (can_post h.instance) (step.Post i)
 steps_in v kind.Birth i h = cons_option (option_map (step.Birth i) (bearing h.instance)) []
@@ -69,15 +70,16 @@ issues v = filter_map (issue_at v) (range_with_len 0 (length v.set.work.lines))
 
 -- ---- all
 
--- what can be made before the end: a step of a service, a reply, a post, a birth, an end of a
--- child, a tick, an issue by line
+-- what can be made before the end: a step of a service, a feed of a watch, a reply, a post, a birth,
+-- an end of a child, a tick, an issue by line
 abbrev pub before_end : WorldValue → List Step
 before_end v = steps_of v kind.Turn
+    ++ (steps_of v kind.Feed
     ++ (steps_of v kind.Reply
     ++ (steps_of v kind.Post
     ++ (steps_of v kind.Birth
     ++ (steps_of v kind.End
-    ++ (only_if (can_tick v) step.Tick ++ map step.Issue (issues v))))))
+    ++ (only_if (can_tick v) step.Tick ++ map step.Issue (issues v)))))))
 
 -- the end comes where nothing else can
 abbrev pub or_close : List Step → List Step

@@ -12,7 +12,7 @@ use Rattle.world.specs.declared.run.drawing.Kind.TheVariants as kind
 
 -- the kinds of steps that instances have, in their order
 abbrev pub kinds : List Kind
-kinds = kind.Turn ∷ kind.Reply ∷ kind.Post ∷ kind.Birth ∷ kind.End ∷ []
+kinds = kind.Turn ∷ kind.Feed ∷ kind.Reply ∷ kind.Post ∷ kind.Birth ∷ kind.End ∷ []
 
 -- the steps of these kinds, and what comes behind them
 abbrev pub by_instances : WorldValue → List Step

@@ -4,11 +4,11 @@ ghost use Rattle.services.specs.kvs_core.Walk.{nth};
 ghost use Rattle.services.specs.Order.{possible};
 ghost use Rattle.services.specs.Steps.{can_step};
 ghost use Rattle.instance.specs.Agrees.{AreLinesOf};
-ghost use Rattle.instance.specs.Order.{answers, issues};
-ghost use Rattle.instance.specs.Steps.{can_answer, can_issue};
+ghost use Rattle.instance.specs.Order.{answers, feeds, issues};
+ghost use Rattle.instance.specs.Steps.{can_answer, can_feed, can_issue};
 
 use super::Instance;
-use crate::seats::{has_answer, issue_from};
+use crate::seats::{has_answer, has_feed, issue_from};
 use services::kvs_rules::KvsStep;
 use services::workload::Line;
 
@@ -21,6 +21,25 @@ impl Instance {
         ensures can { IfOk result (λ step. can_step self.now.services step ≡ true) }
     {
         self.services.nth(number)
+    }
+
+    /// The actor of this number among those whose open watch can be fed, or what the number has left
+    /// behind them.
+    pub fn nth_feed(&self, number: u64) -> Result<u32, u64>
+        requires { self.now.spent ≡ false }
+        ensures value { result ≡ nth (feeds self.now) number }
+        ensures can { IfOk result (λ a. can_feed self.now a ≡ true) }
+    {
+        let mut left = number;
+        for actor in 0..self.seats.len() as u32 {
+            if has_feed(&self.services, &self.seats, actor) {
+                if left == 0 {
+                    return Ok(actor);
+                }
+                left -= 1;
+            }
+        }
+        Err(left)
     }
 
     /// The actor of this number among those whose open command can be replied, or what the number

@@ -19,6 +19,7 @@ use instance::answers::Step;
 #[derive(Clone, Copy, Debug, PartialEq, Eq)]
 enum Kind {
     Turn,
+    Feed,
     Reply,
     Post,
     Birth,
@@ -78,6 +79,10 @@ impl World {
                 Ok(step) => Ok(Step::Kvs { instance, step }),
                 Err(left) => Err(left),
             },
+            Kind::Feed => match home.instance.nth_feed(number) {
+                Ok(actor) => Ok(Step::Feed { actor }),
+                Err(left) => Err(left),
+            },
             Kind::Reply => match home.instance.nth_answer(number) {
                 Ok(actor) => Ok(Step::Answer { actor }),
                 Err(left) => Err(left),
@@ -112,7 +117,7 @@ impl World {
         }
         match kind {
             Kind::Reply => nth_left(&self.places, instance, number),
-            Kind::Turn | Kind::Post | Kind::Birth | Kind::End => Err(number),
+            Kind::Turn | Kind::Feed | Kind::Post | Kind::Birth | Kind::End => Err(number),
         }
     }
 
@@ -141,7 +146,14 @@ impl World {
         ensures { result ≡ nth (by_instances self.now) number }
     {
         let mut left = number;
-        for kind in [Kind::Turn, Kind::Reply, Kind::Post, Kind::Birth, Kind::End] {
+        for kind in [
+            Kind::Turn,
+            Kind::Feed,
+            Kind::Reply,
+            Kind::Post,
+            Kind::Birth,
+            Kind::End,
+        ] {
             match self.nth_of(kind, left) {
                 Ok(step) => return Ok(step),
                 Err(behind) => left = behind,

@@ -21,5 +21,5 @@ returns-clause-set c =
     let o = c.args.options in
     let given : Setup = setup_of c.args.terms o c.args.work in
     IfOk-weaker c.new.result _ (λ world. world.set ≡ setup_of c.args.terms o c.args.work)
-    (λ world is. is ∙ ap₂ (λ (t : Terms) (b : Bool). (let s : Setup = record given { settled = b; terms = t } in s)) c.terms_of-terms.ensures.value
+    (λ world is. is ∙ ap₂ (λ (t : Terms) (b : Bool). (let s : Setup = record given { settled = b; terms = t } in s)) c.terms_of-terms.ensures
     (ap (λ (how : Schedule). is_settled_order (order_of how)) c.schedule_of.ensures ∙ settled_so o.size o.fanout o.hash o.shuffle o.journal o.backfill)) c.new.ensures.set

@@ -23,12 +23,12 @@ loop-row-preserved c = λ k d low.
           let here : k ≡ c.loop-row.row-index = omega (arith, low) in
           let within : c.loop-row.row-index < length rows = subst (λ xs. c.loop-row.row-index < length xs) c.rows-row-items.ensures c.loop-row-test.true in
           let item : c.row-item.result ≡ get_or rows c.loop-row.row-index c.row-item.result = c.row-item.is ∙ ap (λ xs. get_or xs c.loop-row.row-index c.row-item.result) c.rows-row-items.ensures in
-          subst (λ n. MakesNone labels jobs (get_or rows n d)) (sym here)
-          (subst (MakesNone labels jobs) (item ∙ any_default rows c.loop-row.row-index c.row-item.result d within)
+          subst (λ n. MakesNone c.args.limits labels jobs (get_or rows n d)) (sym here)
+          (subst (MakesNone c.args.limits labels jobs) (item ∙ any_default rows c.loop-row.row-index c.row-item.result d within)
           (where_none c.in_ok-x.field-0 c.in_default.is c.in_ok-x.ensures.none))
     ]
 
 pub returns-clause-none : goal.returns-clause-none
 returns-clause-none c = λ row stands.
     let all : length c.args.commands.now.rows ≤ c.loop-row.row-index = subst (λ xs. length xs ≤ c.loop-row.row-index) c.rows-row-items.ensures c.loop-row-test.false in
-    subst (MakesNone c.args.commands.now.labels c.args.book.now.jobs) stands.2 (c.loop-row.invariant stands.0 row (omega (arith, stands.1, all)))
+    subst (MakesNone c.args.limits c.args.commands.now.labels c.args.book.now.jobs) stands.2 (c.loop-row.invariant stands.0 row (omega (arith, stands.1, all)))

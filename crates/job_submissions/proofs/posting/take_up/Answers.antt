@@ -39,6 +39,7 @@ returns-clause-some c =
     let jobs = c.args.book.now.jobs in
     record {
       reads = read_as c.as_slice.result.now c.args.text.now c.in-Ok.spec c.in_ok-spec.field-0 c.as_slice.ensures c.in_ok-spec.ensures c.in-Ok.is;
+      passed = sym c.verdict.ensures ∙ c.if-verdict-ne0.false;
       names = sym (c.in_ok-needs.ensures ∙ ap (needs_of c.args.commands.now.labels) c.as_slice-3.ensures) ∙ c.in-Some.is;
       depends = all_known jobs c.in-Ok.spec.depends (sym (c.are_known.ensures ∙ ap (list_all (is_on_job jobs)) c.as_slice-2.ensures) ∙ c.if-not-are_known.false);
       known = all_known jobs c.in-Some.needs (sym (c.are_known-2.ensures ∙ ap (list_all (is_on_job jobs)) c.as_slice-4.ensures) ∙ c.if-not-are_known-2.false);

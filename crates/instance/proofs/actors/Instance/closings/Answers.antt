@@ -9,7 +9,7 @@ use Rattle.instance.specs.Closings.{closings, numbers_in}
 use Rattle.instance.specs.Makes.{Ends}
 use Rattle.instance.specs.Steps.{IsOver}
 use Rattle.instance.specs.View.{value_of}
-use Rattle.instance.proofs.Closing.{IsStillSo, core_agrees}
+use Rattle.instance.proofs.Stilling.{IsStillSo, core_agrees}
 use Rattle.instance.proofs.Ending.{close_ends}
 use Rattle.instance.proofs.Owning.{own_of}
 use Rattle.instance.proofs.actors.Instance.closings.Goals as goal
@@ -39,6 +39,7 @@ returns-clause-ends c = IfOk-weaker c.close_off.result _ _
     let promise : IsStillSo v = record {
       quiet = c.still.ensures.quiet;
       heard = c.still.ensures.heard;
+      last = c.still.ensures.last;
       idle = c.still.ensures.idle;
       advanced = c.still.ensures.advanced;
       left = c.still.ensures.left;

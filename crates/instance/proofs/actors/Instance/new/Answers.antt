@@ -16,6 +16,6 @@ returns-clause-agrees c = λ set size fanout hash grant resources anew terms bir
     (subst (λ w. KeepsTallies w.lines) (sym work) c.requires.few)
     c.in_ok-services.ensures.start
     (c.in_ok-services.ensures.agrees (instance_of set)
-    (is_given set c.args.setting.size c.args.setting.fanout c.args.setting.hash c.args.grant.now c.args.birth c.args.terms size fanout hash grant resources anew terms birth c.requires.terms c.in_ok-services.ensures.grant
+    (is_given set c.args.setting.size c.args.setting.fanout c.args.setting.hash c.args.grant.now c.args.birth c.args.terms size fanout hash grant resources anew terms birth c.in_ok-services.ensures.grant
     within ranks built (subst (λ w. HasOwnLabels w.lines) (sym work) c.requires.labels)))
     (subst (λ w. AreFirstSeats w c.in_ok-seats.seats.items) (sym work) c.in_ok-seats.ensures)

@@ -1,11 +1,12 @@
-use Rattle.std.proofs.Common.{◌≡◌, ◌<◌, ◌∙◌, None, length, refl, ap, sym, subst}
+use Rattle.std.proofs.Common.{◌≡◌, ◌<◌, ◌∙◌, ◌++◌, [], ◌∷◌, false, Some, None, length, refl, ap, sym, subst}
 use Rattle.kvs_core.specs.Agrees.{Agrees}
-use Rattle.kvs_core.specs.Posted.{CanPost, IsNewPost}
-use Rattle.job_manager.specs.Managed.{WasDuePost}
+use Rattle.kvs_core.specs.Posted.{CanPost, IsNewPost, posted}
+use Rattle.kvs_core.specs.Posted as core
+use Rattle.job_manager.specs.Managed.{IsOutstanding, WasDuePost}
 use Rattle.job_manager.specs.Posts.{command_of, post_of}
 use Rattle.manager_rules.specs.Posts.{txn_of}
 use Rattle.job_manager.specs.View.{value_of}
-use Rattle.job_manager.proofs.Steps.{can-post}
+use Rattle.job_manager.proofs.Steps.{can-post, group-is, kept-managed}
 use Rattle.job_manager.proofs.manager.Manager.place.Goals as goal
 
 pub post-requires-clause-can : goal.post-requires-clause-can
@@ -24,3 +25,14 @@ returns-clause-places c = record {
       c.in_ok-post.ensures.agrees set log (subst (λ v. Agrees v.core set log) (sym c.self.view_is) a)
       (subst (λ o. IsNewPost c.self.inside.core set log o) (sym c.command_of.ensures) (subst (λ v. IsNewPost v.core set log (command_of (post_of c.args.post))) (sym c.self.view_is) new));
 }
+
+pub invariant_of-self-2 : goal.invariant_of-self-2
+invariant_of-self-2 c = λ _.
+    let v = value_of c.self.inside in
+    let m = c.self.invariant (ap (λ w. w.spent) c.self.view_is ∙ c.requires.ready) in
+    let e = c.in_ok-post.ensures in
+    let waits = subst (λ w. w.posted ≡ None) (sym c.self.view_is) c.requires.free in
+    let none : posted v.core ≡ [] = subst (IsOutstanding v.core v.book) waits m.outstanding in
+    let made = e.posted ∙ ap (λ gs. gs ++ core.post_of c.command_of.result c.in_ok-txn.txn ∷ []) none in
+    let is = made ∙ ap (λ t. core.post_of c.command_of.result t ∷ []) c.in_ok-txn.ensures ∙ ap (λ o. core.post_of o (txn_of (post_of c.args.post)) ∷ []) c.command_of.ensures ∙ ap (λ g. g ∷ []) (group-is (post_of c.args.post)) in
+    kept-managed v m c.post.new.self e.extends c.standing.ensures.kept c.standing-2.ensures.kept e.ready (Some (post_of c.args.post)) (is, subst (λ w. WasDuePost w.book (post_of c.args.post)) (sym c.self.view_is) c.requires.due) false

@@ -17,7 +17,7 @@ invariant_of-result c = λ _.
         inst = inst;
         log = [];
         fanout = refl;
-        agrees = c.in_ok-jobs.ensures.agrees inst (plain_given s.size s.fanout s.hash c.args.grant.now c.args.birth c.args.terms c.requires.terms c.in_ok-jobs.ensures.grant).served;
+        agrees = c.in_ok-jobs.ensures.agrees inst (plain_given s.size s.fanout s.hash c.args.grant.now c.args.birth c.args.terms c.in_ok-jobs.ensures.grant).served;
       };
       contents_log = record {
         set = inst.service;
