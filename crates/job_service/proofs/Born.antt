@@ -32,6 +32,8 @@ use Rattle.job_service.specs.Due.{IsFoundBeside, LeavesChildOf, LeavesOpen}
 use Rattle.job_service.specs.Posted.{IsNamed}
 use Rattle.job_service.specs.Value.{JobServiceValue}
 use Rattle.job_service.proofs.Bearing.{birth_there, may_parts, not_ending}
+use Rattle.job_service.specs.Watching.{AreFed}
+use Rattle.job_service.proofs.Feeding.{fed_kept}
 use Rattle.job_service.proofs.Calls.{facts, joined, labelled_still, respan, spanned, with_parts}
 use Rattle.job_service.proofs.Facts.{Facts, born_facts, born_service, gone_facts, gone_service}
 use Rattle.job_service.proofs.Issuing.{StaysDue, owes_next}
@@ -67,7 +69,7 @@ module _ (v : JobServiceValue) (inst : Instance) (log : Log) (a : AgreesJobs v i
   jobs = v.manager.book.jobs
 
   -- behind a moment about a child
-  module _ (spent : Bool) (commands : CommandsValue) (moment : Moment) (f : Facts commands v.refused v.second inst (log ++ moment ∷ [])) (same : service_of (log ++ moment ∷ []) ≡ service_of log)
+  module _ (spent : Bool) (commands : CommandsValue) (moment : Moment) (f : Facts commands v.refused v.second inst (log ++ moment ∷ [])) (same : service_of (log ++ moment ∷ []) ≡ service_of log) (fed : AreFed v.feeds inst (log ++ moment ∷ []))
       (smalls : Each (λ j. j.id < 2 ^ 64) jobs) (soon : 1000 * (v.second - v.birth) < 2 ^ 40) (short : length commands.issued ≤ 32) (made-due : MadeAreDue) (unmade-not : UnmadeAreNot) (stays : StaysDue)
       (leaves : (post : Post) → v.manager.posted ≡ Some post → LeavesOpen moment post) (children : (post : Post) → v.manager.posted ≡ Some post → LeavesChildOf (asked_of v.commands) jobs moment post) where
     pub child_next : (later : Option Post) (bearing : Option ℕ) → IsFoundBeside v.terms v.manager.posted commands v.manager.book v.second v.birth later
@@ -75,7 +77,7 @@ module _ (v : JobServiceValue) (inst : Instance) (log : Log) (a : AgreesJobs v i
     child_next later bearing h =
         let labelled = labelled_still v.commands commands inst log moment jobs a.commands f.commands a.labelled in
         respan (with_parts v spent v.manager commands v.refused later v.submitted) inst (log ++ moment ∷ []) v.span bearing
-        (joined v inst log a spent v.manager commands v.refused later v.submitted (log ++ moment ∷ []) a.kind.book
+        (joined v inst log a spent v.manager commands v.refused later v.submitted (log ++ moment ∷ []) fed a.kind.book
         (subst (Agrees v.manager.core inst.service) (sym same) a.core)
         (subst (IsLegalLog inst.service) (sym same) a.legal)
         labelled
@@ -116,11 +118,11 @@ module _ (v : JobServiceValue) (inst : Instance) (log : Log) (a : AgreesJobs v i
       pub born_agrees : (job : ℕ) → IsBearing v.commands v.manager.book (Some job) → (commands : CommandsValue) → length commands.issued ≤ 32 → AgreesCommands commands inst (log ++ Born job ∷ []) → (later : Option Post) (bearing : Option ℕ) → IsFoundBeside v.terms v.manager.posted commands v.manager.book v.second v.birth later
           → AgreesJobs (spanned (with_parts v spent v.manager commands v.refused later v.submitted) v.span bearing) inst (log ++ Born job ∷ [])
       born_agrees job h commands short agrees later bearing found =
-          child_next spent commands (Born job) (born_facts v.commands commands v.refused v.second inst log (facts v inst log a) job agrees) (born_service log job) smalls soon short made-due unmade-not stays
+          child_next spent commands (Born job) (born_facts v.commands commands v.refused v.second inst log (facts v inst log a) job agrees) (born_service log job) (fed_kept v.feeds inst log (Born job) (λ by. refl) (λ by. refl) a.fed) smalls soon short made-due unmade-not stays
           (λ post e by c. record { unanswered = refl; undecided = refl }) (λ post e. born_leaves job h post) later bearing found
 
       pub gone_agrees : (job : ℕ) (shut : Bool) → may_end v job shut ≡ true → (commands : CommandsValue) → length commands.issued ≤ 32 → AgreesCommands commands inst (log ++ Gone job shut ∷ []) → (later : Option Post) (bearing : Option ℕ) → IsFoundBeside v.terms v.manager.posted commands v.manager.book v.second v.birth later
           → AgreesJobs (spanned (with_parts v spent v.manager commands v.refused later v.submitted) v.span bearing) inst (log ++ Gone job shut ∷ [])
       gone_agrees job shut may commands short agrees later bearing found =
-          child_next spent commands (Gone job shut) (gone_facts v.commands commands v.refused v.second inst log (facts v inst log a) job shut agrees) (gone_service log job shut) smalls soon short made-due unmade-not stays
+          child_next spent commands (Gone job shut) (gone_facts v.commands commands v.refused v.second inst log (facts v inst log a) job shut agrees) (gone_service log job shut) (fed_kept v.feeds inst log (Gone job shut) (λ by. refl) (λ by. refl) a.fed) smalls soon short made-due unmade-not stays
           (λ post e by c. record { unanswered = refl; undecided = refl }) (gone_leaves job shut may) later bearing found

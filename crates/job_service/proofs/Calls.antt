@@ -59,19 +59,21 @@ use Rattle.run_limits.specs.Limits.{most_seconds, most_submits}
 use Rattle.kvs_rules.specs.OneStore.{AsksOwn}
 use Rattle.job_service.specs.Agrees.{AgreesJobs, IsAgreed, IsNewAsk, IsServedBy, IsBookOf}
 use Rattle.job_service.specs.Children.{IsBearing}
+use Rattle.job_service.specs.Watching.{AreFed}
 use Rattle.job_service.specs.Due.{IsEventDue, IsFoundBeside, Owes}
 use Rattle.job_service.specs.Judged.{AreJudged}
 use Rattle.job_service.specs.Posted.{IsAlone, IsNamed}
 use Rattle.job_service.specs.Refusals.{fault_for, is_refusal_of, reply_to, row_in}
 use Rattle.job_service.specs.Value.{JobServiceValue}
 use Rattle.job_service.specs.View.{IsFit}
+use Rattle.job_service.specs.declared.feeds.Feed.{Feed}
 use Rattle.job_service.specs.declared.refusals.Refused.{Refused}
 use Rattle.job_service.proofs.Facts.{Facts, besides_facts, served_facts, service_one}
+use Rattle.job_service.proofs.Feeding.{fed_events, fed_kept}
 use Rattle.job_service.proofs.Judging.{judged_begun}
 use Rattle.job_service.proofs.Owing.{found-alone, found-named}
 use Rattle.job_deeds.specs.tap.Factors.{priority_by}
 use Rattle.job_deeds.specs.manager_rules.declared.terms.Terms.{Terms}
-use Rattle.job_deeds.specs.manager_rules.Terms.{AreBuilt}
 
 -- the service with other parts
 abbrev pub with_parts : JobServiceValue → Bool → ManagerValue → CommandsValue → List Refused → Option Post → ℕ → JobServiceValue
@@ -83,6 +85,7 @@ with_parts v spent manager commands refused found submitted = record {
   manager = manager;
   commands = commands;
   refused = refused;
+  feeds = v.feeds;
   found = found;
   bearing = v.bearing;
   submitted = submitted;
@@ -107,6 +110,23 @@ respan v inst log span bearing a = record {
   owes = a.owes;
   labelled = a.labelled;
   refused = a.refused;
+  fed = a.fed;
+  untold = a.untold;
+  shutdowns = a.shutdowns;
+}
+
+-- with other feeds
+pub refeed : (v : JobServiceValue) (inst : Instance) (log : Log) (spent : Bool) (feeds : List Feed) → AreFed feeds inst log → AgreesJobs v inst log → AgreesJobs (record v { spent = spent; feeds = feeds }) inst log
+refeed v inst log spent feeds fed a = record {
+  kind = record { valid = a.kind.valid; unique = a.kind.unique; ranks = a.kind.ranks; terms = a.kind.terms; birth = a.kind.birth; book = a.kind.book };
+  core = a.core;
+  legal = a.legal;
+  commands = a.commands;
+  second = a.second;
+  owes = a.owes;
+  labelled = a.labelled;
+  refused = a.refused;
+  fed = fed;
   untold = a.untold;
   shutdowns = a.shutdowns;
 }
@@ -115,10 +135,10 @@ module _ (v : JobServiceValue) (inst : Instance) (log : Log) (a : AgreesJobs v i
   pub facts : Facts v.commands v.refused v.second inst log
   facts = record { commands = a.commands; second = a.second; refused = a.refused; untold = a.untold; shutdowns = a.shutdowns }
 
-  pub joined : (spent : Bool) (manager : ManagerValue) (commands : CommandsValue) (refused : List Refused) (found : Option Post) (submitted : ℕ) (later : Log) → IsBookOf inst manager.book
+  pub joined : (spent : Bool) (manager : ManagerValue) (commands : CommandsValue) (refused : List Refused) (found : Option Post) (submitted : ℕ) (later : Log) → AreFed v.feeds inst later → IsBookOf inst manager.book
       → Agrees manager.core inst.service (service_of later) → IsLegalLog inst.service (service_of later) → AreLabelled commands.labels manager.book.jobs → Owes manager.posted found (desk_of commands inst later manager.book.jobs) → Facts commands refused v.second inst later
       → AgreesJobs (with_parts v spent manager commands refused found submitted) inst later
-  joined spent manager commands refused found submitted later of core legal labelled owes f = record {
+  joined spent manager commands refused found submitted later fed of core legal labelled owes f = record {
     kind = record {
       valid = a.kind.valid;
       unique = a.kind.unique;
@@ -134,6 +154,7 @@ module _ (v : JobServiceValue) (inst : Instance) (log : Log) (a : AgreesJobs v i
     owes = owes;
     labelled = labelled;
     refused = f.refused;
+    fed = fed;
     untold = f.untold;
     shutdowns = f.shutdowns;
   }
@@ -148,18 +169,18 @@ module _ (v : JobServiceValue) (inst : Instance) (log : Log) (a : AgreesJobs v i
       (subst (λ b. Owes v.manager.posted v.found (desk_of v.commands inst later b.jobs)) (sym book)
       (subst (Owes v.manager.posted v.found) (sym same) a.owes))
 
-  stays : (spent : Bool) (manager : ManagerValue) (later : Log) → manager.book ≡ v.manager.book → manager.posted ≡ v.manager.posted → desk_of v.commands inst later v.manager.book.jobs ≡ desk_of v.commands inst log v.manager.book.jobs
+  stays : (spent : Bool) (manager : ManagerValue) (later : Log) → AreFed v.feeds inst later → manager.book ≡ v.manager.book → manager.posted ≡ v.manager.posted → desk_of v.commands inst later v.manager.book.jobs ≡ desk_of v.commands inst log v.manager.book.jobs
       → Agrees manager.core inst.service (service_of later) → IsLegalLog inst.service (service_of later) → Facts v.commands v.refused v.second inst later
       → AgreesJobs (with_parts v spent manager v.commands v.refused v.found v.submitted) inst later
-  stays spent manager later book posted same core legal f =
-      joined spent manager v.commands v.refused v.found v.submitted later (same-book inst v.manager.book manager.book (ap (λ b. b.grant) book) (ap (λ b. b.policy) book) a.kind.book) core legal
+  stays spent manager later fed book posted same core legal f =
+      joined spent manager v.commands v.refused v.found v.submitted later fed (same-book inst v.manager.book manager.book (ap (λ b. b.grant) book) (ap (λ b. b.policy) book) a.kind.book) core legal
       (subst (λ b. AreLabelled v.commands.labels b.jobs) (sym book) a.labelled) (owed manager later book posted same) f
 
   served : (spent : Bool) (manager : ManagerValue) (m : service.Moment) → Keeps v.manager manager → IsLegalAfter inst.service (service_of log) (m ∷ []) → Agrees manager.core inst.service (service_of log ++ m ∷ [])
       → Facts v.commands v.refused v.second inst (log ++ Served m ∷ []) → AgreesJobs (with_parts v spent manager v.commands v.refused v.found v.submitted) inst (log ++ Served m ∷ [])
   served spent manager m keeps legal core f =
       let same = service_one v.commands v.refused v.second inst log m in
-      stays spent manager (log ++ Served m ∷ []) keeps.book keeps.posted (desk_same v.commands inst log m v.manager.book.jobs)
+      stays spent manager (log ++ Served m ∷ []) (fed_kept v.feeds inst log (Served m) (λ by. refl) (λ by. refl) a.fed) keeps.book keeps.posted (desk_same v.commands inst log m v.manager.book.jobs)
       (subst (Agrees manager.core inst.service) (sym same) core)
       (subst (IsLegalLog inst.service) (sym same) (legal_joined inst.service [] (service_of log) (m ∷ []) a.legal legal))
       f
@@ -192,7 +213,7 @@ module _ (v : JobServiceValue) (inst : Instance) (log : Log) (a : AgreesJobs v i
     pub turn_agrees : AgreesJobs (with_parts v spent manager v.commands v.refused v.found v.submitted) inst (log ++ map happening events)
     turn_agrees =
         let same = service_all events log in
-        stays spent manager (log ++ map happening events) s.book s.posted (desk_along v.commands inst v.manager.book.jobs events log)
+        stays spent manager (log ++ map happening events) (fed_events v.feeds inst events log a.fed) s.book s.posted (desk_along v.commands inst v.manager.book.jobs events log)
         (subst (Agrees manager.core inst.service) (sym same) (makes.agrees inst.service (service_of log) a.core))
         (subst (IsLegalLog inst.service) (sym same) (legal_joined inst.service [] (service_of log) (map service.Happened events) a.legal legal))
         (besides_facts v.commands v.refused v.second inst events log (users_beside inst a.kind.valid events log users legal) facts)
@@ -231,7 +252,7 @@ module _ (spent : Bool) (terms : Terms) (birth size fanout : ℕ) (grant : Resou
     (book : manager.book ≡ record { grant = grant; policy = terms.policy; jobs = [] }) (posted : manager.posted ≡ None) (set : (inst : Instance) → AgreesCommands commands inst [])
     (core : (s : Rattle.kvs_rules.specs.Namespaces.Setting) → s.size ≡ size → s.fanout ≡ fanout → s.base ≡ Rattle.kvs_rules.specs.Namespaces.fresh (r_text grant) → AsksOwn s → Agrees manager.core s []) where
   abbrev begun : JobServiceValue
-  begun = record { spent = spent; terms = terms; birth = birth; second = birth; manager = manager; commands = commands; refused = []; found = None; bearing = None; submitted = 0; span = 0 }
+  begun = record { spent = spent; terms = terms; birth = birth; second = birth; manager = manager; commands = commands; refused = []; feeds = []; found = None; bearing = None; submitted = 0; span = 0 }
 
   -- an instance without commands
   abbrev plain : Instance
@@ -286,7 +307,7 @@ module _ (spent : Bool) (terms : Terms) (birth size fanout : ℕ) (grant : Resou
   pub begun_drawn : (rank : ℕ) → rank < length commands.issued → slice_index commands.issued rank ≤ 0
   begun_drawn rank w = let none : slice_index commands.issued rank ≡ 0 = (set plain).issued rank w in omega (arith, none)
 
-  pub begun_judged : AreJudged commands manager.book.jobs []
+  pub begun_judged : AreJudged terms.limits commands manager.book.jobs []
   begun_judged = judged_begun commands manager.book.jobs [] (no_row plain)
 
   pub begun_sought : IsFoundBeside terms manager.posted commands manager.book birth birth None
@@ -311,12 +332,13 @@ module _ (spent : Bool) (terms : Terms) (birth size fanout : ℕ) (grant : Resou
     owes = begun_owes inst;
     labelled = λ id c. absurd (among_from [] id (subst (λ b. Contains (ids_of b.jobs) id) book c));
     refused = λ r c. absurd (among_from [] r c);
+    fed = record { each = λ f c. absurd (among_from [] f c); others = λ by e none. (refl, refl) };
     untold = λ by some e. record { unanswered = refl; undecided = refl };
     shutdowns = λ by e. refl;
   }
 
-  pub begun_agreed : AreBuilt terms → IsGrant grant.nodes → IsAgreed begun
-  begun_agreed built sets = record {
+  pub begun_agreed : IsGrant grant.nodes → IsAgreed begun
+  begun_agreed sets = record {
     inst = plain;
     log = [];
     agrees = begun_agrees plain (record {
@@ -331,7 +353,7 @@ module _ (spent : Bool) (terms : Terms) (birth size fanout : ℕ) (grant : Resou
       unique = λ a b label urgency other needs named text more ea eb. cc;
       ranks = λ by some. absurd (true≢false (sym some));
       served = record {
-        built = record { limits = built; start = refl; unwatched = λ by label e. cc };
+        built = record { start = refl };
         answer = refl;
         policy = refl;
         limits = refl;
@@ -361,7 +383,7 @@ pub record GoesOn (v : JobServiceValue) (manager : ManagerValue) (commands : Com
   pub bears : IsBearing commands manager.book bearing
   pub drawn : (rank : ℕ) → rank < length commands.issued → slice_index commands.issued rank ≤ submitted
   pub marked : AreMarkedBy commands v.second
-  pub judged : AreJudged commands manager.book.jobs refused
+  pub judged : AreJudged v.terms.limits commands manager.book.jobs refused
 
 pub is_soon : (v : JobServiceValue) → IsFit v → 1000 * (v.second - v.birth) < 2 ^ 40
 is_soon v i = let soon = i.soon in omega (arith, soon)
@@ -400,7 +422,7 @@ fit_still v i spent manager ready size book posted agreed =
     fit v i spent manager v.commands v.refused v.found v.submitted v.span v.bearing ready size refl
     (subst (λ p. IsFoundBeside v.terms p v.commands manager.book v.second v.birth v.found) (sym posted) (subst (λ b. IsFoundBeside v.terms v.manager.posted v.commands b v.second v.birth v.found) (sym book) i.sought)) (subst (IsNamed v.commands v.birth) (sym posted) i.posted)
     (subst (λ b. length b.jobs + count_by is_submit v.commands.rows ≤ v.submitted) (sym book) i.counted) i.bounded
-    (record { timed = i.timed; near = i.near; bears = subst (λ b. IsBearing v.commands b v.bearing) (sym book) i.bearing; drawn = i.drawn; marked = i.marked; judged = subst (λ b. AreJudged v.commands b.jobs v.refused) (sym book) i.judged }) agreed
+    (record { timed = i.timed; near = i.near; bears = subst (λ b. IsBearing v.commands b v.bearing) (sym book) i.bearing; drawn = i.drawn; marked = i.marked; judged = subst (λ b. AreJudged v.terms.limits v.commands b.jobs v.refused) (sym book) i.judged }) agreed
 
 pub row_known : (v : CommandsValue) (by : By) (result : Option (Bor Row)) (r : Bor Row) → option_copied result ≡ row_in v by → result ≡ Some r → Contains v.rows r.now × (r.now.by ≡ by)
 row_known v by result r e is = found by v.rows r.now (sym e ∙ ap option_copied is)

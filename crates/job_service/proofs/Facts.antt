@@ -37,8 +37,6 @@ use Rattle.job_service.specs.declared.refusals.Refused.{Refused}
 use Rattle.job_service.specs.Agrees.{IsUntold}
 use Rattle.job_landings.specs.Landings.{happening}
 use Rattle.job_service.specs.Refusals.{IsFaultOf, is_refusal_of, refusals_of, reply_to}
-use Rattle.job_deeds.specs.manager_rules.Limits.{verdict_of}
-use Rattle.job_deeds.specs.job_spec.declared.spec.JobSpec.{JobSpec}
 
 -- what the log says of the commands, the refusals and the time
 pub record Facts (v : CommandsValue) (list : List Refused) (now : ℕ) (inst : Instance) (log : Log) : Type 0 where
@@ -68,6 +66,13 @@ finds_kept inst log m by _ h = absurd h.2
 
 pub legal_kept : (inst : Instance) (log : Log) (m : Moment) (by : By) (f : Fault) → replies_now by m ≡ false → decides_now by m ≡ false → IsLegalReply inst log by (reply_to f) None → IsLegalReply inst (log ++ m ∷ []) by (reply_to f) None
 legal_kept inst log m by (fault.BadSpec n) quiet aside h = record {
+  ask = h.ask;
+  made = h.made;
+  waits = open_kept by log m quiet h.waits;
+  tells = undecided_kept by log m aside h.tells;
+  grounds = h.grounds;
+}
+legal_kept inst log m by (fault.Checked reason) quiet aside h = record {
   ask = h.ask;
   made = h.made;
   waits = open_kept by log m quiet h.waits;
@@ -230,8 +235,7 @@ module _ (v new : CommandsValue) (list : List Refused) (now : ℕ) (inst : Insta
 
   module _ (asked : JobAsk) (asks : inst.asks by ≡ Some (told asked)) (fresh : is_issued by log ≡ false)
       (store : Store) (standing : newest_store inst.service (service_of log) primary ≡ Some store) (jobs : List StoredJob) (are : AreJobsOf store jobs)
-      (lacking : (depends : List Depend) (named : List Named) → Lacks v.labels jobs depends named true → LacksSome inst log jobs depends (map named_of named))
-      (passes : (spec : JobSpec) → verdict_of inst.limits spec ≡ 0) where
+      (lacking : (depends : List Depend) (named : List Named) → Lacks v.labels jobs depends named true → LacksSome inst log jobs depends (map named_of named)) where
     untold_now : IsUntold by log
     untold_now = h.untold by (subst IsSome (sym asks) refl) fresh
 
@@ -244,8 +248,15 @@ module _ (v new : CommandsValue) (list : List Refused) (now : ℕ) (inst : Insta
     undecided_now : is_decided by issued ≡ false
     undecided_now = undecided_kept by log (Issued by) refl untold_now.undecided
 
-    refused_now : (f : Fault) (a : JobAsk) → inst.asks by ≡ Some (told a) → IsFaultOf v jobs a (Some f) → IsLegalReply inst issued by (reply_to f) None
+    refused_now : (f : Fault) (a : JobAsk) → inst.asks by ≡ Some (told a) → IsFaultOf inst.limits v jobs a (Some f) → IsLegalReply inst issued by (reply_to f) None
     refused_now (fault.BadSpec n) (ask.Submit label urgency needs text) made is = record {
+      ask = told (ask.Submit label urgency needs text);
+      made = made;
+      waits = waits_now;
+      tells = undecided_now;
+      grounds = (refl, is);
+    }
+    refused_now (fault.Checked reason) (ask.Submit label urgency needs text) made is = record {
       ask = told (ask.Submit label urgency needs text);
       made = made;
       waits = waits_now;
@@ -262,7 +273,7 @@ module _ (v new : CommandsValue) (list : List Refused) (now : ℕ) (inst : Insta
         (
           is.0,
           is.1,
-          passes is.0,
+          is.2,
           record {
             past = issued;
             later = [];
@@ -273,7 +284,7 @@ module _ (v new : CommandsValue) (list : List Refused) (now : ℕ) (inst : Insta
               standing = ap (λ l. newest_store inst.service l primary) issued_service ∙ standing;
               jobs = jobs;
               are = are;
-              lacks = lacks_still jobs is.0.depends (map named_of needs) (lacking is.0.depends needs is.2);
+              lacks = lacks_still jobs is.0.depends (map named_of needs) (lacking is.0.depends needs is.3);
             };
           },
         ),
@@ -281,7 +292,7 @@ module _ (v new : CommandsValue) (list : List Refused) (now : ℕ) (inst : Insta
     }
     refused_now f _ made is = cc
 
-    pub issue_facts : (found : Option Fault) → IsFaultOf v jobs asked found → AgreesCommands new inst issued → Facts new (list ++ refusals_of by found) now inst issued
+    pub issue_facts : (found : Option Fault) → IsFaultOf inst.limits v jobs asked found → AgreesCommands new inst issued → Facts new (list ++ refusals_of by found) now inst issued
     issue_facts found is agrees = record {
       commands = agrees;
       second = latest_push ticked inst.start log (Issued by) ∙ h.second;
@@ -293,7 +304,7 @@ module _ (v new : CommandsValue) (list : List Refused) (now : ℕ) (inst : Insta
       shutdowns = λ other e. undecided_kept other log (Issued by) refl (h.shutdowns other e);
     }
       where
-        at : (r : Refused) (o : Option Fault) → IsFaultOf v jobs asked o → Among r (refusals_of by o) → IsLegalReply inst issued r.by (reply_to r.fault) None
+        at : (r : Refused) (o : Option Fault) → IsFaultOf inst.limits v jobs asked o → Among r (refusals_of by o) → IsLegalReply inst issued r.by (reply_to r.fault) None
         at r None is i = absurd i
         at r (Some f) is (inl same) = subst (λ x. IsLegalReply inst issued x.by (reply_to x.fault) None) same (refused_now f asked asks is)
         at r (Some f) is (inr none) = absurd none

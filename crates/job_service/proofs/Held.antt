@@ -18,6 +18,7 @@ use Rattle.job_service.specs.Due.{IsFoundBeside}
 use Rattle.job_service.specs.Judged.{AreJudged}
 use Rattle.job_service.specs.Posted.{IsNamed, id_posted}
 use Rattle.job_service.specs.View.{IsHeld, value_of}
+use Rattle.job_service.specs.declared.feeds.Feed.{Feed}
 use Rattle.job_service.specs.declared.refusals.Refused.{Refused}
 use Rattle.job_service.specs.declared.service.JobService.TheInside.{Inside}
 use Rattle.job_service.proofs.Calls.{fit, fit_still, spanned, with_parts}
@@ -35,7 +36,7 @@ held_still s h spent manager ready size book posted agreed = record {
 
 -- where the manager stays, and what is due is looked for anew
 pub held_next : (s : Inside) → IsHeld s → (spent : Bool) (commands : CommandsValue) (refused : Vec Refused) (later : Option Post) (submitted span : ℕ) (bearing : Option ℕ) → length commands.issued ≡ length s.commands.issued → IsNamed commands s.birth s.manager.posted
-    → length s.manager.book.jobs + count_by is_submit commands.rows ≤ submitted → submitted ≤ most_submits → AreInTime commands s.birth s.second (most_seconds + span) → span ≤ most_seconds → IsBearing commands s.manager.book bearing → ((rank : ℕ) → rank < length commands.issued → slice_index commands.issued rank ≤ submitted) → AreMarkedBy commands s.second → AreJudged commands s.manager.book.jobs refused.items
+    → length s.manager.book.jobs + count_by is_submit commands.rows ≤ submitted → submitted ≤ most_submits → AreInTime commands s.birth s.second (most_seconds + span) → span ≤ most_seconds → IsBearing commands s.manager.book bearing → ((rank : ℕ) → rank < length commands.issued → slice_index commands.issued rank ≤ submitted) → AreMarkedBy commands s.second → AreJudged s.terms.limits commands s.manager.book.jobs refused.items
     → IsFoundBeside s.terms s.manager.posted commands s.manager.book s.second s.birth (option_map post_of later)
     → IsAgreed (spanned (with_parts (value_of s) spent s.manager commands refused.items (option_map post_of later) submitted) span bearing) → IsHeld (record s { spent = spent; commands = commands; refused = refused; found = later; bearing = bearing; submitted = submitted; span = span })
 held_next s h spent commands refused later submitted span bearing size named counted bounded timed near bears drawn marked judged found agreed =
@@ -54,13 +55,13 @@ held_posted s h spent manager id left post none ready is p names agreed =
     (record {
       fit = fit v h.fit spent manager s.commands s.refused.items None s.submitted s.span s.bearing ready p.size refl (subst (λ o. IsFoundBeside s.terms o s.commands manager.book s.second s.birth None) (sym p.posted) refl) (subst (IsNamed s.commands s.birth) (is ∙ sym p.posted) h.fit.named)
           (subst (λ b. length b.jobs + count_by is_submit s.commands.rows ≤ s.submitted) (sym p.book) h.fit.counted) h.fit.bounded
-          (record { timed = h.fit.timed; near = h.fit.near; bears = subst (λ b. IsBearing s.commands b s.bearing) (sym p.book) h.fit.bearing; drawn = h.fit.drawn; marked = h.fit.marked; judged = subst (λ b. AreJudged s.commands b.jobs s.refused.items) (sym p.book) h.fit.judged }) agreed;
+          (record { timed = h.fit.timed; near = h.fit.near; bears = subst (λ b. IsBearing s.commands b s.bearing) (sym p.book) h.fit.bearing; drawn = h.fit.drawn; marked = h.fit.marked; judged = subst (λ b. AreJudged s.terms.limits s.commands b.jobs s.refused.items) (sym p.book) h.fit.judged }) agreed;
       submits = names ∙ sym (ap id_posted p.posted);
     })
 
 -- where a post has landed
 pub held_landed : (s : Inside) → IsHeld s → (spent : Bool) (manager : ManagerValue) (commands : CommandsValue) (refused : Vec Refused) (later : Option Post) (bearing : Option ℕ) → manager.spent ≡ false → manager.core.size ≡ s.manager.core.size → manager.posted ≡ None → length commands.issued ≡ length s.commands.issued
-    → length manager.book.jobs + count_by is_submit commands.rows ≤ s.submitted → AreInTime commands s.birth s.second (most_seconds + s.span) → IsBearing commands manager.book bearing → ((rank : ℕ) → rank < length commands.issued → slice_index commands.issued rank ≤ s.submitted) → AreMarkedBy commands s.second → AreJudged commands manager.book.jobs refused.items
+    → length manager.book.jobs + count_by is_submit commands.rows ≤ s.submitted → AreInTime commands s.birth s.second (most_seconds + s.span) → IsBearing commands manager.book bearing → ((rank : ℕ) → rank < length commands.issued → slice_index commands.issued rank ≤ s.submitted) → AreMarkedBy commands s.second → AreJudged s.terms.limits commands manager.book.jobs refused.items
     → IsFoundBeside s.terms manager.posted commands manager.book s.second s.birth (option_map post_of later)
     → IsAgreed (spanned (with_parts (value_of s) spent manager commands refused.items (option_map post_of later) s.submitted) s.span bearing) → IsHeld (record s { spent = spent; manager = manager; commands = commands; refused = refused; found = later; bearing = bearing; submitting = None })
 held_landed s h spent manager commands refused later bearing ready size posted same counted timed bears drawn marked judged found agreed =
@@ -117,5 +118,33 @@ held_child s h spent commands children later bearing is bears found agreed =
     i.near bears
     (subst (λ (w : CommandsValue). (rank : ℕ) → rank < length w.issued → slice_index w.issued rank ≤ s.submitted) so i.drawn)
     (subst (λ w. AreMarkedBy w s.second) so i.marked)
-    (subst (λ w. AreJudged w s.manager.book.jobs s.refused.items) so i.judged)
+    (subst (λ w. AreJudged s.terms.limits w s.manager.book.jobs s.refused.items) so i.judged)
     found agreed
+
+-- with other feeds
+pub held_fed : (s : Inside) → IsHeld s → (spent : Bool) (feeds : Vec Feed) → IsAgreed (value_of (record s { spent = spent; feeds = feeds })) → IsHeld (record s { spent = spent; feeds = feeds })
+held_fed s h spent feeds agreed =
+    let i = h.fit in
+    record {
+      fit = record {
+        ready = i.ready;
+        size = i.size;
+        few = i.few;
+        order = i.order;
+        soon = i.soon;
+        early = i.early;
+        timed = i.timed;
+        near = i.near;
+        sought = i.sought;
+        posted = i.posted;
+        named = i.named;
+        counted = i.counted;
+        bounded = i.bounded;
+        drawn = i.drawn;
+        marked = i.marked;
+        judged = i.judged;
+        bearing = i.bearing;
+        agreed = agreed;
+      };
+      submits = h.submits;
+    }

@@ -52,10 +52,11 @@ use Rattle.job_service.specs.Replies.{Answers, asks_manager, can_reply, is_kept_
 use Rattle.job_service.specs.Value.{JobServiceValue}
 use Rattle.job_service.specs.View.{IsFit}
 use Rattle.job_service.specs.declared.refusals.Refused.{Refused}
+use Rattle.job_service.proofs.Feeding.{fed_kept}
 use Rattle.job_service.proofs.Calls.{facts, joined, labelled_still, respan, spanned, with_parts}
 use Rattle.job_service.proofs.Counting.{count_filter, count_more}
 use Rattle.job_service.proofs.Facts.{Facts, issue_facts, issued_service, replied_service, reply_facts}
-use Rattle.job_service.proofs.Owing.{MadeAreDue, UnmadeAreNot, beside-owes, posted-due, passes-all}
+use Rattle.job_service.proofs.Owing.{MadeAreDue, UnmadeAreNot, beside-owes, posted-due}
 
 -- what the law says of what waits
 abbrev pub StaysDue : Type 0
@@ -84,7 +85,7 @@ module _ (v : JobServiceValue) (inst : Instance) (log : Log) (a : AgreesJobs v i
   module _ (spent : Bool) (commands : CommandsValue) (by : By) (rank : ℕ) (asked : JobAsk) (new : IsNewCommand inst log by rank asked) (m : IsManaged v.manager)
       (newest : newest_store inst.service (service_of log) primary ≡ Some (newest_of v.manager.core))
       (lacking : (x : CommandsValue) (i : Instance) (l : Log) (jobs : List StoredJob) (depends : List Depend) (named : List Named) → AgreesCommands x i l → Lacks x.labels jobs depends named true → LacksSome i l jobs depends (map named_of named))
-      (fault : Option Fault) (is : IsFaultOf v.commands v.manager.book.jobs asked fault)
+      (fault : Option Fault) (is : IsFaultOf v.terms.limits v.commands v.manager.book.jobs asked fault)
       (order : v.birth ≤ v.second)
       (goes_on : (i : Instance) (l : Log) → AgreesCommands v.commands i l → i.asks by ≡ Some (told asked) → i.rank by ≡ rank → now_of i l ≡ v.second → i.birth ≤ v.second → is_issued by l ≡ false → is_replied by l ≡ false → is_decided by l ≡ false → AgreesCommands commands i (l ++ Issued by ∷ [])) where
     pub issued_commands : AgreesCommands commands inst (log ++ Issued by ∷ [])
@@ -95,7 +96,7 @@ module _ (v : JobServiceValue) (inst : Instance) (log : Log) (a : AgreesJobs v i
     pub issued_facts : Facts commands (v.refused ++ refusals_of by fault) v.second inst (log ++ Issued by ∷ [])
     issued_facts =
         issue_facts v.commands commands v.refused v.second inst log by (facts v inst log a) asked new.asks new.new (newest_of v.manager.core) newest v.manager.book.jobs m.jobs
-        (λ depends named lacks. lacking v.commands inst log v.manager.book.jobs depends named a.commands lacks) (passes-all inst v.terms a.kind.terms) fault is issued_commands
+        (λ depends named lacks. lacking v.commands inst log v.manager.book.jobs depends named a.commands lacks) fault (subst (λ limits. IsFaultOf limits v.commands v.manager.book.jobs asked fault) (sym a.kind.terms.limits) is) issued_commands
 
     labelled_next : AreLabelled commands.labels v.manager.book.jobs
     labelled_next = labelled_still v.commands commands inst log (Issued by) v.manager.book.jobs a.commands issued_commands a.labelled
@@ -105,7 +106,7 @@ module _ (v : JobServiceValue) (inst : Instance) (log : Log) (a : AgreesJobs v i
     issue_all smalls soon short made-due unmade-not stays later submitted h span =
         let same = issued_service v.commands commands v.refused v.second inst log by (facts v inst log a) in
         respan (with_parts v spent v.manager commands (v.refused ++ refusals_of by fault) later submitted) inst (log ++ Issued by ∷ []) span v.bearing
-        (joined v inst log a spent v.manager commands (v.refused ++ refusals_of by fault) later submitted (log ++ Issued by ∷ []) a.kind.book
+        (joined v inst log a spent v.manager commands (v.refused ++ refusals_of by fault) later submitted (log ++ Issued by ∷ []) (fed_kept v.feeds inst log (Issued by) (λ other. refl) (λ other. refl) a.fed) a.kind.book
         (subst (Agrees v.manager.core inst.service) (sym same) a.core)
         (subst (IsLegalLog inst.service) (sym same) a.legal)
         labelled_next
@@ -163,6 +164,7 @@ module _ (v : JobServiceValue) (inst : Instance) (log : Log) (a : AgreesJobs v i
   told_as ask.Jobs = refl
   told_as (ask.Why label) = refl
   told_as (ask.ResultOf label) = refl
+  told_as (ask.Watch label) = refl
   told_as (ask.Advance seconds) = refl
 
   still_waits : (row : Row) (s : Stage) → StageAgrees log row.by row.ask s → is_decided row.by log ≡ false → is_waiting s ≡ true
@@ -211,7 +213,7 @@ module _ (v : JobServiceValue) (inst : Instance) (log : Log) (a : AgreesJobs v i
           reply = t.reply;
           hands = t.hands;
           legal = t.legal;
-          agrees = joined v inst log a spent v.manager commands (filter (λ x. not (is_refusal_of by x)) v.refused) later v.submitted (log ++ Replied by t.reply number ∷ []) a.kind.book
+          agrees = joined v inst log a spent v.manager commands (filter (λ x. not (is_refusal_of by x)) v.refused) later v.submitted (log ++ Replied by t.reply number ∷ []) (fed_kept v.feeds inst log (Replied by t.reply number) (λ other. refl) (λ other. refl) a.fed) a.kind.book
               (subst (Agrees v.manager.core inst.service) (sym same) a.core)
               (subst (IsLegalLog inst.service) (sym same) a.legal)
               labelled_told
@@ -299,6 +301,7 @@ issued_time v new by rank now birth span (ask.Info label key) rows h = subst (Ar
 issued_time v new by rank now birth span ask.Jobs rows h = subst (AreInTime new birth now) (sym (plus-none span)) (other_in_time v new (issued_row v by rank now ask.Jobs) birth now span rows refl h)
 issued_time v new by rank now birth span (ask.Why label) rows h = subst (AreInTime new birth now) (sym (plus-none span)) (other_in_time v new (issued_row v by rank now (ask.Why label)) birth now span rows refl h)
 issued_time v new by rank now birth span (ask.ResultOf label) rows h = subst (AreInTime new birth now) (sym (plus-none span)) (other_in_time v new (issued_row v by rank now (ask.ResultOf label)) birth now span rows refl h)
+issued_time v new by rank now birth span (ask.Watch label) rows h = subst (AreInTime new birth now) (sym (plus-none span)) (other_in_time v new (issued_row v by rank now (ask.Watch label)) birth now span rows refl h)
 
 pub issued_within : (v new : CommandsValue) (by : By) (rank now birth span : ℕ) (asked : JobAsk) → new.rows ≡ v.rows ++ issued_row v by rank now asked ∷ [] → AreInTime v birth now (most_seconds + span) → AreInTime new birth now (most_seconds + (span + seconds_asked asked))
 issued_within v new by rank now birth span asked rows h =

@@ -25,6 +25,7 @@ use Rattle.job_submissions.specs.declared.faults.Fault.{Fault}
 use Rattle.kvs_rules.proofs.Asking.{command_is}
 use Rattle.job_deeds.specs.kvs_txn.declared.txn.By.{By}
 use Rattle.job_deeds.proofs.manager_rules_proofs.Landing.{with_event_ids}
+use Rattle.job_deeds.specs.manager_rules.declared.terms.Limits.{Limits}
 use Rattle.job_deeds.specs.manager_rules.Jobs.{StoredJob, ids_of}
 use Rattle.job_deeds.specs.manager_rules.Posts.{Does, Post, Submission, Submits, begun_with, job_of, jobs_after, with_job}
 use Rattle.job_service.specs.declared.refusals.Refused.{Refused}
@@ -88,104 +89,106 @@ known_kept : (old new : List StoredJob) → KeepJobs old new → (needs : List D
 known_kept old new keep [] h = tt
 known_kept old new keep (need ∷ needs) h = (keep need.on h.0, known_kept old new keep needs h.1)
 
-made_kept : (old new : Labels) (jobs later : List StoredJob) → KeepLabels old new → KeepJobs jobs later → (named : List Named) (text : List ℕ) → CanBeMade old jobs named text → CanBeMade new later named text
-made_kept old new jobs later labels keep named text m = record {
-  spec = m.spec;
-  needs = m.needs;
-  accepted = record {
-    reads = m.accepted.reads;
-    names = needs_kept old new labels named m.needs m.accepted.names;
-    depends = known_kept jobs later keep m.spec.depends m.accepted.depends;
-    known = known_kept jobs later keep m.needs m.accepted.known;
-  };
-}
+module _ {limits : Limits} where
+  made_kept : (old new : Labels) (jobs later : List StoredJob) → KeepLabels old new → KeepJobs jobs later → (named : List Named) (text : List ℕ) → CanBeMade limits old jobs named text → CanBeMade limits new later named text
+  made_kept old new jobs later labels keep named text m = record {
+    spec = m.spec;
+    needs = m.needs;
+    accepted = record {
+      reads = m.accepted.reads;
+      passed = m.accepted.passed;
+      names = needs_kept old new labels named m.needs m.accepted.names;
+      depends = known_kept jobs later keep m.spec.depends m.accepted.depends;
+      known = known_kept jobs later keep m.needs m.accepted.known;
+    };
+  }
 
--- ---- refusals stay
+  -- ---- refusals stay
 
-refused_left : (list more : List Refused) (by : By) → WasRefused list by → WasRefused (list ++ more) by
-refused_left list more by r = record { one = r.one; known = contains_from _ r.one (among_left list more r.one (among_from list r.one r.known)); named = r.named }
+  refused_left : (list more : List Refused) (by : By) → WasRefused list by → WasRefused (list ++ more) by
+  refused_left list more by r = record { one = r.one; known = contains_from _ r.one (among_left list more r.one (among_from list r.one r.known)); named = r.named }
 
--- the refusals of other commands
-refused_other : (by : By) (list : List Refused) (other : By) → other ≢ by → WasRefused list other → WasRefused (filter (λ r. not (is_refusal_of by r)) list) other
-refused_other by list other ne r = record {
-  one = r.one;
-  known = contains_from _ r.one (among_kept (λ x. not (is_refusal_of by x)) list r.one (among_from list r.one r.known)
-      (not_from_false (is_refusal_of by r.one) (false_from_ne_true (is_refusal_of by r.one) (λ t. ne (sym r.named ∙ sym (command_is by r.one.by t))))));
-  named = r.named;
-}
+  -- the refusals of other commands
+  refused_other : (by : By) (list : List Refused) (other : By) → other ≢ by → WasRefused list other → WasRefused (filter (λ r. not (is_refusal_of by r)) list) other
+  refused_other by list other ne r = record {
+    one = r.one;
+    known = contains_from _ r.one (among_kept (λ x. not (is_refusal_of by x)) list r.one (among_from list r.one r.known)
+        (not_from_false (is_refusal_of by r.one) (false_from_ne_true (is_refusal_of by r.one) (λ t. ne (sym r.named ∙ sym (command_is by r.one.by t))))));
+    named = r.named;
+  }
 
--- ---- through the calls
+  -- ---- through the calls
 
-pub judged_begun : (v : CommandsValue) (jobs : List StoredJob) (list : List Refused) → ((row : Row) → Contains v.rows row → ⊥) → AreJudged v jobs list
-judged_begun v jobs list none = λ row urgency named text c asks. absurd (none row c)
+  pub judged_begun : (v : CommandsValue) (jobs : List StoredJob) (list : List Refused) → ((row : Row) → Contains v.rows row → ⊥) → AreJudged limits v jobs list
+  judged_begun v jobs list none = λ row urgency named text c asks. absurd (none row c)
 
-same_asks : (row : Row) (urgency : ℕ) (named : List Named) (text : List ℕ) (x : Row) → x ≡ row → Asks x urgency named text → Asks row urgency named text
-same_asks row urgency named text x e asks = subst (λ r. Asks r urgency named text) e asks
+  same_asks : (row : Row) (urgency : ℕ) (named : List Named) (text : List ℕ) (x : Row) → x ≡ row → Asks x urgency named text → Asks row urgency named text
+  same_asks row urgency named text x e asks = subst (λ r. Asks r urgency named text) e asks
 
--- of what is asked, a submission is refused or accepted
-judged_asked : (v : CommandsValue) (jobs : List StoredJob) (list : List Refused) (by : By) (asked : JobAsk) (fault : Option Fault) → IsFaultOf v jobs asked fault → (label : List ℕ) (urgency : ℕ) (named : List Named) (text : List ℕ) → asked ≡ ask.Submit label urgency named text
-    → WasRefused (list ++ refusals_of by fault) by ⊎ CanBeMade v.labels jobs named text
-judged_asked v jobs list by asked (Some f) is label urgency named text e =
-    let new : Refused = record { by = by; fault = f } in
-    inl (record { one = new; known = contains_from _ new (among_right list (new ∷ []) new (inl refl)); named = refl })
-judged_asked v jobs list by asked None is label urgency named text e =
-    let h = subst (λ x. IsFaultOf v jobs x None) e is in
-    inr (record { spec = h.0; needs = h.2.1.0; accepted = record { reads = h.1; names = h.2.1.1; depends = h.2.0; known = h.2.1.2 } })
+  -- of what is asked, a submission is refused or accepted
+  judged_asked : (v : CommandsValue) (jobs : List StoredJob) (list : List Refused) (by : By) (asked : JobAsk) (fault : Option Fault) → IsFaultOf limits v jobs asked fault → (label : List ℕ) (urgency : ℕ) (named : List Named) (text : List ℕ) → asked ≡ ask.Submit label urgency named text
+      → WasRefused (list ++ refusals_of by fault) by ⊎ CanBeMade limits v.labels jobs named text
+  judged_asked v jobs list by asked (Some f) is label urgency named text e =
+      let new : Refused = record { by = by; fault = f } in
+      inl (record { one = new; known = contains_from _ new (among_right list (new ∷ []) new (inl refl)); named = refl })
+  judged_asked v jobs list by asked None is label urgency named text e =
+      let h = subst (λ x. IsFaultOf limits v jobs x None) e is in
+      inr (record { spec = h.0; needs = h.3.1.0; accepted = record { reads = h.1; passed = h.2; names = h.3.1.1; depends = h.3.0; known = h.3.1.2 } })
 
-pub judged_issued : (v new : CommandsValue) (jobs : List StoredJob) (list : List Refused) (by : By) (rank now : ℕ) (asked : JobAsk) (fault : Option Fault) → new.rows ≡ v.rows ++ issued_row v by rank now asked ∷ [] → new.labels ≡ v.labels → IsFaultOf v jobs asked fault → AreJudged v jobs list → AreJudged new jobs (list ++ refusals_of by fault)
-judged_issued v new jobs list by rank now asked fault rows labels is h = λ row urgency named text c asks.
-    subst (λ l. WasRefused (list ++ refusals_of by fault) row.by ⊎ CanBeMade l jobs named text) (sym labels)
-    (at row urgency named text asks (among_append v.rows (issued_row v by rank now asked ∷ []) row (among_from _ row (subst (λ l. Contains l row) rows c))))
-  where
-    old : (row : Row) (named : List Named) (text : List ℕ) → WasRefused list row.by ⊎ CanBeMade v.labels jobs named text → WasRefused (list ++ refusals_of by fault) row.by ⊎ CanBeMade v.labels jobs named text
-    old row named text (inl r) = inl (refused_left list (refusals_of by fault) row.by r)
-    old row named text (inr m) = inr m
+  pub judged_issued : (v new : CommandsValue) (jobs : List StoredJob) (list : List Refused) (by : By) (rank now : ℕ) (asked : JobAsk) (fault : Option Fault) → new.rows ≡ v.rows ++ issued_row v by rank now asked ∷ [] → new.labels ≡ v.labels → IsFaultOf limits v jobs asked fault → AreJudged limits v jobs list → AreJudged limits new jobs (list ++ refusals_of by fault)
+  judged_issued v new jobs list by rank now asked fault rows labels is h = λ row urgency named text c asks.
+      subst (λ l. WasRefused (list ++ refusals_of by fault) row.by ⊎ CanBeMade limits l jobs named text) (sym labels)
+      (at row urgency named text asks (among_append v.rows (issued_row v by rank now asked ∷ []) row (among_from _ row (subst (λ l. Contains l row) rows c))))
+    where
+      old : (row : Row) (named : List Named) (text : List ℕ) → WasRefused list row.by ⊎ CanBeMade limits v.labels jobs named text → WasRefused (list ++ refusals_of by fault) row.by ⊎ CanBeMade limits v.labels jobs named text
+      old row named text (inl r) = inl (refused_left list (refusals_of by fault) row.by r)
+      old row named text (inr m) = inr m
 
-    at : (row : Row) (urgency : ℕ) (named : List Named) (text : List ℕ) → Asks row urgency named text → Among row v.rows ⊎ Among row (issued_row v by rank now asked ∷ []) → WasRefused (list ++ refusals_of by fault) row.by ⊎ CanBeMade v.labels jobs named text
-    at row urgency named text asks (inl i) = old row named text (h row urgency named text (contains_from v.rows row i) asks)
-    at row urgency named text asks (inr (inl same)) =
-        subst (λ b. WasRefused (list ++ refusals_of by fault) b ⊎ CanBeMade v.labels jobs named text) (ap (λ r. r.by) same)
-        (judged_asked v jobs list by asked fault is asks.label urgency named text (ap (λ r. r.ask) same ∙ asks.asks))
-    at row urgency named text asks (inr (inr none)) = absurd none
+      at : (row : Row) (urgency : ℕ) (named : List Named) (text : List ℕ) → Asks row urgency named text → Among row v.rows ⊎ Among row (issued_row v by rank now asked ∷ []) → WasRefused (list ++ refusals_of by fault) row.by ⊎ CanBeMade limits v.labels jobs named text
+      at row urgency named text asks (inl i) = old row named text (h row urgency named text (contains_from v.rows row i) asks)
+      at row urgency named text asks (inr (inl same)) =
+          subst (λ b. WasRefused (list ++ refusals_of by fault) b ⊎ CanBeMade limits v.labels jobs named text) (ap (λ r. r.by) same)
+          (judged_asked v jobs list by asked fault is asks.label urgency named text (ap (λ r. r.ask) same ∙ asks.asks))
+      at row urgency named text asks (inr (inr none)) = absurd none
 
-pub judged_told : (v new : CommandsValue) (jobs : List StoredJob) (list : List Refused) (by : By) → new.rows ≡ filter (λ r. not (is_of by r)) v.rows → new.labels ≡ v.labels → AreJudged v jobs list → AreJudged new jobs (filter (λ r. not (is_refusal_of by r)) list)
-judged_told v new jobs list by rows labels h = λ row urgency named text c asks.
-    let k = from_forgotten by v.rows row (subst (λ l. Contains l row) rows c) in
-    subst (λ l. WasRefused (filter (λ r. not (is_refusal_of by r)) list) row.by ⊎ CanBeMade l jobs named text) (sym labels)
-    (at row named text k.1 (h row urgency named text k.0 asks))
-  where
-    at : (row : Row) (named : List Named) (text : List ℕ) → row.by ≢ by → WasRefused list row.by ⊎ CanBeMade v.labels jobs named text → WasRefused (filter (λ r. not (is_refusal_of by r)) list) row.by ⊎ CanBeMade v.labels jobs named text
-    at row named text ne (inl r) = inl (refused_other by list row.by ne r)
-    at row named text ne (inr m) = inr m
+  pub judged_told : (v new : CommandsValue) (jobs : List StoredJob) (list : List Refused) (by : By) → new.rows ≡ filter (λ r. not (is_of by r)) v.rows → new.labels ≡ v.labels → AreJudged limits v jobs list → AreJudged limits new jobs (filter (λ r. not (is_refusal_of by r)) list)
+  judged_told v new jobs list by rows labels h = λ row urgency named text c asks.
+      let k = from_forgotten by v.rows row (subst (λ l. Contains l row) rows c) in
+      subst (λ l. WasRefused (filter (λ r. not (is_refusal_of by r)) list) row.by ⊎ CanBeMade limits l jobs named text) (sym labels)
+      (at row named text k.1 (h row urgency named text k.0 asks))
+    where
+      at : (row : Row) (named : List Named) (text : List ℕ) → row.by ≢ by → WasRefused list row.by ⊎ CanBeMade limits v.labels jobs named text → WasRefused (filter (λ r. not (is_refusal_of by r)) list) row.by ⊎ CanBeMade limits v.labels jobs named text
+      at row named text ne (inl r) = inl (refused_other by list row.by ne r)
+      at row named text ne (inr m) = inr m
 
--- a row that waits is none of those that are carried out
-waits_still : (by : By) (number : ℕ) (old new : List Row) → AreCarried by number old new → (row : Row) → Contains new row → row.stage ≡ stage.Waits → Contains old row × (row.by ≢ by)
-waits_still by number old new rows row c waits = at (from_carried by number old new rows row c)
-  where
-    at : (y : Row) × Contains old y × (row ≡ carried by number y) → Contains old row × (row.by ≢ by)
-    at (y, known, is) = by_test (is_of by y) refl
-      where
-        by_test : (b : Bool) → is_of by y ≡ b → Contains old row × (row.by ≢ by)
-        by_test true t = absurd (let wrong : stage.Landed number ≡ stage.Waits = sym (ap (λ x. x.stage) (is ∙ carried_at by number y t)) ∙ waits in cc)
-        by_test false t =
-            let same : row ≡ y = is ∙ carried_past by number y t in
-            (subst (Contains old) (sym same) known, subst (λ r. r.by ≢ by) (sym same) (of_other by y t))
+  -- a row that waits is none of those that are carried out
+  waits_still : (by : By) (number : ℕ) (old new : List Row) → AreCarried by number old new → (row : Row) → Contains new row → row.stage ≡ stage.Waits → Contains old row × (row.by ≢ by)
+  waits_still by number old new rows row c waits = at (from_carried by number old new rows row c)
+    where
+      at : (y : Row) × Contains old y × (row ≡ carried by number y) → Contains old row × (row.by ≢ by)
+      at (y, known, is) = by_test (is_of by y) refl
+        where
+          by_test : (b : Bool) → is_of by y ≡ b → Contains old row × (row.by ≢ by)
+          by_test true t = absurd (let wrong : stage.Landed number ≡ stage.Waits = sym (ap (λ x. x.stage) (is ∙ carried_at by number y t)) ∙ waits in cc)
+          by_test false t =
+              let same : row ≡ y = is ∙ carried_past by number y t in
+              (subst (Contains old) (sym same) known, subst (λ r. r.by ≢ by) (sym same) (of_other by y t))
 
-carried_judged : (v new : CommandsValue) (jobs later : List StoredJob) (list : List Refused) (by : By) (number : ℕ) → AreCarried by number v.rows new.rows → KeepLabels v.labels new.labels → KeepJobs jobs later → AreJudged v jobs list → AreJudged new later (filter (λ r. not (is_refusal_of by r)) list)
-carried_judged v new jobs later list by number rows labels keep h = λ row urgency named text c asks.
-    let k = waits_still by number v.rows new.rows rows row c asks.waits in
-    at row named text k.1 (h row urgency named text k.0 asks)
-  where
-    at : (row : Row) (named : List Named) (text : List ℕ) → row.by ≢ by → WasRefused list row.by ⊎ CanBeMade v.labels jobs named text → WasRefused (filter (λ r. not (is_refusal_of by r)) list) row.by ⊎ CanBeMade new.labels later named text
-    at row named text ne (inl r) = inl (refused_other by list row.by ne r)
-    at row named text ne (inr m) = inr (made_kept v.labels new.labels jobs later labels keep named text m)
+  carried_judged : (v new : CommandsValue) (jobs later : List StoredJob) (list : List Refused) (by : By) (number : ℕ) → AreCarried by number v.rows new.rows → KeepLabels v.labels new.labels → KeepJobs jobs later → AreJudged limits v jobs list → AreJudged limits new later (filter (λ r. not (is_refusal_of by r)) list)
+  carried_judged v new jobs later list by number rows labels keep h = λ row urgency named text c asks.
+      let k = waits_still by number v.rows new.rows rows row c asks.waits in
+      at row named text k.1 (h row urgency named text k.0 asks)
+    where
+      at : (row : Row) (named : List Named) (text : List ℕ) → row.by ≢ by → WasRefused list row.by ⊎ CanBeMade limits v.labels jobs named text → WasRefused (filter (λ r. not (is_refusal_of by r)) list) row.by ⊎ CanBeMade limits new.labels later named text
+      at row named text ne (inl r) = inl (refused_other by list row.by ne r)
+      at row named text ne (inr m) = inr (made_kept v.labels new.labels jobs later labels keep named text m)
 
-pub judged_landed : (v new : CommandsValue) (jobs later : List StoredJob) (list left : List Refused) (id : Option ℕ) (number : ℕ) (o : Option By) → IsLanded o id number v new list left → KeepLabels v.labels new.labels → KeepJobs jobs later → AreJudged v jobs list → AreJudged new later left
-judged_landed v new jobs later list left id number None l labels keep h =
-    subst (λ c. AreJudged c later left) (sym l.0) (subst (AreJudged v later) (sym l.1) (λ row urgency named text c asks. at row named text (h row urgency named text c asks)))
-  where
-    at : (row : Row) (named : List Named) (text : List ℕ) → WasRefused list row.by ⊎ CanBeMade v.labels jobs named text → WasRefused list row.by ⊎ CanBeMade v.labels later named text
-    at row named text (inl r) = inl r
-    at row named text (inr m) = inr (made_kept v.labels v.labels jobs later (λ label id e. e) keep named text m)
-judged_landed v new jobs later list left (Some id) number (Some by) l labels keep h = subst (AreJudged new later) (sym l.1) (carried_judged v new jobs later list by number l.0.rows labels keep h)
-judged_landed v new jobs later list left None number (Some by) l labels keep h = subst (AreJudged new later) (sym l.1) (carried_judged v new jobs later list by number l.0.rows labels keep h)
+  pub judged_landed : (v new : CommandsValue) (jobs later : List StoredJob) (list left : List Refused) (id : Option ℕ) (number : ℕ) (o : Option By) → IsLanded o id number v new list left → KeepLabels v.labels new.labels → KeepJobs jobs later → AreJudged limits v jobs list → AreJudged limits new later left
+  judged_landed v new jobs later list left id number None l labels keep h =
+      subst (λ c. AreJudged limits c later left) (sym l.0) (subst (AreJudged limits v later) (sym l.1) (λ row urgency named text c asks. at row named text (h row urgency named text c asks)))
+    where
+      at : (row : Row) (named : List Named) (text : List ℕ) → WasRefused list row.by ⊎ CanBeMade limits v.labels jobs named text → WasRefused list row.by ⊎ CanBeMade limits v.labels later named text
+      at row named text (inl r) = inl r
+      at row named text (inr m) = inr (made_kept v.labels v.labels jobs later (λ label id e. e) keep named text m)
+  judged_landed v new jobs later list left (Some id) number (Some by) l labels keep h = subst (AreJudged limits new later) (sym l.1) (carried_judged v new jobs later list by number l.0.rows labels keep h)
+  judged_landed v new jobs later list left None number (Some by) l labels keep h = subst (AreJudged limits new later) (sym l.1) (carried_judged v new jobs later list by number l.0.rows labels keep h)

@@ -47,6 +47,7 @@ use Rattle.job_service.specs.Landed.{IsLanded, LandsAs, LandsEvent, LandsSubmiss
 use Rattle.job_service.specs.Posted.{IsNamed, id_posted}
 use Rattle.job_service.specs.Value.{JobServiceValue}
 use Rattle.job_service.specs.declared.refusals.Refused.{Refused}
+use Rattle.job_service.proofs.Feeding.{fed_events}
 use Rattle.job_service.proofs.Calls.{facts, joined, labelled_still, with_parts, same-book}
 use Rattle.job_service.proofs.Counting.{count_carried, count_submitted, ids_after, length_done, length_submitted}
 use Rattle.job_service.proofs.Facts.{Facts, besides_facts, landed_facts, pending_kept, served_facts}
@@ -295,7 +296,7 @@ module _ (v : JobServiceValue) (inst : Instance) (log : Log) (a : AgreesJobs v i
         subst (Facts commands refused v.second inst) (sym (ap (λ es. log ++ map happening es) p.split ∙ log_split log p.before p.behind (event.Landed primary p.number p.authors p.groups)))
         (besides_facts commands refused v.second inst p.behind there p.later after.facts)
 
-    pub later_judged : AreJudged v.commands jobs v.refused → AreJudged commands manager.book.jobs refused
+    pub later_judged : AreJudged v.terms.limits v.commands jobs v.refused → AreJudged v.terms.limits commands manager.book.jobs refused
     later_judged h =
         judged_landed v.commands commands jobs manager.book.jobs v.refused refused id p.number (command_of l.post) landed
         (labels_kept v.commands commands inst log (map happening events) a.commands facts_later.commands)
@@ -309,7 +310,7 @@ module _ (v : JobServiceValue) (inst : Instance) (log : Log) (a : AgreesJobs v i
     landed_agrees spent found smalls soon short made-due unmade-not h =
         let same = service_all events log in
         let of : IsBookOf inst manager.book = same-book inst v.manager.book manager.book (ap (λ b. b.grant) l.book) (ap (λ b. b.policy) l.book) a.kind.book in
-        joined v inst log a spent manager commands refused found v.submitted later of
+        joined v inst log a spent manager commands refused found v.submitted later (fed_events v.feeds inst events log a.fed) of
         (subst (Agrees manager.core inst.service) (sym same) (makes.agrees inst.service (service_of log) a.core))
         (subst (IsLegalLog inst.service) (sym same) (legal_joined inst.service [] (service_of log) (map service.Happened events) a.legal (makes.legal inst.service (service_of log) a.core)))
         labelled_later

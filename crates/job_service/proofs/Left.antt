@@ -53,7 +53,8 @@ use Rattle.job_service.specs.Agrees.{AgreesJobs}
 use Rattle.job_service.specs.Due.{IsFound, IsFoundBeside, scene_now}
 use Rattle.job_service.specs.Judged.{CanBeMade, WasRefused}
 use Rattle.job_service.specs.Refusals.{fault_for, is_refusal_of, row_in}
-use Rattle.job_service.specs.Replies.{is_ready_in, is_undone}
+use Rattle.job_service.specs.Replies.{has_come, is_ready_in, is_undone}
+use Rattle.job_service.specs.Watching.{watched_by}
 use Rattle.job_service.specs.Still.{IsStill, awaited, awaited_by, unless_over}
 use Rattle.job_service.specs.Value.{JobServiceValue}
 use Rattle.job_service.specs.View.{IsFit}
@@ -196,7 +197,7 @@ module _ (v : JobServiceValue) (i : IsFit v) (inst : Instance) (log : Log) (a : 
         asks : Submits row urgency named text
         asks = record { waits = w; label = label; asks = e }
 
-        at : WasRefused v.refused row.by ⊎ CanBeMade labels jobs named text → IsLeftBy row (ask.Submit label urgency named text)
+        at : WasRefused v.refused row.by ⊎ CanBeMade v.terms.limits labels jobs named text → IsLeftBy row (ask.Submit label urgency named text)
         at (inl r) = absurd (true≢false (sym (refused_found row.by v.refused r.one (among_from v.refused r.one r.known) r.named) ∙ unrefused))
         at (inr m) = absurd (nothing.0 row known urgency named text m.spec m.needs asks m.accepted)
     waiting_left row known (ask.Cancel label) e w unrefused unready =
@@ -215,6 +216,9 @@ module _ (v : JobServiceValue) (i : IsFit v) (inst : Instance) (log : Log) (a : 
     waiting_left row known (ask.ResultOf label) e w unrefused unready =
         let u = unanswered labels jobs (ask.ResultOf label) label unready in
         inl (subst (λ o. IsSome (option_and_then unless_over (option_map (λ j. j.job.state) o))) (sym u.there) (still_over u.j.job.state u.fails))
+    waiting_left row known (ask.Watch label) e w unrefused unready =
+        let u = unanswered labels jobs (ask.Watch label) label unready in
+        inl (subst (λ o. IsSome (option_map (λ j. j.job.state) o)) (sym u.there) refl)
     waiting_left row known (ask.Advance seconds) e w unrefused unready = inr (
       seconds,
       refl,
@@ -241,6 +245,7 @@ module _ (v : JobServiceValue) (i : IsFit v) (inst : Instance) (log : Log) (a : 
     landed_left row known number ask.Jobs e staged unready = absurd staged.1
     landed_left row known number (ask.Why label) e staged unready = absurd staged.1
     landed_left row known number (ask.ResultOf label) e staged unready = absurd staged.1
+    landed_left row known number (ask.Watch label) e staged unready = absurd staged.1
     landed_left row known number (ask.Advance seconds) e staged unready = absurd staged.1
 
     row_left : (row : Row) → Contains v.commands.rows row → is_some (fault_for v.refused row.by) ≡ false → is_ready labels v.manager v.second row ≡ false → IsLeftBy row row.ask
@@ -264,19 +269,19 @@ module _ (v : JobServiceValue) (i : IsFit v) (inst : Instance) (log : Log) (a : 
     part_asked label rules.RKey = record { asked = ask.Info label key.R; is = refl }
     part_asked label rules.LogKey = record { asked = ask.Info label key.Eventlog; is = refl }
 
-    asked_as : (x : Asks) → x ≢ rules.Shutdown → ((label : List ℕ) → x ≢ rules.Watch label) → IsAsked x
-    asked_as (rules.Submit label urgency needs text) other unwatched = record { asked = ask.Submit label urgency (map back needs) text; is = ap (λ ns. rules.Submit label urgency ns text) (there_and_back needs) }
-    asked_as (rules.Cancel label) other unwatched = record { asked = ask.Cancel label; is = refl }
-    asked_as (rules.Raise label kind severity note) other unwatched = record { asked = ask.Raise label kind severity note; is = refl }
-    asked_as (rules.Urge label urgency) other unwatched = record { asked = ask.Urge label urgency; is = refl }
-    asked_as (rules.StateOf label) other unwatched = record { asked = ask.StateOf label; is = refl }
-    asked_as (rules.Info label k) other unwatched = part_asked label k
-    asked_as rules.Jobs other unwatched = record { asked = ask.Jobs; is = refl }
-    asked_as (rules.Why label) other unwatched = record { asked = ask.Why label; is = refl }
-    asked_as (rules.ResultOf label) other unwatched = record { asked = ask.ResultOf label; is = refl }
-    asked_as (rules.Watch label) other unwatched = absurd (unwatched label refl)
-    asked_as (rules.Advance seconds) other unwatched = record { asked = ask.Advance seconds; is = refl }
-    asked_as rules.Shutdown other unwatched = absurd (other refl)
+    asked_as : (x : Asks) → x ≢ rules.Shutdown → IsAsked x
+    asked_as (rules.Submit label urgency needs text) other = record { asked = ask.Submit label urgency (map back needs) text; is = ap (λ ns. rules.Submit label urgency ns text) (there_and_back needs) }
+    asked_as (rules.Cancel label) other = record { asked = ask.Cancel label; is = refl }
+    asked_as (rules.Raise label kind severity note) other = record { asked = ask.Raise label kind severity note; is = refl }
+    asked_as (rules.Urge label urgency) other = record { asked = ask.Urge label urgency; is = refl }
+    asked_as (rules.StateOf label) other = record { asked = ask.StateOf label; is = refl }
+    asked_as (rules.Info label k) other = part_asked label k
+    asked_as rules.Jobs other = record { asked = ask.Jobs; is = refl }
+    asked_as (rules.Why label) other = record { asked = ask.Why label; is = refl }
+    asked_as (rules.ResultOf label) other = record { asked = ask.ResultOf label; is = refl }
+    asked_as (rules.Watch label) other = record { asked = ask.Watch label; is = refl }
+    asked_as (rules.Advance seconds) other = record { asked = ask.Advance seconds; is = refl }
+    asked_as rules.Shutdown other = absurd (other refl)
 
     module _ (l : Living) (lives : IsLiving inst log l) where
       open_left : (by : By) (x : Asks) → inst.asks by ≡ Some x → x ≢ rules.Shutdown → IsOpen by log → IsSome (awaited v by) ⊎ IsLeftAdvance l by
@@ -297,15 +302,16 @@ module _ (v : JobServiceValue) (i : IsFit v) (inst : Instance) (log : Log) (a : 
                 ahead = omega (arith, second, issued, now, at_issue, ahead);
               })
 
-          at : (o : Option Row) → row_in v.commands by ≡ o → (is_some (fault_for v.refused by) || option_map_or (is_ready labels v.manager v.second) o false) ≡ false → IsSome (option_and_then (λ row. awaited_by labels jobs row.ask) o) ⊎ IsLeftAdvance l by
+          at : (o : Option Row) → row_in v.commands by ≡ o → (is_some (fault_for v.refused by) || option_map_or (has_come v) o false) ≡ false → IsSome (option_and_then (λ row. awaited_by labels jobs row.ask) o) ⊎ IsLeftAdvance l by
           at None e none =
-              let t = asked_as x other (λ label same. a.kind.terms.built.unwatched by label (asks ∙ ap Some same)) in
+              let t = asked_as x other in
               let row = a.commands.all by t.asked (asks ∙ ap Some (sym t.is)) waits in
               absurd (not_found by v.commands.rows e row.0 row.1 row.2)
           at (Some row) e none =
               let known = found by v.commands.rows row e in
-              let both = or_parts (is_some (fault_for v.refused by)) (is_ready labels v.manager v.second row) none in
-              advance_left row known.0 known.1 (row_left row known.0 (subst (λ b. is_some (fault_for v.refused b) ≡ false) (sym known.1) both.0) both.1)
+              let both = or_parts (is_some (fault_for v.refused by)) (has_come v row) none in
+              let unready = (or_parts (is_some (watched_by v.feeds row.by)) (is_ready labels v.manager v.second row) both.1).1 in
+              advance_left row known.0 known.1 (row_left row known.0 (subst (λ b. is_some (fault_for v.refused b) ≡ false) (sym known.1) both.0) unready)
 
       pub left_open : (by : By) → IsSome (inst.asks by) → inst.asks by ≢ Some rules.Shutdown → IsOpen by log → IsSome (awaited v by) ⊎ IsLeftAdvance l by
       left_open by some other waits = at (inst.asks by) refl

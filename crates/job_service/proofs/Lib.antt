@@ -1,4 +1,6 @@
 mod Facts
+mod Reading
+pub mod Feeding
 mod Owing
 mod Calls
 mod Shutdowns
@@ -14,6 +16,7 @@ mod Born
 mod Ticking
 mod Held
 mod Staying
+mod Watching
 mod Resting
 mod Left
 -- what lies below, for the crates that stand on this one

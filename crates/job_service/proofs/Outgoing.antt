@@ -88,7 +88,7 @@ module _ (v : JobServiceValue) (inst : Instance) (log : Log) (a : AgreesJobs v i
 
   placed : (spent : Bool) (manager : ManagerValue) (post : Post) → IsDuePost desk post → Places post v.manager manager → AgreesJobs (with_parts v spent manager v.commands v.refused None v.submitted) inst log
   placed spent manager post d p =
-      joined v inst log a spent manager v.commands v.refused None v.submitted log (same-book inst v.manager.book manager.book (ap (λ b. b.grant) p.book) (ap (λ b. b.policy) p.book) a.kind.book)
+      joined v inst log a spent manager v.commands v.refused None v.submitted log a.fed (same-book inst v.manager.book manager.book (ap (λ b. b.grant) p.book) (ap (λ b. b.policy) p.book) a.kind.book)
       (p.agrees inst.service (service_of log) a.core (new_post post d)) a.legal
       (subst (λ b. Rattle.job_submissions.specs.Made.AreLabelled v.commands.labels b.jobs) (sym p.book) a.labelled)
       (subst (λ o. Owes o None (desk_of v.commands inst log manager.book.jobs)) (sym p.posted) (subst (λ b. IsDuePost (desk_of v.commands inst log b.jobs) post) (sym p.book) d))

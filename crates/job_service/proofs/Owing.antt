@@ -21,20 +21,14 @@ use Rattle.job_service.specs.Agrees.{IsBookOf, IsOnTerms}
 use Rattle.job_service.specs.Due.{CanLook, IsFound, IsFoundBeside, Owes, scene_now}
 use Rattle.job_service.specs.Posted.{IsAlone, IsNamed}
 use Rattle.job_deeds.specs.manager_rules.declared.terms.Terms.{Terms}
-use Rattle.job_deeds.specs.manager_rules.Limits.{no_limits, verdict_of}
-use Rattle.job_deeds.specs.job_spec.declared.spec.JobSpec.{JobSpec}
 
 -- what the law of submissions says of one that is made, and of those that aren't
 abbrev pub MadeAreDue : Type 0
-MadeAreDue = (c : CommandsValue) (i : Instance) (l : Log) (jobs : List StoredJob) (s : Submission) → AgreesCommands c i l → IsInstance i → i.limits ≡ no_limits → length c.issued ≤ 2 ^ 14 → AreLabelled c.labels jobs → Each (λ j. j.id < 2 ^ 64) jobs → 1000 * (now_of i l - i.birth) < 2 ^ 40
-    → IsMade c jobs (now_of i l) i.birth s → IsSubmission (desk_of c i l jobs).scene i.birth (submits_of c i l) s
+MadeAreDue = (c : CommandsValue) (i : Instance) (l : Log) (jobs : List StoredJob) (s : Submission) → AgreesCommands c i l → IsInstance i → length c.issued ≤ 2 ^ 14 → AreLabelled c.labels jobs → Each (λ j. j.id < 2 ^ 64) jobs → 1000 * (now_of i l - i.birth) < 2 ^ 40
+    → IsMade i.limits c jobs (now_of i l) i.birth s → IsSubmission (desk_of c i l jobs).scene i.birth (submits_of c i l) s
 
 abbrev pub UnmadeAreNot : Type 0
-UnmadeAreNot = (c : CommandsValue) (i : Instance) (l : Log) (jobs : List StoredJob) (s : Submission) → ((row : Row) → Contains c.rows row → MakesNone c.labels jobs row) → IsSubmission (desk_of c i l jobs).scene i.birth (submits_of c i l) s → ⊥
-
--- nothing is turned away where nothing limits it
-pub passes-all : (inst : Instance) (terms : Terms) → IsOnTerms inst terms → (spec : JobSpec) → verdict_of inst.limits spec ≡ 0
-passes-all inst terms on spec = ap (λ limits. verdict_of limits spec) on.built.limits
+UnmadeAreNot = (c : CommandsValue) (i : Instance) (l : Log) (jobs : List StoredJob) (s : Submission) → ((row : Row) → Contains c.rows row → MakesNone i.limits c.labels jobs row) → IsSubmission (desk_of c i l jobs).scene i.birth (submits_of c i l) s → ⊥
 
 module _ (terms : Terms) (v : CommandsValue) (book : BookValue) (now birth : ℕ) (inst : Instance) (log : Log)
     (a : AgreesCommands v inst log) (valid : IsInstance inst) (second : now_of inst log ≡ now) (on : IsOnTerms inst terms) (born : inst.birth ≡ birth) (of : IsBookOf inst book) where
@@ -57,20 +51,22 @@ module _ (terms : Terms) (v : CommandsValue) (book : BookValue) (now birth : ℕ
   pub can-look : birth ≤ now → 1000 * (now - birth) < 2 ^ 40 → length v.issued ≤ 32 → AreMarkedBy v now → CanLook v now birth
   can-look order soon short marked = record { order = order; soon = soon; drawn = subst (AreDrawn v) born a.drawn; marked = marked; short = omega (arith, short); asked = asked_range v inst log a valid }
 
-  made-now : (x : Submission) → IsMade v book.jobs now birth x → IsMade v book.jobs (now_of inst log) inst.birth x
-  made-now x h = subst (λ n. IsMade v book.jobs n inst.birth x) (sym second) (subst (λ b. IsMade v book.jobs now b x) (sym born) h)
+  made-now : (x : Submission) → IsMade terms.limits v book.jobs now birth x → IsMade inst.limits v book.jobs (now_of inst log) inst.birth x
+  made-now x h =
+      subst (λ limits. IsMade limits v book.jobs (now_of inst log) inst.birth x) (sym on.limits)
+      (subst (λ n. IsMade terms.limits v book.jobs n inst.birth x) (sym second) (subst (λ b. IsMade terms.limits v book.jobs now b x) (sym born) h))
 
   soon-now : 1000 * (now - birth) < 2 ^ 40 → 1000 * (now_of inst log - inst.birth) < 2 ^ 40
   soon-now h = subst (λ n. 1000 * (n - inst.birth) < 2 ^ 40) (sym second) (subst (λ b. 1000 * (now - b) < 2 ^ 40) (sym born) h)
 
   module _ (labelled : AreLabelled v.labels book.jobs) (smalls : Each (λ j. j.id < 2 ^ 64) book.jobs) (soon : 1000 * (now - birth) < 2 ^ 40) (short : length v.issued ≤ 32) (made-due : MadeAreDue) (unmade-not : UnmadeAreNot) where
     found-owes : (found : Option Post) → IsFound terms v book now birth found → Owes None found desk
-    found-owes (Some (Submits x)) h = made-due v inst log book.jobs x a valid on.built.limits (omega (arith, short)) labelled smalls (soon-now soon) (made-now x h)
+    found-owes (Some (Submits x)) h = made-due v inst log book.jobs x a valid (omega (arith, short)) labelled smalls (soon-now soon) (made-now x h)
     found-owes (Some (Does due)) h = due-there due h
     found-owes None h = none
       where
         none : (post : Post) → IsDuePost desk post → ⊥
-        none (Submits x) d = unmade-not v inst log book.jobs x h.0 d
+        none (Submits x) d = unmade-not v inst log book.jobs x (subst (λ limits. (row : Row) → Contains v.rows row → MakesNone limits v.labels book.jobs row) (sym on.limits) h.0) d
         none (Does due) d = h.1 due (due-here due d)
 
     pub beside-owes : (posted found : Option Post) → ((post : Post) → posted ≡ Some post → IsDuePost desk post) → IsFoundBeside terms posted v book now birth found → Owes posted found desk

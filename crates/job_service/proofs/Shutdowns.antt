@@ -32,6 +32,7 @@ use Rattle.job_service.specs.Agrees.{AgreesJobs}
 use Rattle.job_service.specs.Due.{Owes}
 use Rattle.job_service.specs.Refusals.{reply_to}
 use Rattle.job_service.specs.Value.{JobServiceValue}
+use Rattle.job_service.proofs.Feeding.{fed_kept}
 use Rattle.job_service.proofs.Facts.{issued_service, legal_kept, replied_service, unissued_before, unissued_other, untold_kept}
 use Rattle.job_service.proofs.Calls.{facts}
 
@@ -47,6 +48,7 @@ no_shutdown (ask.Info label key) e = cc
 no_shutdown ask.Jobs e = cc
 no_shutdown (ask.Why label) e = cc
 no_shutdown (ask.ResultOf label) e = cc
+no_shutdown (ask.Watch label) e = cc
 no_shutdown (ask.Advance seconds) e = cc
 
 some_is : (x y : rules.JobAsk) → ◌≡◌ {A = Option rules.JobAsk} (Some x) (Some y) → x ≡ y
@@ -71,6 +73,7 @@ unrefused inst log by other f asks h same =
 abbrev pub IsAside : By → Moment → Type 0
 IsAside by (Issued other) = same_command by other ≡ false
 IsAside by (Replied other reply number) = Unit {0}
+IsAside by (Fed other number first count) = Unit {0}
 IsAside by _ = ⊥
 
 none_more : (log : Log) (m : Moment) (by : By) → IsAside by m → filter_map ticked (log ++ m ∷ []) ≡ filter_map ticked log
@@ -80,7 +83,7 @@ none_more [] (Served x) by h = absurd h
 none_more [] (Ticked second) by h = absurd h
 none_more [] (Born job) by h = absurd h
 none_more [] (Gone job shut) by h = absurd h
-none_more [] (Fed other number first count) by h = absurd h
+none_more [] (Fed other number first count) by h = refl
 none_more (x ∷ log) m by h = ap (cons_option (ticked x)) (none_more log m by h)
 
 opened_same : (by : By) (now : ℕ) (log : Log) (m : Moment) → IsAside by m → seconds_from by now (log ++ m ∷ []) ≡ seconds_from by now log
@@ -90,7 +93,7 @@ opened_same by now [] (Served x) h = absurd h
 opened_same by now [] (Ticked second) h = absurd h
 opened_same by now [] (Born job) h = absurd h
 opened_same by now [] (Gone job shut) h = absurd h
-opened_same by now [] (Fed other number first count) h = absurd h
+opened_same by now [] (Fed other number first count) h = refl
 opened_same by now (Issued other ∷ log) m h = ap₂ (λ ticks more. cond (same_command by other) (now ∷ ticks) more) (none_more log m by h) (opened_same by now log m h)
 opened_same by now (Ticked second ∷ log) m h = opened_same by second log m h
 opened_same by now (Served x ∷ log) m h = opened_same by now log m h
@@ -124,7 +127,7 @@ module _ (v : CommandsValue) (inst : Instance) (log : Log) (m : Moment) where
   submits_same : ((row : Row) → Contains v.rows row → IsAside row.by m) → submits_of v inst (log ++ m ∷ []) ≡ submits_of v inst log
   submits_same aside = same_map _ _ v.rows (λ row i. submit_same row row.stage (aside row (contains_from v.rows row i)))
 
-  desk_same : (jobs : List StoredJob) → now_of inst (log ++ m ∷ []) ≡ now_of inst log → ((row : Row) → Contains v.rows row → IsAside row.by m) → desk_of v inst (log ++ m ∷ []) jobs ≡ desk_of v inst log jobs
+  pub desk_same : (jobs : List StoredJob) → now_of inst (log ++ m ∷ []) ≡ now_of inst log → ((row : Row) → Contains v.rows row → IsAside row.by m) → desk_of v inst (log ++ m ∷ []) jobs ≡ desk_of v inst log jobs
   desk_same jobs now aside =
       ap₂ (λ (n : ℕ) (s : List Submit). (let d : Desk = record {
         scene = record { now = n; grant = inst.grant; jobs = jobs; asked = asked_of v; answer = inst.answer; policy = inst.policy; limits = inst.limits; old = λ id. false };
@@ -153,6 +156,7 @@ module _ (v : JobServiceValue) (inst : Instance) (log : Log) (a : AgreesJobs v i
         owes = subst (Owes v.manager.posted v.found) (sym desk) a.owes;
         labelled = a.labelled;
         refused = λ r c. legal_kept inst log m r.by r.fault refl refl (a.refused r c);
+        fed = fed_kept v.feeds inst log m (λ other. refl) (λ other. refl) a.fed;
         untold = λ other some e. untold_kept other log m refl refl (a.untold other some (unissued_before other log m e));
         shutdowns = λ other e. undecided_kept other log m refl (a.shutdowns other e);
       }
@@ -184,6 +188,7 @@ module _ (v : JobServiceValue) (inst : Instance) (log : Log) (a : AgreesJobs v i
         refused = λ r c.
             let l = a.refused r c in
             legal_kept inst log m r.by r.fault (differs r.by by (unrefused inst log by r.by r.fault asks l)) refl l;
+        fed = fed_kept v.feeds inst log m (λ other. refl) (λ other. refl) a.fed;
         untold = λ other some e.
             let before = unissued_before other log m e in
             untold_kept other log m (differs other by (unissued_other by other log waits.issued before)) refl (a.untold other some before);

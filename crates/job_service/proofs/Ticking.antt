@@ -35,11 +35,13 @@ use Rattle.job_service.specs.Agrees.{AgreesJobs}
 use Rattle.job_service.specs.Children.{IsBearing, is_due}
 use Rattle.job_service.specs.Due.{IsFoundBeside, Owes, OwesNothing}
 use Rattle.job_service.specs.Refusals.{fault_for, row_in}
-use Rattle.job_service.specs.Replies.{can_reply, is_ready_in, is_undone}
+use Rattle.job_service.specs.Replies.{can_reply, has_come, is_ready_in, is_undone}
 use Rattle.job_service.specs.Times.{MayPassTo, targets_left}
 use Rattle.job_service.specs.Value.{JobServiceValue}
 use Rattle.job_service.specs.View.{IsFit}
 use Rattle.job_service.proofs.Bearing.{none_due, stands}
+use Rattle.job_service.specs.Watching.{watched_by}
+use Rattle.job_service.proofs.Feeding.{fed_kept}
 use Rattle.job_service.proofs.Calls.{facts}
 use Rattle.job_service.proofs.Facts.{ticked_facts, ticked_service}
 use Rattle.job_service.proofs.Owing.{MadeAreDue, UnmadeAreNot, beside-owes}
@@ -104,6 +106,7 @@ module _ (v : JobServiceValue) (inst : Instance) (log : Log) (a : AgreesJobs v i
   stands_for row seconds ask.Jobs s is e h = cc
   stands_for row seconds (ask.Why label) s is e h = cc
   stands_for row seconds (ask.ResultOf label) s is e h = cc
+  stands_for row seconds (ask.Watch label) s is e h = cc
 
   -- the row that is found of the command of a reached advance is ready
   ready_at : (row : Row) → Contains v.commands.rows row → IsReached row v.second → (first : Row) → Contains v.commands.rows first → first.by ≡ row.by → is_ready v.commands.labels v.manager v.second first ≡ true
@@ -126,7 +129,7 @@ module _ (v : JobServiceValue) (inst : Instance) (log : Log) (a : AgreesJobs v i
       at None e = absurd (not_found row.by v.commands.rows e row c refl)
       at (Some first) e =
           let known = found row.by v.commands.rows first e in
-          let ready : is_ready_in v row.by ≡ true = ap (λ o. option_map_or (is_ready v.commands.labels v.manager v.second) o false) e ∙ ready_at row c reached first known.0 known.1 in
+          let ready : is_ready_in v row.by ≡ true = ap (λ o. option_map_or (has_come v) o false) e ∙ or_right (is_some (watched_by v.feeds first.by)) _ (ready_at row c reached first known.0 known.1) in
           ap (λ p. not (is_some p && option_map_or is_undone (row_in v.commands row.by) false) && (is_some (fault_for v.refused row.by) || is_ready_in v row.by)) unposted
           ∙ or_right (is_some (fault_for v.refused row.by)) (is_ready_in v row.by) ready
 
@@ -194,6 +197,7 @@ module _ (v : JobServiceValue) (inst : Instance) (log : Log) (a : AgreesJobs v i
             (λ post e. absurd (let wrong : None ≡ Some post = sym unposted ∙ e in cc)) h;
         labelled = a.labelled;
         refused = f.refused;
+        fed = fed_kept v.feeds inst log (Ticked second) (λ by. refl) (λ by. refl) a.fed;
         untold = f.untold;
         shutdowns = f.shutdowns;
       }

@@ -100,7 +100,7 @@ module _ (v : JobServiceValue) (inst : Instance) (log : Log) (a : AgreesJobs v i
     pub turned_marked : (now : ℕ) → AreMarkedBy v.commands now → AreMarkedBy commands now
     turned_marked now h = subst (λ (marks : List Mark). (rank : ℕ) → (mark_at marks rank).second ≤ now) (sym (landed_marks v.commands commands v.refused refused id number by landed)) h
 
-    pub turned_judged : AreJudged v.commands v.manager.book.jobs v.refused → AreJudged commands manager.book.jobs refused
+    pub turned_judged : AreJudged v.terms.limits v.commands v.manager.book.jobs v.refused → AreJudged v.terms.limits commands manager.book.jobs refused
     turned_judged = later_judged v inst log a manager step events makes numbered_lands post_lands commands refused id is_id named carried
 
     pub turned_facts : Facts commands refused v.second inst (log ++ map happening events)

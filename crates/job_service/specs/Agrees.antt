@@ -22,10 +22,11 @@ use Rattle.job_deeds.specs.manager_rules.declared.terms.Terms.{Terms}
 use Rattle.run_limits.specs.Limits.{most_submits}
 use Rattle.job_service.specs.declared.refusals.Refused.{Refused}
 use Rattle.job_service.specs.Due.{Owes}
+use Rattle.job_service.specs.Watching.{AreFed}
 use Rattle.job_service.specs.Refusals.{reply_to}
 use Rattle.job_service.specs.Value.{JobServiceValue}
 
--- an instance serves its jobs on these terms, and asks for nothing that isn't built
+-- an instance serves its jobs on these terms, and its log begins with its birth
 pub record IsOnTerms (inst : Instance) (terms : Terms) : Type 0 where
   pub built : IsBuilt inst
   pub answer : inst.answer ≡ priority_by terms.weights
@@ -78,6 +79,7 @@ pub record AgreesJobs (v : JobServiceValue) (inst : Instance) (log : Log) : Type
   pub labelled : AreLabelled v.commands.labels v.manager.book.jobs
   pub refused : (r : Refused) → Contains v.refused r
       → IsLegalReply inst log r.by (reply_to r.fault) None
+  pub fed : AreFed v.feeds inst log
   pub untold : (by : By) → IsSome (inst.asks by) → is_issued by log ≡ false → IsUntold by log
   pub shutdowns : (by : By) → inst.asks by ≡ Some Shutdown → is_decided by log ≡ false
 

@@ -16,6 +16,7 @@ use Rattle.job_deeds.specs.manager_rules.Posts.{Desk, Does, IsDuePost, Post, Sub
 use Rattle.job_deeds.specs.manager_rules.Scene.{IsAsked, Scene, has_shut_child}
 use Rattle.job_deeds.specs.manager_rules.declared.asked.Asked.{Asked}
 use Rattle.job_deeds.specs.manager_rules.declared.due.Due.{Due}
+use Rattle.job_deeds.specs.manager_rules.declared.terms.Limits.{Limits}
 use Rattle.job_deeds.specs.manager_rules.declared.terms.Terms.{Terms}
 use Rattle.job_deeds.specs.tap.Factors.{priority_by}
 
@@ -39,15 +40,17 @@ pub record CanLook (v : CommandsValue) (now birth : ℕ) : Type 0 where
   pub asked : All IsAsked (asked_of v)
 
 -- no submission that waits is accepted
-abbrev pub MakeNone : CommandsValue → BookValue → Type 0
-MakeNone v book = (row : Row) → Contains v.rows row → MakesNone v.labels book.jobs row
+abbrev pub MakeNone : Limits → CommandsValue → BookValue → Type 0
+MakeNone limits v book = (row : Row) → Contains v.rows row
+    → MakesNone limits v.labels book.jobs row
 
 -- what is due of the open commands and the book: a submission that is made now or an event, or
 -- nothing where there is none
 abbrev pub IsFound : Terms → CommandsValue → BookValue → ℕ → ℕ → Option Post → Type 0
-IsFound terms v book now birth (Some (Submits x)) = IsMade v book.jobs now birth x
+IsFound terms v book now birth (Some (Submits x)) =
+    IsMade terms.limits v book.jobs now birth x
 IsFound terms v book now birth (Some (Does due)) = IsDue (scene_now terms v book now) due
-IsFound terms v book now birth None = MakeNone v book
+IsFound terms v book now birth None = MakeNone terms.limits v book
     × ((due : Due) → IsDue (scene_now terms v book now) due → ⊥)
 
 -- so where nothing is posted; else nothing is looked for

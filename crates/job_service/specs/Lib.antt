@@ -1,6 +1,7 @@
 pub mod Value
 pub mod Children
 pub mod Refusals
+pub mod Watching
 pub mod Agrees
 pub mod Replies
 pub mod Makes
@@ -10,6 +11,7 @@ pub mod Posted
 pub mod Landed
 pub mod View
 pub mod Times
+pub mod Feeds
 pub mod Still
 -- what lies below, for the crates that stand on this one
 pub use Rattle.answers.specs as answers

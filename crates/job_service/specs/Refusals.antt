@@ -11,6 +11,7 @@ use Rattle.job_submissions.specs.Faults.{IsVerdict}
 use Rattle.job_submissions.specs.declared.faults.Fault.{Fault}
 use Rattle.job_submissions.specs.declared.faults.Fault.TheVariants as fault
 use Rattle.job_deeds.specs.manager_rules.Jobs.{StoredJob}
+use Rattle.job_deeds.specs.manager_rules.declared.terms.Limits.{Limits}
 use Rattle.job_service.specs.declared.refusals.Refused.{Refused}
 
 -- whether the refusal is of this command
@@ -29,12 +30,14 @@ refusals_of by (Some f) = record { by = by; fault = f } ∷ []
 -- what a refused submission is told
 abbrev pub reply_to : Fault → rules.JobReply
 reply_to (fault.BadSpec number) = rules.BadSpec number
+reply_to (fault.Checked reason) = rules.Checked reason
 reply_to fault.NoJob = rules.NoJob
 
 -- why the command is refused at its issue, if it is: no command but a submission is
-abbrev pub IsFaultOf : CommandsValue → List StoredJob → JobAsk → Option Fault → Type 0
-IsFaultOf v jobs (ask.Submit label urgency needs text) found = IsVerdict v jobs needs text found
-IsFaultOf v jobs _ found = found ≡ None
+abbrev pub IsFaultOf : Limits → CommandsValue → List StoredJob → JobAsk → Option Fault → Type 0
+IsFaultOf limits v jobs (ask.Submit label urgency needs text) found =
+    IsVerdict limits v jobs needs text found
+IsFaultOf limits v jobs _ found = found ≡ None
 
 -- the row of an open command
 abbrev pub row_in : CommandsValue → By → Option Row

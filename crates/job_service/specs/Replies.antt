@@ -12,13 +12,17 @@ use Rattle.job_commands.specs.declared.ask.JobAsk.TheVariants as ask
 use Rattle.job_commands.specs.declared.row.Row.{Row}
 use Rattle.job_replies.specs.Ready.{is_ready}
 use Rattle.job_service.specs.Agrees.{AgreesJobs}
+use Rattle.job_service.specs.Watching.{watched_by}
 use Rattle.job_service.specs.Refusals.{fault_for, row_in}
 use Rattle.job_service.specs.Value.{JobServiceValue}
 
--- whether what the command waits for has come
+-- whether what an open command waits for has come: the end of the job that it watches, or else
+abbrev pub has_come : JobServiceValue → Row → Bool
+has_come v row = is_some (watched_by v.feeds row.by)
+    || is_ready v.commands.labels v.manager v.second row
+
 abbrev pub is_ready_in : JobServiceValue → By → Bool
-is_ready_in v by =
-    option_map_or (is_ready v.commands.labels v.manager v.second) (row_in v.commands by) false
+is_ready_in v by = option_map_or (has_come v) (row_in v.commands by) false
 
 -- whether a post carries out commands that ask so: for a job or for an event
 abbrev pub asks_manager : JobAsk → Bool

@@ -21,6 +21,7 @@ value_of s = record {
   manager = s.manager;
   commands = s.commands;
   refused = s.refused.items;
+  feeds = s.feeds.items;
   found = option_map post_of s.found;
   bearing = s.bearing;
   submitted = s.submitted;
@@ -46,7 +47,7 @@ pub record IsFit (v : JobServiceValue) : Type 0 where
   pub drawn : (rank : ℕ) → rank < length v.commands.issued
       → slice_index v.commands.issued rank ≤ v.submitted
   pub marked : AreMarkedBy v.commands v.second
-  pub judged : AreJudged v.commands v.manager.book.jobs v.refused
+  pub judged : AreJudged v.terms.limits v.commands v.manager.book.jobs v.refused
   pub bearing : IsBearing v.commands v.manager.book v.bearing
   pub agreed : IsAgreed v
 

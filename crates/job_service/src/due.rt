@@ -52,7 +52,7 @@ pub fn find(
     ensures { IfOk result (λ found. IsFound terms commands.now book.now now birth
         (option_map post_of found)) }
 {
-    let found = submission(alloc, commands, book, now, birth)?;
+    let found = submission(alloc, commands, book, terms.limits, now, birth)?;
     if let Some(x) = found {
         return Ok(Some(Post::Submits(x)));
     }

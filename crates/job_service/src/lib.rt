@@ -15,6 +15,7 @@ pub use workload;
 
 mod children;
 mod due;
+mod feeds;
 mod landing;
 pub mod laws;
 mod posting;
@@ -23,6 +24,7 @@ mod rest;
 mod service;
 mod time;
 
+pub use feeds::{Fed, Feed};
 pub use laws::{shutdowns_leave_jobs, what_waits_stays_due};
 pub use refusals::Refused;
 pub use service::JobService;

@@ -10,6 +10,7 @@ use answers::Reply;
 use job_book::Book;
 use job_commands::{Commands, JobAsk, Row, Stage};
 use job_deeds::kvs_txn::By;
+use job_deeds::manager_rules::Limits;
 use job_submissions::{Fault, fault_of};
 use std::alloc::{AllocError, Global};
 
@@ -55,18 +56,21 @@ pub fn remember(list: &mut Vec<Refused>, by: By, fault: Option<Fault>) -> Result
     }
 }
 
-/// Why a command is refused at its issue, if it is: a submission whose text tells no jobspec, or
-/// with a dependency on no job.
+/// Why a command is refused at its issue, if it is: a submission whose text tells no jobspec, that
+/// a limit turns away, or with a dependency on no job.
 pub fn fault_in(
     alloc: Global,
     commands: &Commands,
     book: &Book,
+    limits: Limits,
     ask: &JobAsk,
 ) -> Result<Option<Fault>, AllocError>
-    ensures { IfOk result (IsFaultOf commands.now book.now.jobs ask.now) }
+    ensures { IfOk result (IsFaultOf limits commands.now book.now.jobs ask.now) }
 {
     match ask {
-        JobAsk::Submit { needs, text, .. } => fault_of(alloc, commands, book, needs, text),
+        JobAsk::Submit { needs, text, .. } => {
+            fault_of(alloc, commands, book, limits, needs, text)
+        },
         _ => Ok(None),
     }
 }
@@ -77,6 +81,7 @@ pub fn reply_of(fault: Fault) -> Reply
 {
     match fault {
         Fault::BadSpec(number) => Reply::BadSpec(number),
+        Fault::Checked(reason) => Reply::Checked(reason),
         Fault::NoJob => Reply::NoJob,
     }
 }

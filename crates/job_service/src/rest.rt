@@ -27,12 +27,13 @@ fn unless_over(state: State) -> Option<State>
     }
 }
 
-/// The state of the job whose result a command asks for, where that isn't over.
+/// The state of the job whose result a command asks for, where that isn't over, or that it watches.
 pub fn awaited(commands: &Commands, book: &Book, row: &Row) -> Option<State>
     ensures { result ≡ awaited_by commands.now.labels book.now.jobs row.now.ask }
 {
     match &row.ask {
         JobAsk::ResultOf { label } => unless_over(state_in(commands, book, label)?),
+        JobAsk::Watch { label } => state_in(commands, book, label),
         _ => None,
     }
 }

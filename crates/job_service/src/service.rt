@@ -23,8 +23,8 @@ ghost use Rattle.job_clock.specs.Standing.{IsLiving, IsTop};
 ghost use Rattle.job_deeds.specs.kvs_txn.declared.txn.By.{By as Command};
 ghost use Rattle.job_deeds.specs.kvs_model.Store.{Name};
 ghost use Rattle.job_deeds.specs.manager_rules.Jobs.{StoredJob, is_live};
-ghost use Rattle.job_deeds.specs.manager_rules.Terms.{AreBuilt};
 ghost use Rattle.job_deeds.specs.manager_rules.Times.{IsEndDue, IsIdle, seconds_ahead};
+ghost use Rattle.job_service.specs.Feeds.{Feeds, IsFedByRow, can_feed};
 ghost use Rattle.job_service.specs.Still.{IsStill, awaited};
 ghost use Rattle.job_service.specs.Times.{Counts, HasTime, KeepsCounts, MayPassTo, targets_left};
 ghost use Rattle.job_deeds.specs.job_states.declared.job.State.{State as StateValue};
@@ -32,6 +32,9 @@ ghost use Rattle.job_service.specs.Replies.{Answers, can_reply, is_kept_back, is
 
 use crate::children::{bearing, is_over};
 use crate::due::look;
+use crate::feeds::{
+    Fed, Feed, fed_now, forget_feed, has_news, is_watched, next_feed, put_feed, told_watch,
+};
 use crate::landing::{command_posted, land};
 use crate::laws::what_waits_stays_due;
 use crate::posting::post;
@@ -74,6 +77,7 @@ pub struct JobService {
     manager: Manager,
     commands: Commands,
     refused: Vec<Refused>,
+    feeds: Vec<Feed>,
     /// What is due and isn't posted, where nothing is posted.
     found: Option<Post>,
     /// The id of the job that is submitted, where a submission is posted.
@@ -112,7 +116,6 @@ impl JobService {
         requires fanout { (1 ≤ setting.fanout) × (setting.fanout ≤ 32) }
         requires grant { IsR grant.now }
         requires early { birth + 2000000000 < 2 ^ 64 }
-        requires terms { AreBuilt terms }
         ensures ready { IfOk result (λ v. v.spent ≡ false) }
         ensures size { IfOk result (λ v. v.manager.core.size ≡ setting.size) }
         ensures start { IfOk result (λ v. (v.submitted ≡ 0) × (v.span ≡ 0)) }
@@ -134,6 +137,7 @@ impl JobService {
             manager,
             commands,
             refused: Vec::new(alloc),
+            feeds: Vec::new(alloc),
             found: None,
             submitting: None,
             bearing: None,
@@ -442,7 +446,8 @@ impl JobService {
         what_is_lacking_is_so_by_the_log();
         what_waits_stays_due();
         what_is_made_is_due();
-        let fault = fault_in(self.alloc, &self.commands, self.manager.book(), &ask)?;
+        let limits = self.terms.limits;
+        let fault = fault_in(self.alloc, &self.commands, self.manager.book(), limits, &ask)?;
         self.submitted += u64::from(ask.is_submit());
         self.span += seconds_asked(&ask);
         self.commands.issue(by, rank, self.second, ask)?;
@@ -565,7 +570,8 @@ impl JobService {
         Ok(())
     }
 
-    /// The state of the job whose result an open command waits for, if it waits for one.
+    /// The state of the job whose end an open command waits for, if it waits for one: it asks for
+    /// the job's result, or watches it.
     pub fn awaited(&self, by: By) -> Option<State>
         ensures { result ≡ awaited self.now by }
     {
@@ -597,11 +603,73 @@ impl JobService {
             → IsSome (awaited self.now by) ⊎ IsLeftAdvance l by }
         ensures results { (inst : Instance) (log : Log) (l : Living) → AgreesJobs self.now inst log
             → IsLiving inst log l → (by : Command) (where_ : StateValue)
-            → awaited self.now by ≡ Some where_ → IsLeftResult l by where_ }
+            → awaited self.now by ≡ Some where_ → IsStill self.now
+            → AreAllTold inst.service (service_of log) → IsLeftResult l by where_ }
     {
         // the book tells the jobs of the newest store, which the log of the core leaves
         self.manager.keeps();
         self.manager.core().standing();
+    }
+
+    /// Whether a command is an open watch that can be fed: its label names a job that isn't over by
+    /// its last feed, its broker has heard of a later root than that, and the broker's store has
+    /// more in the job's log. This takes no memory.
+    pub fn can_feed(&self, by: By) -> bool
+        requires { self.now.spent ≡ false }
+        ensures { result ≡ can_feed self.now by }
+    {
+        match row_of(&self.commands, by) {
+            Some(row) => has_news(&self.commands, &self.manager, self.feeds.as_slice(), row),
+            None => false,
+        }
+    }
+
+    /// What a watch that can be fed has been fed then.
+    fn next_feed(&self, by: By) -> Result<Feed, AllocError>
+        requires ready { self.now.spent ≡ false }
+        requires can { can_feed self.now by ≡ true }
+        ensures by { IfOk result (λ feed. feed.by ≡ by) }
+        ensures fed { IfOk result (IsFedByRow self.now by) }
+    {
+        let Some(row) = row_of(&self.commands, by) else {
+            unreachable!()
+        };
+        let JobAsk::Watch { label } = &row.ask else {
+            unreachable!()
+        };
+        let Some(id) = self.commands.job_of(label.as_slice()) else {
+            unreachable!()
+        };
+        next_feed(self.alloc, &self.manager, &self.terms.shown, by, row.rank, id)
+    }
+
+    /// Feeds a watch the events that its broker's store has behind those that it was fed, at least
+    /// one. After an error the service is spent.
+    pub fn feed(&mut self, by: By) -> Result<Fed, AllocError>
+        requires ready { self.old.spent ≡ false }
+        requires can { can_feed self.old by ≡ true }
+        ensures ready { OnOk result (self.new.spent ≡ false) }
+        ensures counts { OnOk result (KeepsCounts self.old self.new) }
+        ensures manager { OnOk result (self.new.manager ≡ self.old.manager) }
+        ensures spent { OnErr result (self.new.spent ≡ true) }
+        ensures feeds { IfOk result (λ fed. (inst : Instance) (log : Log)
+            → AgreesJobs self.old inst log → Feeds self.new inst log by fed) }
+    {
+        let next = match self.next_feed(by) {
+            Ok(next) => next,
+            Err(error) => {
+                self.spent = true;
+                return Err(error);
+            }
+        };
+        self.spent = true;
+        // each root is sound, and since then logs have only grown
+        self.manager.keeps();
+        self.manager.core().standing();
+        let fed = fed_now(self.feeds.as_slice(), &next);
+        put_feed(&mut self.feeds, next)?;
+        self.spent = false;
+        Ok(fed)
     }
 
     /// Whether an open job command can be told what became of it. While something is posted, no
@@ -621,7 +689,10 @@ impl JobService {
         ensures { result ≡ is_ready_in self.now by }
     {
         match row_of(&self.commands, by) {
-            Some(row) => is_ready(&self.commands, &self.manager, self.second, row),
+            Some(row) => {
+                is_watched(self.feeds.as_slice(), row.by)
+                    || is_ready(&self.commands, &self.manager, self.second, row)
+            }
             None => false,
         }
     }
@@ -633,9 +704,12 @@ impl JobService {
         ensures { IfOk result (λ told. (inst : Instance) (log : Log) → AgreesJobs self.now inst log
             → MayTell inst log by told.reply told.number) }
     {
-        match row_of(&self.commands, by) {
-            Some(row) => tell(self.alloc, &self.commands, &self.manager, self.second, row),
-            None => unreachable!(),
+        let Some(row) = row_of(&self.commands, by) else {
+            unreachable!()
+        };
+        match told_watch(self.feeds.as_slice(), row.by)? {
+            Some(told) => Ok(told),
+            None => tell(self.alloc, &self.commands, &self.manager, self.second, row),
         }
     }
 
@@ -682,6 +756,7 @@ impl JobService {
         what_is_made_is_due();
         self.commands.reply(by);
         forget(&mut self.refused, by);
+        forget_feed(&mut self.feeds, by);
         self.found = look(
             self.alloc,
             &self.commands,

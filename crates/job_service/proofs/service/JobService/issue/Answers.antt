@@ -31,7 +31,7 @@ look-requires c =
     let v = value_of c.self.inside in
     let m = subst (λ w. MayIssue w c.args.by c.args.rank c.args.ask) (sym c.self.view_is) c.requires.may in
     let newest = subst (λ k. newest_store m.inst.service (service_of m.log) primary ≡ Some (newest_of k)) c.core.ensures (c.standing.ensures.newest m.inst.service (service_of m.log) (subst (λ k. Agrees k m.inst.service (service_of m.log)) (sym c.core.ensures) m.agrees.core)) in
-    let fault = subst (λ b. IsFaultOf c.self.inside.commands b.jobs c.args.ask c.in_ok-fault.fault) c.book-2.ensures c.in_ok-fault.ensures in
+    let fault = subst (λ b. IsFaultOf c.self.inside.terms.limits c.self.inside.commands b.jobs c.args.ask c.in_ok-fault.fault) c.book-2.ensures c.in_ok-fault.ensures in
     let f = issued_facts v m.inst m.log m.agrees false c.issue.new.self c.args.by c.args.rank c.args.ask m.new c.keeps.ensures newest c.what_is_lacking_is_so_by_the_log.ensures c.in_ok-fault.fault fault i.order c.in_ok-issue.ensures.agrees in
     let short = short_next v i c.issue.new.self c.in_ok-issue.ensures.size in
     can-look c.self.inside.terms c.issue.new.self c.self.inside.manager.book c.self.inside.second c.self.inside.birth m.inst (m.log ++ Issued c.args.by ∷ []) f.commands m.agrees.kind.valid f.second m.agrees.kind.terms m.agrees.kind.birth m.agrees.kind.book i.order (is_soon v i) short (c.in_ok-issue.ensures.marked i.marked)
@@ -43,7 +43,7 @@ invariant_of-self-2 c = λ _.
     let v = value_of c.self.inside in
     let m = subst (λ w. MayIssue w c.args.by c.args.rank c.args.ask) (sym c.self.view_is) c.requires.may in
     let newest = subst (λ k. newest_store m.inst.service (service_of m.log) primary ≡ Some (newest_of k)) c.core.ensures (c.standing.ensures.newest m.inst.service (service_of m.log) (subst (λ k. Agrees k m.inst.service (service_of m.log)) (sym c.core.ensures) m.agrees.core)) in
-    let fault = subst (λ b. IsFaultOf c.self.inside.commands b.jobs c.args.ask c.in_ok-fault.fault) c.book-2.ensures c.in_ok-fault.ensures in
+    let fault = subst (λ b. IsFaultOf c.self.inside.terms.limits c.self.inside.commands b.jobs c.args.ask c.in_ok-fault.fault) c.book-2.ensures c.in_ok-fault.ensures in
     let smalls = subst (λ b. Each (λ j. j.id < 2 ^ 64) b.jobs) c.book.ensures c.keeps-2.ensures.small in
     let short = short_next v i c.issue.new.self c.in_ok-issue.ensures.size in
     let commands = issued_commands v m.inst m.log m.agrees false c.issue.new.self c.args.by c.args.rank c.args.ask m.new c.keeps.ensures newest c.what_is_lacking_is_so_by_the_log.ensures c.in_ok-fault.fault fault i.order c.in_ok-issue.ensures.agrees in
@@ -58,7 +58,7 @@ invariant_of-self-2 c = λ _.
     (subst (λ l. IsBearing (record c.self.inside.commands { children = l }) c.self.inside.manager.book c.self.inside.bearing) (sym c.in_ok-issue.ensures.children) i.bearing)
     (issued_drawn v m.inst m.log m.agrees.commands c.issue.new.self c.args.by c.args.ask c.from.result c.is_submit.result m.new.asks commands c.in_ok-issue.ensures.size c.is_submit.ensures c.from.ensures i.drawn)
     (c.in_ok-issue.ensures.marked i.marked)
-    (subst (AreJudged c.issue.new.self c.self.inside.manager.book.jobs) (sym c.in_ok-remember.ensures) (judged_issued c.self.inside.commands c.issue.new.self c.self.inside.manager.book.jobs c.self.inside.refused.items c.args.by c.args.rank c.self.inside.second c.args.ask c.in_ok-fault.fault c.in_ok-issue.ensures.rows c.in_ok-issue.ensures.labels fault i.judged))
+    (subst (AreJudged c.self.inside.terms.limits c.issue.new.self c.self.inside.manager.book.jobs) (sym c.in_ok-remember.ensures) (judged_issued c.self.inside.commands c.issue.new.self c.self.inside.manager.book.jobs c.self.inside.refused.items c.args.by c.args.rank c.self.inside.second c.args.ask c.in_ok-fault.fault c.in_ok-issue.ensures.rows c.in_ok-issue.ensures.labels fault i.judged))
     c.in_ok-self-inside.ensures
     (subst (λ l. IsAgreed (spanned (with_parts v false c.self.inside.manager c.issue.new.self l (option_map post_of c.in_ok-self-inside.field-0) (c.self.inside.submitted + c.from.result)) (c.self.inside.span + c.seconds_asked.result) c.self.inside.bearing)) (sym c.in_ok-remember.ensures)
     (record {
@@ -75,7 +75,7 @@ returns-clause-agrees c = λ inst log a new.
     let v = value_of c.self.inside in
     let b = subst (λ w. AgreesJobs w inst log) (sym c.self.view_is) a in
     let newest = subst (λ k. newest_store inst.service (service_of log) primary ≡ Some (newest_of k)) c.core.ensures (c.standing.ensures.newest inst.service (service_of log) (subst (λ k. Agrees k inst.service (service_of log)) (sym c.core.ensures) b.core)) in
-    let fault = subst (λ b. IsFaultOf c.self.inside.commands b.jobs c.args.ask c.in_ok-fault.fault) c.book-2.ensures c.in_ok-fault.ensures in
+    let fault = subst (λ b. IsFaultOf c.self.inside.terms.limits c.self.inside.commands b.jobs c.args.ask c.in_ok-fault.fault) c.book-2.ensures c.in_ok-fault.ensures in
     let smalls = subst (λ b. Each (λ j. j.id < 2 ^ 64) b.jobs) c.book.ensures c.keeps-2.ensures.small in
     let short = short_next v i c.issue.new.self c.in_ok-issue.ensures.size in
     subst (λ l. AgreesJobs (spanned (with_parts v false c.self.inside.manager c.issue.new.self l (option_map post_of c.in_ok-self-inside.field-0) (c.self.inside.submitted + c.from.result)) (c.self.inside.span + c.seconds_asked.result) c.self.inside.bearing) inst (log ++ Issued c.args.by ∷ [])) (sym c.in_ok-remember.ensures)

@@ -3,10 +3,10 @@ use Rattle.instance_rules.specs.Family.{IsLeftAdvance}
 use Rattle.instance_rules.specs.Log.{service_of}
 use Rattle.kvs_core.specs.Agrees.{Agrees}
 use Rattle.kvs_core.specs.Posted.{newest_of, posted}
-use Rattle.kvs_core.specs.Seen.{primary_heard}
+use Rattle.kvs_core.specs.Seen.{primary_heard, root_of}
 use Rattle.kvs_core.specs.Steps.{IsStill as CoreIsStill}
 use Rattle.kvs_rules.specs.Brokers.{heard}
-use Rattle.kvs_rules.specs.Namespaces.{newest_store, primary}
+use Rattle.kvs_rules.specs.Namespaces.{newest_store, primary, store_after}
 use Rattle.job_service.specs.Agrees.{AgreesJobs}
 use Rattle.job_service.specs.Children.{is_due}
 use Rattle.job_service.specs.Still.{IsStill, awaited}
@@ -64,8 +64,12 @@ returns-clause-left c = λ inst log l a rest lives told by some other waits.
     subst (λ w. IsSome (awaited w by) ⊎ IsLeftAdvance l by) c.self.view_is (left_open v held.fit inst log b still told hears l lives by some other waits)
 
 pub returns-clause-results : goal.returns-clause-results
-returns-clause-results c = λ inst log l a lives by where_ e.
+returns-clause-results c = λ inst log l a lives by where_ e rest told.
+    let still = subst IsStill (sym c.self.view_is) rest in
     let v = value_of c.self.inside in
     let b = subst (λ w. AgreesJobs w inst log) (sym c.self.view_is) a in
     let newest = subst (λ k. newest_store inst.service (service_of log) primary ≡ Some (newest_of k)) c.core.ensures (c.standing.ensures.newest inst.service (service_of log) (subst (λ k. Agrees k inst.service (service_of log)) (sym c.core.ensures) b.core)) in
-    left_result v c.keeps.ensures l by where_ inst log b.commands newest lives (subst (λ w. awaited w by ≡ Some where_) (sym c.self.view_is) e)
+    let agreed = subst (λ k. Agrees k inst.service (service_of log)) (sym c.core.ensures) b.core in
+    let hears = subst (λ k. (broker : ℕ) → broker < k.size → heard (service_of log) broker primary ≡ Some (primary_heard k broker)) c.core.ensures (c.standing.ensures.heard inst.service (service_of log) agreed) in
+    let roots = subst (λ k. (number : ℕ) → store_after inst.service (service_of log) primary number ≡ root_of k number) c.core.ensures (c.standing.ensures.roots inst.service (service_of log) agreed) in
+    left_result v c.keeps.ensures l by where_ inst log b newest roots hears told still lives (subst (λ w. awaited w by ≡ Some where_) (sym c.self.view_is) e)

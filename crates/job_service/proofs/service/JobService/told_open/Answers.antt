@@ -10,10 +10,3 @@ pub tell-requires-clause-within : goal.tell-requires-clause-within
 tell-requires-clause-within c =
     let i = c.self.invariant (ap (λ v. v.spent) c.self.view_is ∙ c.requires.ready) in
     rank_within (value_of c.self.inside) i.fit.agreed.inst i.fit.agreed.log i.fit.agreed.agrees c.in-Some.row.now (row_known c.self.inside.commands c.args.by c.row_of.result c.in-Some.row c.row_of.ensures c.in-Some.is).0
-
-pub returns : goal.returns
-returns c =
-    let known = row_known c.self.inside.commands c.args.by c.row_of.result c.in-Some.row c.row_of.ensures c.in-Some.is in
-    of_ok c.tell.result (λ told h. λ inst log a.
-    let b = subst (λ v. AgreesJobs v inst log) (sym c.self.view_is) a in
-    subst (λ x. MayTell inst log x told.reply told.number) known.1 (h inst log (stands (value_of c.self.inside) inst log b) known.0)) c.tell.ensures.legal
