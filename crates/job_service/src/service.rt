@@ -447,7 +447,13 @@ impl JobService {
         what_waits_stays_due();
         what_is_made_is_due();
         let limits = self.terms.limits;
-        let fault = fault_in(self.alloc, &self.commands, self.manager.book(), limits, &ask)?;
+        let fault = fault_in(
+            self.alloc,
+            &self.commands,
+            self.manager.book(),
+            limits,
+            &ask,
+        )?;
         self.submitted += u64::from(ask.is_submit());
         self.span += seconds_asked(&ask);
         self.commands.issue(by, rank, self.second, ask)?;
@@ -640,7 +646,14 @@ impl JobService {
         let Some(id) = self.commands.job_of(label.as_slice()) else {
             unreachable!()
         };
-        next_feed(self.alloc, &self.manager, &self.terms.shown, by, row.rank, id)
+        next_feed(
+            self.alloc,
+            &self.manager,
+            &self.terms.shown,
+            by,
+            row.rank,
+            id,
+        )
     }
 
     /// Feeds a watch the events that its broker's store has behind those that it was fed, at least
