@@ -17,6 +17,7 @@ mod Ticking
 mod Held
 mod Staying
 mod Watching
+mod News
 mod Resting
 mod Left
 -- what lies below, for the crates that stand on this one

@@ -107,6 +107,103 @@ last_heard v inst log a told_all hears rank within =
     let t = told_all rank primary (subst (λ n. rank < n) (sym a.core.size) within) (subst IsSome (sym h) refl) in
     some_is (sym h ∙ t)
 
+-- ---- a watch that is told
+
+module _ (v : JobServiceValue) (inst : Instance) (log : Log) (a : AgreesJobs v inst log) where
+  undecided_watch : (row : Row) (label : List ℕ) → RowAgrees inst log row → row.ask ≡ ask.Watch label → is_decided row.by log ≡ false
+  undecided_watch row label r asks = at row.stage (subst (λ x. StageAgrees log row.by x row.stage) asks r.staged)
+    where
+      at : (s : Stage) → StageAgrees log row.by (ask.Watch label) s → is_decided row.by log ≡ false
+      at stage.Waits h = h
+      at (stage.Landed number) h = absurd h.1
+
+  asks_watch : (row : Row) (label : List ℕ) (x : JobAsk) → told x ≡ Watch label → x ≡ ask.Watch label
+  asks_watch row label (ask.Watch l) e = (let same : l ≡ label = cc in ap ask.Watch same)
+  asks_watch row label (ask.Submit l urgency needs text) e = cc
+  asks_watch row label (ask.Cancel l) e = cc
+  asks_watch row label (ask.Raise l kind severity note) e = cc
+  asks_watch row label (ask.Urge l urgency) e = cc
+  asks_watch row label (ask.StateOf l) e = cc
+  asks_watch row label (ask.Info l k) e = cc
+  asks_watch row label ask.Jobs e = cc
+  asks_watch row label (ask.Why l) e = cc
+  asks_watch row label (ask.ResultOf l) e = cc
+  asks_watch row label (ask.Advance seconds) e = cc
+
+  -- the names are there where the job is over
+  over_at : (s : State) (shown names : List (List ℕ)) (o : Option (List (List ℕ))) → o ≡ (if is_inactive s then Some shown else None) → o ≡ Some names → (s ≡ state.Inactive) × (names ≡ shown)
+  over_at state.Inactive shown names o is e = (refl, (let same : Some names ≡ Some shown = sym e ∙ is in some_is same))
+  over_at state.New shown names o is e = absurd (let wrong : None ≡ Some names = sym is ∙ e in cc)
+  over_at state.Depend shown names o is e = absurd (let wrong : None ≡ Some names = sym is ∙ e in cc)
+  over_at state.Priority shown names o is e = absurd (let wrong : None ≡ Some names = sym is ∙ e in cc)
+  over_at state.Sched shown names o is e = absurd (let wrong : None ≡ Some names = sym is ∙ e in cc)
+  over_at state.Run shown names o is e = absurd (let wrong : None ≡ Some names = sym is ∙ e in cc)
+  over_at state.Cleanup shown names o is e = absurd (let wrong : None ≡ Some names = sym is ∙ e in cc)
+
+  -- of which feed the names are
+  record Watched (by : By) (names : List (List ℕ)) (number : ℕ) : Type 0 where
+    f : Feed
+    known : Contains v.feeds f
+    is : f.by ≡ by
+    names_are : f.names ≡ Some names
+    number_is : f.number ≡ number
+
+  watched_feed : (by : By) (names : List (List ℕ)) (number : ℕ) → watched_by v.feeds by ≡ Some (names, number) → Watched by names number
+  watched_feed by names number e = at (feed_of v.feeds by) refl e
+    where
+      of : (f : Feed) (o : Option (List (List ℕ))) → o ≡ f.names → option_map (λ ns. (ns, f.number)) o ≡ Some (names, number) → (f.names ≡ Some names) × (f.number ≡ number)
+      of f None is e = cc
+      of f (Some ns) is e =
+          let both : (ns, f.number) ≡ (names, number) = cc in
+          (sym is ∙ ap (λ p. Some p.0) both, ap (λ p. p.1) both)
+
+      at : (o : Option Feed) → feed_of v.feeds by ≡ o → option_and_then (λ f. option_map (λ ns. (ns, f.number)) f.names) o ≡ Some (names, number) → Watched by names number
+      at None f e = cc
+      at (Some g) f e =
+          let k = found_feed by v.feeds g f in
+          let o = of g g.names refl e in
+          record { f = g; known = contains_from v.feeds g k.0; is = k.1; names_are = o.0; number_is = o.1 }
+
+  pub told_watched : (row : Row) → Contains v.commands.rows row → (t : Told) → TellsWatched v.feeds row.by t → MayTell inst log row.by t.reply t.number
+  told_watched row stands t tells =
+      let r = a.commands.rows row stands in
+      let g = watched_feed row.by tells.names tells.number tells.watched in
+      let was = a.fed.each g.f g.known in
+      let asks : inst.asks row.by ≡ Some (Watch was.label) = ap inst.asks (sym g.is) ∙ was.asks in
+      let is = asks_watch row was.label row.ask (some_is (sym r.asks ∙ asks)) in
+      let over = over_at was.j.job.state (names_shown inst.shown was.events) tells.names g.f.names was.told g.names_are in
+      record {
+        reply = rules.Watched tells.names;
+        hands = ap job_reply_of tells.reply;
+        legal = record {
+          ask = Watch was.label;
+          made = asks;
+          waits = r.waits;
+          tells = undecided_watch row was.label r is;
+          grounds = (
+            was.label,
+            refl,
+            subst (λ o. IsSomeAnd o (HasWatched inst log row.by was.label tells.names)) (sym tells.numbered)
+                (subst (HasWatched inst log row.by was.label tells.names) g.number_is
+                (subst (λ b. HasWatched inst log b was.label tells.names g.f.number) g.is
+                (record {
+                  last = was.last;
+                  store = was.store;
+                  standing = was.standing;
+                  jobs = was.jobs;
+                  are = was.are;
+                  j = was.j;
+                  known = was.known;
+                  names = was.names;
+                  over = over.0;
+                  events = was.events;
+                  logged = was.logged;
+                  told = over.1;
+                }))),
+          );
+        };
+      }
+
 -- ---- a watch that is fed
 
 module _ (v : JobServiceValue) (inst : Instance) (log : Log) (a : AgreesJobs v inst log) (m : IsManaged v.manager)
@@ -280,102 +377,6 @@ module _ (v : JobServiceValue) (inst : Instance) (log : Log) (a : AgreesJobs v i
           untold = λ other some e. untold_kept other log moment refl refl (a.untold other some (unissued_before other log moment e));
           shutdowns = λ other e. undecided_kept other log moment refl (a.shutdowns other e);
         }
-
-  -- ---- a watch that is told
-
-  undecided_watch : (row : Row) (label : List ℕ) → RowAgrees inst log row → row.ask ≡ ask.Watch label → is_decided row.by log ≡ false
-  undecided_watch row label r asks = at row.stage (subst (λ x. StageAgrees log row.by x row.stage) asks r.staged)
-    where
-      at : (s : Stage) → StageAgrees log row.by (ask.Watch label) s → is_decided row.by log ≡ false
-      at stage.Waits h = h
-      at (stage.Landed number) h = absurd h.1
-
-  asks_watch : (row : Row) (label : List ℕ) (x : JobAsk) → told x ≡ Watch label → x ≡ ask.Watch label
-  asks_watch row label (ask.Watch l) e = (let same : l ≡ label = cc in ap ask.Watch same)
-  asks_watch row label (ask.Submit l urgency needs text) e = cc
-  asks_watch row label (ask.Cancel l) e = cc
-  asks_watch row label (ask.Raise l kind severity note) e = cc
-  asks_watch row label (ask.Urge l urgency) e = cc
-  asks_watch row label (ask.StateOf l) e = cc
-  asks_watch row label (ask.Info l k) e = cc
-  asks_watch row label ask.Jobs e = cc
-  asks_watch row label (ask.Why l) e = cc
-  asks_watch row label (ask.ResultOf l) e = cc
-  asks_watch row label (ask.Advance seconds) e = cc
-
-  -- the names are there where the job is over
-  over_at : (s : State) (shown names : List (List ℕ)) (o : Option (List (List ℕ))) → o ≡ (if is_inactive s then Some shown else None) → o ≡ Some names → (s ≡ state.Inactive) × (names ≡ shown)
-  over_at state.Inactive shown names o is e = (refl, (let same : Some names ≡ Some shown = sym e ∙ is in some_is same))
-  over_at state.New shown names o is e = absurd (let wrong : None ≡ Some names = sym is ∙ e in cc)
-  over_at state.Depend shown names o is e = absurd (let wrong : None ≡ Some names = sym is ∙ e in cc)
-  over_at state.Priority shown names o is e = absurd (let wrong : None ≡ Some names = sym is ∙ e in cc)
-  over_at state.Sched shown names o is e = absurd (let wrong : None ≡ Some names = sym is ∙ e in cc)
-  over_at state.Run shown names o is e = absurd (let wrong : None ≡ Some names = sym is ∙ e in cc)
-  over_at state.Cleanup shown names o is e = absurd (let wrong : None ≡ Some names = sym is ∙ e in cc)
-
-  -- of which feed the names are
-  record Watched (by : By) (names : List (List ℕ)) (number : ℕ) : Type 0 where
-    f : Feed
-    known : Contains v.feeds f
-    is : f.by ≡ by
-    names_are : f.names ≡ Some names
-    number_is : f.number ≡ number
-
-  watched_feed : (by : By) (names : List (List ℕ)) (number : ℕ) → watched_by v.feeds by ≡ Some (names, number) → Watched by names number
-  watched_feed by names number e = at (feed_of v.feeds by) refl e
-    where
-      of : (f : Feed) (o : Option (List (List ℕ))) → o ≡ f.names → option_map (λ ns. (ns, f.number)) o ≡ Some (names, number) → (f.names ≡ Some names) × (f.number ≡ number)
-      of f None is e = cc
-      of f (Some ns) is e =
-          let both : (ns, f.number) ≡ (names, number) = cc in
-          (sym is ∙ ap (λ p. Some p.0) both, ap (λ p. p.1) both)
-
-      at : (o : Option Feed) → feed_of v.feeds by ≡ o → option_and_then (λ f. option_map (λ ns. (ns, f.number)) f.names) o ≡ Some (names, number) → Watched by names number
-      at None f e = cc
-      at (Some g) f e =
-          let k = found_feed by v.feeds g f in
-          let o = of g g.names refl e in
-          record { f = g; known = contains_from v.feeds g k.0; is = k.1; names_are = o.0; number_is = o.1 }
-
-  pub told_watched : (row : Row) → Contains v.commands.rows row → (t : Told) → TellsWatched v.feeds row.by t → MayTell inst log row.by t.reply t.number
-  told_watched row stands t tells =
-      let r = a.commands.rows row stands in
-      let g = watched_feed row.by tells.names tells.number tells.watched in
-      let was = a.fed.each g.f g.known in
-      let asks : inst.asks row.by ≡ Some (Watch was.label) = ap inst.asks (sym g.is) ∙ was.asks in
-      let is = asks_watch row was.label row.ask (some_is (sym r.asks ∙ asks)) in
-      let over = over_at was.j.job.state (names_shown inst.shown was.events) tells.names g.f.names was.told g.names_are in
-      record {
-        reply = rules.Watched tells.names;
-        hands = ap job_reply_of tells.reply;
-        legal = record {
-          ask = Watch was.label;
-          made = asks;
-          waits = r.waits;
-          tells = undecided_watch row was.label r is;
-          grounds = (
-            was.label,
-            refl,
-            subst (λ o. IsSomeAnd o (HasWatched inst log row.by was.label tells.names)) (sym tells.numbered)
-                (subst (HasWatched inst log row.by was.label tells.names) g.number_is
-                (subst (λ b. HasWatched inst log b was.label tells.names g.f.number) g.is
-                (record {
-                  last = was.last;
-                  store = was.store;
-                  standing = was.standing;
-                  jobs = was.jobs;
-                  are = was.are;
-                  j = was.j;
-                  known = was.known;
-                  names = was.names;
-                  over = over.0;
-                  events = was.events;
-                  logged = was.logged;
-                  told = over.1;
-                }))),
-          );
-        };
-      }
 
   -- ---- where nothing can go on
 

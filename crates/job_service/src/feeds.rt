@@ -86,7 +86,7 @@ pub fn put_feed(list: &mut Vec<Feed>, feed: Feed) -> Result<(), AllocError>
 fn has_more(manager: &Manager, rank: u32, id: u64, feed: Option<&Feed>) -> bool
     requires ready { manager.now.spent ≡ false }
     requires within { rank < manager.now.core.size }
-    ensures { result ≡ has_more manager.now.core rank (option_copied feed)
+    ensures { result ≡ has_more manager.now.core rank (option_copied feed.entry)
         (log_seen manager.now.core rank id) }
 {
     manager.keeps();
@@ -164,7 +164,8 @@ fn events_of(alloc: Global, log: &Bytes) -> Result<Vec<Event>, AllocError>
     match read(alloc, log.as_slice()) {
         Ok(events) => Ok(events),
         Err(LogFault::NoMemory) => Err(AllocError),
-        Err(_) => unreachable!(),
+        Err(LogFault::NoNewline) => unreachable!(),
+        Err(LogFault::BadLine { .. }) => unreachable!(),
     }
 }
 
@@ -177,7 +178,7 @@ fn state_after(alloc: Global, events: &[Event]) -> Result<State, AllocError>
     match replay(alloc, events) {
         Ok(job) => Ok(job.state),
         Err(ReplayFault::NoMemory) => Err(AllocError),
-        Err(_) => unreachable!(),
+        Err(ReplayFault::NotAllowed { .. }) => unreachable!(),
     }
 }
 
