@@ -144,7 +144,7 @@ fed_on feeds inst log f number first count now h = record {
         let o = left_feed f.by feeds g old in
         let ne = flipped f.by g.by o.1 in
         was_kept inst log (Fed f.by number first count) g (unfed_at g.by f.by number first count ne) (unfed_with g.by f.by number first count ne) (h.each g o.0)
-    | inr this ↦ of g (among_from _ g this)
+    | inr this ↦ of g (among_from (f ∷ []) g this)
   ];
   others = λ other e none.
       let parts = none_behind other (without_feed f.by feeds) f none in

@@ -151,13 +151,13 @@ module _ (v : JobServiceValue) (inst : Instance) (log : Log) (a : AgreesJobs v i
   watched_feed : (by : By) (names : List (List ℕ)) (number : ℕ) → watched_by v.feeds by ≡ Some (names, number) → Watched by names number
   watched_feed by names number e = at (feed_of v.feeds by) refl e
     where
-      of : (f : Feed) (o : Option (List (List ℕ))) → o ≡ f.names → option_map (λ ns. (ns, f.number)) o ≡ Some (names, number) → (f.names ≡ Some names) × (f.number ≡ number)
+      of : (f : Feed) (o : Option (List (List ℕ))) → o ≡ f.names → option_map {U = List (List ℕ) × ℕ} (λ ns. (ns, f.number)) o ≡ Some (names, number) → (f.names ≡ Some names) × (f.number ≡ number)
       of f None is e = cc
       of f (Some ns) is e =
           let both : (ns, f.number) ≡ (names, number) = cc in
           (sym is ∙ ap (λ p. Some p.0) both, ap (λ p. p.1) both)
 
-      at : (o : Option Feed) → feed_of v.feeds by ≡ o → option_and_then (λ f. option_map (λ ns. (ns, f.number)) f.names) o ≡ Some (names, number) → Watched by names number
+      at : (o : Option Feed) → feed_of v.feeds by ≡ o → option_and_then (λ f. option_map {U = List (List ℕ) × ℕ} (λ ns. (ns, f.number)) f.names) o ≡ Some (names, number) → Watched by names number
       at None f e = cc
       at (Some g) f e =
           let k = found_feed by v.feeds g f in
@@ -482,7 +482,7 @@ module _ (v : JobServiceValue) (inst : Instance) (log : Log) (a : AgreesJobs v i
             no-names : (o : Option (List (List ℕ))) → f.names ≡ o → f.names ≡ None
             no-names None n = n
             no-names (Some ns) n =
-                let wrong : Some (ns, f.number) ≡ None = sym (ap (option_map (λ x. (x, f.number))) n) ∙ sym (ap (option_and_then (λ h. option_map (λ x. (x, h.number)) h.names)) e) ∙ untold in
+                let wrong : Some (ns, f.number) ≡ None = sym (ap (option_map {U = List (List ℕ) × ℕ} (λ x. (x, f.number))) n) ∙ sym (ap (option_and_then (λ (h : Feed). option_map {U = List (List ℕ) × ℕ} (λ x. (x, h.number)) h.names)) e) ∙ untold in
                 cc
 
             is-whole : (g : Grown f j.id) → goes_on v.manager.core row.rank f (log_text events) ≡ false → f.names ≡ None → g.was.events ++ g.more ≡ events → g.was.events ≡ events
