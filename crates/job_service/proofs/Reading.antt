@@ -1,7 +1,6 @@
 -- The log of a job in a broker's store, and what a feed makes of it.
-use Rattle.std.proofs.Common.{◌≡◌, ◌≢◌, ℕ, zero, suc, ◌+◌, ◌-◌, ◌<◌, ◌≤◌, ◌^◌, ◌&&◌, ◌||◌, ◌==◌, inl, inr, List, [], ◌∷◌, ◌++◌, Bool, true, false, not, length, Option, Some, None, Ok, Contains, refl, sym, ap, ap₂, cond, ◌∙◌, subst, arith, true≢false, get_or, take}
-use Rattle.std.specs.Prelude.{IsSome, option_and_then, if◌then◌else◌}
-use Rattle.std.proofs.Math.Seq.{take-suc}
+use Rattle.std.proofs.Common.{◌≡◌, ℕ, ◌+◌, ◌-◌, ◌<◌, ◌≤◌, ◌^◌, ◌||◌, inl, inr, List, [], ◌∷◌, ◌++◌, Bool, true, false, length, Option, Some, None, Ok, Contains, refl, sym, ap, ◌∙◌, subst, arith}
+use Rattle.std.specs.Prelude.{IsSome, option_and_then}
 use Rattle.std.specs.List.{AllByRecursion as Each}
 use Rattle.std.proofs.lemmas.Bool.{cases_lt}
 use Rattle.std.proofs.lemmas.List.{length-append}
@@ -12,13 +11,10 @@ use Rattle.job_deeds.specs.job_states.Replay.{replayed}
 use Rattle.job_deeds.specs.kvs_model.Store.{Node, Store, node_at}
 use Rattle.job_deeds.specs.manager_rules.Jobs.{AreJobsOf, IsLogged, IsStored, StoredJob, ids_of}
 use Rattle.job_deeds.specs.manager_rules.Keys.{bytes_of, log_path, value_at}
-use Rattle.job_deeds.specs.manager_rules.Limits.{names_shown, shows}
-use Rattle.job_deeds.specs.manager_rules.declared.terms.Shown.{Shown}
 use Rattle.job_deeds.proofs.job_rules_proofs.Among.{Among, among_from, contains_from}
 use Rattle.job_manager.specs.Managed.{IsManaged}
 use Rattle.job_manager.specs.Places.{log_seen}
 use Rattle.job_manager.specs.Value.{ManagerValue}
-use Rattle.kvs_core.specs.Posted.{newest_of}
 use Rattle.kvs_core.specs.Seen.{primary_heard, store_at}
 
 -- a job with its log in a store

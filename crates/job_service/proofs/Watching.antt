@@ -1,7 +1,6 @@
 -- A watch is fed what its job's log has behind what it was fed, and told its names once the job is over.
-use Rattle.std.proofs.Common.{◌≡◌, ◌≢◌, ℕ, zero, suc, ◌+◌, ◌<◌, ◌≤◌, ◌^◌, ◌&&◌, inl, inr, List, [], ◌∷◌, ◌++◌, length, Bool, true, false, cond, not, Option, Some, None, Ok, Result, IsSome, Contains, map, refl, sym, ap, ◌∙◌, subst, arith, append-nil, true≢false, get_or}
+use Rattle.std.proofs.Common.{◌≡◌, ◌≢◌, ℕ, zero, suc, ◌+◌, ◌<◌, ◌≤◌, ◌^◌, ◌&&◌, inl, inr, List, [], ◌∷◌, ◌++◌, length, Bool, true, false, cond, Option, Some, None, Ok, Result, IsSome, Contains, map, refl, sym, ap, ◌∙◌, subst, arith, append-nil, true≢false, get_or}
 use Rattle.std.specs.Prelude.{IfSome, IsSomeAnd, is_none, nat_lt, option_and_then, option_map, slice_get, if◌then◌else◌}
-use Rattle.std.specs.List.{AllByRecursion as Each}
 use Rattle.std.specs.Option.{option_map_or}
 use Rattle.std.proofs.lemmas.Bool.{and_cases, and_parts, ltb-false, ltb-true}
 use Rattle.std.proofs.lemmas.List.Elements.{filter_map-append}
@@ -35,7 +34,7 @@ use Rattle.job_deeds.specs.kvs_model.Store.{Store}
 use Rattle.job_deeds.specs.kvs_txn.declared.txn.By.{By}
 use Rattle.job_deeds.specs.kvs_txn.declared.txn.Group.{Group}
 use Rattle.job_deeds.specs.kvs_txn.declared.txn.Scope.TheVariants.{Primary}
-use Rattle.job_deeds.specs.manager_rules.Jobs.{AreJobsOf, IsLogged, IsStored, StoredJob, ids_of}
+use Rattle.job_deeds.specs.manager_rules.Jobs.{AreJobsOf, IsLogged, IsStored, StoredJob}
 use Rattle.job_deeds.specs.manager_rules.Keys.{log_path, value_at}
 use Rattle.job_deeds.specs.manager_rules.Limits.{names_shown}
 use Rattle.job_manager.specs.Managed.{IsManaged}
@@ -61,9 +60,8 @@ use Rattle.job_service.specs.Agrees.{AgreesJobs}
 use Rattle.job_service.specs.Due.{Owes}
 use Rattle.job_service.specs.Feeds.{IsFedByRow}
 use Rattle.job_service.specs.Value.{JobServiceValue}
-use Rattle.job_service.specs.Watching.{AreFed, IsFedNow, TellsWatched, WasFed, fed_before, feed_of, goes_on, has_more, has_news, is_feed_of, watched_by, without_feed}
+use Rattle.job_service.specs.Watching.{TellsWatched, WasFed, fed_before, feed_of, goes_on, has_more, has_news, is_feed_of, watched_by, without_feed}
 use Rattle.job_service.specs.declared.feeds.Feed.{Feed}
-use Rattle.job_service.proofs.Calls.{rank_within}
 use Rattle.job_service.proofs.Facts.{legal_kept, unissued_before, untold_kept}
 use Rattle.job_service.proofs.Feeding.{fed_on, now_all, now_last}
 use Rattle.job_service.proofs.Reading.{line-some, longer}

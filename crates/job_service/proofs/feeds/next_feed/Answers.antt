@@ -1,4 +1,4 @@
-use Rattle.std.proofs.Common.{◌≡◌, ◌∙◌, ◌∷◌, Some, None, length, List, sym, ap, ap₂, subst, arith, refl}
+use Rattle.std.proofs.Common.{◌∙◌, ◌∷◌, Some, None, length, List, sym, ap, ap₂, subst, arith, refl}
 use Rattle.std.specs.Option.{option_copied}
 use Rattle.std.specs.Prelude.{IsOk, if◌then◌else◌}
 use Rattle.job_deeds.specs.event_log.declared.event.Event.{Event}

@@ -1,4 +1,4 @@
-use Rattle.std.proofs.Common.{◌≡◌, ◌∙◌, ◌+◌, ◌<◌, ◌≤◌, ◌++◌, ℕ, [], ◌∷◌, Some, false, sym, ap, subst, arith}
+use Rattle.std.proofs.Common.{◌≡◌, ◌∙◌, ◌+◌, ◌<◌, ◌++◌, ℕ, [], ◌∷◌, Some, false, sym, ap, subst, arith}
 use Rattle.instance_rules.specs.Log as rules
 use Rattle.instance_rules.specs.Log.{service_of}
 use Rattle.kvs_core.specs.Agrees.{Agrees}
@@ -8,7 +8,7 @@ use Rattle.kvs_rules.specs.Namespaces.{primary, store_after}
 use Rattle.job_service.specs.Agrees.{AgreesJobs, IsAgreed}
 use Rattle.job_service.specs.Feeds.{Feeds, IsFedByRow}
 use Rattle.job_service.specs.View.{value_of}
-use Rattle.job_service.specs.Watching.{fed_before, without_feed}
+use Rattle.job_service.specs.Watching.{fed_before}
 use Rattle.job_service.proofs.Calls.{rank_within}
 use Rattle.job_service.proofs.Held.{held_fed}
 use Rattle.job_service.proofs.Watching.{before, feed_agrees, feed_legal, hears-now}

@@ -1,15 +1,14 @@
-use Rattle.std.proofs.Common.{◌≡◌, ◌∙◌, ◌<◌, ◌^◌, None, Some, true, false, sym, ap, subst, true≢false, arith}
+use Rattle.std.proofs.Common.{◌≡◌, ◌∙◌, ◌<◌, ◌^◌, Some, true, sym, ap, subst, arith}
 use Rattle.std.specs.Option.{option_copied}
 use Rattle.std.specs.Prelude.{IfOk}
 use Rattle.job_commands.specs.Rows.{job_at}
 use Rattle.job_commands.specs.declared.ask.JobAsk.TheVariants as ask
 use Rattle.job_manager.specs.Places.{log_seen}
 use Rattle.job_service.specs.Feeds.{IsFedByRow, can_feed}
-use Rattle.job_service.specs.Refusals.{row_in}
 use Rattle.job_service.specs.View.{value_of}
-use Rattle.job_service.specs.Watching.{IsFedNow, feed_of, has_more, has_news}
+use Rattle.job_service.specs.Watching.{feed_of, has_more, has_news}
 use Rattle.job_service.proofs.Calls.{rank_within, row_known}
-use Rattle.job_service.proofs.News.{has_job, has_row, job_news, log_news, row_news}
+use Rattle.job_service.proofs.News.{job_news, row_news}
 use Rattle.job_commands.proofs.Submitting.{of_ok}
 use Rattle.job_service.proofs.service.JobService.next_feed.Goals as goal
 
