@@ -118,11 +118,11 @@ line-some event = cons-some (Prim.Native.Char.code "{") _
 -- ---- names that are shown
 
 -- of tests from the left, and from the right
-from_left : Bool → List Bool → Bool
+abbrev pub from_left : Bool → List Bool → Bool
 from_left a [] = a
 from_left a (b ∷ bs) = from_left (a || b) bs
 
-from_right : Bool → List Bool → Bool
+abbrev pub from_right : Bool → List Bool → Bool
 from_right a [] = a
 from_right a (b ∷ bs) = a || from_right b bs
 

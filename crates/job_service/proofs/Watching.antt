@@ -152,7 +152,7 @@ module _ (v : JobServiceValue) (inst : Instance) (log : Log) (a : AgreesJobs v i
       of : (f : Feed) (o : Option (List (List ℕ))) → o ≡ f.names → option_map {U = List (List ℕ) × ℕ} (λ ns. (ns, f.number)) o ≡ Some (names, number) → (f.names ≡ Some names) × (f.number ≡ number)
       of f None is e = cc
       of f (Some ns) is e =
-          let both : (ns, f.number) ≡ (names, number) = cc in
+          let both : ◌≡◌ {A = List (List ℕ) × ℕ} (ns, f.number) (names, number) = cc in
           (sym is ∙ ap (λ p. Some p.0) both, ap (λ p. p.1) both)
 
       at : (o : Option Feed) → feed_of v.feeds by ≡ o → option_and_then (λ f. option_map {U = List (List ℕ) × ℕ} (λ ns. (ns, f.number)) f.names) o ≡ Some (names, number) → Watched by names number
@@ -295,9 +295,10 @@ module _ (v : JobServiceValue) (inst : Instance) (log : Log) (a : AgreesJobs v i
               less = omega (arith, first, was_count, longer_now, count);
             }
 
-    fresh : IfSome (heard (service_of (before_issue by log)) (inst.rank by) primary) (λ known. known ≤ f.number)
-    fresh = at (heard (service_of (before_issue by log)) (inst.rank by) primary) refl
+    since : IfSome (heard (service_of (before_issue by log)) (inst.rank by) primary) (λ known. known ≤ f.number)
+    since = at (heard (service_of (before_issue by log)) (inst.rank by) primary) refl
       where
+        rest : (more : Log) × (log ≡ until (issues_now by) log ++ more)
         rest = behind_until (issues_now by) log
 
         split : service_of log ≡ service_of (before_issue by log) ++ service_of rest.0
@@ -317,7 +318,7 @@ module _ (v : JobServiceValue) (inst : Instance) (log : Log) (a : AgreesJobs v i
       asks = asks;
       waits = waits;
       later = before.later;
-      fresh = fresh;
+      fresh = since;
       known = subst (λ o. IsSomeAnd o (λ h. f.number ≤ h)) (sym hears-now) (let low : f.number ≤ f.number = omega arith in low);
       store = w.fed.store;
       standing = standing;
@@ -480,7 +481,7 @@ module _ (v : JobServiceValue) (inst : Instance) (log : Log) (a : AgreesJobs v i
             no-names : (o : Option (List (List ℕ))) → f.names ≡ o → f.names ≡ None
             no-names None n = n
             no-names (Some ns) n =
-                let wrong : Some (ns, f.number) ≡ None = sym (ap (option_map {U = List (List ℕ) × ℕ} (λ x. (x, f.number))) n) ∙ sym (ap (option_and_then (λ (h : Feed). option_map {U = List (List ℕ) × ℕ} (λ x. (x, h.number)) h.names)) e) ∙ untold in
+                let wrong : ◌≡◌ {A = Option (List (List ℕ) × ℕ)} (Some (ns, f.number)) None = sym (ap (option_map {U = List (List ℕ) × ℕ} (λ x. (x, f.number))) n) ∙ sym (ap (option_and_then (λ (h : Feed). option_map {U = List (List ℕ) × ℕ} (λ x. (x, h.number)) h.names)) e) ∙ untold in
                 cc
 
             is-whole : (g : Grown f j.id) → goes_on v.manager.core row.rank f (log_text events) ≡ false → f.names ≡ None → g.was.events ++ g.more ≡ events → g.was.events ≡ events

@@ -38,7 +38,7 @@ returns-clause-fed c =
       events = s.first ∷ s.more;
       logged = s.logged;
       some = omega arith;
-      count = c.len.ensures ∙ ap length read;
+      count = c.len.ensures ∙ c.in_ok-events.events.ok.0 ∙ ap length read;
       bytes = ap length (c.as_slice-2.ensures ∙ s.text_is);
       told = c.in_ok-names_at_end.ensures
           ∙ ap₂ (λ (where_ : State) (es : List Event). if is_inactive where_ then Some (names_shown c.args.shown.now es) else None) state (c.as_slice-3.ensures.value ∙ read);

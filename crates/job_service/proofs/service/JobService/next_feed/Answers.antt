@@ -22,13 +22,13 @@ returns-clause-fed c =
     let v = value_of c.self.inside in
     let row = c.in-Some.row.now in
     let known = row_known c.self.inside.commands c.args.by c.row_of.result c.in-Some.row c.row_of.ensures c.in-Some.is in
-    let label = c.in-Watch.label.now in
+    let label = c.in-Watch.label in
     let asks : row.ask ≡ ask.Watch label = c.in-Watch.is in
-    let names : job_at label v.commands.labels ≡ Some c.in-Some-2.id = ap (λ l. job_at l v.commands.labels) (sym c.as_slice.ensures) ∙ sym c.job_of.ensures.job ∙ c.in-Some-2.is in
+    let names : job_at label v.commands.labels ≡ Some c.in-Some-job_of.id = ap (λ l. job_at l v.commands.labels) (sym c.as_slice.ensures) ∙ sym c.job_of.ensures.job ∙ c.in-Some-job_of.is in
     let can : can_feed v c.args.by ≡ true = subst (λ w. can_feed w c.args.by ≡ true) (sym c.self.view_is) c.requires.can in
     let news = row_news v c.args.by row (sym c.row_of.ensures ∙ ap option_copied c.in-Some.is) can in
-    let more = job_news v.commands.labels v.manager row.rank (feed_of v.feeds row.by) label c.in-Some-2.id names (subst (λ x. has_news v.commands.labels v.manager row.rank (feed_of v.feeds row.by) x ≡ true) asks news) in
-    let small : c.in-Some-2.id < 2 ^ 64 = omega arith in
+    let more = job_news v.commands.labels v.manager row.rank (feed_of v.feeds row.by) label c.in-Some-job_of.id names (subst (λ x. has_news v.commands.labels v.manager row.rank (feed_of v.feeds row.by) x ≡ true) asks news) in
+    let small : c.in-Some-job_of.id < 2 ^ 64 = omega arith in
     subst (λ w. IfOk c.next_feed.result (IsFedByRow w c.args.by)) c.self.view_is
     (of_ok c.next_feed.result (λ f h. record {
       row = row;
@@ -36,9 +36,9 @@ returns-clause-fed c =
       of = known.1;
       label = label;
       asks = asks;
-      id = c.in-Some-2.id;
+      id = c.in-Some-job_of.id;
       small = small;
       names = names;
-      news = subst (λ b. has_more v.manager.core row.rank (feed_of v.feeds b) (log_seen v.manager.core row.rank c.in-Some-2.id) ≡ true) known.1 more;
+      news = subst (λ b. has_more v.manager.core row.rank (feed_of v.feeds b) (log_seen v.manager.core row.rank c.in-Some-job_of.id) ≡ true) known.1 more;
       fed = h;
     }) c.next_feed.ensures.fed)

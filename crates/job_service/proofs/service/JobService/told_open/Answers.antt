@@ -20,7 +20,7 @@ returns-in-Some-2 c = λ inst log a.
     let row = c.in-Some.row.now in
     let known = row_known c.self.inside.commands c.args.by c.row_of.result c.in-Some.row c.row_of.ensures c.in-Some.is in
     let told = c.in-Some-2.told in
-    let tells = at_some (TellsWatched c.as_slice.result.now row.by) c.in_ok-told_watch.field-0 told c.in-Some-2.is c.in_ok-told_watch.ensures.some in
+    let tells = at_some (TellsWatched c.as_slice.result.now row.by) c.in_ok-told.field-0 told c.in-Some-2.is c.in_ok-told.ensures.some in
     subst (λ x. MayTell inst log x told.reply told.number) known.1
     (told_watched v inst log b row known.0 told (subst (λ l. TellsWatched l row.by told) c.as_slice.ensures.value tells))
 
