@@ -1,13 +1,13 @@
 -- What the log has of feeds, behind a further moment.
 use Rattle.std.proofs.Common.{◌≡◌, ◌≢◌, ℕ, ◌+◌, inl, inr, List, [], ◌∷◌, ◌++◌, map, Bool, true, false, Option, Some, None, Contains, cond, refl, sym, ap, ◌∙◌, subst, true≢false, append-nil, append_assoc}
-use Rattle.std.specs.Prelude.{filter, filter_map, find, not, sum, unwrap_or, if◌then◌else◌}
+use Rattle.std.specs.Prelude.{filter_map, not, sum, unwrap_or, if◌then◌else◌}
 use Rattle.std.specs.List.{cons_option}
-use Rattle.std.proofs.lemmas.Bool.{false_from_ne_true, not-true, or_from, or_parts}
+use Rattle.std.proofs.lemmas.Bool.{false_from_ne_true, not-true, or_parts}
 use Rattle.std.proofs.lemmas.List.Elements.{Contains-append_cases, filter_map-append}
 use Rattle.std.proofs.lemmas.List.Sums.{sum_by_push}
-use Rattle.instance_rules.specs.Log.{Fed, Instance, JobReply, Log, Moment, Replied, Served, is_replied, replies_now, served, service_of}
+use Rattle.instance_rules.specs.Log.{Fed, Instance, JobReply, Log, Moment, Replied, is_replied, replies_now, served, service_of}
 use Rattle.instance_rules.specs.Watches.{fed_at, fed_in_all, fed_with, last_fed}
-use Rattle.job_commands.proofs.Logs.{differs, same_self, service_push}
+use Rattle.job_commands.proofs.Logs.{same_self, service_push}
 use Rattle.job_commands.proofs.Steps.{names_kept}
 use Rattle.job_deeds.proofs.job_rules_proofs.Among.{Among, among_filter, among_from, contains_from}
 use Rattle.job_deeds.specs.kvs_txn.declared.txn.By.{By}
@@ -144,7 +144,7 @@ fed_on feeds inst log f number first count now h = record {
         let o = left_feed f.by feeds g old in
         let ne = flipped f.by g.by o.1 in
         was_kept inst log (Fed f.by number first count) g (unfed_at g.by f.by number first count ne) (unfed_with g.by f.by number first count ne) (h.each g o.0)
-    | inr this ↦ of g (among_from _ g this)
+    | inr this ↦ of g (among_from (f ∷ []) g this)
   ];
   others = λ other e none.
       let parts = none_behind other (without_feed f.by feeds) f none in

@@ -89,6 +89,33 @@ known_kept : (old new : List StoredJob) → KeepJobs old new → (needs : List D
 known_kept old new keep [] h = tt
 known_kept old new keep (need ∷ needs) h = (keep need.on h.0, known_kept old new keep needs h.1)
 
+-- ---- refusals stay
+
+refused_left : (list more : List Refused) (by : By) → WasRefused list by → WasRefused (list ++ more) by
+refused_left list more by r = record { one = r.one; known = contains_from _ r.one (among_left list more r.one (among_from list r.one r.known)); named = r.named }
+
+-- the refusals of other commands
+refused_other : (by : By) (list : List Refused) (other : By) → other ≢ by → WasRefused list other → WasRefused (filter (λ r. not (is_refusal_of by r)) list) other
+refused_other by list other ne r = record {
+  one = r.one;
+  known = contains_from _ r.one (among_kept (λ x. not (is_refusal_of by x)) list r.one (among_from list r.one r.known)
+      (not_from_false (is_refusal_of by r.one) (false_from_ne_true (is_refusal_of by r.one) (λ t. ne (sym r.named ∙ sym (command_is by r.one.by t))))));
+  named = r.named;
+}
+
+-- a row that waits is none of those that are carried out
+waits_still : (by : By) (number : ℕ) (old new : List Row) → AreCarried by number old new → (row : Row) → Contains new row → row.stage ≡ stage.Waits → Contains old row × (row.by ≢ by)
+waits_still by number old new rows row c waits = at (from_carried by number old new rows row c)
+  where
+    at : (y : Row) × Contains old y × (row ≡ carried by number y) → Contains old row × (row.by ≢ by)
+    at (y, known, is) = by_test (is_of by y) refl
+      where
+        by_test : (b : Bool) → is_of by y ≡ b → Contains old row × (row.by ≢ by)
+        by_test true t = absurd (let wrong : stage.Landed number ≡ stage.Waits = sym (ap (λ x. x.stage) (is ∙ carried_at by number y t)) ∙ waits in cc)
+        by_test false t =
+            let same : row ≡ y = is ∙ carried_past by number y t in
+            (subst (Contains old) (sym same) known, subst (λ r. r.by ≢ by) (sym same) (of_other by y t))
+
 module _ {limits : Limits} where
   made_kept : (old new : Labels) (jobs later : List StoredJob) → KeepLabels old new → KeepJobs jobs later → (named : List Named) (text : List ℕ) → CanBeMade limits old jobs named text → CanBeMade limits new later named text
   made_kept old new jobs later labels keep named text m = record {
@@ -103,27 +130,10 @@ module _ {limits : Limits} where
     };
   }
 
-  -- ---- refusals stay
-
-  refused_left : (list more : List Refused) (by : By) → WasRefused list by → WasRefused (list ++ more) by
-  refused_left list more by r = record { one = r.one; known = contains_from _ r.one (among_left list more r.one (among_from list r.one r.known)); named = r.named }
-
-  -- the refusals of other commands
-  refused_other : (by : By) (list : List Refused) (other : By) → other ≢ by → WasRefused list other → WasRefused (filter (λ r. not (is_refusal_of by r)) list) other
-  refused_other by list other ne r = record {
-    one = r.one;
-    known = contains_from _ r.one (among_kept (λ x. not (is_refusal_of by x)) list r.one (among_from list r.one r.known)
-        (not_from_false (is_refusal_of by r.one) (false_from_ne_true (is_refusal_of by r.one) (λ t. ne (sym r.named ∙ sym (command_is by r.one.by t))))));
-    named = r.named;
-  }
-
   -- ---- through the calls
 
   pub judged_begun : (v : CommandsValue) (jobs : List StoredJob) (list : List Refused) → ((row : Row) → Contains v.rows row → ⊥) → AreJudged limits v jobs list
   judged_begun v jobs list none = λ row urgency named text c asks. absurd (none row c)
-
-  same_asks : (row : Row) (urgency : ℕ) (named : List Named) (text : List ℕ) (x : Row) → x ≡ row → Asks x urgency named text → Asks row urgency named text
-  same_asks row urgency named text x e asks = subst (λ r. Asks r urgency named text) e asks
 
   -- of what is asked, a submission is refused or accepted
   judged_asked : (v : CommandsValue) (jobs : List StoredJob) (list : List Refused) (by : By) (asked : JobAsk) (fault : Option Fault) → IsFaultOf limits v jobs asked fault → (label : List ℕ) (urgency : ℕ) (named : List Named) (text : List ℕ) → asked ≡ ask.Submit label urgency named text
@@ -160,19 +170,6 @@ module _ {limits : Limits} where
       at : (row : Row) (named : List Named) (text : List ℕ) → row.by ≢ by → WasRefused list row.by ⊎ CanBeMade limits v.labels jobs named text → WasRefused (filter (λ r. not (is_refusal_of by r)) list) row.by ⊎ CanBeMade limits v.labels jobs named text
       at row named text ne (inl r) = inl (refused_other by list row.by ne r)
       at row named text ne (inr m) = inr m
-
-  -- a row that waits is none of those that are carried out
-  waits_still : (by : By) (number : ℕ) (old new : List Row) → AreCarried by number old new → (row : Row) → Contains new row → row.stage ≡ stage.Waits → Contains old row × (row.by ≢ by)
-  waits_still by number old new rows row c waits = at (from_carried by number old new rows row c)
-    where
-      at : (y : Row) × Contains old y × (row ≡ carried by number y) → Contains old row × (row.by ≢ by)
-      at (y, known, is) = by_test (is_of by y) refl
-        where
-          by_test : (b : Bool) → is_of by y ≡ b → Contains old row × (row.by ≢ by)
-          by_test true t = absurd (let wrong : stage.Landed number ≡ stage.Waits = sym (ap (λ x. x.stage) (is ∙ carried_at by number y t)) ∙ waits in cc)
-          by_test false t =
-              let same : row ≡ y = is ∙ carried_past by number y t in
-              (subst (Contains old) (sym same) known, subst (λ r. r.by ≢ by) (sym same) (of_other by y t))
 
   carried_judged : (v new : CommandsValue) (jobs later : List StoredJob) (list : List Refused) (by : By) (number : ℕ) → AreCarried by number v.rows new.rows → KeepLabels v.labels new.labels → KeepJobs jobs later → AreJudged limits v jobs list → AreJudged limits new later (filter (λ r. not (is_refusal_of by r)) list)
   carried_judged v new jobs later list by number rows labels keep h = λ row urgency named text c asks.

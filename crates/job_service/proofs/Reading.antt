@@ -1,7 +1,6 @@
 -- The log of a job in a broker's store, and what a feed makes of it.
-use Rattle.std.proofs.Common.{◌≡◌, ◌≢◌, ℕ, zero, suc, ◌+◌, ◌-◌, ◌<◌, ◌≤◌, ◌^◌, ◌&&◌, ◌==◌, inl, inr, List, [], ◌∷◌, ◌++◌, Bool, true, false, not, length, Option, Some, None, Ok, Contains, refl, sym, ap, ap₂, cond, ◌∙◌, subst, arith, true≢false, get_or, take}
-use Rattle.std.specs.Prelude.{IsSome, option_and_then, if◌then◌else◌}
-use Rattle.std.proofs.Math.Seq.{take-suc}
+use Rattle.std.proofs.Common.{◌≡◌, ℕ, ◌+◌, ◌-◌, ◌<◌, ◌≤◌, ◌^◌, ◌||◌, inl, inr, List, [], ◌∷◌, ◌++◌, Bool, true, false, length, Option, Some, None, Ok, Contains, refl, sym, ap, ◌∙◌, subst, arith}
+use Rattle.std.specs.Prelude.{IsSome, option_and_then}
 use Rattle.std.specs.List.{AllByRecursion as Each}
 use Rattle.std.proofs.lemmas.Bool.{cases_lt}
 use Rattle.std.proofs.lemmas.List.{length-append}
@@ -12,13 +11,10 @@ use Rattle.job_deeds.specs.job_states.Replay.{replayed}
 use Rattle.job_deeds.specs.kvs_model.Store.{Node, Store, node_at}
 use Rattle.job_deeds.specs.manager_rules.Jobs.{AreJobsOf, IsLogged, IsStored, StoredJob, ids_of}
 use Rattle.job_deeds.specs.manager_rules.Keys.{bytes_of, log_path, value_at}
-use Rattle.job_deeds.specs.manager_rules.Limits.{names_shown, shows}
-use Rattle.job_deeds.specs.manager_rules.declared.terms.Shown.{Shown}
 use Rattle.job_deeds.proofs.job_rules_proofs.Among.{Among, among_from, contains_from}
 use Rattle.job_manager.specs.Managed.{IsManaged}
 use Rattle.job_manager.specs.Places.{log_seen}
 use Rattle.job_manager.specs.Value.{ManagerValue}
-use Rattle.kvs_core.specs.Posted.{newest_of}
 use Rattle.kvs_core.specs.Seen.{primary_heard, store_at}
 
 -- a job with its log in a store
@@ -117,22 +113,24 @@ cons-some x xs = omega arith
 
 -- no line is empty
 pub line-some : (event : Event) → 0 < length (line_text event)
-line-some event = cons-some _ _
+line-some event = cons-some (Prim.Native.Char.code "{") _
 
 -- ---- names that are shown
 
-pub shown-more : (s : Shown) (xs : List Event) (x : Event) → names_shown s (xs ++ x ∷ []) ≡ names_shown s xs ++ (if shows s x.name then x.name ∷ [] else [])
-shown-more s [] x = refl
-shown-more s (y ∷ xs) x = at (shows s y.name) (shown-more s xs x)
-  where
-    at : (b : Bool) → names_shown s (xs ++ x ∷ []) ≡ names_shown s xs ++ (if shows s x.name then x.name ∷ [] else [])
-        → cond b (y.name ∷ names_shown s (xs ++ x ∷ [])) (names_shown s (xs ++ x ∷ [])) ≡ cond b (y.name ∷ names_shown s xs) (names_shown s xs) ++ (if shows s x.name then x.name ∷ [] else [])
-    at true more = ap (λ l. y.name ∷ l) more
-    at false more = more
+-- of tests from the left, and from the right
+abbrev pub from_left : Bool → List Bool → Bool
+from_left a [] = a
+from_left a (b ∷ bs) = from_left (a || b) bs
 
-pub shown-next : (s : Shown) (events : List Event) (index : ℕ) (x : Event) (names : List (List ℕ)) (b : Bool) → index < length events → x ≡ get_or events index x → b ≡ shows s x.name → names ≡ names_shown s (take index events)
-    → names ++ (if b then x.name ∷ [] else []) ≡ names_shown s (take (index + 1) events)
-shown-next s events index x names b low is test was =
-    ap₂ (λ l t. l ++ (if t then x.name ∷ [] else [])) was test
-    ∙ sym (shown-more s (take index events) x)
-    ∙ ap (names_shown s) (ap (λ y. take index events ++ y ∷ []) is ∙ sym (take-suc events index x low) ∙ ap (λ n. take n events) (let e : suc index ≡ index + 1 = omega arith in e))
+abbrev pub from_right : Bool → List Bool → Bool
+from_right a [] = a
+from_right a (b ∷ bs) = a || from_right b bs
+
+pub or_nested : (a : Bool) (bs : List Bool) → from_left a bs ≡ from_right a bs
+or_nested a [] = refl
+or_nested a (b ∷ bs) = or_nested (a || b) bs ∙ split a b bs
+  where
+    split : (a b : Bool) (bs : List Bool) → from_right (a || b) bs ≡ a || from_right b bs
+    split true b [] = refl
+    split true b (x ∷ bs) = refl
+    split false b bs = refl

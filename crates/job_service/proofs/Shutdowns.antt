@@ -60,6 +60,7 @@ rowless v inst log h by asks row c same =
 
 grounded : (inst : Instance) (log : Log) (by : By) (f : Fault) → HasGrounds inst log by Shutdown (reply_to f) None → ⊥
 grounded inst log by (fault.BadSpec n) h = absurd h.1
+grounded inst log by (fault.Checked reason) h = absurd h.1
 grounded inst log by fault.NoJob h = let never : None ≡ Some h.0 = h.1 in cc
 
 unrefused : (inst : Instance) (log : Log) (by other : By) (f : Fault) → inst.asks by ≡ Some Shutdown → IsLegalReply inst log other (reply_to f) None → other ≢ by

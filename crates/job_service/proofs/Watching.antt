@@ -1,7 +1,6 @@
 -- A watch is fed what its job's log has behind what it was fed, and told its names once the job is over.
-use Rattle.std.proofs.Common.{◌≡◌, ◌≢◌, ℕ, zero, suc, ◌+◌, ◌<◌, ◌≤◌, ◌^◌, ◌&&◌, inl, inr, List, [], ◌∷◌, ◌++◌, length, Bool, true, false, cond, not, Option, Some, None, Ok, Result, IsSome, Contains, map, refl, sym, ap, ◌∙◌, subst, arith, append-nil, true≢false, get_or}
+use Rattle.std.proofs.Common.{◌≡◌, ◌≢◌, ℕ, zero, suc, ◌+◌, ◌<◌, ◌≤◌, ◌^◌, ◌&&◌, inl, inr, List, [], ◌∷◌, ◌++◌, length, Bool, true, false, cond, Option, Some, None, Ok, Result, IsSome, Contains, map, refl, sym, ap, ◌∙◌, subst, arith, append-nil, true≢false, get_or}
 use Rattle.std.specs.Prelude.{IfSome, IsSomeAnd, is_none, nat_lt, option_and_then, option_map, slice_get, if◌then◌else◌}
-use Rattle.std.specs.List.{AllByRecursion as Each}
 use Rattle.std.specs.Option.{option_map_or}
 use Rattle.std.proofs.lemmas.Bool.{and_cases, and_parts, ltb-false, ltb-true}
 use Rattle.std.proofs.lemmas.List.Elements.{filter_map-append}
@@ -35,7 +34,7 @@ use Rattle.job_deeds.specs.kvs_model.Store.{Store}
 use Rattle.job_deeds.specs.kvs_txn.declared.txn.By.{By}
 use Rattle.job_deeds.specs.kvs_txn.declared.txn.Group.{Group}
 use Rattle.job_deeds.specs.kvs_txn.declared.txn.Scope.TheVariants.{Primary}
-use Rattle.job_deeds.specs.manager_rules.Jobs.{AreJobsOf, IsLogged, IsStored, StoredJob, ids_of}
+use Rattle.job_deeds.specs.manager_rules.Jobs.{AreJobsOf, IsLogged, IsStored, StoredJob}
 use Rattle.job_deeds.specs.manager_rules.Keys.{log_path, value_at}
 use Rattle.job_deeds.specs.manager_rules.Limits.{names_shown}
 use Rattle.job_manager.specs.Managed.{IsManaged}
@@ -61,9 +60,8 @@ use Rattle.job_service.specs.Agrees.{AgreesJobs}
 use Rattle.job_service.specs.Due.{Owes}
 use Rattle.job_service.specs.Feeds.{IsFedByRow}
 use Rattle.job_service.specs.Value.{JobServiceValue}
-use Rattle.job_service.specs.Watching.{AreFed, IsFedNow, TellsWatched, WasFed, fed_before, feed_of, goes_on, has_more, has_news, is_feed_of, watched_by, without_feed}
+use Rattle.job_service.specs.Watching.{TellsWatched, WasFed, fed_before, feed_of, goes_on, has_more, has_news, is_feed_of, watched_by, without_feed}
 use Rattle.job_service.specs.declared.feeds.Feed.{Feed}
-use Rattle.job_service.proofs.Calls.{rank_within}
 use Rattle.job_service.proofs.Facts.{legal_kept, unissued_before, untold_kept}
 use Rattle.job_service.proofs.Feeding.{fed_on, now_all, now_last}
 use Rattle.job_service.proofs.Reading.{line-some, longer}
@@ -151,13 +149,13 @@ module _ (v : JobServiceValue) (inst : Instance) (log : Log) (a : AgreesJobs v i
   watched_feed : (by : By) (names : List (List ℕ)) (number : ℕ) → watched_by v.feeds by ≡ Some (names, number) → Watched by names number
   watched_feed by names number e = at (feed_of v.feeds by) refl e
     where
-      of : (f : Feed) (o : Option (List (List ℕ))) → o ≡ f.names → option_map (λ ns. (ns, f.number)) o ≡ Some (names, number) → (f.names ≡ Some names) × (f.number ≡ number)
+      of : (f : Feed) (o : Option (List (List ℕ))) → o ≡ f.names → option_map {U = List (List ℕ) × ℕ} (λ ns. (ns, f.number)) o ≡ Some (names, number) → (f.names ≡ Some names) × (f.number ≡ number)
       of f None is e = cc
       of f (Some ns) is e =
-          let both : (ns, f.number) ≡ (names, number) = cc in
+          let both : ◌≡◌ {A = List (List ℕ) × ℕ} (ns, f.number) (names, number) = cc in
           (sym is ∙ ap (λ p. Some p.0) both, ap (λ p. p.1) both)
 
-      at : (o : Option Feed) → feed_of v.feeds by ≡ o → option_and_then (λ f. option_map (λ ns. (ns, f.number)) f.names) o ≡ Some (names, number) → Watched by names number
+      at : (o : Option Feed) → feed_of v.feeds by ≡ o → option_and_then (λ f. option_map {U = List (List ℕ) × ℕ} (λ ns. (ns, f.number)) f.names) o ≡ Some (names, number) → Watched by names number
       at None f e = cc
       at (Some g) f e =
           let k = found_feed by v.feeds g f in
@@ -297,9 +295,10 @@ module _ (v : JobServiceValue) (inst : Instance) (log : Log) (a : AgreesJobs v i
               less = omega (arith, first, was_count, longer_now, count);
             }
 
-    fresh : IfSome (heard (service_of (before_issue by log)) (inst.rank by) primary) (λ known. known ≤ f.number)
-    fresh = at (heard (service_of (before_issue by log)) (inst.rank by) primary) refl
+    since : IfSome (heard (service_of (before_issue by log)) (inst.rank by) primary) (λ known. known ≤ f.number)
+    since = at (heard (service_of (before_issue by log)) (inst.rank by) primary) refl
       where
+        rest : (more : Log) × (log ≡ until (issues_now by) log ++ more)
         rest = behind_until (issues_now by) log
 
         split : service_of log ≡ service_of (before_issue by log) ++ service_of rest.0
@@ -319,7 +318,7 @@ module _ (v : JobServiceValue) (inst : Instance) (log : Log) (a : AgreesJobs v i
       asks = asks;
       waits = waits;
       later = before.later;
-      fresh = fresh;
+      fresh = since;
       known = subst (λ o. IsSomeAnd o (λ h. f.number ≤ h)) (sym hears-now) (let low : f.number ≤ f.number = omega arith in low);
       store = w.fed.store;
       standing = standing;
@@ -482,7 +481,7 @@ module _ (v : JobServiceValue) (inst : Instance) (log : Log) (a : AgreesJobs v i
             no-names : (o : Option (List (List ℕ))) → f.names ≡ o → f.names ≡ None
             no-names None n = n
             no-names (Some ns) n =
-                let wrong : Some (ns, f.number) ≡ None = sym (ap (option_map (λ x. (x, f.number))) n) ∙ sym (ap (option_and_then (λ h. option_map (λ x. (x, h.number)) h.names)) e) ∙ untold in
+                let wrong : ◌≡◌ {A = Option (List (List ℕ) × ℕ)} (Some (ns, f.number)) None = sym (ap (option_map {U = List (List ℕ) × ℕ} (λ x. (x, f.number))) n) ∙ sym (ap (option_and_then (λ (h : Feed). option_map {U = List (List ℕ) × ℕ} (λ x. (x, h.number)) h.names)) e) ∙ untold in
                 cc
 
             is-whole : (g : Grown f j.id) → goes_on v.manager.core row.rank f (log_text events) ≡ false → f.names ≡ None → g.was.events ++ g.more ≡ events → g.was.events ≡ events

@@ -9,8 +9,8 @@ use Rattle.job_service.specs.declared.refusals.Refused.{Refused}
 
 -- the terms on which its jobs are served, the second of its birth and the present one, the manager
 -- with the service below it, the open job commands and the children, submissions that are refused,
--- what open watches were fed, what is due and isn't posted, the first job whose child is to be born, how many submissions were
--- issued, and the seconds of all advances that were issued
+-- what open watches were fed, what is due and isn't posted, the first job whose child is to be
+-- born, how many submissions were issued, and the seconds of all advances that were issued
 pub record JobServiceValue : Type 0 where
   pub spent : Bool
   pub terms : Terms

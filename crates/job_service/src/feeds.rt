@@ -1,6 +1,7 @@
 //! What watches of jobs are fed.
-ghost use Rattle.std.specs.Prelude.{◌≡◌, ◌<◌, ◌+◌, ◌++◌, ◌∷◌, All, [], None, Ok, Some, IfNone, IfOk, IfSome, IsOk, IsSome, OnOk, List, false, is_some, if◌then◌else◌};
+ghost use Rattle.std.specs.Prelude.{◌≡◌, ◌&&◌, ◌<◌, ◌+◌, ◌++◌, ◌∷◌, All, [], None, Ok, Some, IfNone, IfOk, IfSome, IsOk, IsSome, OnOk, List, false, is_some, if◌then◌else◌};
 ghost use Rattle.std.specs.Option.{option_copied};
+ghost use Rattle.std.specs.Str.{bytes_eq};
 ghost use Rattle.job_deeds.specs.event_log.declared.event.Event.{Event as EventValue};
 ghost use Rattle.job_deeds.specs.event_log.Events.{IsEvent};
 ghost use Rattle.job_deeds.specs.event_log.Logs.{log_text};
@@ -120,25 +121,32 @@ pub fn has_news(commands: &Commands, manager: &Manager, list: &[Feed], row: &Row
     }
 }
 
+/// Whether a name is this one, whose events are shown or aren't.
+fn is_shown(shown: bool, name: &[u8], this: &[u8]) -> bool
+    ensures { result ≡ (shown && bytes_eq name.now this.now) }
+{
+    shown && name == this
+}
+
 /// Whether the events of a name are shown.
 fn shows(shown: &Shown, name: &[u8]) -> bool
     ensures { result ≡ shows shown.now name.now }
 {
-    (shown.submit && name == b"submit".as_slice())
-        || (shown.validate && name == b"validate".as_slice())
-        || (shown.dependency_add && name == b"dependency-add".as_slice())
-        || (shown.dependency_remove && name == b"dependency-remove".as_slice())
-        || (shown.depend && name == b"depend".as_slice())
-        || (shown.priority && name == b"priority".as_slice())
-        || (shown.urgency && name == b"urgency".as_slice())
-        || (shown.alloc && name == b"alloc".as_slice())
-        || (shown.flux_restart && name == b"flux-restart".as_slice())
-        || (shown.start && name == b"start".as_slice())
-        || (shown.finish && name == b"finish".as_slice())
-        || (shown.exception && name == b"exception".as_slice())
-        || (shown.release && name == b"release".as_slice())
-        || (shown.free && name == b"free".as_slice())
-        || (shown.clean && name == b"clean".as_slice())
+    is_shown(shown.submit, name, b"submit")
+        | is_shown(shown.validate, name, b"validate")
+        | is_shown(shown.dependency_add, name, b"dependency-add")
+        | is_shown(shown.dependency_remove, name, b"dependency-remove")
+        | is_shown(shown.depend, name, b"depend")
+        | is_shown(shown.priority, name, b"priority")
+        | is_shown(shown.urgency, name, b"urgency")
+        | is_shown(shown.alloc, name, b"alloc")
+        | is_shown(shown.flux_restart, name, b"flux-restart")
+        | is_shown(shown.start, name, b"start")
+        | is_shown(shown.finish, name, b"finish")
+        | is_shown(shown.exception, name, b"exception")
+        | is_shown(shown.release, name, b"release")
+        | is_shown(shown.free, name, b"free")
+        | is_shown(shown.clean, name, b"clean")
 }
 
 /// The names of the events that are shown, in order.
@@ -164,8 +172,7 @@ fn events_of(alloc: Global, log: &Bytes) -> Result<Vec<Event>, AllocError>
     match read(alloc, log.as_slice()) {
         Ok(events) => Ok(events),
         Err(LogFault::NoMemory) => Err(AllocError),
-        Err(LogFault::NoNewline) => unreachable!(),
-        Err(LogFault::BadLine { .. }) => unreachable!(),
+        Err(_) => unreachable!(),
     }
 }
 
@@ -178,7 +185,7 @@ fn state_after(alloc: Global, events: &[Event]) -> Result<State, AllocError>
     match replay(alloc, events) {
         Ok(job) => Ok(job.state),
         Err(ReplayFault::NoMemory) => Err(AllocError),
-        Err(ReplayFault::NotAllowed { .. }) => unreachable!(),
+        Err(_) => unreachable!(),
     }
 }
 
