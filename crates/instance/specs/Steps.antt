@@ -47,8 +47,8 @@ can_feed v actor = has_feed v.services v.seats actor
 abbrev pub can_post : InstanceValue → Bool
 can_post v = is_some v.services.jobs.found
 
--- no step of the services, no feed and no reply can be made, and nothing is posted or due: an issue,
--- the end or the time goes on
+-- no step of the services, no feed and no reply can be made, and nothing is posted or due: an
+-- issue, the end or the time goes on
 pub record IsAtRest (v : InstanceValue) : Type 0 where
   pub steps : (s : KvsStep) → can_step v.services s ≡ false
   pub feeds : (actor : ℕ) → can_feed v actor ≡ false

@@ -493,10 +493,10 @@ impl Instance {
         close_off(self.alloc, core, jobs, lines, &self.seats)
     }
 
-    /// Where no step of the services, no feed and no reply can be made and nothing is posted or due,
-    /// the instance has settled: all its brokers are told, nothing is due by its chronicle, and each
-    /// open command has to wait. Nothing is due either where nothing is to be posted and no child
-    /// is to be born.
+    /// Where no step of the services, no feed and no reply can be made and nothing is posted or
+    /// due, the instance has settled: all its brokers are told, nothing is due by its chronicle, and
+    /// each open command has to wait. Nothing is due either where nothing is to be posted and no
+    /// child is to be born.
     pub fn still(&self)
         requires { self.now.spent ≡ false }
         ensures rests { (set : Setup) (own : List EntryValue) → AgreesOwn self.now set own

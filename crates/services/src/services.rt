@@ -460,8 +460,9 @@ impl Services {
     /// Where the key-value service and the contents have come to rest, each broker has heard the
     /// last landing and of each live namespace. Where nothing but time can go on, nothing is due
     /// besides, and a command waits for a number that hasn't landed, for members of a fence that
-    /// haven't come, for a second that hasn't, or for the end of a job that isn't over. Where no target is left besides, no advance is. Nothing is due where no step of
-    /// the key-value service can be made, nothing is to be posted and no child is to be born.
+    /// haven't come, for a second that hasn't, or for the end of a job that isn't over. Where no
+    /// target is left besides, no advance is. Nothing is due where no step of the key-value service
+    /// can be made, nothing is to be posted and no child is to be born.
     pub fn still(&self)
         requires { self.now.spent ≡ false }
         ensures quiet { (inst : Instance) (log : Log) → AgreesServices self.now inst log
@@ -487,7 +488,8 @@ impl Services {
             → IsOpen by log → IsSome (awaited self.now.jobs by) ⊎ IsLeftAdvance l by }
         ensures results { (inst : Instance) (log : Log) (l : Living)
             → AgreesServices self.now inst log → IsStill self.now → IsLiving inst log l
-            → (by : Command) (where_ : State) → awaited self.now.jobs by ≡ Some where_ → IsLeftResult l by where_ }
+            → (by : Command) (where_ : State) → awaited self.now.jobs by ≡ Some where_
+            → IsLeftResult l by where_ }
     {
         // where none of the three can go on, what each has left is known
         self.core().still();

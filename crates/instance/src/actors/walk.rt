@@ -23,8 +23,8 @@ impl Instance {
         self.services.nth(number)
     }
 
-    /// The actor of this number among those whose open watch can be fed, or what the number has left
-    /// behind them.
+    /// The actor of this number among those whose open watch can be fed, or what the number has
+    /// left behind them.
     pub fn nth_feed(&self, number: u64) -> Result<u32, u64>
         requires { self.now.spent ≡ false }
         ensures value { result ≡ nth (feeds self.now) number }
