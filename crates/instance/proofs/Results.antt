@@ -116,7 +116,7 @@ uncarried set c by none =
     (ap (is_landed by) (sym log) ∙ parts.0, ap (is_denied by) (sym log) ∙ parts.1)
 
 -- a command that waits for the end of a job was carried out by none
-asks_end : rules.JobAsk → Bool
+abbrev asks_end : rules.JobAsk → Bool
 asks_end (rules.ResultOf label) = true
 asks_end (rules.Watch label) = true
 asks_end _ = false

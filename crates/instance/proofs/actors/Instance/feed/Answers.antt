@@ -33,6 +33,6 @@ returns-clause-makes c = λ set own agrees.
     (c.standing.ensures.heard (setting_of set) log (subst (λ k. Agrees k (setting_of set) log) (sym is) (core_agrees v h))) in
     let fed = c.in_ok-fed.fed in
     let last = c.saturating_sub-command.ensures in
-    feed_follows v h a seat sits can hears c.feed.new.services fed c.in_ok-fed.ensures.keeps
-    (subst (λ n. Feeds c.feed.new.services (instance_of set) (log_in set.work own) (command_of a n) fed) last (c.in_ok-fed.ensures.feeds (instance_of set) (log_in set.work own) h.agrees))
+    feed_follows v h a seat sits can hears c.feed.new.self fed c.in_ok-fed.ensures.keeps
+    (subst (λ n. Feeds c.feed.new.self (instance_of set) (log_in set.work own) (command_of a n) fed) last (c.in_ok-fed.ensures.feeds (instance_of set) (log_in set.work own) h.agrees))
     c.in_ok-made.made (c.in_ok-made.ensures ∙ ap (λ n. entry.Watched a n fed.number fed.first fed.count ∷ []) last)
