@@ -15,7 +15,7 @@ use Rattle.instance.specs.answers.Chronicle.{Setup, issues_of, replies_to, top}
 use Rattle.instance.specs.answers.Jobs.{instance_of}
 use Rattle.instance.specs.answers.Legal.{IsLegalEntry}
 use Rattle.instance.specs.answers.declared.chronicle.Entry.{Entry}
-use Rattle.hierarchy.specs.Births.{Birth, is_at, is_born, is_gone, label_of, lives, numbers}
+use Rattle.hierarchy.specs.Births.{Birth, is_at, is_born, is_gone, label_of, numbers}
 use Rattle.hierarchy.specs.Growing.{GoesOn}
 use Rattle.hierarchy.specs.Grows.{GrowsByBirth, born_by, born_to}
 use Rattle.hierarchy.specs.Legal.{IsLegalBirth, IsLegalRun}

@@ -1,5 +1,5 @@
 -- The instances of a run, where instances are born or go.
-use Rattle.std.proofs.Common.{◌≡◌, ◌∙◌, ℕ, ◌+◌, ◌<◌, ◌==◌, List, ◌++◌, Bool, true, false, ◌&&◌, ◌||◌, Option, Some, None, cond, get_or, refl, sym, ap, subst}
+use Rattle.std.proofs.Common.{◌≡◌, ◌∙◌, ℕ, ◌<◌, ◌==◌, List, ◌++◌, Bool, true, false, ◌&&◌, ◌||◌, Option, Some, None, cond, get_or, refl, sym, ap, subst}
 use Rattle.std.specs.Prelude.{is_some, option_and_then, option_map, slice_get}
 use Rattle.std.specs.List.{list_any}
 use Rattle.std.specs.Option.{option_map_or}

@@ -1,4 +1,4 @@
-use Rattle.std.proofs.Common.{◌≡◌, ◌+◌, ◌-◌, ◌∙◌, ◌++◌, suc, ap, sym, arith}
+use Rattle.std.proofs.Common.{◌≡◌, ◌-◌, ◌∙◌, ◌++◌, suc, ap, sym, arith}
 use Rattle.std.specs.Prelude.{filter_map}
 use Rattle.hierarchy.specs.Inside.{marked_below}
 use Rattle.homes.specs.Inside.{end_at}
