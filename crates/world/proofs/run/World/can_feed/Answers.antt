@@ -46,5 +46,6 @@ returns-then-not-home c =
 pub returns-else-not-home : goal.returns-else-not-home
 returns-else-not-home c =
     let h = c.index-home.result.now in
-    sym (ap (λ b. not b && instance_can_feed h.instance c.args.actor) c.if-not-home.false)
+    ap not c.if-not-home.false
+    ∙ sym (ap (λ b. not b && instance_can_feed h.instance c.args.actor) c.if-not-home.false)
     ∙ said (goal.at.returns-else-not-home c).After-index-home
