@@ -1,3 +1,3 @@
 pub mod Holding
 pub mod Fitting
-pub mod Space
+pub mod Spare

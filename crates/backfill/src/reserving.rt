@@ -10,7 +10,7 @@ ghost use Rattle.backfill.specs.Reserved.{FitsAt, IsReserved, KeepsReservation, 
 ghost use Rattle.backfill.specs.Reservations.{AsReserved, IsReservation};
 
 use crate::hold::Hold;
-use graph_match::{Graph, Space};
+use graph_match::{Graph, Spare};
 use job_spec::JobSpec;
 use resource_set::Resources;
 use std::alloc::{AllocError, Global};
@@ -68,18 +68,18 @@ fn graph_at(
 }
 
 /// Takes what a job holds at a second in what is left beside other units.
-fn take_at(graph: &Graph, spec: &JobSpec, space: &mut Space, hold: &Hold, second: u64)
+fn take_at(graph: &Graph, spec: &JobSpec, spare: &mut Spare, hold: &Hold, second: u64)
     requires spec { IsSpec spec.now }
     requires nodes { AreWithin hold.now.units.nodes graph.now.grant }
     requires left { (others : List Node) × AreApart hold.now.units.nodes others
-        × AreRooms spec.now graph.now.grant others space.old.rooms.items space.old.sum }
+        × AreRooms spec.now graph.now.grant others spare.old.rooms.items spare.old.sum }
     ensures { (others : List Node) → AreApart hold.now.units.nodes others
-        → AreRooms spec.now graph.now.grant others space.old.rooms.items space.old.sum
+        → AreRooms spec.now graph.now.grant others spare.old.rooms.items spare.old.sum
         → AreRooms spec.now graph.now.grant
-        (nodes_of (held_at second (hold.now ∷ [])) ++ others) space.new.rooms.items space.new.sum }
+        (nodes_of (held_at second (hold.now ∷ [])) ++ others) spare.new.rooms.items spare.new.sum }
 {
     if hold.is_held_at(second) {
-        graph.take_in(spec, space, hold.units.nodes.as_slice());
+        graph.take_in(spec, spare, hold.units.nodes.as_slice());
     }
 }
 
@@ -91,13 +91,13 @@ fn fits_at(graph: &Graph, live: &[Hold], spec: &JobSpec, second: u64) -> Result<
     requires held { AreHeld graph.now.grant live.now }
     ensures { IfOk result (λ fits. IsTrue fits ↔ FitsAt spec.now graph.now.grant live.now second) }
 {
-    let mut space = graph.space(spec)?;
+    let mut spare = graph.spare(spec)?;
     let mut at = live.len();
     while 0 < at {
         at -= 1;
-        take_at(graph, spec, &mut space, &live[at], second);
+        take_at(graph, spec, &mut spare, &live[at], second);
     }
-    Ok(graph.serves(spec, &space))
+    Ok(graph.serves(spec, &spare))
 }
 
 /// A second from this one on at which each live job that ends has ended.

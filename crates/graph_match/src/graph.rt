@@ -18,7 +18,7 @@ ghost use Rattle.graph_match.specs.Rooms.{AreRooms, room_of, worth_of as worth_i
 use crate::fit::{Fit, JobList};
 use crate::place::Place;
 use crate::racks::{Cluster, Free};
-use crate::rooms::{Room, Space, wanted, worth};
+use crate::rooms::{Room, Spare, wanted, worth};
 use job_rules::Hold;
 use job_spec::JobSpec;
 use lists::Copied;
@@ -467,44 +467,44 @@ impl Graph {
     }
 
     /// How much is free on each host, and what that brings to a job.
-    pub fn space(&self, spec: &JobSpec) -> Result<Space, AllocError>
+    pub fn spare(&self, spec: &JobSpec) -> Result<Spare, AllocError>
         requires { IsSpec spec.now }
-        ensures { IfOk result (λ space. AreRooms spec.now self.now.grant (nodes_of self.now.live)
-            space.rooms.items space.sum) }
+        ensures { IfOk result (λ spare. AreRooms spec.now self.now.grant (nodes_of self.now.live)
+            spare.rooms.items spare.sum) }
     {
         let alloc = *self.live.allocator();
         let hosts = self.places.hosts();
         let rooms = rooms(alloc, hosts)?;
         let sum = brings(hosts, spec);
-        Ok(Space { rooms, sum })
+        Ok(Spare { rooms, sum })
     }
 
     /// Takes nodes' units in what is left where other nodes' units are taken. It takes no memory.
-    pub fn take_in(&self, spec: &JobSpec, space: &mut Space, nodes: &[Node])
+    pub fn take_in(&self, spec: &JobSpec, spare: &mut Spare, nodes: &[Node])
         requires spec { IsSpec spec.now }
         requires nodes { AreWithin nodes.now self.now.grant }
         requires left { (others : List Taken) × AreApart nodes.now others
-            × AreRooms spec.now self.now.grant others space.old.rooms.items space.old.sum }
+            × AreRooms spec.now self.now.grant others spare.old.rooms.items spare.old.sum }
         ensures { (others : List Taken) → AreApart nodes.now others
-            → AreRooms spec.now self.now.grant others space.old.rooms.items space.old.sum
+            → AreRooms spec.now self.now.grant others spare.old.rooms.items spare.old.sum
             → AreRooms spec.now self.now.grant (nodes.now ++ others)
-            space.new.rooms.items space.new.sum }
+            spare.new.rooms.items spare.new.sum }
     {
         let hosts = self.places.hosts();
-        let sum = take_back(hosts, spec, &mut space.rooms, space.sum, nodes);
-        space.sum = sum;
+        let sum = take_back(hosts, spec, &mut spare.rooms, spare.sum, nodes);
+        spare.sum = sum;
     }
 
     /// Whether what is left beside the units that are taken satisfies a job. It takes no memory.
-    pub fn serves(&self, spec: &JobSpec, space: &Space) -> bool
+    pub fn serves(&self, spec: &JobSpec, spare: &Spare) -> bool
         requires { IsSpec spec.now }
         ensures { (taken : List Taken)
-            → AreRooms spec.now self.now.grant taken space.now.rooms.items space.now.sum
+            → AreRooms spec.now self.now.grant taken spare.now.rooms.items spare.now.sum
             → IsTrue result
             ↔ CanFit spec.now self.now.grant (map (without_nodes taken) self.now.grant) }
     {
         let _live = &self.live;
-        is_enough(spec, space.sum)
+        is_enough(spec, spare.sum)
     }
 
     /// How much is free in a rack of 32 hosts in rank order; racks are counted from 0, and there is

@@ -15,4 +15,4 @@ pub use fit::{Fit, JobList};
 pub use graph::Graph;
 pub use laws::{given_units_are_an_r, given_units_satisfy};
 pub use racks::Free;
-pub use rooms::Space;
+pub use rooms::Spare;

@@ -14,7 +14,7 @@ pub struct Room {
 
 /// How much is left on each host of a grant, and what that brings to a job.
 #[derive(Drop)]
-pub struct Space {
+pub struct Spare {
     pub rooms: Vec<Room>,
     pub sum: u64,
 }

@@ -3,12 +3,11 @@ ghost use Rattle.std.specs.Prelude.{◌≡◌, IfOk};
 ghost use Rattle.job_submissions.specs.Faults.{IsReadAs, IsVerdict, Lacks};
 
 use crate::depends::{are_known, named_needs};
-use crate::limits::verdict;
 use job_book::Book;
 use job_commands::{Commands, NamedList};
 use job_spec::JobSpec;
 use lists::Bytes;
-use manager_rules::Limits;
+use manager_rules::{Limits, verdict};
 use std::alloc::{AllocError, Global};
 
 /// Why a submission is refused.

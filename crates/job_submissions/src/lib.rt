@@ -6,7 +6,6 @@ mod depends;
 pub mod events;
 pub mod faults;
 pub mod laws;
-mod limits;
 pub mod posting;
 
 pub use events::submit_event;

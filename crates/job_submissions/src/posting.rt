@@ -12,14 +12,13 @@ ghost use Rattle.job_submissions.specs.Made.{IsAccepted, IsBuilt, IsMade, IsMade
 use crate::depends::{are_known, named_needs};
 use crate::events::submit_event;
 use crate::faults::read;
-use crate::limits::verdict;
 use job_book::Book;
 use job_commands::{Commands, JobAsk, NamedList, Row, Stage};
 use job_manager::Submission;
 use job_spec::{JobSpec, Needs};
 use job_texts::needs_of;
 use lists::{Bytes, Copied};
-use manager_rules::Limits;
+use manager_rules::{Limits, verdict};
 use std::alloc::{AllocError, Global};
 
 /// The id of a millisecond since an instance's birth, a rank and a sequence number (RFC 19).

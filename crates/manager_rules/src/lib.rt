@@ -5,6 +5,7 @@
 pub mod asked;
 pub mod due;
 pub mod laws;
+pub mod limits;
 pub mod policy;
 pub mod terms;
 pub mod why;
@@ -22,6 +23,7 @@ pub use laws::{
     submissions_keep_jobs_sound, users_keep_stores_sound, users_leave_jobs, what_is_due_is_allowed,
     what_is_due_stays_due, who_passes_leaves_the_reserved_second,
 };
+pub use limits::verdict;
 pub use policy::Policy;
 pub use terms::{Limit, Limits, Shown, Terms};
 pub use why::{JobList, Why};

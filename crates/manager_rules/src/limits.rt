@@ -2,8 +2,8 @@
 ghost use Rattle.std.specs.Prelude.{◌≡◌, ◌*◌};
 ghost use Rattle.manager_rules.specs.Limits.{cores_of, exceeds, gpus_of, hosts_of, outlasts, verdict_of};
 
+use crate::terms::{Limit, Limits};
 use job_spec::JobSpec;
-use manager_rules::{Limit, Limits};
 
 /// Whether so many are more than a limit allows.
 fn exceeds(limit: Limit, count: u128) -> bool

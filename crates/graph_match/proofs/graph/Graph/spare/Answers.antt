@@ -4,7 +4,7 @@ use Rattle.job_rules.specs.Worths.{total, worth}
 use Rattle.graph_match.specs.Places.{free_node, node_of}
 use Rattle.graph_match.specs.Rooms.{AreRooms, room_of}
 use Rattle.graph_match.proofs.Blocking.{rooms_begun}
-use Rattle.graph_match.proofs.graph.Graph.space.Goals as goal
+use Rattle.graph_match.proofs.graph.Graph.spare.Goals as goal
 
 pub returns : goal.returns
 returns c =
