@@ -1,5 +1,5 @@
 -- A job that fits at a second fits later too, and after the last end of a live job nothing changes.
-use Rattle.std.proofs.Common.{◌≡◌, ℕ, ◌+◌, ◌<◌, ◌≤◌, Bool, true, false, ◌||◌, eqb, ltb, inl, inr, List, [], ◌∷◌, ◌++◌, map, refl, sym, ap, ◌∙◌, subst, arith}
+use Rattle.std.proofs.Common.{◌≡◌, ℕ, ◌<◌, ◌≤◌, Bool, true, false, ◌||◌, eqb, ltb, inl, inr, List, [], ◌∷◌, ◌++◌, map, refl, sym, ap, ◌∙◌, subst, arith}
 use Rattle.std.specs.Prelude.{filter, IsTrue, ◌↔◌}
 use Rattle.std.specs.List.{AllByRecursion as Each}
 use Rattle.std.proofs.lemmas.Bool.{cases_lt, lt-ltb, ltb-true}
@@ -59,8 +59,30 @@ pub fits_without : (spec : JobSpec) (grant : List Node) (live : List Hold) (offe
 fits_without spec grant live offer second = fewer spec grant live (live ++ offer ∷ []) second second (λ h i e. (among_left live (offer ∷ []) h i, e))
 
 -- ---- the search for the least second
-pub too_soon : (spec : JobSpec) (grant : List Node) (live : List Hold) (now middle : ℕ) → (FitsAt spec grant live middle → ⊥) → (sooner : ℕ) → now ≤ sooner → sooner < middle + 1 → FitsAt spec grant live sooner → ⊥
-too_soon spec grant live now middle never sooner from below fits = never (fits_later spec grant live sooner middle (omega (arith, below)) fits)
+-- between two ends nothing changes: whoever has its units at the one second has them at the other
+held_by : (s t : ℕ) (h : Hold) → (t < h.until → s < h.until) → is_held_at t h ≡ true → is_held_at s h ≡ true
+held_by s t h by e = at (eqb h.until 0) e
+  where
+    at : (b : Bool) → (b || ltb t h.until) ≡ true → (b || ltb s h.until) ≡ true
+    at true e = refl
+    at false e = lt-ltb s h.until (by (ltb-true t h.until e))
+
+-- what doesn't fit at a second doesn't before the next end
+pub fits_before : (spec : JobSpec) (grant : List Node) (live : List Hold) (middle next sooner : ℕ) → Each (λ h. middle < h.until → next ≤ h.until) live → sooner < next → FitsAt spec grant live sooner → FitsAt spec grant live middle
+fits_before spec grant live middle next sooner ends below = fewer spec grant live live sooner middle (λ h i e. (i, held_by sooner middle h (past h i) e))
+  where
+    past : (h : Hold) → Among h live → middle < h.until → sooner < h.until
+    past h i u = let up : next ≤ h.until = each_at (λ x. middle < x.until → next ≤ x.until) live h ends i u in omega (arith, up, below)
+
+-- and what fits at a second fits from the last end on
+pub fits_since : (spec : JobSpec) (grant : List Node) (live : List Hold) (end middle : ℕ) → Each (λ h. h.until ≤ middle → h.until ≤ end) live → FitsAt spec grant live middle → FitsAt spec grant live end
+fits_since spec grant live end middle ends = fewer spec grant live live middle end (λ h i e. (i, held_by middle end h (past h i) e))
+  where
+    past : (h : Hold) → Among h live → end < h.until → middle < h.until
+    past h i u = elim (cases_lt middle h.until) [
+      | inl up ↦ up
+      | inr down ↦ let by : h.until ≤ end = each_at (λ x. x.until ≤ middle → x.until ≤ end) live h ends i down in absurd (omega (arith, by, u))
+    ]
 
 -- two least seconds are the same
 same_second : (spec : JobSpec) (grant : List Node) (live : List Hold) (now s t : ℕ) → IsReserved spec grant live now s → IsReserved spec grant live now t → s ≡ t

@@ -112,8 +112,39 @@ fn last_end(live: &[Hold], now: u64) -> u64
     last
 }
 
+/// The first end of a live job past a second, or the last second where none comes before it.
+fn next_end(live: &[Hold], second: u64, last: u64) -> u64
+    requires { second < last }
+    ensures past { (second < result) × (result ≤ last) }
+    ensures first { Each (λ hold. second < hold.until → result ≤ hold.until) live.now }
+{
+    let mut next = last;
+    for hold in live {
+        if second < hold.until {
+            next = next.min(hold.until);
+        }
+    }
+    next
+}
+
+/// The last end of a live job by a second, or the first second where none comes behind it.
+fn end_by(live: &[Hold], first: u64, second: u64) -> u64
+    requires { first ≤ second }
+    ensures by { (first ≤ result) × (result ≤ second) }
+    ensures last { Each (λ hold. hold.until ≤ second → hold.until ≤ result) live.now }
+{
+    let mut end = first;
+    for hold in live {
+        if hold.until <= second {
+            end = end.max(hold.until);
+        }
+    }
+    end
+}
+
 /// The least second at which a job fits, where it fits at the last one. What fits at a second fits
-/// later too, so each look at a second halves those that are left.
+/// later too, and between two ends of live jobs nothing changes: so each look at a second halves
+/// those that are left, and goes on at an end.
 fn least_fitting(
     graph: &Graph,
     live: &[Hold],
@@ -133,9 +164,9 @@ fn least_fitting(
     while low < high {
         let middle = low + (high - low) / 2;
         if fits_at(graph, live, spec, middle)? {
-            high = middle;
+            high = end_by(live, low, middle);
         } else {
-            low = middle + 1;
+            low = next_end(live, middle, high);
         }
     }
     Ok(low)

@@ -1,9 +1,9 @@
-use Rattle.std.proofs.Common.{◌≡◌, ℕ, ◌∷◌, ◌++◌, [], List, length, cond, map, refl, sym, ap, ◌∙◌, subst}
+use Rattle.std.proofs.Common.{ℕ, ◌∷◌, ◌++◌, [], List, length, cond, map, sym, ap, ◌∙◌, subst}
 use Rattle.job_rules.specs.declared.hold.Hold.{Hold as Held}
 use Rattle.job_rules.specs.Fits.{AreWithin, nodes_of, without_nodes}
 use Rattle.graph_match.proofs.Fitting.{new_hold}
 use Rattle.graph_match.specs.Allotment.{Allotment}
-use Rattle.graph_match.specs.Holds.{with_hold, without_hold}
+use Rattle.graph_match.specs.Holds.{without_hold}
 use Rattle.backfill.specs.declared.reserving.Reservation.{Reservation}
 use Rattle.backfill.specs.Held.{held, held_at}
 use Rattle.backfill.proofs.Fitting.{keeps_ended, passes_is}
