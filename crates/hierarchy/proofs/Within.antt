@@ -1,6 +1,6 @@
 -- What an instance of a run is given keeps to its limits.
 use Rattle.std.proofs.Common.{◌≡◌, ℕ, zero, suc, ◌+◌, ◌<◌, ◌≤◌, ◌==◌, ◌^◌, inl, inr, List, [], ◌∷◌, ◌++◌, length, Bool, true, false, cond, Option, Some, None, filter_map, map, count_by, sum_by, All, refl, sym, ap, ap₂, ◌∙◌, subst, arith, true≢false, mod-lt}
-use Rattle.std.specs.Prelude.{IfSome, filter, is_some, slice_get, slice_index_or, if◌then◌else◌}
+use Rattle.std.specs.Prelude.{IfSome, filter, is_none, is_some, slice_get, slice_index_or, if◌then◌else◌}
 use Rattle.std.specs.Option.{option_and_then}
 use Rattle.std.specs.List.{cons_option, list_any}
 use Rattle.std.proofs.lemmas.Bool.{eqb-true, false_from_ne_true, or_cases, or_left, or_right}
@@ -103,6 +103,7 @@ home_placed size (a ∷ xs) (suc n) = home_placed size xs n
 
 in_place : (size : ℕ) (xs : List Actor) (by : ℕ) (c : Command) → is_in_place (map (placed size) xs) by c ≡ is_in_place xs by c
 in_place size xs by (command.Tell actor) = ap₂ are_together (home_placed size xs by) (home_placed size xs actor)
+in_place size xs by command.Look = ap is_none (home_placed size xs by)
 in_place size xs by command.Shutdown = ap is_some (home_placed size xs by)
 in_place size xs by _ = refl
 

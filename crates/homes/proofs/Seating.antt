@@ -67,6 +67,7 @@ waits_some set log a issued waiting.Staged h e = h.0
 waits_some set log a issued waiting.TxnFull h e = h.0
 waits_some set log a issued (waiting.Tell to) h e = h.0
 waits_some set log a issued waiting.Using h e = h.0
+waits_some set log a issued waiting.Look h e = h.0
 waits_some set log a issued waiting.Service h e = h.0
 waits_some set log a issued waiting.Jobs h e = h.0
 waits_some set log a issued waiting.Shutdown h e = h.0

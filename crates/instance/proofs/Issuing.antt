@@ -444,6 +444,11 @@ module _ (v : Own) (h : DoesAgree v) (a : ℕ) (seat : Seat) (is : IsIssuing v a
             (asked_push by log o (ap (λ r. asks_of by (option_map (λ y. Asked by seen) r)) (eq ∙ ap (ask_of txn) (sym same))) ∙ unasked),
         (name, subst (λ n. command_at v.set.work (command_of a n) ≡ Some (command.NsUse name)) back (at ∙ ap Some (sym same))),
       )
+      waits_issued command.Look known same = (
+        omega arith,
+        still_unasked (eq ∙ ap (ask_of txn) (sym same)),
+        subst (λ n. command_at v.set.work (command_of a n) ≡ Some command.Look) back (at ∙ ap Some (sym same)),
+      )
       waits_issued (command.ContentStore bytes) known same = waits_asked (ask.Store bytes) (eq ∙ ap (ask_of txn) (sym same))
       waits_issued (command.ContentLoad reference) known same = waits_asked (ask.Load reference) (eq ∙ ap (ask_of txn) (sym same))
       waits_issued command.ContentFlush known same = waits_asked ask.Flush (eq ∙ ap (ask_of txn) (sym same))
@@ -482,6 +487,7 @@ module _ (v : Own) (h : DoesAgree v) (a : ℕ) (seat : Seat) (is : IsIssuing v a
             busy_other : (c : Command) → is_free (waits_for c) ≡ false
             busy_other (command.Tell to) = refl
             busy_other (command.NsUse name) = refl
+            busy_other command.Look = refl
             busy_other _ = refl
 
             busy_so : (c : Command) (r : Option Op) → is_free (option_map_or (λ op. room_behind seat.staged.ops) r (waits_for c)) ≡ false

@@ -2,6 +2,7 @@ mod Owning
 mod Listing
 pub mod Going
 mod Logs
+mod Looking
 mod Families
 mod Ahead
 mod Tallies

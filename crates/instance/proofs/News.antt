@@ -166,6 +166,7 @@ waits_news set log es a issued waiting.Staged h = (h.0, asked_news (command_of a
 waits_news set log es a issued waiting.TxnFull h = (h.0, asked_news (command_of a (issued - 1)) log es ∙ h.1, h.2)
 waits_news set log es a issued (waiting.Tell to) h = (h.0, asked_news (command_of a (issued - 1)) log es ∙ h.1, h.2)
 waits_news set log es a issued waiting.Using h = (h.0, asked_news (command_of a (issued - 1)) log es ∙ h.1, h.2)
+waits_news set log es a issued waiting.Look h = (h.0, asked_news (command_of a (issued - 1)) log es ∙ h.1, h.2)
 waits_news set log es a issued waiting.Service h = (h.0, asked_news (command_of a (issued - 1)) log es ∙ h.1)
 waits_news set log es a issued waiting.Jobs h = (h.0, asked_news (command_of a (issued - 1)) log es ∙ h.1, h.2, h.3)
 waits_news set log es a issued waiting.Shutdown h = (h.0, asked_news (command_of a (issued - 1)) log es ∙ h.1, h.2)

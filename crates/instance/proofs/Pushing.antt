@@ -52,6 +52,7 @@ waits_other set log o a issued waiting.Staged un h = (h.0, asked_push (command_o
 waits_other set log o a issued waiting.TxnFull un h = (h.0, asked_push (command_of a (issued - 1)) log o (un (issued - 1)) ∙ h.1, h.2)
 waits_other set log o a issued (waiting.Tell to) un h = (h.0, asked_push (command_of a (issued - 1)) log o (un (issued - 1)) ∙ h.1, h.2)
 waits_other set log o a issued waiting.Using un h = (h.0, asked_push (command_of a (issued - 1)) log o (un (issued - 1)) ∙ h.1, h.2)
+waits_other set log o a issued waiting.Look un h = (h.0, asked_push (command_of a (issued - 1)) log o (un (issued - 1)) ∙ h.1, h.2)
 waits_other set log o a issued waiting.Service un h = (h.0, asked_push (command_of a (issued - 1)) log o (un (issued - 1)) ∙ h.1)
 waits_other set log o a issued waiting.Jobs un h = (h.0, asked_push (command_of a (issued - 1)) log o (un (issued - 1)) ∙ h.1, h.2, h.3)
 waits_other set log o a issued waiting.Shutdown un h = (h.0, asked_push (command_of a (issued - 1)) log o (un (issued - 1)) ∙ h.1, h.2)

@@ -13,6 +13,9 @@ use Rattle.services.specs.kvs_txn.declared.txn.By.{By}
 use Rattle.services.specs.kvs_rules.declared.events.KvsAnswer.{KvsAnswer}
 use Rattle.services.specs.kvs_rules.declared.events.KvsAnswer.TheVariants as answer
 use Rattle.services.specs.kvs_rules.declared.events.KvsEvent.TheVariants as event
+use Rattle.services.specs.kvs_core.Seen.{primary_heard}
+use Rattle.services.specs.kvs_rules.Brokers.{heard}
+use Rattle.services.specs.kvs_rules.Namespaces.{primary}
 use Rattle.services.specs.kvs_rules.Log.{Log, Moment, Happened, is_asked, is_answered, answers_now, same_command}
 use Rattle.services.specs.kvs_model.Store.{Name}
 use Rattle.services.specs.kvs_rules.Sequence.{EachAfter}
@@ -35,7 +38,7 @@ use Rattle.services.specs.answers.Commands.{command_at, subject_at}
 use Rattle.services.specs.answers.Entering.{reply_of}
 use Rattle.services.specs.answers.Floors.{floor}
 use Rattle.services.specs.answers.Jobs.{happening_of, instance_of, job_ask_at, job_reply_of, log_in, state_by}
-use Rattle.services.specs.answers.Legal.{HasReplyGrounds, IsLegal, IsLegalEntry, IsLegalIn, SettlesFirst}
+use Rattle.services.specs.answers.Legal.{HasReplyGrounds, IsLegal, IsLegalEntry, IsLegalIn, SeesRoot, SettlesFirst}
 use Rattle.services.specs.answers.Stretches.{ComesBeforeReply}
 use Rattle.services.specs.answers.Services.{setting_of, log_of, moment_of}
 use Rattle.services.specs.kvs_rules.Answers.{IsLegalEvent}
@@ -49,7 +52,7 @@ use Rattle.instance.specs.Floors.{Floors, floor_in, seen_in}
 use Rattle.services.specs.answers.Floors.{number_in, roots_named}
 use Rattle.instance.proofs.Seeing.{none_seen}
 use Rattle.instance.specs.Replies.{IsGiven}
-use Rattle.instance.specs.Seats.{is_free, last_command, has_come, raised, with_floors}
+use Rattle.instance.specs.Seats.{is_free, last_command, has_come, has_heard, raised, with_floors}
 use Rattle.instance.specs.Steps.{can_answer}
 use Rattle.instance.specs.Makes.{Follows}
 use Rattle.instance.specs.Value.{InstanceValue}
@@ -58,6 +61,7 @@ use Rattle.instance.proofs.Owning.{Own, DoesAgree}
 use Rattle.instance.proofs.Listing.{count-push, any_left, each_append, none_counted, get-set_same, get-set_other}
 use Rattle.instance.proofs.Pushing.{IsOthers, actor_other, actor_raised, asked_push, answered_push, stands_other}
 use Rattle.instance.proofs.Going.{unended}
+use Rattle.instance.proofs.Looking.{sees_root}
 use Rattle.instance.proofs.Lining.{HaveSameLines, next_at, same_lines, tallied_on}
 use Rattle.instance.proofs.Logs.{job_replied, log_grown, log_issued, log_unanswered, log_without, served_log, service_replied}
 
@@ -189,14 +193,14 @@ pub record IsThere (set : Setup) (log : Log) (c : List Entry) (services : Servic
   pub is : IsReply set log c services by given number moment happening
 
 -- a reply that no service gives
-nothing_told : (set : Setup) (c : List Entry) (services : ServicesValue) (by : By) (given : Reply) → answer_of given ≡ None → job_reply_of given ≡ None → is_closing given ≡ false →
-    AgreesServices services (instance_of set) (log_in set.work c) → HasReplyGrounds set c by None given → is_asked by (log_of set.work top c) ≡ false → IsThere set (log_of set.work top c) c services by given None
-nothing_told set c services by given none alone early agree legal unasked = record {
+nothing_told : (set : Setup) (c : List Entry) (services : ServicesValue) (by : By) (given : Reply) (number : Option ℕ) → answer_of given ≡ None → job_reply_of given ≡ None → is_closing given ≡ false →
+    AgreesServices services (instance_of set) (log_in set.work c) → HasReplyGrounds set c by number given → is_asked by (log_of set.work top c) ≡ false → IsThere set (log_of set.work top c) c services by given number
+nothing_told set c services by given number none alone early agree legal unasked = record {
   moment = None;
   happening = None;
   is = record {
     moment = no_moment;
-    happens = ap₂ (λ r o. option_map_or (λ x. Some (rules.Replied by x None)) r (option_map rules.Served o)) alone no_moment;
+    happens = ap₂ (λ r o. option_map_or (λ x. Some (rules.Replied by x number)) r (option_map rules.Served o)) alone no_moment;
     legal = legal;
     early = early;
     agrees = subst (AgreesServices services (instance_of set)) (sym (append-nil (log_in set.work c))) agree;
@@ -204,8 +208,8 @@ nothing_told set c services by given none alone early agree legal unasked = reco
   };
 }
   where
-    no_moment : moment_of set.work top c (entry.Replied by.actor by.command given None) ≡ None
-    no_moment = ap (option_map (λ a. Happened (event.Answered by None a))) none
+    no_moment : moment_of set.work top c (entry.Replied by.actor by.command given number) ≡ None
+    no_moment = ap (option_map (λ a. Happened (event.Answered by number a))) none
 
 module _ (set : Setup) (c : List Entry) (old : ServicesValue) (agree : AgreesServices old (instance_of set) (log_in set.work c)) (a issued : ℕ)
     (begun : is_issued (command_of a (issued - 1)) c ≡ true) (unreplied : is_replied (command_of a (issued - 1)) c ≡ false) where
@@ -216,27 +220,30 @@ module _ (set : Setup) (c : List Entry) (old : ServicesValue) (agree : AgreesSer
   Stays services given number = IsThere set (log_of set.work top c) c services spoken given number
 
   -- one that its actor is told at once
-  at_once : (services : ServicesValue) (given plain : Reply) (number : Option ℕ) → (given ≡ plain) × (number ≡ None) × (services ≡ old) → answer_of plain ≡ None → job_reply_of plain ≡ None → is_closing plain ≡ false →
-      HasReplyGrounds set c spoken None plain → is_asked spoken (log_of set.work top c) ≡ false → Stays services given number
-  at_once services given plain number h none alone early legal unasked =
+  at_once : (services : ServicesValue) (given plain : Reply) (number told : Option ℕ) → (given ≡ plain) × (number ≡ told) × (services ≡ old) → answer_of plain ≡ None → job_reply_of plain ≡ None → is_closing plain ≡ false →
+      HasReplyGrounds set c spoken told plain → is_asked spoken (log_of set.work top c) ≡ false → Stays services given number
+  at_once services given plain number told h none alone early legal unasked =
       subst (λ g. Stays services g number) (sym h.0) (subst (Stays services plain) (sym h.1)
-      (nothing_told set c services spoken plain none alone early (subst (λ v. AgreesServices v (instance_of set) (log_in set.work c)) (sym h.2) agree) legal unasked))
+      (nothing_told set c services spoken plain told none alone early (subst (λ v. AgreesServices v (instance_of set) (log_in set.work c)) (sym h.2) agree) legal unasked))
 
   last : (x y : Bool) → y ≡ true → (x || (y || false)) ≡ true
   last true y e = refl
   last false true e = refl
   last false false e = absurd (true≢false (sym e))
 
-  there : (services : ServicesValue) (w : Waiting) (given : Reply) (number : Option ℕ) → Waits set (log_of set.work top c) a issued w → IsGiven old services spoken w given number → Stays services given number
-  there services waiting.Nothing given number waits h = absurd h
-  there services waiting.Staged given number waits h =
-      at_once services given reply.Staged number h refl refl refl ((begun, unreplied), refl, waits.2) waits.1
-  there services waiting.TxnFull given number waits h =
-      at_once services given reply.TxnFull number h refl refl refl ((begun, unreplied), refl, waits.2) waits.1
-  there services (waiting.Tell to) given number waits h = absurd h
-  there services waiting.Using given number waits h =
-      at_once services given reply.Using number h refl refl refl ((begun, unreplied), refl, waits.2) waits.1
-  there services waiting.Service given number waits h =
+  there : (services : ServicesValue) (heard_so : ℕ) (w : Waiting) (given : Reply) (number : Option ℕ) → (w ≡ waiting.Look → SeesRoot set c spoken heard_so) →
+      Waits set (log_of set.work top c) a issued w → IsGiven old services spoken heard_so w given number → Stays services given number
+  there services heard_so waiting.Nothing given number sees waits h = absurd h
+  there services heard_so waiting.Staged given number sees waits h =
+      at_once services given reply.Staged number None h refl refl refl ((begun, unreplied), refl, waits.2) waits.1
+  there services heard_so waiting.TxnFull given number sees waits h =
+      at_once services given reply.TxnFull number None h refl refl refl ((begun, unreplied), refl, waits.2) waits.1
+  there services heard_so (waiting.Tell to) given number sees waits h = absurd h
+  there services heard_so waiting.Using given number sees waits h =
+      at_once services given reply.Using number None h refl refl refl ((begun, unreplied), refl, waits.2) waits.1
+  there services heard_so waiting.Look given number sees waits h =
+      at_once services given reply.Seen number (Some heard_so) h refl refl refl ((begun, unreplied), sees refl) waits.1
+  there services heard_so waiting.Service given number sees waits h =
       let m : Moment = Happened (event.Answered spoken number h.answer) in
       let legal = (h.tells.legal (instance_of set) (log_in set.work c) agree).0 in
       subst (λ g. Stays services g number) (sym h.handed) (record {
@@ -251,7 +258,7 @@ module _ (set : Setup) (c : List Entry) (old : ServicesValue) (agree : AgreesSer
           told = λ _. list_any-append (answers_now spoken) (log_of set.work top c) (m ∷ []) ∙ last (is_answered spoken (log_of set.work top c)) (answers_now spoken m) (same_self spoken);
         };
       })
-  there services waiting.Jobs given number waits h =
+  there services heard_so waiting.Jobs given number sees waits h =
       let t : Answers services (instance_of set) (log_in set.work c) spoken given number = h (instance_of set) (log_in set.work c) agree in
       let of = of_jobs given t.reply t.hands in
       record {
@@ -266,7 +273,7 @@ module _ (set : Setup) (c : List Entry) (old : ServicesValue) (agree : AgreesSer
           told = λ asked. absurd (true≢false (sym asked ∙ waits.1));
         };
       }
-  there services waiting.Shutdown given number waits h =
+  there services heard_so waiting.Shutdown given number sees waits h =
       subst (λ g. Stays services g number) (sym h.0) (subst (Stays services reply.Shut) (sym h.1) (subst (λ v. Stays v reply.Shut None) (sym h.2) shut_there))
     where
       asks : IsSome (job_ask_at set.work spoken)
@@ -380,15 +387,16 @@ seat_stands v h a seat e = subst (ActorStands v.set (log_of v.set.work top v.chr
 replied_waiting : (issued : ℕ) (w : Waiting) → is_free w ≡ false → cond (is_free w) issued (issued - 1) ≡ issued - 1
 replied_waiting issued w e = ap (λ b. cond b issued (issued - 1)) e
 
-given_waits : (old core : ServicesValue) (by : By) (w : Waiting) (given : Reply) (number : Option ℕ) → IsGiven old core by w given number → is_free w ≡ false
-given_waits old core by waiting.Nothing given number h = absurd h
-given_waits old core by waiting.Staged given number h = refl
-given_waits old core by waiting.TxnFull given number h = refl
-given_waits old core by (waiting.Tell to) given number h = absurd h
-given_waits old core by waiting.Using given number h = refl
-given_waits old core by waiting.Service given number h = refl
-given_waits old core by waiting.Jobs given number h = refl
-given_waits old core by waiting.Shutdown given number h = refl
+given_waits : (old core : ServicesValue) (by : By) (heard_so : ℕ) (w : Waiting) (given : Reply) (number : Option ℕ) → IsGiven old core by heard_so w given number → is_free w ≡ false
+given_waits old core by heard_so waiting.Nothing given number h = absurd h
+given_waits old core by heard_so waiting.Staged given number h = refl
+given_waits old core by heard_so waiting.TxnFull given number h = refl
+given_waits old core by heard_so (waiting.Tell to) given number h = absurd h
+given_waits old core by heard_so waiting.Using given number h = refl
+given_waits old core by heard_so waiting.Look given number h = refl
+given_waits old core by heard_so waiting.Service given number h = refl
+given_waits old core by heard_so waiting.Jobs given number h = refl
+given_waits old core by heard_so waiting.Shutdown given number h = refl
 
 some_issued : (set : Setup) (log : Log) (a issued : ℕ) (w : Waiting) → is_free w ≡ false → Waits set log a issued w → 0 < issued
 some_issued set log a issued waiting.Nothing e h = absurd (true≢false e)
@@ -396,6 +404,7 @@ some_issued set log a issued waiting.Staged e h = h.0
 some_issued set log a issued waiting.TxnFull e h = h.0
 some_issued set log a issued (waiting.Tell to) e h = h.0
 some_issued set log a issued waiting.Using e h = h.0
+some_issued set log a issued waiting.Look e h = h.0
 some_issued set log a issued waiting.Service e h = h.0
 some_issued set log a issued waiting.Jobs e h = h.0
 some_issued set log a issued waiting.Shutdown e h = h.0
@@ -531,8 +540,10 @@ module _ (v : Own) (a : ℕ) (c : List Entry) (seats : List Seat) (r : IsReady v
 -- what is known of a reply that is handed over
 pub record IsAnswering (v : Own) (a : ℕ) (seat : Seat) (services : ServicesValue) (given : Reply) (number : Option ℕ) : Type 0 where
   pub sits : slice_get v.instance.seats a ≡ Some seat
+  pub come : has_come v.instance.services (last_command a seat) (has_heard v.instance.services seat) seat.waiting ≡ true
+  pub hears : (broker : ℕ) → broker < v.instance.services.jobs.manager.core.size → heard (log_of v.set.work top v.chronicle) broker primary ≡ Some (primary_heard v.instance.services.jobs.manager.core broker)
   pub kept : KeepsCounts v.instance.services.jobs services.jobs
-  pub said : IsGiven v.instance.services services (last_command a seat) seat.waiting given number
+  pub said : IsGiven v.instance.services services (last_command a seat) (primary_heard v.instance.services.jobs.manager.core seat.broker) seat.waiting given number
 
 pub answer_follows : (v : Own) → DoesAgree v → (a : ℕ) (seat : Seat) (services : ServicesValue) (given : Reply) (number : Option ℕ) → IsAnswering v a seat services given number →
     (floors : Floors) → HasSeen seat given number floors → (es : List Entry) → es ≡ entry.Replied a (seat.issued - 1) given number ∷ [] →
@@ -540,10 +551,28 @@ pub answer_follows : (v : Own) → DoesAgree v → (a : ℕ) (seat : Seat) (serv
 unfolding ready_now
 answer_follows v h a seat services given number is floors seen es eq =
     let r = ready_now v h a in
-    let busy = given_waits v.instance.services services (last_command a seat) seat.waiting given number is.said in
+    let heard_so = primary_heard v.instance.services.jobs.manager.core seat.broker in
+    let busy = given_waits v.instance.services services (last_command a seat) heard_so seat.waiting given number is.said in
+    let sees = λ (looks : seat.waiting ≡ waiting.Look). sees_root v h a seat is.sits looks (ap (has_come v.instance.services (last_command a seat) (has_heard v.instance.services seat)) (sym looks) ∙ is.come) is.hears in
     reply_follows v a v.chronicle v.instance.seats r seat is.sits busy h services given number is.kept
-    (there v.set v.chronicle v.instance.services r.agrees a seat.issued (begun v a v.chronicle v.instance.seats r seat is.sits busy) (unreplied v a v.chronicle v.instance.seats r seat is.sits busy) services seat.waiting given number
-    (mine v a v.chronicle v.instance.seats r seat is.sits busy).1.waits is.said) floors seen es eq
+    (there v.set v.chronicle v.instance.services r.agrees a seat.issued (begun v a v.chronicle v.instance.seats r seat is.sits busy) (unreplied v a v.chronicle v.instance.seats r seat is.sits busy) services heard_so seat.waiting given number
+    sees (mine v a v.chronicle v.instance.seats r seat is.sits busy).1.waits is.said) floors seen es eq
+
+-- what has come would have come where the broker had heard more
+pub come_whatever : (services : ServicesValue) (by : By) (known : Bool) (w : Waiting) → has_come services by known w ≡ true → has_come services by true w ≡ true
+come_whatever services by known waiting.Look h = refl
+come_whatever services by known waiting.Nothing h = h
+come_whatever services by known waiting.Staged h = h
+come_whatever services by known waiting.TxnFull h = h
+come_whatever services by known (waiting.Tell to) h = h
+come_whatever services by known waiting.Using h = h
+come_whatever services by known waiting.Service h = h
+come_whatever services by known waiting.Jobs h = h
+come_whatever services by known waiting.Shutdown h = h
+
+-- what the actor at the seat of an actor that can be replied to waits for has come
+pub come_so : (v : Own) (a : ℕ) (seat : Seat) → slice_get v.instance.seats a ≡ Some seat → can_answer v.instance a ≡ true → has_come v.instance.services (last_command a seat) (has_heard v.instance.services seat) seat.waiting ≡ true
+come_so v a seat sits can = ap (λ o. option_map_or (λ s. has_come v.instance.services (last_command a s) (has_heard v.instance.services s) s.waiting) o false) (sym sits) ∙ can
 
 -- each actor sits at a broker of the service
 pub seats_inside : (v : Own) → DoesAgree v → (k : ℕ) (d : Seat) → k < length v.instance.seats → (get_or v.instance.seats k d).broker < v.instance.services.size
@@ -693,7 +722,7 @@ module _ (v : Own) (h : DoesAgree v) (a : ℕ) (seat : Seat) (to : ℕ) (sits : 
     engaged_on = ap is_free same.0 ∙ engaged
 
     told_there : IsThere v.set (log_of v.set.work top (v.chronicle ++ told ∷ [])) (v.chronicle ++ told ∷ []) v.instance.services (command_of a (later.issued - 1)) reply.Told None
-    told_there = nothing_told v.set (v.chronicle ++ told ∷ []) v.instance.services (command_of a (later.issued - 1)) reply.Told refl refl refl
+    told_there = nothing_told v.set (v.chronicle ++ told ∷ []) v.instance.services (command_of a (later.issued - 1)) reply.Told None refl refl refl
         ready_told.agrees (
           (begun v a (v.chronicle ++ told ∷ []) (raised v.instance.seats to floors) ready_told later sits_on engaged_on, unreplied v a (v.chronicle ++ told ∷ []) (raised v.instance.seats to floors) ready_told later sits_on engaged_on),
           refl,
@@ -718,6 +747,6 @@ module _ (v : Own) (h : DoesAgree v) (a : ℕ) (seat : Seat) (to : ℕ) (sits : 
 pub actor_within : (v : Own) (a : ℕ) → can_answer v.instance a ≡ true → a < length v.instance.seats
 actor_within v a can = on (slice_get v.instance.seats a) refl can
   where
-    on : (o : Option Seat) → slice_get v.instance.seats a ≡ o → option_map_or (λ seat. has_come v.instance.services (last_command a seat) seat.waiting) o false ≡ true → a < length v.instance.seats
+    on : (o : Option Seat) → slice_get v.instance.seats a ≡ o → option_map_or (λ seat. has_come v.instance.services (last_command a seat) (has_heard v.instance.services seat) seat.waiting) o false ≡ true → a < length v.instance.seats
     on None e t = absurd (true≢false (sym t))
     on (Some seat) e t = slice_get_within v.instance.seats a seat e

@@ -90,6 +90,12 @@ module _ (v : Own) (h : DoesAgree v) (rest : CanDoNothing v.instance) (promise :
   rested_here : HaveRested v.instance.services
   rested_here = rested_so v h rest.steps rest.answers
 
+  -- each broker has heard all that has landed
+  pub told_so : (broker : ℕ) → broker < v.set.size → primary_heard v.instance.services.jobs.manager.core broker ≡ landed (log_of v.set.work top v.chronicle) primary
+  told_so broker inside =
+      promise.last (instance_of v.set) (log_in v.set.work v.chronicle) h.agrees rested_here broker inside
+      ∙ ap (λ l. landed l primary) (served_log v.set.work v.chronicle)
+
   -- at the seat of an actor that waits for a job, no floor holds a feed back: the actor's broker has
   -- heard all that has landed
   module _ (by : By) (asks : IsSome (job_ask_at v.set.work by)) (seat : Seat) (sits : slice_get v.instance.seats by.actor ≡ Some seat) (busy : seat.waiting ≡ waiting.Jobs) (last : by.command ≡ seat.issued - 1) where
@@ -105,9 +111,7 @@ module _ (v : Own) (h : DoesAgree v) (rest : CanDoNothing v.instance) (promise :
     seen =
         let within = floors_within v.set primary v.chronicle h.legal by.actor in
         let is : floor v.set.work v.chronicle by.actor primary ≡ floor_in seat.floors seat.subject = mine.1.floored primary ∙ ap (floor_in seat.floors) (sym about) in
-        let told : primary_heard v.instance.services.jobs.manager.core seat.broker ≡ landed (log_of v.set.work top v.chronicle) primary =
-        promise.last (instance_of v.set) (log_in v.set.work v.chronicle) h.agrees rested_here seat.broker mine.1.inside
-        ∙ ap (λ l. landed l primary) (served_log v.set.work v.chronicle) in
+        let told = told_so seat.broker mine.1.inside in
         omega (arith, within, is, told)
 
     fed_here : can_feed v.instance.services.jobs by ≡ true → has_feed v.instance.services v.instance.seats by.actor ≡ true

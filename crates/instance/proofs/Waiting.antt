@@ -105,6 +105,8 @@ module _ (set : Setup) (c : List Entry) (by : By) (asks : IsSome (job_ask_at set
   told_of_jobs reply.TxnFull number early h = stages_no_job h.2.asked h.2.stages (sym (ap (λ o. is_some (option_and_then job_ask_of o)) h.2.named) ∙ asks)
   told_of_jobs reply.Told number early h = other_command (command.Tell h.2.to) h.2.asked refl
   told_of_jobs reply.Using number early h = other_command (command.NsUse h.2.0) h.2.1 refl
+  told_of_jobs reply.Seen None early h = absurd h.1
+  told_of_jobs reply.Seen (Some number) early h = other_command command.Look h.1.asked refl
   told_of_jobs (reply.UnfinishedFence have want) number early h = absurd (true≢false early)
   told_of_jobs (reply.UnfinishedWait had wanted) number early h = absurd (true≢false early)
   told_of_jobs (reply.UnfinishedJob where_) number early h = absurd (true≢false early)

@@ -57,6 +57,9 @@ Waits set log actor issued waiting.Using =
     (0 < issued) × (is_asked (command_of actor (issued - 1)) log ≡ false)
     × ((name : Name)
     × (command_at set.work (command_of actor (issued - 1)) ≡ Some (command.NsUse name)))
+Waits set log actor issued waiting.Look =
+    (0 < issued) × (is_asked (command_of actor (issued - 1)) log ≡ false)
+    × (command_at set.work (command_of actor (issued - 1)) ≡ Some command.Look)
 Waits set log actor issued waiting.Service =
     (0 < issued) × (is_asked (command_of actor (issued - 1)) log ≡ true)
 Waits set log actor issued waiting.Jobs =

@@ -35,6 +35,7 @@ with_op ops op = if nat_lt (length ops) most_ops then ops ++ op ∷ [] else ops
 abbrev pub waits_for : Command → Waiting
 waits_for (command.Tell actor) = waiting.Tell actor
 waits_for (command.NsUse name) = waiting.Using
+waits_for command.Look = waiting.Look
 waits_for command.Shutdown = waiting.Shutdown
 waits_for c = if is_some (job_ask_of c) then waiting.Jobs else waiting.Service
 
@@ -103,16 +104,23 @@ abbrev pub is_telling : Waiting → Bool
 is_telling (waiting.Tell to) = true
 is_telling _ = false
 
--- whether what the actor waits for is there
-abbrev pub has_come : ServicesValue → By → Waiting → Bool
-has_come services by waiting.Nothing = false
-has_come services by waiting.Staged = true
-has_come services by waiting.TxnFull = true
-has_come services by (waiting.Tell to) = true
-has_come services by waiting.Using = true
-has_come services by waiting.Service = can_take services by
-has_come services by waiting.Jobs = can_reply services.jobs by
-has_come services by waiting.Shutdown = true
+-- whether the broker of the actor at this seat has heard of all that the actor has seen of
+-- `primary`, where its last command is about that
+abbrev pub has_heard : ServicesValue → Seat → Bool
+has_heard services seat = nat_le (floor_in seat.floors seat.subject)
+    (primary_heard services.jobs.manager.core seat.broker)
+
+-- whether what the actor waits for is there, where its broker has heard of what it has seen or hasn't
+abbrev pub has_come : ServicesValue → By → Bool → Waiting → Bool
+has_come services by heard waiting.Nothing = false
+has_come services by heard waiting.Staged = true
+has_come services by heard waiting.TxnFull = true
+has_come services by heard (waiting.Tell to) = true
+has_come services by heard waiting.Using = true
+has_come services by heard waiting.Look = heard
+has_come services by heard waiting.Service = can_take services by
+has_come services by heard waiting.Jobs = can_reply services.jobs by
+has_come services by heard waiting.Shutdown = true
 
 -- whether the actor waits for what becomes of a job, or for time
 abbrev pub is_at_jobs : Waiting → Bool
@@ -122,7 +130,5 @@ is_at_jobs _ = false
 -- whether the command of the actor at this seat is a watch that can be fed: its broker has heard of
 -- all that the actor has seen, and of more events of the job than the watch was fed
 abbrev pub is_fed_next : ServicesValue → By → Seat → Bool
-is_fed_next services by seat = is_at_jobs seat.waiting
-    && (nat_le (floor_in seat.floors seat.subject)
-    (primary_heard services.jobs.manager.core seat.broker)
-    && can_feed services.jobs by)
+is_fed_next services by seat =
+    is_at_jobs seat.waiting && (has_heard services seat && can_feed services.jobs by)

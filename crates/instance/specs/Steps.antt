@@ -9,7 +9,7 @@ use Rattle.services.specs.answers.declared.steps.Step.{Step}
 use Rattle.services.specs.answers.declared.steps.Step.TheVariants as step
 use Rattle.instance.specs.declared.seats.Seat.{Seat}
 use Rattle.instance.specs.Family.{is_due, targets_left}
-use Rattle.instance.specs.Seats.{has_come, is_fed_next, is_free, last_command}
+use Rattle.instance.specs.Seats.{has_come, has_heard, is_fed_next, is_free, last_command}
 use Rattle.instance.specs.Value.{InstanceValue}
 
 -- whether the actor at this seat can be issued its next command, of so many lines
@@ -24,7 +24,8 @@ next_of seats actor = option_map_or (λ seat. seat.next) (slice_get seats actor)
 -- whether the open command of the actor at this seat can be replied
 abbrev pub has_answer : ServicesValue → List Seat → ℕ → Bool
 has_answer services seats actor = option_map_or
-    (λ seat. has_come services (last_command actor seat) seat.waiting) (slice_get seats actor) false
+    (λ seat. has_come services (last_command actor seat) (has_heard services seat) seat.waiting)
+    (slice_get seats actor) false
 
 -- whether the open command of the actor at this seat is a watch that can be fed
 abbrev pub has_feed : ServicesValue → List Seat → ℕ → Bool

@@ -101,14 +101,20 @@ struct Given {
     number: Option<u64>,
 }
 
-/// What an actor is told that waits so for its command.
-fn reply_to(services: &mut Services, by: By, waiting: Waiting) -> Result<Given, AllocError>
+/// What an actor is told that waits so for its command, and whose broker has heard this number of
+/// `primary`.
+fn reply_to(
+    services: &mut Services,
+    by: By,
+    heard: u64,
+    waiting: Waiting,
+) -> Result<Given, AllocError>
     requires ready { services.old.spent ≡ false }
-    requires can { has_come services.old by waiting ≡ true }
+    requires can { has_come services.old by true waiting ≡ true }
     requires hands { is_telling waiting ≡ false }
     ensures ready { OnOk result (services.new.spent ≡ false) }
     ensures keeps { OnOk result (Keeps services.old services.new) }
-    ensures given { IfOk result (λ given. IsGiven services.old services.new by waiting
+    ensures given { IfOk result (λ given. IsGiven services.old services.new by heard waiting
         given.reply given.number) }
 {
     Ok(match waiting {
@@ -124,6 +130,10 @@ fn reply_to(services: &mut Services, by: By, waiting: Waiting) -> Result<Given, 
         Waiting::Using => Given {
             reply: Reply::Using,
             number: None,
+        },
+        Waiting::Look => Given {
+            reply: Reply::Seen,
+            number: Some(heard),
         },
         Waiting::Shutdown => {
             shutdowns_leave_services();
@@ -299,11 +309,14 @@ impl Instance {
         ensures makes { IfOk result (Makes self.old (Step.Answer actor) self.new) }
         ensures spent { OnErr result (self.new.spent ≡ true) }
     {
+        // the root that a look tells is what its broker has heard of
+        self.core().standing();
         self.spent = true;
         let seat = &mut self.seats[actor as usize];
         let command = seat.issued.saturating_sub(1);
         let by = By { actor, command };
-        let given = reply_to(&mut self.services, by, seat.waiting)?;
+        let heard = self.services.core().heard_primary(seat.broker);
+        let given = reply_to(&mut self.services, by, heard, seat.waiting)?;
         let Given { reply, number } = given;
         seat.waiting = Waiting::Nothing;
         see(&mut seat.floors, &seat.subject, number, &reply)?;

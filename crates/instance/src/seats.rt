@@ -10,7 +10,7 @@ ghost use Rattle.services.specs.kvs_core.Requests.{AsksAtRest};
 ghost use Rattle.services.specs.workload.Laws.{IsBuilt};
 ghost use Rattle.services.specs.kvs_txn.Staged.{most_ops};
 ghost use Rattle.services.specs.answers.Commands.{ask_of, op_of, subject_of};
-ghost use Rattle.instance.specs.Seats.{room_behind, with_op, waiting_after, waits_for, ops_after, space_after, seat_floor, moment_asked, AreTold, IsTheAsk, has_come, is_at_jobs, is_fed_next, is_free};
+ghost use Rattle.instance.specs.Seats.{room_behind, with_op, waiting_after, waits_for, ops_after, space_after, seat_floor, moment_asked, AreTold, IsTheAsk, has_come, has_heard, is_at_jobs, is_fed_next, is_free};
 ghost use Rattle.instance.specs.Steps.{has_issue, has_answer, has_feed, next_of};
 
 use crate::floors::Floors;
@@ -23,8 +23,9 @@ use std::alloc::{AllocError, Global};
 use std::mem;
 
 /// What an actor waits for: for nothing, to be told what became of its operation, to have told
-/// another actor what it saw, to be told that it uses another namespace, for the service's answer,
-/// for what becomes of a job or for time, or to be told that its instance shuts down.
+/// another actor what it saw, to be told that it uses another namespace, to look at what its broker
+/// has heard, for the service's answer, for what becomes of a job or for time, or to be told that
+/// its instance shuts down.
 #[derive(Clone, Copy, Debug, PartialEq, Eq)]
 pub enum Waiting {
     Nothing,
@@ -32,6 +33,7 @@ pub enum Waiting {
     TxnFull,
     Tell { to: u32 },
     Using,
+    Look,
     Service,
     Jobs,
     Shutdown,
@@ -133,6 +135,7 @@ fn waits_for(command: &Command) -> Waiting
     match command {
         Command::Tell { actor } => Waiting::Tell { to: *actor },
         Command::NsUse { .. } => Waiting::Using,
+        Command::Look => Waiting::Look,
         Command::Shutdown => Waiting::Shutdown,
         Command::Submit { .. }
         | Command::Cancel { .. }
@@ -155,7 +158,8 @@ fn subject_of(alloc: Global, command: &Command, own: &Bytes) -> Result<Bytes, Al
 {
     match command {
         Command::NsCreate { name } | Command::NsRemove { name } => name.copy(),
-        Command::Submit { .. }
+        Command::Look
+        | Command::Submit { .. }
         | Command::Cancel { .. }
         | Command::Raise { .. }
         | Command::Urgency { .. }
@@ -271,18 +275,29 @@ pub fn ask(
     services.ask(by, seat.broker, namespace, floor, ask)
 }
 
-/// Whether what an actor waits for is there.
-pub fn has_come(services: &Services, by: By, waiting: Waiting) -> bool
+/// Whether the broker of the actor at this seat has heard of all that the actor has seen of
+/// `primary`, where its last command is about that.
+fn has_heard(services: &Services, seat: &Seat) -> bool
     requires { services.now.spent ≡ false }
-    ensures { result ≡ has_come services.now by waiting }
+    ensures { result ≡ has_heard services.now seat.now }
 {
-    match waiting {
+    seat.floors.of(&seat.subject) <= services.core().heard_primary(seat.broker)
+}
+
+/// Whether what the actor at this seat waits for with its last command is there.
+pub fn has_come(services: &Services, by: By, seat: &Seat) -> bool
+    requires { services.now.spent ≡ false }
+    ensures { result
+        ≡ has_come services.now by (has_heard services.now seat.now) seat.now.waiting }
+{
+    match seat.waiting {
         Waiting::Nothing => false,
         Waiting::Staged
         | Waiting::TxnFull
         | Waiting::Tell { .. }
         | Waiting::Using
         | Waiting::Shutdown => true,
+        Waiting::Look => has_heard(services, seat),
         Waiting::Service => services.can_take(by),
         Waiting::Jobs => services.jobs().can_reply(by),
     }
@@ -313,7 +328,7 @@ pub fn has_answer(services: &Services, seats: &[Seat], actor: u32) -> bool
     match seats.get(actor as usize) {
         Some(seat) => {
             let command = seat.issued.saturating_sub(1);
-            has_come(services, By { actor, command }, seat.waiting)
+            has_come(services, By { actor, command }, seat)
         }
         None => false,
     }
@@ -332,10 +347,7 @@ fn is_fed_next(services: &Services, by: By, seat: &Seat) -> bool
     requires { services.now.spent ≡ false }
     ensures { result ≡ is_fed_next services.now by seat.now }
 {
-    let heard = services.core().heard_primary(seat.broker);
-    is_at_jobs(seat.waiting)
-        && seat.floors.of(&seat.subject) <= heard
-        && services.jobs().can_feed(by)
+    is_at_jobs(seat.waiting) && has_heard(services, seat) && services.jobs().can_feed(by)
 }
 
 /// Whether the open command of an actor is a watch that can be fed.

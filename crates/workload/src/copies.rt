@@ -62,6 +62,7 @@ impl Copied for Command {
             },
             Command::ContentFlush => Command::ContentFlush,
             Command::ContentDrop => Command::ContentDrop,
+            Command::Look => Command::Look,
             Command::Submit {
                 label,
                 urgency,

@@ -67,6 +67,8 @@ pub enum Command {
     Wait {
         number: u64,
     },
+    /// The newest root of `primary` of which the actor's broker has heard.
+    Look,
     Tell {
         actor: u32,
     },

@@ -85,3 +85,19 @@ one_target = refl
 late_grant : fault_in 4 empty 1 (lines_of (codes "actor a 0\na commit\ngrant {}")) ≡ Some (line_fault.BadCommand 3)
 unfolding verb_faults
 late_grant = refl
+
+-- a look stands alone, and only in the top
+a_look : with_lines empty (lines_of (codes "actor a 0\na look")) ≡ record {
+  actors = record { name = codes "a"; rank = 0; of = None } ∷ [];
+  lines = record { actor = 0; command = command.Look } ∷ [];
+  grant = None;
+}
+a_look = refl
+
+look_in_a_child : fault_in 4 empty 1 (lines_of (codes "actor a 0\nactor b 0 of j\nb look")) ≡ Some (line_fault.BadCommand 3)
+unfolding verb_faults
+look_in_a_child = refl
+
+look_at_a_key : fault_in 4 empty 1 (lines_of (codes "actor a 0\na look k")) ≡ Some (line_fault.BadCommand 2)
+unfolding verb_faults
+look_at_a_key = refl

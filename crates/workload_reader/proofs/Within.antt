@@ -52,6 +52,7 @@ record Stays (actors : List Actor) (l : Line) : Type 0 where
 placed_kept : (actors : List Actor) (more : Actor) (by : ℕ) (c : Command) → by < length actors → TellsKnown (length actors) c
     → is_in_place (actors ++ more ∷ []) by c ≡ is_in_place actors by c
 placed_kept actors more by (command.Tell actor) low told = ap₂ are_together (home_kept actors more by low) (home_kept actors more actor told)
+placed_kept actors more by command.Look low told = ap is_none (home_kept actors more by low)
 placed_kept actors more by command.Shutdown low told = ap is_some (home_kept actors more by low)
 placed_kept actors more by _ low told = refl
 

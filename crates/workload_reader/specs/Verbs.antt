@@ -52,6 +52,7 @@ verb_of word = if bytes_eq word (codes "put") then Some verb.Put
     else if bytes_eq word (codes "ls") then Some verb.Ls
     else if bytes_eq word (codes "readlink") then Some verb.Readlink
     else if bytes_eq word (codes "wait") then Some verb.Wait
+    else if bytes_eq word (codes "look") then Some verb.Look
     else if bytes_eq word (codes "tell") then Some verb.Tell
     else if bytes_eq word (codes "ns-create") then Some verb.NsCreate
     else if bytes_eq word (codes "ns-remove") then Some verb.NsRemove
@@ -294,6 +295,7 @@ said work verb.Get tail = one_key command.Get tail
 said work verb.Ls tail = one_key command.Ls tail
 said work verb.Readlink tail = one_key command.Readlink tail
 said work verb.Wait tail = one_number command.Wait tail
+said work verb.Look tail = alone command.Look tail
 said work verb.Tell tail = one_actor work command.Tell tail
 said work verb.NsCreate tail = one_name command.NsCreate tail
 said work verb.NsRemove tail = one_name command.NsRemove tail

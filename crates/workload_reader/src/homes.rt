@@ -41,6 +41,7 @@ fn is_in_place(actors: &ActorList, by: usize, command: &Command) -> bool
         Command::Tell { actor } => {
             are_together(home_of(actors, by), home_of(actors, *actor as usize))
         }
+        Command::Look => home_of(actors, by).is_none(),
         Command::Shutdown => home_of(actors, by).is_some(),
         _ => true,
     }

@@ -33,6 +33,7 @@ pub enum Verb {
     Ls,
     Readlink,
     Wait,
+    Look,
     Tell,
     NsCreate,
     NsRemove,
@@ -72,6 +73,7 @@ impl Verb {
             "ls" => Some(Verb::Ls),
             "readlink" => Some(Verb::Readlink),
             "wait" => Some(Verb::Wait),
+            "look" => Some(Verb::Look),
             "tell" => Some(Verb::Tell),
             "ns-create" => Some(Verb::NsCreate),
             "ns-remove" => Some(Verb::NsRemove),
@@ -303,6 +305,18 @@ fn wait(work: &Workload, line: u64, tail: &str) -> Result<Command, LineFault>
     }
 }
 
+/// The command `look`, behind which no word stands.
+fn look(work: &Workload, line: u64, tail: &str) -> Result<Command, LineFault>
+    ensures { Reads lasting (first_of (faults_of line (said work.now Verb.Look tail.now)))
+        (λ c. c ≡ (said work.now Verb.Look tail.now).command) result }
+{
+    let (word, _) = cut(tail);
+    if !word.is_empty() {
+        return Err(LineFault::BadCommand { line });
+    }
+    Ok(Command::Look)
+}
+
 /// The command `tell NAME`, of the text behind the verb.
 fn tell(work: &Workload, line: u64, tail: &str) -> Result<Command, LineFault>
     requires { length work.now.actors ≤ most_actors }
@@ -400,6 +414,7 @@ pub fn command(
         Verb::Ls => ls(alloc, work, line, tail),
         Verb::Readlink => readlink(alloc, work, line, tail),
         Verb::Wait => wait(work, line, tail),
+        Verb::Look => look(work, line, tail),
         Verb::Tell => tell(work, line, tail),
         Verb::NsCreate => ns_create(alloc, work, line, tail),
         Verb::NsRemove => ns_remove(alloc, work, line, tail),

@@ -69,6 +69,7 @@ busy_some set log a issued waiting.Staged h e = h.0
 busy_some set log a issued waiting.TxnFull h e = h.0
 busy_some set log a issued (waiting.Tell to) h e = h.0
 busy_some set log a issued waiting.Using h e = h.0
+busy_some set log a issued waiting.Look h e = h.0
 busy_some set log a issued waiting.Service h e = h.0
 busy_some set log a issued waiting.Jobs h e = h.0
 busy_some set log a issued waiting.Shutdown h e = h.0
