@@ -1,8 +1,8 @@
 -- Which steps an instance can make.
-use Rattle.std.specs.Prelude.{◌≡◌, ℕ, ◌≤◌, ◌&&◌, nat_lt, Bool, false, List, [], Some, is_some, length, slice_get, slice_index_or}
+use Rattle.std.specs.Prelude.{◌≡◌, ℕ, ◌&&◌, nat_lt, Bool, false, List, [], is_some, length, slice_get}
 use Rattle.std.specs.Option.{option_map_or}
 use Rattle.services.specs.kvs_rules.declared.events.KvsStep.{KvsStep}
-use Rattle.services.specs.Steps.{can_step, can_take}
+use Rattle.services.specs.Steps.{can_step}
 use Rattle.services.specs.Value.{ServicesValue}
 use Rattle.services.specs.workload.declared.work.Line.{Line}
 use Rattle.services.specs.answers.declared.steps.Step.{Step}
@@ -25,12 +25,6 @@ next_of seats actor = option_map_or (λ seat. seat.next) (slice_get seats actor)
 abbrev pub has_answer : ServicesValue → List Seat → ℕ → Bool
 has_answer services seats actor = option_map_or
     (λ seat. has_come services (last_command actor seat) seat.waiting) (slice_get seats actor) false
-
--- the marks say of which actors the services hold the answer to the open command
-pub record AreHeld (services : ServicesValue) (seats : List Seat) (marks : List Bool) : Type 0 where
-  pub long : length seats ≤ length marks
-  pub each : (actor : ℕ) (seat : Seat) → slice_get seats actor ≡ Some seat
-      → slice_index_or marks actor false ≡ can_take services (last_command actor seat)
 
 -- whether the open command of the actor at this seat is a watch that can be fed
 abbrev pub has_feed : ServicesValue → List Seat → ℕ → Bool

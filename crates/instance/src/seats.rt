@@ -10,9 +10,10 @@ ghost use Rattle.services.specs.kvs_core.Requests.{AsksAtRest};
 ghost use Rattle.services.specs.workload.Laws.{IsBuilt};
 ghost use Rattle.services.specs.kvs_txn.Staged.{most_ops};
 ghost use Rattle.services.specs.answers.Commands.{ask_of, op_of, subject_of};
-ghost use Rattle.instance.specs.Seats.{room_behind, with_op, waiting_after, waits_for, ops_after, space_after, seat_floor, moment_asked, AreTold, IsTheAsk, has_come, is_at_jobs, is_fed_next, is_free};
 ghost use Rattle.instance.specs.declared.seats.Seat.{Seat as SeatValue};
-ghost use Rattle.instance.specs.Steps.{AreHeld, has_issue, has_answer, has_feed, next_of};
+ghost use Rattle.instance.specs.Seats.{room_behind, with_op, waiting_after, waits_for, ops_after, space_after, seat_floor, moment_asked, AreTold, IsTheAsk, has_come, is_at_jobs, is_fed_next, is_free};
+ghost use Rattle.instance.specs.Marks.{AreHeld};
+ghost use Rattle.instance.specs.Steps.{has_issue, has_answer, has_feed, next_of};
 
 use crate::floors::Floors;
 use services::Services;
