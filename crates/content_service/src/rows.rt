@@ -1,5 +1,5 @@
 //! The open requests on contents, and their stages.
-ghost use Rattle.std.specs.Prelude.{◌≡◌, ◌<◌, ◌&&◌, true, Some, IfSome, length, slice_index_or};
+ghost use Rattle.std.specs.Prelude.{◌≡◌, ◌<◌, ◌&&◌, ◌||◌, ℕ, false, true, Some, IfSome, length, slice_index_or};
 ghost use Rattle.std.specs.List.{list_any, position};
 ghost use Rattle.kvs_rules.specs.Log.{same_command};
 ghost use Rattle.kvs_content.specs.Agrees.{told_so};
@@ -148,6 +148,39 @@ pub fn is_held_in(rows: &Vec<Row>, by: By) -> bool
     ensures { result ≡ list_any (is_held by) rows.now.items }
 {
     rows.iter().any(|row| is_held(row, by))
+}
+
+/// Marks the actor of a request, if the answer of its command waits to be taken.
+fn mark_row(row: &Row, commands: &[u32], marks: &mut [bool])
+    requires { length commands.now ≡ length marks.old }
+    ensures long { length marks.new ≡ length marks.old }
+    ensures marked { (actor : ℕ) → actor < length marks.old → slice_index_or marks.new actor false
+        ≡ (slice_index_or marks.old actor false || is_held
+        (record { actor = actor; command = slice_index_or commands.now actor 0 }) row.now) }
+{
+    let actor = row.by.actor;
+    let at = actor as usize;
+    if at < marks.len() {
+        let command = commands[at];
+        if is_held(row, By { actor, command }) {
+            marks[at] = true;
+        }
+    }
+}
+
+/// Marks, besides those that are marked, the actors whose answer waits to be taken, each to its
+/// command of these.
+pub fn mark_held(rows: &Vec<Row>, commands: &[u32], marks: &mut [bool])
+    requires { length commands.now ≡ length marks.old }
+    ensures long { length marks.new ≡ length marks.old }
+    ensures marked { (actor : ℕ) → actor < length marks.old → slice_index_or marks.new actor false
+        ≡ (slice_index_or marks.old actor false || list_any (is_held
+        (record { actor = actor; command = slice_index_or commands.now actor 0 }))
+        rows.now.items) }
+{
+    for i in 0..rows.len() {
+        mark_row(&rows[i], commands, marks);
+    }
 }
 
 fn first_loading(rows: &Vec<Row>, by: By) -> Option<usize>

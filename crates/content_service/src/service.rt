@@ -1,5 +1,5 @@
 //! The content service.
-ghost use Rattle.std.specs.Prelude.{◌≡◌, ◌<◌, ◌≤◌, ◌⊎◌, ◌++◌, ◌∷◌, [], true, false, ℕ, Some, None, length, slice_index_or, IfOk, OnOk, OnErr};
+ghost use Rattle.std.specs.Prelude.{◌≡◌, ◌<◌, ◌≤◌, ◌⊎◌, ◌++◌, ◌||◌, ◌∷◌, [], true, false, ℕ, Some, None, length, slice_index_or, IfOk, OnOk, OnErr};
 ghost use Rattle.std.specs.List.{list_any, position, remove};
 ghost use Rattle.kvs_model.specs.Store.{Name};
 ghost use Rattle.kvs_rules.specs.Log.{Log, Asked, Happened, IsOpen, is_asked};
@@ -17,8 +17,8 @@ ghost use Rattle.content_service.specs.Rows.{is_held, is_held_stage, may_serve};
 ghost use Rattle.content_service.specs.Steps.{IsStill, can_step, can_take, is_flushed};
 
 use crate::rows::{
-    Row, Stage, content_ask, first_held, first_served, hand, is_held_in, is_served, put_stage,
-    take_ask,
+    Row, Stage, content_ask, first_held, first_served, hand, is_held_in, is_served, mark_held,
+    put_stage, take_ask,
 };
 use crate::serving::{Served, serve};
 use fl_digest::Hash;
@@ -219,6 +219,20 @@ impl ContentService {
         ensures { result ≡ can_take self.now by }
     {
         is_held_in(&self.rows, by)
+    }
+
+    /// Marks, besides those that are marked, the actors whose answer waits to be taken, each to its
+    /// command of these. This passes over the requests once, however many actors there are.
+    pub fn mark_held(&self, commands: &[u32], marks: &mut [bool])
+        requires ready { self.now.spent ≡ false }
+        requires long { length commands.now ≡ length marks.old }
+        ensures long { length marks.new ≡ length marks.old }
+        ensures marked { (actor : ℕ) → actor < length marks.old
+            → slice_index_or marks.new actor false
+            ≡ (slice_index_or marks.old actor false || can_take self.now
+            (record { actor = actor; command = slice_index_or commands.now actor 0 })) }
+    {
+        mark_held(&self.rows, commands, marks);
     }
 
     /// Takes a command's answer, which its actor is then told. This takes no memory.

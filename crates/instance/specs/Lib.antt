@@ -13,6 +13,7 @@ pub mod View
 -- what the code keeps to that end
 pub mod Replies
 pub mod First
+pub mod Marks
 -- what lies below, for the crates that stand on this one
 pub use Rattle.services.specs.answers as answers
 pub use Rattle.services.specs.child_grant as child_grant

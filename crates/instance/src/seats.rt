@@ -1,5 +1,5 @@
 //! Where the actors stand.
-ghost use Rattle.std.specs.Prelude.{◌≡◌, ◌≢◌, ◌++◌, [], ℕ, ◌<◌, ◌≤◌, false, length, slice_index_or, map, IfOk, IfSome, OnOk, Ok, Some, None, true};
+ghost use Rattle.std.specs.Prelude.{◌≡◌, ◌≢◌, ◌++◌, ◌-◌, [], ℕ, ◌<◌, ◌≤◌, false, length, slice_get, slice_index_or, map, IfOk, IfSome, OnOk, Ok, Some, None, true};
 ghost use Rattle.services.specs.kvs_txn.declared.txn.Author.TheVariants as author;
 ghost use Rattle.services.specs.workload.declared.work.Line.{Line as LineValue};
 ghost use Rattle.services.specs.kvs_rules.Log.{is_asked};
@@ -10,7 +10,9 @@ ghost use Rattle.services.specs.kvs_core.Requests.{AsksAtRest};
 ghost use Rattle.services.specs.workload.Laws.{IsBuilt};
 ghost use Rattle.services.specs.kvs_txn.Staged.{most_ops};
 ghost use Rattle.services.specs.answers.Commands.{ask_of, op_of, subject_of};
+ghost use Rattle.instance.specs.declared.seats.Seat.{Seat as SeatValue};
 ghost use Rattle.instance.specs.Seats.{room_behind, with_op, waiting_after, waits_for, ops_after, space_after, seat_floor, moment_asked, AreTold, IsTheAsk, has_come, has_heard, is_at_jobs, is_fed_next, is_free};
+ghost use Rattle.instance.specs.Marks.{AreHeld};
 ghost use Rattle.instance.specs.Steps.{has_issue, has_answer, has_feed, next_of};
 
 use crate::floors::Floors;
@@ -334,6 +336,49 @@ pub fn has_answer(services: &Services, seats: &[Seat], actor: u32) -> bool
     }
 }
 
+/// The last command of each actor.
+fn last_commands(seats: &[Seat]) -> [u32; 256]
+    requires { length seats.now ≤ 256 }
+    ensures long { length result ≡ 256 }
+    ensures each { (actor : ℕ) (seat : SeatValue) → slice_get seats.now actor ≡ Some seat
+        → slice_index_or result actor 0 ≡ seat.issued - 1 }
+{
+    let mut commands = [0; 256];
+    for actor in 0..seats.len() {
+        commands[actor] = seats[actor].issued.saturating_sub(1);
+    }
+    commands
+}
+
+/// Of which actors the services hold the answer to the open command. However many wait, the
+/// requests are passed over once.
+pub fn held_answers(services: &Services, seats: &[Seat]) -> [bool; 256]
+    requires ready { services.now.spent ≡ false }
+    requires few { length seats.now ≤ 256 }
+    ensures { AreHeld services.now seats.now result }
+{
+    let commands = last_commands(seats);
+    let mut marks = [false; 256];
+    services.mark_held(&commands, &mut marks);
+    marks
+}
+
+/// Whether the actor's open command can be replied, where it is known whose answers the services
+/// hold.
+pub fn is_answered(services: &Services, seats: &[Seat], held: &[bool], actor: u32) -> bool
+    requires ready { services.now.spent ≡ false }
+    requires held { AreHeld services.now seats.now held.now }
+    ensures { result ≡ has_answer services.now seats.now actor }
+{
+    match seats.get(actor as usize) {
+        Some(seat) => match seat.waiting {
+            Waiting::Service => held[actor as usize],
+            _ => has_answer(services, seats, actor),
+        },
+        None => false,
+    }
+}
+
 /// Whether an actor waits for what becomes of a job, or for time.
 fn is_at_jobs(waiting: Waiting) -> bool
     ensures { result ≡ is_at_jobs waiting }
@@ -389,8 +434,9 @@ pub fn first_answer(services: &Services, seats: &[Seat]) -> Option<u32>
         → has_answer services.now seats.now lower ≡ false) }
     ensures none { result ≡ None → (a : ℕ) → has_answer services.now seats.now a ≡ false }
 {
+    let held = held_answers(services, seats);
     for actor in 0..seats.len() as u32 {
-        if has_answer(services, seats, actor) {
+        if is_answered(services, seats, &held, actor) {
             return Some(actor);
         }
     }

@@ -7,5 +7,5 @@ mod rows;
 pub use rows::{
     Entrant, Kind, Row, Stage, Work, awaited, carry, dismiss, entry, falling, first_held,
     first_served, give, is_arrived, is_carried, is_held_in, is_served, kept_count, kind_of,
-    place_of, put_stage, refuse, send_back, settle, take_entrant,
+    mark_held, place_of, put_stage, refuse, send_back, settle, take_entrant,
 };

@@ -1,5 +1,5 @@
 //! The open requests, each with the place where it is.
-ghost use Rattle.std.specs.Prelude.{◌≡◌, ◌≢◌, ℕ, ◌<◌, ◌≤◌, ◌&&◌, true, false, List, [], length, Option, None, Some, IfSome, IfOk, OnOk, slice_index_or, slice_set, count_by};
+ghost use Rattle.std.specs.Prelude.{◌≡◌, ◌≢◌, ℕ, ◌<◌, ◌≤◌, ◌&&◌, ◌||◌, true, false, List, [], length, Option, None, Some, IfSome, IfOk, OnOk, slice_index_or, slice_set, count_by};
 ghost use Rattle.std.specs.List.{position, list_any};
 ghost use Rattle.kvs_txn.specs.declared.txn.By.{By as Command};
 ghost use Rattle.kvs_rules.specs.Log.{Log, same_command};
@@ -211,6 +211,40 @@ pub fn is_held_in(rows: &Vec<Row>, by: By) -> bool
     ensures { result ≡ list_any (λ row. same_command by row.by && is_held row) rows.now.items }
 {
     rows.iter().any(|row| is_held_of(row, by))
+}
+
+/// Marks the actor of a request, if the answer of its command waits to be taken.
+fn mark_row(row: &Row, commands: &[u32], marks: &mut [bool])
+    requires { length commands.now ≡ length marks.old }
+    ensures long { length marks.new ≡ length marks.old }
+    ensures marked { (actor : ℕ) → actor < length marks.old → slice_index_or marks.new actor false
+        ≡ (slice_index_or marks.old actor false || (same_command
+        (record { actor = actor; command = slice_index_or commands.now actor 0 }) row.now.by
+        && is_held row.now)) }
+{
+    let actor = row.by.actor;
+    let at = actor as usize;
+    if at < marks.len() {
+        let command = commands[at];
+        if is_held_of(row, By { actor, command }) {
+            marks[at] = true;
+        }
+    }
+}
+
+/// Marks, besides those that are marked, the actors whose answer waits to be taken, each to its
+/// command of these.
+pub fn mark_held(rows: &Vec<Row>, commands: &[u32], marks: &mut [bool])
+    requires { length commands.now ≡ length marks.old }
+    ensures long { length marks.new ≡ length marks.old }
+    ensures marked { (actor : ℕ) → actor < length marks.old → slice_index_or marks.new actor false
+        ≡ (slice_index_or marks.old actor false || list_any (λ row. same_command
+        (record { actor = actor; command = slice_index_or commands.now actor 0 }) row.by
+        && is_held row) rows.now.items) }
+{
+    for i in 0..rows.len() {
+        mark_row(&rows[i], commands, marks);
+    }
 }
 
 /// The next broker on the way down from one broker to another, if that is below it.

@@ -267,6 +267,59 @@ fn a_post_lands_with_a_commit(rt: HostRuntime) -> Result<(), Fail> {
     Ok(())
 }
 
+/// The marks of actors whose answers wait, each by its command of these and besides those that are
+/// marked, once these rows are asked and no step is left.
+fn marks_of(
+    alloc: Global,
+    core: &mut Core,
+    rows: &[Posed],
+    commands: &[u32; 4],
+    marked: [bool; 4],
+) -> Result<[bool; 4], Fail>
+    requires ready { core.old.spent ≡ false }
+    requires size { core.old.size ≡ 4 }
+{
+    pose_all(alloc, core, rows)?;
+    let mut text = Vec::new(alloc);
+    run(alloc, core, &mut text)?;
+    let mut marks = marked;
+    core.mark_held(commands, &mut marks);
+    Ok(marks)
+}
+
+/// The same in a tree of four brokers.
+fn marks_behind(
+    alloc: Global,
+    rows: &[Posed],
+    commands: &[u32; 4],
+    marked: [bool; 4],
+) -> Result<[bool; 4], Fail> {
+    let mut core = begin(alloc)?;
+    let found = marks_of(alloc, &mut core, rows, commands, marked);
+    drop(core);
+    found
+}
+
+/// Commands of four actors, who is marked before, and who is once the rows of `THREE` are answered.
+const MARKS: [([u32; 4], [bool; 4], [bool; 4]); 3] = [
+    ([0; 4], [false; 4], [true, true, true, false]),
+    ([0, 1, 0, 0], [false; 4], [true, false, true, false]),
+    (
+        [1, 1, 0, 0],
+        [true, false, false, true],
+        [true, false, true, true],
+    ),
+];
+
+#[test]
+fn actors_are_marked_whose_answers_wait(rt: HostRuntime) -> Result<(), Fail> {
+    for (commands, marked, wanted) in &MARKS {
+        let found = marks_behind(rt.alloc(), &THREE, commands, *marked)?;
+        assert!(rt; found == *wanted);
+    }
+    Ok(())
+}
+
 /// Has rank 0 serve what waits there, if it can.
 fn serve(core: &mut Core) -> Result<(), Fail>
     requires ready { core.old.spent ≡ false }

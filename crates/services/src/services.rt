@@ -1,5 +1,5 @@
 //! The services.
-ghost use Rattle.std.specs.Prelude.{◌≡◌, ◌≢◌, ◌⊎◌, ◌<◌, ◌≤◌, ◌+◌, ◌^◌, ◌++◌, ◌∷◌, [], ℕ, true, false, None, Some, is_some, slice_get, IsSome, IfOk, IfSome, OnErr, OnOk};
+ghost use Rattle.std.specs.Prelude.{◌≡◌, ◌≢◌, ◌⊎◌, ◌<◌, ◌≤◌, ◌+◌, ◌^◌, ◌++◌, ◌||◌, ◌∷◌, [], ℕ, true, false, None, Some, is_some, length, slice_get, slice_index_or, IsSome, IfOk, IfSome, OnErr, OnOk};
 ghost use Rattle.job_service.specs.kvs_model.Store.{Name};
 ghost use Rattle.job_service.specs.kvs_rules.Namespaces.{is_live, landed, primary};
 ghost use Rattle.job_service.specs.kvs_rules.Quiet.{IsQuiet};
@@ -280,6 +280,21 @@ impl Services {
         ensures { result ≡ can_take self.now by }
     {
         self.core().can_take(by) || self.contents.can_take(by)
+    }
+
+    /// Marks, besides those that are marked, the actors whose answer waits to be taken, each to its
+    /// command of these. This passes over the open requests once, however many actors there are.
+    pub fn mark_held(&self, commands: &[u32], marks: &mut [bool])
+        requires ready { self.now.spent ≡ false }
+        requires long { length commands.now ≡ length marks.old }
+        ensures long { length marks.new ≡ length marks.old }
+        ensures marked { (actor : ℕ) → actor < length marks.old
+            → slice_index_or marks.new actor false
+            ≡ (slice_index_or marks.old actor false || can_take self.now
+            (record { actor = actor; command = slice_index_or commands.now actor 0 })) }
+    {
+        self.core().mark_held(commands, marks);
+        self.contents.mark_held(commands, marks);
     }
 
     /// Takes the core's answer to a command.

@@ -8,7 +8,7 @@ ghost use Rattle.instance.specs.Order.{answers, feeds, issues};
 ghost use Rattle.instance.specs.Steps.{can_answer, can_feed, can_issue};
 
 use super::Instance;
-use crate::seats::{has_answer, has_feed, issue_from};
+use crate::seats::{has_feed, held_answers, is_answered, issue_from};
 use services::kvs_rules::KvsStep;
 use services::workload::Line;
 
@@ -49,9 +49,10 @@ impl Instance {
         ensures value { result ≡ nth (answers self.now) number }
         ensures can { IfOk result (λ a. can_answer self.now a ≡ true) }
     {
+        let held = held_answers(&self.services, &self.seats);
         let mut left = number;
         for actor in 0..self.seats.len() as u32 {
-            if has_answer(&self.services, &self.seats, actor) {
+            if is_answered(&self.services, &self.seats, &held, actor) {
                 if left == 0 {
                     return Ok(actor);
                 }

@@ -5,7 +5,7 @@ use Rattle.services.proofs.kvs_core_proofs.Walking.{peeled, ended, skipped, foun
 use Rattle.instance.specs.Order.{answers}
 use Rattle.instance.specs.Steps.{can_answer}
 use Rattle.instance.proofs.actors.Instance.nth_answer.Goals as goal
-use Rattle.instance.proofs.actors.Instance.nth_answer.Goals.{then-has_answer+else-left-eq0, else-has_answer}
+use Rattle.instance.proofs.actors.Instance.nth_answer.Goals.{then-is_answered+else-left-eq0, else-is_answered}
 
 pub returns-then-left-eq0-clause-value : goal.returns-then-left-eq0-clause-value
 returns-then-left-eq0-clause-value c =
@@ -35,15 +35,15 @@ loop-actor-preserved c =
     let seats : c.self.inside.seats.items ≡ v.seats = ap (λ v. v.seats) c.self.view_is in
     let here : nth (filter (can_answer v) (at ∷ rest)) c.loop-actor.left ≡ nth (answers v) c.args.number =
     ap (λ ns. nth (filter (can_answer v) ns) c.loop-actor.left) (sym (peeled at size less)) ∙ c.loop-actor.invariant in
-    elim c.if-has_answer.branch [
-      | then-has_answer+else-left-eq0 w ↦
+    elim c.if-is_answered.branch [
+      | then-is_answered+else-left-eq0 w ↦
           let has : can_answer v at ≡ true = search rules in
-          let one : suc c.if-has_answer.left ≡ c.loop-actor.left = omega (arith, w.left-is, w.if-left-eq0.false) in
-          sym (counted (can_answer v) at rest c.if-has_answer.left has) ∙ ap (nth (filter (can_answer v) (at ∷ rest))) one ∙ here
-      | else-has_answer w ↦
+          let one : suc c.if-is_answered.left ≡ c.loop-actor.left = omega (arith, w.left-is, w.if-left-eq0.false) in
+          sym (counted (can_answer v) at rest c.if-is_answered.left has) ∙ ap (nth (filter (can_answer v) (at ∷ rest))) one ∙ here
+      | else-is_answered w ↦
           let has : can_answer v at ≡ false = search rules in
-          let same : c.if-has_answer.left ≡ c.loop-actor.left = w.left-is in
-          sym (skipped (can_answer v) at rest c.if-has_answer.left has) ∙ ap (nth (filter (can_answer v) (at ∷ rest))) same ∙ here
+          let same : c.if-is_answered.left ≡ c.loop-actor.left = w.left-is in
+          sym (skipped (can_answer v) at rest c.if-is_answered.left has) ∙ ap (nth (filter (can_answer v) (at ∷ rest))) same ∙ here
     ]
 
 pub returns-clause-value : goal.returns-clause-value
