@@ -39,7 +39,7 @@ returns-clause-makes c = λ set own agrees.
       hears = hears;
       kept = c.in_ok-given.ensures.keeps.counts;
       said = subst (λ n. IsGiven w.services c.reply_to.new.services (record { actor = a; command = n }) (primary_heard w.services.jobs.manager.core seat.broker) seat.waiting reply number) c.saturating_sub-command.ensures
-          (subst (λ k. IsGiven w.services c.reply_to.new.services (record { actor = a; command = c.saturating_sub-command.result }) k seat.waiting reply number) c.heard_primary-heard.ensures c.in_ok-given.ensures.given);
+          (subst (λ k. IsGiven w.services c.reply_to.new.services (record { actor = a; command = c.saturating_sub-command.result }) k seat.waiting reply number) (c.heard_primary-heard.ensures ∙ ap (λ k. primary_heard k seat.broker) c.core-2.ensures.value) c.in_ok-given.ensures.given);
     })
     c.see.new.floors c.in_ok-see.ensures c.in_ok-made.made
     (c.in_ok-made.ensures ∙ ap (λ n. entry.Replied a n reply number ∷ []) c.saturating_sub-command.ensures)
