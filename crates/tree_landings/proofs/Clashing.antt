@@ -3,7 +3,6 @@ use Rattle.std.proofs.Common.{◌≡◌, ◌≢◌, ℕ, List, Bool, true, false
 use Rattle.std.specs.Prelude.{Option, Contains, ◌⊎◌}
 use Rattle.std.specs.Cmp.Lexicographic.{bytes_decides}
 use Rattle.fl_digest.specs.declared.BlobRef.{BlobRef}
-use Rattle.fl_digest.specs.declared.Hash.{Hash}
 use Rattle.fl_digest.specs.Reference.{reference_of}
 use Rattle.kvs_txn.specs.declared.txn.Txn.{Txn}
 use Rattle.kvs_model.specs.Operation.{effect}
@@ -75,9 +74,9 @@ module _ (set : Setting) (log : Log) (space : Name) (before : Blobs) (st new : S
         let here : table before (reference_of set.hash kept) ≡ Some offered = subst (λ r. table before r ≡ Some offered) (sym shared) there in
         clashing made kept offered (λ e. differ (sym e)) (brought kept (Some offered) here (λ s. differ (sym (same-bytes offered kept s))) other) (inl (contents _ offered there).1) (sym shared)
     | inr brings ↦ clashing made offered kept differ brings (elim (either kept other) [
-        | inl there ↦ inl (contents _ kept there).1
-        | inr too ↦ inr too
-      ]) shared
+      | inl there ↦ inl (contents _ kept there).1
+      | inr too ↦ inr too
+    ]) shared
   ]
 
 pub refused-so : (set : Setting) (log : Log) (space : Name) (before after : Blobs) (root : BlobRef) (st : Store) (txn : Txn) (reference : BlobRef) (kept offered : Bytes)
@@ -85,7 +84,10 @@ pub refused-so : (set : Setting) (log : Log) (space : Name) (before after : Blob
     → Leaves set.hash before after (effect st txn (scope_of space)) (Err (Clash reference kept offered)) → IsRefusal set log space st txn clash
 refused-so set log space before after root st txn reference kept offered rooted contents left =
     let clashes : IsClash set.hash left.0 (table before) reference kept offered = left.2 in
-    inr (refl, elim clashes.other [
-      | inl there ↦ of-table set log space before st left.0 txn rooted.held contents left.1 reference kept offered clashes.differ clashes.blob clashes.named there
-      | inr both ↦ of-both set log space before st left.0 txn rooted.held contents left.1 kept offered clashes.differ clashes.blob both.0 (sym both.1 ∙ clashes.named)
-    ])
+    inr (
+      refl,
+      elim clashes.other [
+        | inl there ↦ of-table set log space before st left.0 txn rooted.held contents left.1 reference kept offered clashes.differ clashes.blob clashes.named there
+        | inr both ↦ of-both set log space before st left.0 txn rooted.held contents left.1 kept offered clashes.differ clashes.blob both.0 (sym both.1 ∙ clashes.named)
+      ],
+    )

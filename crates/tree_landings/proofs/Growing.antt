@@ -1,6 +1,6 @@
 -- Applied transactions land, and what they make are contents.
-use Rattle.std.proofs.Common.{◌≡◌, ℕ, zero, suc, List, [], ◌∷◌, ◌++◌, length, Bool, true, false, cond, Some, None, Ok, Err, inl, inr, refl, sym, ap, ◌∙◌, subst, append_assoc, bytes_eq, flat_map}
-use Rattle.std.specs.Prelude.{Option, Result, Contains, ◌⊎◌, filter, option_and_then}
+use Rattle.std.proofs.Common.{◌≡◌, ℕ, List, [], ◌∷◌, ◌++◌, length, Bool, true, false, cond, Some, None, Ok, Err, inl, inr, refl, sym, ap, ◌∙◌, subst, append_assoc, flat_map}
+use Rattle.std.specs.Prelude.{Option, Result, Contains, filter, option_and_then}
 use Rattle.std.specs.Cmp.Lexicographic.{bytes_decides}
 use Rattle.std.specs.List.{cons_option}
 use Rattle.std.proofs.lemmas.List.Concat.{flat_map-append}
@@ -15,7 +15,6 @@ use Rattle.kvs_model.specs.Store.{Name, Store}
 use Rattle.kvs_model.specs.History.{after, after_groups, landed_on}
 use Rattle.kvs_model.specs.Operation.{effect}
 use Rattle.kvs_rules.specs.declared.events.KvsEvent.TheVariants as event
-use Rattle.kvs_rules.specs.Brokers.{IsContent}
 use Rattle.kvs_rules.specs.Log.{Happened, Log}
 use Rattle.kvs_rules.specs.Namespaces.{Setting, IsStoreIn, begun_at, landings, groups_landed, scope_of}
 use Rattle.kvs_rules.proofs.Contents.{content_stays}
@@ -23,7 +22,7 @@ use Rattle.kvs_rules.proofs.Logs.{opened_stays}
 use Rattle.tree_rules.specs.Held.{IsRootOf}
 use Rattle.tree_rules.specs.Texts.{blobs, contents, directory_texts, is_long, values}
 use Rattle.tree_store.specs.Landing.{table}
-use Rattle.tree_landings.specs.Applied.{AreApplied, AreContents, Blobs, HasGrown, IsOfStep, StandsLast}
+use Rattle.tree_landings.specs.Applied.{AreApplied, AreContents, Blobs, HasGrown, StandsLast}
 
 pub grown : (hash : Hash) (space : Scope) (before : Blobs) (root : BlobRef) (groups : List Group) (after : Blobs) (new : BlobRef) (st : Store)
     → AreApplied hash space before root groups after new → IsRootOf hash (table before) root st → HasGrown hash space before groups after new st
@@ -138,10 +137,13 @@ module _ (set : Setting) (log more : Log) (space : Name) (number : ℕ) (authors
         | inl was ↦
             let is = contents reference bytes was in
             (is.0, content_stays set log (Happened (event.Landed space number authors (group ∷ groups)) ∷ more) bytes is.1)
-        | inr step ↦ (step.named, inr (record {
+        | inr step ↦ (
+          step.named,
+          inr (record {
             space = space;
             st = step.store;
             stands = step-stands st step.store step.first step.rest last step.split step.made;
             among = blob-is-content set.hash step.store bytes step.among;
-          }))
+          }),
+        )
       ]
