@@ -1,4 +1,4 @@
-mod Pinning
+pub mod Pinning
 mod Stored
 mod Passing
 mod Following

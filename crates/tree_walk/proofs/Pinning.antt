@@ -1,10 +1,10 @@
 -- Pins leave the clean contents as they are.
-use Rattle.std.proofs.Common.{◌≡◌, ◌<◌, ◌≤◌, ◌+◌, ℕ, length, take, add-one, Bool, true, false, cond, List, [], ◌∷◌, ◌++◌, Option, Some, None, option_map, refl, sym, ap, ◌∙◌, subst, inl, inr, get_or, arith}
+use Rattle.std.proofs.Common.{◌≡◌, ◌≢◌, true≢false, append_assoc, append-nil, ◌<◌, ◌≤◌, ◌+◌, ℕ, length, take, add-one, Bool, true, false, cond, List, [], ◌∷◌, ◌++◌, Option, Some, None, option_map, refl, sym, ap, ◌∙◌, subst, inl, inr, get_or, arith}
 use Rattle.std.specs.Prelude.{Contains, IsSome, IsTrue, ◌⊎◌}
 use Rattle.std.specs.List.{IsAnyAnswer}
 use Rattle.std.specs.Option.{option_map_or}
 use Rattle.std.proofs.Math.Seq.{take-suc}
-use Rattle.std.proofs.lemmas.List.{take_all}
+use Rattle.std.proofs.lemmas.List.{get_or_default, take_all}
 use Rattle.std.specs.Map.{lookup, remove_entry}
 use Rattle.std.proofs.lemmas.List.Elements.{Contains-append_left, Contains-append_right, Contains-append_cases, Contains-push, Contains-push_cases}
 use Rattle.fl_digest.specs.declared.BlobRef.{BlobRef}
@@ -16,20 +16,21 @@ use Rattle.kvs_model.specs.OneStore.{own_walk}
 use Rattle.cache_node.specs.declared.content.Held.{Held}
 use Rattle.cache_node.specs.Order.{pinned, used}
 use Rattle.cache_node.specs.Cache.{Cache, held_at, clean_at, with_pin, with_clean}
-use Rattle.cache_node.proofs.Same.{same_true, derived_same}
+use Rattle.cache_node.proofs.Same.{same_refl, same_true, derived_same}
+use Rattle.std.proofs.lemmas.List.Quantifiers.{all_pairs_push}
 use Rattle.fl_digest.specs.contracts.BlobRefPartialEq.TheImpl.{eq-value as derived}
 use Rattle.tree_rules.specs.OneStore.{own_needs}
 use Rattle.tree_walk.specs.declared.Advance.{Advance}
 use Rattle.tree_walk.specs.declared.Advance.TheVariants.{Done, Needs}
 use Rattle.tree_walk.specs.Legs.{EndTells}
-use Rattle.tree_walk.specs.Pins.{AddsOnce, AreFresh}
+use Rattle.tree_walk.specs.Pins.{AddsOnce, AreFresh, IsOnce}
 use Rattle.tree_walk.specs.Walks.{Walk, with_pins, IsPassed, GoesOn, Reads, Tells}
 
 abbrev Entry : Type 0
 Entry = BlobRef × Held
 
 -- what stands under another reference stands there still
-lookup-remove-other : (r q : BlobRef) (es : List Entry) → same_reference r q ≡ false → lookup (same_reference r) (remove_entry (same_reference q) es) ≡ lookup (same_reference r) es
+pub lookup-remove-other : (r q : BlobRef) (es : List Entry) → same_reference r q ≡ false → lookup (same_reference r) (remove_entry (same_reference q) es) ≡ lookup (same_reference r) es
 lookup-remove-other r q [] other = refl
 lookup-remove-other r q (e ∷ es) other =
     elim (same_reference q e.0) as (λ b. same_reference q e.0 ≡ b → lookup (same_reference r) (cond b es (e ∷ remove_entry (same_reference q) es)) ≡ cond (same_reference r e.0) (Some e.1) (lookup (same_reference r) es)) [
@@ -69,30 +70,46 @@ any_contains : (rs : List BlobRef) (q : BlobRef) (b : Bool) → IsAnyAnswer (λ 
 any_contains rs q true h e = (h.0, h.1, same_true (get_or rs h.0 q) q (sym (derived_same (get_or rs h.0 q) q) ∙ h.2 q))
 any_contains rs q false h e = absurd (cc)
 
+not_contains : (rs : List BlobRef) (q : BlobRef) (b : Bool) → IsAnyAnswer (λ y t. derived.it y q ≡ t) rs b → b ≡ false → Contains rs q → ⊥
+not_contains rs q true h e has = absurd (cc)
+not_contains rs q false h e has =
+    let no : derived.it (get_or rs has.0 q) q ≡ false = h has.0 q (omega arith) has.1 in
+    true≢false (sym (same_refl q) ∙ sym (derived_same q q) ∙ sym (ap (λ (x : BlobRef). derived.it x q) has.2) ∙ no)
+
+pub has_not : (rs : List BlobRef) (q : BlobRef) (b : Bool) → IsAnyAnswer (λ y t. derived.it y q ≡ t) rs b → b ≡ false → Contains rs q → ⊥
+has_not rs q b h e = not_contains rs q b h e
+
 pub has_it : (rs : List BlobRef) (q : BlobRef) (b : Bool) → IsAnyAnswer (λ y t. derived.it y q ≡ t) rs b → IsTrue b → Contains rs q
 has_it rs q b h t = any_contains rs q b h t
 
 pub adds_pinned : (pinned old : List BlobRef) (r : BlobRef) → Contains pinned r → AddsOnce pinned old old r
-adds_pinned pinned old r has = record { there = Contains-append_left pinned old r has; kept = λ q h. h; only = λ q h. inl h }
+adds_pinned pinned old r has = record { there = Contains-append_left pinned old r has; kept = λ q h. h; only = λ q h. inl h; once = λ h. h }
 
 pub adds_old : (pinned old : List BlobRef) (r : BlobRef) → Contains old r → AddsOnce pinned old old r
-adds_old pinned old r has = record { there = Contains-append_right pinned old r has; kept = λ q h. h; only = λ q h. inl h }
+adds_old pinned old r has = record { there = Contains-append_right pinned old r has; kept = λ q h. h; only = λ q h. inl h; once = λ h. h }
 
-pub adds_new : (pinned old : List BlobRef) (r : BlobRef) → AddsOnce pinned old (old ++ r ∷ []) r
-adds_new pinned old r = record {
+pub adds_new : (pinned old : List BlobRef) (r : BlobRef) → (Contains pinned r → ⊥) → (Contains old r → ⊥) → AddsOnce pinned old (old ++ r ∷ []) r
+adds_new pinned old r unpinned unlisted = record {
   there = Contains-append_right pinned (old ++ r ∷ []) r (Contains-push old r);
   kept = λ q h. elim (Contains-append_cases pinned old q h) [
     | inl a ↦ Contains-append_left pinned (old ++ r ∷ []) q a
     | inr b ↦ Contains-append_right pinned (old ++ r ∷ []) q (Contains-append_left old (r ∷ []) q b)
   ];
   only = λ q h. Contains-push_cases old r q h;
+  once = λ h. subst IsOnce (append_assoc pinned old (r ∷ [])) (all_pairs_push (λ one other. one ≢ other) (pinned ++ old) r h (λ k d l e. absent (k, l, get_or_default (pinned ++ old) k r d l ∙ e)));
 }
+  where
+    absent : Contains (pinned ++ old) r → ⊥
+    absent has = elim (Contains-append_cases pinned old r has) [
+      | inl a ↦ unpinned a
+      | inr b ↦ unlisted b
+    ]
 
 nothing_in : (r : BlobRef) → Contains [] r → ⊥
 nothing_in r has = absurd (omega (arith, has.1))
 
 pub fresh_none : (pinned : List BlobRef) → AreFresh pinned [] []
-fresh_none pinned = record { all = λ r h. absurd (nothing_in r h); only = λ r h. absurd (nothing_in r h) }
+fresh_none pinned = record { all = λ r h. absurd (nothing_in r h); only = λ r h. absurd (nothing_in r h); once = λ h. subst IsOnce (sym (append-nil pinned)) h }
 
 pub fresh_more : (pinned passed old new : List BlobRef) (r : BlobRef) → AreFresh pinned passed old → AddsOnce pinned old new r → AreFresh pinned (passed ++ r ∷ []) new
 fresh_more pinned passed old new r are adds = record {
@@ -104,6 +121,7 @@ fresh_more pinned passed old new r are adds = record {
     | inl a ↦ Contains-append_left passed (r ∷ []) q (are.only q a)
     | inr e ↦ subst (λ (x : BlobRef). Contains (passed ++ r ∷ []) x) e (Contains-push passed r)
   ];
+  once = λ h. adds.once (are.once h);
 }
 
 pub fresh_next : (pinned passed : List BlobRef) (i : ℕ) (d : BlobRef) (old new : List BlobRef) → i < length passed → AreFresh pinned (take i passed) old → AddsOnce pinned old new (get_or passed i d) → AreFresh pinned (take (i + 1) passed) new
@@ -134,9 +152,11 @@ tells_by hash st old before after passed fresh (Done found) is all only told =
     let wanted = own_needs hash st old.asked old.path in
     record {
       next = (told.0, λ r has. passed_now w before after fresh r is (all r (subst (λ (l : List BlobRef). Contains l r) (sym told.1.passed) has)) (told.1.clean r has));
-      pins = λ r has. elim (Contains-append_cases old.pinned fresh r has) as (λ _. Contains old.pinned r ⊎ Contains wanted r) [
+      pins = λ r has. elim (Contains-append_cases old.pinned fresh r has) as (λ _. Contains old.pinned r ⊎ (Contains wanted r × IsSome (clean_at r after))) [
         | inl a ↦ inl a
-        | inr b ↦ inr (subst (λ (l : List BlobRef). Contains l r) told.1.passed (only r b))
+        | inr b ↦
+            let needed : Contains wanted r = subst (λ (l : List BlobRef). Contains l r) told.1.passed (only r b) in
+            inr (needed, (passed_now w before after fresh r is has (told.1.clean r needed)).0)
       ];
     }
 tells_by hash st old before after passed fresh (Needs reference) is all only told =
@@ -144,9 +164,11 @@ tells_by hash st old before after passed fresh (Needs reference) is all only tol
     let wanted = own_needs hash st old.asked old.path in
     record {
       next = (told.before, told.behind, told.parts, λ r has. passed_now w before after fresh r is (all r (subst (λ (l : List BlobRef). Contains l r) (sym told.passed) has)) (told.clean r has), after_pins before after fresh reference is ∙ told.missing);
-      pins = λ r has. elim (Contains-append_cases old.pinned fresh r has) as (λ _. Contains old.pinned r ⊎ Contains wanted r) [
+      pins = λ r has. elim (Contains-append_cases old.pinned fresh r has) as (λ _. Contains old.pinned r ⊎ (Contains wanted r × IsSome (clean_at r after))) [
         | inl a ↦ inl a
-        | inr b ↦ inr (subst (λ (l : List BlobRef). Contains l r) (sym told.parts) (Contains-append_left told.before (reference ∷ told.behind) r (subst (λ (l : List BlobRef). Contains l r) told.passed (only r b))))
+        | inr b ↦
+            let front : Contains told.before r = subst (λ (l : List BlobRef). Contains l r) told.passed (only r b) in
+            inr (subst (λ (l : List BlobRef). Contains l r) (sym told.parts) (Contains-append_left told.before (reference ∷ told.behind) r front), (passed_now w before after fresh r is has (told.clean r front)).0)
       ];
     }
 

@@ -61,9 +61,11 @@ TellsNext hash st w cache (Needs reference) =
     × ((passed : BlobRef) → Contains before passed → IsPassed w cache passed)
     × (clean_at reference cache ≡ None)
 
--- and all that it pins more are needs
+-- and all that it pins more are needs that are clean
 pub record Tells (hash : Hash) (st : Store) (old new : Walk)
     (cache : Cache) (told : Advance) : Type 0 where
   pub next : TellsNext hash st new cache told
   pub pins : (reference : BlobRef) → Contains new.pinned reference
-      → Contains old.pinned reference ⊎ Contains (own_needs hash st old.asked old.path) reference
+      → Contains old.pinned reference
+      ⊎ (Contains (own_needs hash st old.asked old.path) reference
+      × IsSome (clean_at reference cache))

@@ -1,10 +1,10 @@
 //! Walks over a broker's cache of stored texts (Flux RFC 11).
 #![tactic(auto)]
 
-ghost use Rattle.std.specs.Prelude.{◌≡◌, [], Contains, IfOk, OnOk, OnErr, IsTrue};
+ghost use Rattle.std.specs.Prelude.{◌≡◌, [], false, Contains, IfOk, OnOk, OnErr, IsTrue};
 ghost use Rattle.fl_digest.specs.declared.Hash.{Hash};
 ghost use Rattle.kvs_model.specs.Store.{Store};
-ghost use Rattle.tree_walk.specs.Pins.{AddsOnce, AreFresh};
+ghost use Rattle.tree_walk.specs.Pins.{AddsOnce, AreFresh, IsOnce};
 ghost use Rattle.tree_walk.specs.Walks.{Reads, GoesOn, Tells, without_pins, with_pins};
 
 mod ends;
@@ -52,7 +52,8 @@ impl Model for Cursor {
 
 /// Whether a reference is among these.
 fn has(references: &[BlobRef], reference: &BlobRef) -> bool
-    ensures { IsTrue result → Contains references.now reference.now }
+    ensures there { IsTrue result → Contains references.now reference.now }
+    ensures none { result ≡ false → Contains references.now reference.now → ⊥ }
 {
     references.contains(reference)
 }
@@ -126,6 +127,7 @@ impl Cursor {
         ensures on { OnOk result (GoesOn self.old self.new cache.old cache.new) }
         ensures kept { OnErr result (self.new ≡ self.old) }
         ensures cache { OnErr result (cache.new ≡ cache.old) }
+        ensures once { OnOk result (IsOnce self.old.pinned → IsOnce self.new.pinned) }
         ensures told { (hash : Hash) (st : Store) → Reads hash st self.old.root cache.old
             → IfOk result (Tells hash st self.old self.new cache.new) }
     {

@@ -1,7 +1,7 @@
-use Rattle.std.proofs.Common.{◌++◌, List, ap, ◌∙◌, subst}
+use Rattle.std.proofs.Common.{◌++◌, List, ap, ◌∙◌, subst, sym}
 use Rattle.fl_digest.specs.declared.BlobRef.{BlobRef}
-use Rattle.tree_walk.specs.Pins.{AreFresh}
-use Rattle.tree_walk.specs.Walks.{with_pins}
+use Rattle.tree_walk.specs.Pins.{AreFresh, IsOnce}
+use Rattle.tree_walk.specs.Walks.{Walk, with_pins}
 use Rattle.tree_walk.proofs.Pinning.{goes_on, advance_tells}
 use Rattle.tree_walk.proofs.Cursor.advance.Goals as goal
 
@@ -25,3 +25,12 @@ returns-clause-told c = λ h st reads.
       fresh = subst (λ (l : List BlobRef). AreFresh l passed more) c.as_slice.ensures.value (subst (λ (l : List BlobRef). AreFresh c.as_slice.result.now l more) c.as_slice-2.ensures.value c.in_ok-fresh.ensures);
     })
     c.new-passed.ensures.items c.as_slice-path.ensures (c.in_ok-told.ensures h st) reads
+
+pub returns-clause-once : goal.returns-clause-once
+returns-clause-once c = λ h.
+    let pinned = c.self.inside.pinned.items in
+    let passed = c.look.new.passed.items in
+    let more = c.in_ok-fresh.fresh.items in
+    let fresh : AreFresh pinned passed more = subst (λ (l : List BlobRef). AreFresh l passed more) c.as_slice.ensures.value (subst (λ (l : List BlobRef). AreFresh c.as_slice.result.now l more) c.as_slice-2.ensures.value c.in_ok-fresh.ensures) in
+    subst IsOnce (sym (c.in_ok-extend_from_slice.ensures.items ∙ ap (λ (l : List BlobRef). pinned ++ l) c.as_slice-3.ensures.value))
+    (fresh.once (subst IsOnce (sym (ap (λ (w : Walk). w.pinned) c.self.view_is)) h))
