@@ -17,7 +17,7 @@ ghost use Rattle.kvs_rules.specs.Namespaces.{Request, Setting, store_after};
 ghost use Rattle.tree_rules.specs.Held.{Holds, IsRootOf, Keeps, Table};
 ghost use Rattle.tree_rules.specs.OneStore.{own_needs};
 ghost use Rattle.tree_walk.specs.Walks.{GoesOn, TellsNext, Walk, without_pins};
-ghost use Rattle.tree_walk.specs.declared.Advance.TheVariants.{Done};
+ghost use Rattle.tree_look.specs.declared.Advance.TheVariants.{Done};
 ghost use Rattle.walk_pins.specs.Pins.{pins_at};
 ghost use Rattle.kvs_joined.specs.Joined.{AreFit, ArePinned, ArePinnedOnce, AreRooted, IsFit, IsSpaceOf, OpenWalk, OthersStay, RootedSpace};
 
