@@ -38,8 +38,8 @@ abbrev pub waits_at : ℕ → ℕ → BlobRef → Fetch → Bool
 waits_at fanout broker reference fetch = is_waiting_stage fetch.stage
     && (parent fanout fetch.child == broker) && same_reference fetch.reference reference
 
--- a fetch that waits at the broker for this content is sent down with the bytes, and every other one
--- stays
+-- a fetch that waits at the broker for this content is sent down with the bytes, and every other
+-- one stays
 pub record IsHanded (fanout broker : ℕ) (reference : BlobRef)
     (bytes : List ℕ) (old new : Fetch) : Type 0 where
   pub sent : waits_at fanout broker reference old ≡ true
@@ -53,8 +53,8 @@ pub record AreHanded (fanout broker : ℕ) (reference : BlobRef)
   pub each : (k : ℕ) (d : Fetch) → k < length old
       → IsHanded fanout broker reference bytes (slice_index_or old k d) (slice_index_or new k d)
 
--- a fetch is of a broker below rank 0; where it waits, the broker above stands below rank 0 too, and
--- asks for the same
+-- a fetch is of a broker below rank 0; where it waits, the broker above stands below rank 0 too,
+-- and asks for the same
 pub record IsCarried (fanout : ℕ) (fetches : List Fetch) (fetch : Fetch) : Type 0 where
   pub below : 0 < fetch.child
   pub above : is_waiting_stage fetch.stage ≡ true → 0 < parent fanout fetch.child

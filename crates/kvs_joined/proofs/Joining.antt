@@ -21,7 +21,7 @@ use Rattle.tree_rules.specs.Held.{Holds, IsRootOf, Keeps, Table}
 use Rattle.tree_rules.specs.OneStore.{own_needs}
 use Rattle.tree_rules.specs.Texts.{root_reference}
 use Rattle.tree_walk.specs.Walks.{TellsNext, Walk}
-use Rattle.tree_walk.specs.declared.Advance.TheVariants.{Done}
+use Rattle.tree_look.specs.declared.Advance.TheVariants.{Done}
 use Rattle.kvs_joined.specs.Joined.{AreFit, AreRooted, IsFit, IsSpaceOf, OpenWalk, RootedSpace}
 
 pub none-open : (size : ℕ) (spaces : List RootedSpace) (walks : List OpenWalk) → AreFit size spaces [] walks → walks ≡ []

@@ -41,8 +41,8 @@ pub record IsSpaceOf (set : Setting) (log : Log) (name : Name) (s : RootedSpace)
   pub first : s.first ≡ begun_at set name
   pub history : s.history ≡ landings log name
 
--- an open walk of a command at its broker, in the store of this number of the namespace of this place
--- in the table, and the content that it waits for
+-- an open walk of a command at its broker, in the store of this number of the namespace of this
+-- place in the table, and the content that it waits for
 pub record OpenWalk : Type 0 where
   pub by : By
   pub broker : ℕ

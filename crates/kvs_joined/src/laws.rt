@@ -17,7 +17,7 @@ ghost use Rattle.kvs_rules.specs.Namespaces.{Request, Setting, store_after};
 ghost use Rattle.tree_rules.specs.Held.{Holds, IsRootOf, Keeps, Table};
 ghost use Rattle.tree_rules.specs.OneStore.{own_needs};
 ghost use Rattle.tree_walk.specs.Walks.{GoesOn, TellsNext, Walk, without_pins};
-ghost use Rattle.tree_walk.specs.declared.Advance.TheVariants.{Done};
+ghost use Rattle.tree_look.specs.declared.Advance.TheVariants.{Done};
 ghost use Rattle.walk_pins.specs.Pins.{pins_at};
 ghost use Rattle.kvs_joined.specs.Joined.{AreFit, ArePinned, ArePinnedOnce, AreRooted, IsFit, IsSpaceOf, OpenWalk, OthersStay, RootedSpace};
 
@@ -27,8 +27,8 @@ pub fn no_walk_waits_alone()
         → AreFit size spaces [] walks → walks ≡ [] }
 {}
 
-/// What holds of roots holds still where rank 0's store has grown; and a walk reads the store of its
-/// number, which rank 0's store holds.
+/// What holds of roots holds still where rank 0's store has grown; and a walk reads the store of
+/// its number, which rank 0's store holds.
 pub fn walks_stay_joined()
     ensures roots { (hash : Hash) (before later : Table) (s : RootedSpace) → Keeps before later
         → AreRooted hash before s → AreRooted hash later s }
@@ -52,9 +52,9 @@ pub fn roots_are_those_of_the_log()
         → store_after set log name number ≡ Some st }
 {}
 
-/// The pins at each broker stay those of its open walks: where a walk begins that has pinned nothing,
-/// where one goes on whose pinned contents are clean, and where one ends that unpins what it has
-/// pinned. Where no walk is open nothing is pinned.
+/// The pins at each broker stay those of its open walks: where a walk begins that has pinned
+/// nothing, where one goes on whose pinned contents are clean, and where one ends that unpins what
+/// it has pinned. Where no walk is open nothing is pinned.
 pub fn pins_are_those_of_open_walks()
     ensures begins { (nodes : ℕ → Cache) (size : ℕ) (walks : List OpenWalk) (w : OpenWalk)
         → w.walk.pinned ≡ [] → length walks + 1 < 2 ^ 32 → ArePinned nodes size walks
@@ -76,9 +76,9 @@ pub fn pins_are_those_of_open_walks()
         → ArePinned nodes size [] → pins_at reference (nodes broker) ≡ 0 }
 {}
 
-/// A walk that ends has found what stands in the store, and its broker holds all that the walk needs,
-/// where it holds what is clean there. These are the grounds for the answer to a read in a store none
-/// of whose links names a namespace, where its number is fresh.
+/// A walk that ends has found what stands in the store, and its broker holds all that the walk
+/// needs, where it holds what is clean there. These are the grounds for the answer to a read in a
+/// store none of whose links names a namespace, where its number is fresh.
 pub fn a_walk_that_ends_was_held()
     ensures held { (hash : Hash) (log : Log) (by : By) (broker : ℕ) (st : Store) (w : Walk)
         (cache : Cache) (found : Found) → IsTrue (is_asked by log)

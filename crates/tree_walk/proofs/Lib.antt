@@ -1,6 +1,1 @@
 pub mod Pinning
-mod Stored
-mod Passing
-mod Following
-mod Ending
-mod Listing

@@ -19,10 +19,11 @@ use Rattle.cache_node.specs.Cache.{Cache, held_at, clean_at, with_pin, with_clea
 use Rattle.cache_node.proofs.Same.{same_refl, same_true, derived_same}
 use Rattle.std.proofs.lemmas.List.Quantifiers.{all_pairs_push}
 use Rattle.fl_digest.specs.contracts.BlobRefPartialEq.TheImpl.{eq-value as derived}
+use Rattle.tree_rules.specs.Held.{Table}
 use Rattle.tree_rules.specs.OneStore.{own_needs}
-use Rattle.tree_walk.specs.declared.Advance.{Advance}
-use Rattle.tree_walk.specs.declared.Advance.TheVariants.{Done, Needs}
-use Rattle.tree_walk.specs.Legs.{EndTells}
+use Rattle.tree_look.specs.declared.Advance.{Advance}
+use Rattle.tree_look.specs.declared.Advance.TheVariants.{Done, Needs}
+use Rattle.tree_look.specs.Looks.{EndTells, Reads as Looks}
 use Rattle.tree_walk.specs.Pins.{AddsOnce, AreFresh, IsOnce}
 use Rattle.tree_walk.specs.Walks.{Walk, with_pins, IsPassed, GoesOn, Reads, Tells}
 
@@ -134,6 +135,13 @@ fresh_all pinned passed i fresh within are = subst (λ (l : List BlobRef). AreFr
 
 -- ---- what an advance tells
 
+-- what is clean, by its reference
+abbrev pub seen : Cache → Table
+seen cache reference = clean_at reference cache
+
+read-there : (hash : Hash) (st : Store) (top : BlobRef) (cache : Cache) → Reads hash st top cache → Looks hash st top (seen cache)
+read-there hash st top cache reads = record { table = reads.table; holds = reads.holds; agrees = reads.agrees }
+
 after_pins : (before after : Cache) (fresh : List BlobRef) (r : BlobRef) → after ≡ with_pins fresh before → clean_at r after ≡ clean_at r before
 after_pins before after fresh r is = ap (clean_at r) is ∙ clean_at-with_pins r fresh before
 
@@ -145,30 +153,30 @@ tells_by : (hash : Hash) (st : Store) (old : Walk) (before after : Cache) (passe
     → after ≡ with_pins fresh before
     → ((r : BlobRef) → Contains passed r → Contains (old.pinned ++ fresh) r)
     → ((r : BlobRef) → Contains fresh r → Contains passed r)
-    → EndTells (own_walk st old.asked old.path) (own_needs hash st old.asked old.path) before [] passed told
+    → EndTells (own_walk st old.asked old.path) (own_needs hash st old.asked old.path) (seen before) [] passed told
     → Tells hash st old (record { root = old.root; asked = old.asked; path = old.path; pinned = old.pinned ++ fresh }) after told
 tells_by hash st old before after passed fresh (Done found) is all only told =
     let w : Walk = record { root = old.root; asked = old.asked; path = old.path; pinned = old.pinned ++ fresh } in
     let wanted = own_needs hash st old.asked old.path in
     record {
-      next = (told.0, λ r has. passed_now w before after fresh r is (all r (subst (λ (l : List BlobRef). Contains l r) (sym told.1.passed) has)) (told.1.clean r has));
+      next = (told.0, λ r has. passed_now w before after fresh r is (all r (subst (λ (l : List BlobRef). Contains l r) (sym told.1.passed) has)) (told.1.known r has));
       pins = λ r has. elim (Contains-append_cases old.pinned fresh r has) as (λ _. Contains old.pinned r ⊎ (Contains wanted r × IsSome (clean_at r after))) [
         | inl a ↦ inl a
         | inr b ↦
             let needed : Contains wanted r = subst (λ (l : List BlobRef). Contains l r) told.1.passed (only r b) in
-            inr (needed, (passed_now w before after fresh r is has (told.1.clean r needed)).0)
+            inr (needed, (passed_now w before after fresh r is has (told.1.known r needed)).0)
       ];
     }
 tells_by hash st old before after passed fresh (Needs reference) is all only told =
     let w : Walk = record { root = old.root; asked = old.asked; path = old.path; pinned = old.pinned ++ fresh } in
     let wanted = own_needs hash st old.asked old.path in
     record {
-      next = (told.before, told.behind, told.parts, λ r has. passed_now w before after fresh r is (all r (subst (λ (l : List BlobRef). Contains l r) (sym told.passed) has)) (told.clean r has), after_pins before after fresh reference is ∙ told.missing);
+      next = (told.before, told.behind, told.parts, λ r has. passed_now w before after fresh r is (all r (subst (λ (l : List BlobRef). Contains l r) (sym told.passed) has)) (told.known r has), after_pins before after fresh reference is ∙ told.missing);
       pins = λ r has. elim (Contains-append_cases old.pinned fresh r has) as (λ _. Contains old.pinned r ⊎ (Contains wanted r × IsSome (clean_at r after))) [
         | inl a ↦ inl a
         | inr b ↦
             let front : Contains told.before r = subst (λ (l : List BlobRef). Contains l r) told.passed (only r b) in
-            inr (subst (λ (l : List BlobRef). Contains l r) (sym told.parts) (Contains-append_left told.before (reference ∷ told.behind) r front), (passed_now w before after fresh r is has (told.clean r front)).0)
+            inr (subst (λ (l : List BlobRef). Contains l r) (sym told.parts) (Contains-append_left told.before (reference ∷ told.behind) r front), (passed_now w before after fresh r is has (told.known r front)).0)
       ];
     }
 
@@ -192,13 +200,13 @@ pub record IsPinned (before after : Cache) (pinned passed more now : List BlobRe
 
 pub advance_tells : (hash : Hash) (st : Store) (top : BlobRef) (asked : Query) (path slice : Path) (pinned passed more now none : List BlobRef) (old : Walk) (before after : Cache) (told : Advance)
     → record { root = top; asked = asked; path = path; pinned = pinned } ≡ old → IsPinned before after pinned passed more now → none ≡ [] → slice ≡ path
-    → (Reads hash st top before → EndTells (own_walk st asked slice) (own_needs hash st asked slice) before none passed told)
+    → (Looks hash st top (seen before) → EndTells (own_walk st asked slice) (own_needs hash st asked slice) (seen before) none passed told)
     → Reads hash st old.root before → Tells hash st old (record { root = top; asked = asked; path = path; pinned = now }) after told
 advance_tells hash st top asked path slice pinned passed more now none old before after told is has empty same looks =
     let w : Walk = record { root = top; asked = asked; path = path; pinned = pinned } in
     let here = λ (reads : Reads hash st top before).
     tells_by hash st w before after passed more told has.pins has.fresh.all has.fresh.only
-    (subst (λ (l : List BlobRef). EndTells (own_walk st asked path) (own_needs hash st asked path) before l passed told) empty
-    (subst (λ (q : Path). EndTells (own_walk st asked q) (own_needs hash st asked q) before none passed told) same (looks reads))) in
+    (subst (λ (l : List BlobRef). EndTells (own_walk st asked path) (own_needs hash st asked path) (seen before) l passed told) empty
+    (subst (λ (q : Path). EndTells (own_walk st asked q) (own_needs hash st asked q) (seen before) none passed told) same (looks (read-there hash st top before reads)))) in
     subst (λ (v : Walk). Reads hash st v.root before → Tells hash st v (record { root = top; asked = asked; path = path; pinned = now }) after told) is
     (λ reads. subst (λ (l : List BlobRef). Tells hash st w (record { root = top; asked = asked; path = path; pinned = l }) after told) (sym has.added) (here reads))

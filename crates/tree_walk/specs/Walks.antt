@@ -8,8 +8,8 @@ use Rattle.kvs_model.specs.OneStore.{own_walk}
 use Rattle.cache_node.specs.Cache.{Cache, clean_at, with_pin, without_pin}
 use Rattle.tree_rules.specs.Held.{Table, IsRootOf}
 use Rattle.tree_rules.specs.OneStore.{own_needs}
-use Rattle.tree_walk.specs.declared.Advance.{Advance}
-use Rattle.tree_walk.specs.declared.Advance.TheVariants.{Done, Needs}
+use Rattle.tree_look.specs.declared.Advance.{Advance}
+use Rattle.tree_look.specs.declared.Advance.TheVariants.{Done, Needs}
 
 -- a walk from a root, and what it has pinned
 pub record Walk : Type 0 where

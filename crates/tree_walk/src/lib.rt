@@ -7,24 +7,14 @@ ghost use Rattle.kvs_model.specs.Store.{Store};
 ghost use Rattle.tree_walk.specs.Pins.{AddsOnce, AreFresh, IsOnce};
 ghost use Rattle.tree_walk.specs.Walks.{Reads, GoesOn, Tells, without_pins, with_pins};
 
-mod ends;
-mod legs;
-mod texts;
-
 use cache_node::CacheNode;
 use fl_digest::BlobRef;
-use kvs_txn::{Found, Path, Query};
-use legs::look;
+use kvs_txn::{Path, Query};
 use lists::Copied;
 use std::alloc::{AllocError, Global};
 use std::marker::Model;
-
-/// How far a walk has come: what it finds, or the reference of the content that is missing.
-#[derive(Drop)]
-pub enum Advance {
-    Done(Found),
-    Needs(BlobRef),
-}
+pub use tree_look::Advance;
+use tree_look::look_in;
 
 /// A walk from a root over the clean contents of a cache. What it passes stays pinned until it is
 /// finished.
@@ -133,7 +123,14 @@ impl Cursor {
     {
         let mut passed = Vec::new(self.alloc);
         let path = self.path.as_slice();
-        let told = look(self.alloc, cache, &self.root, self.asked, path, &mut passed)?;
+        let told = look_in(
+            self.alloc,
+            &*cache,
+            &self.root,
+            self.asked,
+            path,
+            &mut passed,
+        )?;
         let fresh = unpinned(self.alloc, self.pinned.as_slice(), passed.as_slice())?;
         self.pinned.extend_from_slice(fresh.as_slice())?;
         pin(cache, fresh.as_slice());

@@ -7,9 +7,9 @@ ghost use Rattle.tree_walk.specs.Walks.{with_pins, without_pins};
 ghost use Rattle.walk_pins.specs.Pins.{pins_at, times};
 
 /// A content is pinned once more for each time that it is pinned, where the contents are clean and
-/// the count has room; and once less for each time that it is unpinned, where it was pinned so often
-/// and its count isn't the last one. The clean contents stay. Among references none of which stands
-/// twice it stands once at most.
+/// the count has room; and once less for each time that it is unpinned, where it was pinned so
+/// often and its count isn't the last one. The clean contents stay. Among references none of which
+/// stands twice it stands once at most.
 pub fn pins_are_counted()
     ensures pinned { (references : List BlobRef) (cache : Cache) (r : BlobRef)
         → ((q : BlobRef) → Contains references q → IsSome (clean_at q cache))

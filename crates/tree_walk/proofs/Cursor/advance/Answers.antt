@@ -15,7 +15,7 @@ returns-clause-on c =
 pub returns-clause-told : goal.returns-clause-told
 returns-clause-told c = λ h st reads.
     let pinned = c.self.inside.pinned.items in
-    let passed = c.look.new.passed.items in
+    let passed = c.look_in.new.passed.items in
     let more = c.in_ok-fresh.fresh.items in
     let cache = c.args.cache.now in
     advance_tells h st c.self.inside.root c.self.inside.asked c.self.inside.path c.as_slice-path.result.now pinned passed more c.extend_from_slice.new.self.items c.new-passed.result.items c.args.self.now cache c.pin.new.cache c.in_ok-told.told c.self.view_is
@@ -29,7 +29,7 @@ returns-clause-told c = λ h st reads.
 pub returns-clause-once : goal.returns-clause-once
 returns-clause-once c = λ h.
     let pinned = c.self.inside.pinned.items in
-    let passed = c.look.new.passed.items in
+    let passed = c.look_in.new.passed.items in
     let more = c.in_ok-fresh.fresh.items in
     let fresh : AreFresh pinned passed more = subst (λ (l : List BlobRef). AreFresh l passed more) c.as_slice.ensures.value (subst (λ (l : List BlobRef). AreFresh c.as_slice.result.now l more) c.as_slice-2.ensures.value c.in_ok-fresh.ensures) in
     subst IsOnce (sym (c.in_ok-extend_from_slice.ensures.items ∙ ap (λ (l : List BlobRef). pinned ++ l) c.as_slice-3.ensures.value))
