@@ -16,7 +16,7 @@ use Rattle.instance.specs.answers.declared.steps.Step.{Step}
 use Rattle.instance.specs.answers.declared.steps.Step.TheVariants as step
 use Rattle.instance.specs.Family.{bearing, may_end}
 use Rattle.instance.specs.Order.{answers, feeds}
-use Rattle.instance.specs.Seats.{has_come, is_at_jobs, is_fed_next, is_free, last_command}
+use Rattle.instance.specs.Seats.{has_come, has_heard, is_at_jobs, is_fed_next, is_free, last_command}
 use Rattle.instance.specs.Steps.{can_answer as instance_can_answer, can_feed as instance_can_feed, can_post}
 use Rattle.instance.specs.Value.{InstanceValue}
 use Rattle.instance.specs.declared.seats.Seat.{Seat}
@@ -74,9 +74,9 @@ go_at homes h o parent origin here alive =
 abbrev pub is_busy : InstanceValue → ℕ → Bool
 is_busy v actor = option_map_or (λ seat. not (is_free seat.waiting)) (slice_get v.seats actor) false
 
-come_busy : (services : ServicesValue) (by : By) (w : Waiting) → has_come services by w ≡ true → not (is_free w) ≡ true
-come_busy services by waiting.Nothing e = cc
-come_busy services by _ e = refl
+come_busy : (services : ServicesValue) (by : By) (heard : Bool) (w : Waiting) → has_come services by heard w ≡ true → not (is_free w) ≡ true
+come_busy services by heard waiting.Nothing e = cc
+come_busy services by heard _ e = refl
 
 jobs_busy : (w : Waiting) → is_at_jobs w ≡ true → not (is_free w) ≡ true
 jobs_busy waiting.Nothing e = cc
@@ -85,8 +85,8 @@ jobs_busy _ e = refl
 -- one that can be replied to does, and one that can be fed
 pub answered_busy : (v : InstanceValue) (actor : ℕ) → instance_can_answer v actor ≡ true → is_busy v actor ≡ true
 answered_busy v actor can =
-    let seat = says_some (λ (seat : Seat). has_come v.services (last_command actor seat) seat.waiting) (slice_get v.seats actor) can in
-    ap (λ o. option_map_or (λ (s : Seat). not (is_free s.waiting)) o false) seat.1 ∙ come_busy v.services (last_command actor seat.0) seat.0.waiting seat.2
+    let seat = says_some (λ (seat : Seat). has_come v.services (last_command actor seat) (has_heard v.services seat) seat.waiting) (slice_get v.seats actor) can in
+    ap (λ o. option_map_or (λ (s : Seat). not (is_free s.waiting)) o false) seat.1 ∙ come_busy v.services (last_command actor seat.0) (has_heard v.services seat.0) seat.0.waiting seat.2
 
 pub fed_busy : (v : InstanceValue) (actor : ℕ) → instance_can_feed v actor ≡ true → is_busy v actor ≡ true
 fed_busy v actor can =
@@ -330,7 +330,7 @@ module _ (v : WorldValue) where
 
   listed_answer : (actor i : ℕ) (h : Home) → slice_get v.homes i ≡ Some h → h.gone ≡ false → instance_can_answer h.instance actor ≡ true → Contains (before_end v) (step.Answer actor)
   listed_answer actor i h here alive can =
-      let seat = says_some (λ (seat : Seat). has_come h.instance.services (last_command actor seat) seat.waiting) (slice_get h.instance.seats actor) can in
+      let seat = says_some (λ (seat : Seat). has_come h.instance.services (last_command actor seat) (has_heard h.instance.services seat) seat.waiting) (slice_get h.instance.seats actor) can in
       let below = slice_get_within h.instance.seats actor seat.0 seat.1 in
       in_living kind.Reply i h (step.Answer actor) here alive (in_map step.Answer (answers h.instance) actor
       (in_filter (instance_can_answer h.instance) (range_with_len 0 (length h.instance.seats)) actor can (in_range 0 (length h.instance.seats) actor (omega arith) (omega (arith, below)))))

@@ -19,7 +19,7 @@ use Rattle.hierarchy.proofs.Numbering.{born_exactly}
 use Rattle.hierarchy.proofs.Resting.{all_rest}
 use Rattle.instance.specs.Family.{OfOwn, bearing, is_due, is_end_due, may_end}
 use Rattle.instance.specs.Order.{answers, feeds}
-use Rattle.instance.specs.Seats.{has_come, is_fed_next, last_command}
+use Rattle.instance.specs.Seats.{has_come, has_heard, is_fed_next, last_command}
 use Rattle.instance.specs.Steps.{IsAtRest, IsStart, can_answer, can_feed, can_post}
 use Rattle.instance.specs.Value.{InstanceValue}
 use Rattle.instance.specs.declared.seats.Seat.{Seat}
@@ -164,7 +164,7 @@ module _ (v : WorldValue) where
           by : (b : Bool) → can_answer h.instance actor ≡ b → can_answer h.instance actor ≡ false
           by false is = is
           by true is =
-              let seat = says_some (λ (seat : Seat). has_come h.instance.services (last_command actor seat) seat.waiting) (slice_get h.instance.seats actor) is in
+              let seat = says_some (λ (seat : Seat). has_come h.instance.services (last_command actor seat) (has_heard h.instance.services seat) seat.waiting) (slice_get h.instance.seats actor) is in
               let low = slice_get_within h.instance.seats actor seat.0 seat.1 in
               let there = among_kept (can_answer h.instance) (range_with_len 0 (length h.instance.seats)) actor
               (among_from (range_with_len 0 (length h.instance.seats)) actor (in_range 0 (length h.instance.seats) actor (omega arith) (omega (arith, low)))) is in
