@@ -88,3 +88,7 @@ idle-so v none links (kvs.Serve broker) = ap (λ rows. nat_lt broker v.size && l
     and-false true = refl
     and-false false = refl
 idle-so v none links (kvs.Land number) = refl
+idle-so v none links (kvs.Lose from to) = refl
+idle-so v none links (kvs.Repeat from to) = refl
+idle-so v none links (kvs.Swap from to) = refl
+idle-so v none links (kvs.Resync broker) = refl

@@ -25,7 +25,7 @@ abbrev pub can_step : ContentServiceValue → KvsStep → Bool
 can_step v (kvs.Deliver from to) = can_deliver v.content from to
 can_step v (kvs.Serve broker) =
     nat_lt broker v.size && list_any (may_serve broker (is_flushed v.content broker)) v.rows
-can_step v (kvs.Land number) = false
+can_step v _ = false
 
 -- whether the command's answer waits to be taken
 abbrev pub can_take : ContentServiceValue → By → Bool
@@ -46,4 +46,4 @@ abbrev pub DoesStep : KvsStep → ContentServiceValue → ContentServiceValue �
 DoesStep (kvs.Deliver from to) old new =
     (deliveries_of new < deliveries_of old) × (all_services new.rows ≡ all_services old.rows)
 DoesStep (kvs.Serve broker) old new = all_services new.rows < all_services old.rows
-DoesStep (kvs.Land number) old new = ⊥
+DoesStep _ old new = ⊥

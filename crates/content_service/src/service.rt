@@ -130,7 +130,11 @@ impl ContentService {
                 broker < self.size
                     && is_served(&self.rows, broker, has_flushed(&self.contents, broker))
             }
-            KvsStep::Land { .. } => false,
+            KvsStep::Land { .. }
+            | KvsStep::Lose { .. }
+            | KvsStep::Repeat { .. }
+            | KvsStep::Swap { .. }
+            | KvsStep::Resync { .. } => false,
         }
     }
 
@@ -209,7 +213,11 @@ impl ContentService {
         match step {
             KvsStep::Deliver { from, to } => self.deliver(from, to),
             KvsStep::Serve { broker } => self.serve(broker),
-            KvsStep::Land { .. } => unreachable!(),
+            KvsStep::Land { .. }
+            | KvsStep::Lose { .. }
+            | KvsStep::Repeat { .. }
+            | KvsStep::Swap { .. }
+            | KvsStep::Resync { .. } => unreachable!(),
         }
     }
 

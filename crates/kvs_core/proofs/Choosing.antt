@@ -15,7 +15,7 @@ use Rattle.kvs_requests.specs.declared.rows.Stage.TheVariants as stage
 use Rattle.kvs_core.specs.Order.{IsAnnouncing, Leads, possible}
 use Rattle.kvs_requests.specs.Rows.{AtPlace}
 use Rattle.kvs_core.specs.Sound.{IsSound}
-use Rattle.kvs_space.specs.Space.{SpaceValue, has_news, is_ready}
+use Rattle.kvs_space.specs.Space.{SpaceValue, has_news, is_behind, is_ready}
 use Rattle.kvs_rules.specs.Brokers.{parent}
 use Rattle.kvs_core.specs.Steps.{can_step, is_announced}
 use Rattle.kvs_requests.specs.Stages.{is_message, is_on}
@@ -23,7 +23,7 @@ use Rattle.kvs_core.specs.Value.{CoreValue}
 use Rattle.kvs_space.proofs.Announced.{parent-below}
 use Rattle.kvs_core.proofs.Delivering.{coming}
 use Rattle.kvs_requests.proofs.Ways.{parent-le}
-use Rattle.kvs_space.proofs.Finding.{and-left, and-right, both-true, eq-is, eq-true, found-passes, found-within, lt-is, lt-true, false-or-else}
+use Rattle.kvs_space.proofs.Finding.{and-left, and-right, both-true, eq-is, eq-true, found-passes, found-within, lt-is, lt-true, false-or-else, or-left}
 use Rattle.kvs_space.proofs.Rolls.{none-before}
 use Rattle.kvs_core.proofs.Ordering.{any-at, first-behind, first-front, first-link, first-range, no-link, none-of}
 
@@ -118,7 +118,7 @@ ready-first v k e lower h = test-fails is_ready v.spaces lower (λ d l. (positio
 pub unready-none : (v : CoreValue) → None ≡ position is_ready v.spaces → (number : ℕ) → can_step v (kvs.Land number) ≡ false
 unready-none v e number = test-fails is_ready v.spaces number (λ d l. none-before is_ready v.spaces (sym e) number d l)
 
--- the three parts of the list of all steps
+-- the parts of the list of all steps
 abbrev links : CoreValue → List KvsStep
 links v = flat_map (λ x. map (kvs.Deliver x) (range_with_len 0 v.size)) (range_with_len 0 v.size)
 
@@ -128,11 +128,20 @@ services v = map kvs.Serve (range_with_len 0 v.size)
 abbrev landings : CoreValue → List KvsStep
 landings v = map kvs.Land (range_with_len 0 (length v.spaces))
 
-past-links : (v : CoreValue) → IsFirstHop v None → slice_get (possible v) 0 ≡ slice_get (filter (can_step v) (services v ++ landings v)) 0
-past-links v is = first-behind (can_step v) (links v) (services v ++ landings v) (no-link (can_step v) (no-delivery v is) (range_with_len 0 v.size) (range_with_len 0 v.size))
+abbrev resyncs : CoreValue → List KvsStep
+resyncs v = map kvs.Resync (range_with_len 0 v.size)
 
-past-services : (v : CoreValue) → ((broker : ℕ) → can_step v (kvs.Serve broker) ≡ false) → slice_get (filter (can_step v) (services v ++ landings v)) 0 ≡ slice_get (filter (can_step v) (landings v)) 0
-past-services v unserved = first-behind (can_step v) (services v) (landings v) (none-of (can_step v) kvs.Serve unserved (range_with_len 0 v.size))
+abbrev behind-links : CoreValue → List KvsStep
+behind-links v = services v ++ (landings v ++ resyncs v)
+
+past-links : (v : CoreValue) → IsFirstHop v None → slice_get (possible v) 0 ≡ slice_get (filter (can_step v) (behind-links v)) 0
+past-links v is = first-behind (can_step v) (links v) (behind-links v) (no-link (can_step v) (no-delivery v is) (range_with_len 0 v.size) (range_with_len 0 v.size))
+
+past-services : (v : CoreValue) → ((broker : ℕ) → can_step v (kvs.Serve broker) ≡ false) → slice_get (filter (can_step v) (behind-links v)) 0 ≡ slice_get (filter (can_step v) (landings v ++ resyncs v)) 0
+past-services v unserved = first-behind (can_step v) (services v) (landings v ++ resyncs v) (none-of (can_step v) kvs.Serve unserved (range_with_len 0 v.size))
+
+past-landings : (v : CoreValue) → ((number : ℕ) → can_step v (kvs.Land number) ≡ false) → slice_get (filter (can_step v) (landings v ++ resyncs v)) 0 ≡ slice_get (filter (can_step v) (resyncs v)) 0
+past-landings v unlanded = first-behind (can_step v) (landings v) (resyncs v) (none-of (can_step v) kvs.Land unlanded (range_with_len 0 (length v.spaces)))
 
 -- a delivery is made before all else
 pub delivery-first : (v : CoreValue) → IsSound v → (hop : Hop) → IsFirstHop v (Some hop) → ((hop.to < v.size) × IsAnnouncing v.fanout v.spaces hop.from hop.to) ⊎ (list_any (is_on hop.from hop.to) v.rows ≡ true)
@@ -140,14 +149,14 @@ pub delivery-first : (v : CoreValue) → IsSound v → (hop : Hop) → IsFirstHo
 delivery-first v sound hop is some =
     let can = delivers v hop.from hop.to some in
     let l = within v sound hop.from hop.to can in
-    sym (first-front (can_step v) (links v) (services v ++ landings v) (kvs.Deliver hop.from hop.to) (first-link (can_step v) v.size hop.from hop.to 0 v.size (omega arith) (omega (arith, l)) l.1 can (leads v (Some hop) is)))
+    sym (first-front (can_step v) (links v) (behind-links v) (kvs.Deliver hop.from hop.to) (first-link (can_step v) v.size hop.from hop.to 0 v.size (omega arith) (omega (arith, l)) l.1 can (leads v (Some hop) is)))
 
 -- where none can be made, the lowest broker serves that can
 pub service-first : (v : CoreValue) (broker : ℕ) → IsFirstHop v None → can_step v (kvs.Serve broker) ≡ true → ((lower : ℕ) → lower < broker → can_step v (kvs.Serve lower) ≡ false)
     → Some (kvs.Serve broker) ≡ slice_get (possible v) 0
 service-first v broker is can first =
     let l = lt-is broker v.size (and-left (nat_lt broker v.size) _ can) in
-    sym (past-links v is ∙ first-front (can_step v) (services v) (landings v) (kvs.Serve broker) (first-range (can_step v) kvs.Serve broker 0 v.size (omega arith) (omega arith) can first))
+    sym (past-links v is ∙ first-front (can_step v) (services v) (landings v ++ resyncs v) (kvs.Serve broker) (first-range (can_step v) kvs.Serve broker 0 v.size (omega arith) (omega arith) can first))
 
 -- then the namespace lands that was opened first
 pub landing-first : (v : CoreValue) (number : ℕ) → IsFirstHop v None → ((broker : ℕ) → can_step v (kvs.Serve broker) ≡ false)
@@ -155,7 +164,7 @@ pub landing-first : (v : CoreValue) (number : ℕ) → IsFirstHop v None → ((b
     → Some (kvs.Land number) ≡ slice_get (possible v) 0
 landing-first v number is unserved can first =
     let l = named v.spaces number can in
-    sym (past-links v is ∙ past-services v unserved ∙ first-range (can_step v) kvs.Land number 0 (length v.spaces) (omega arith) (omega arith) can first)
+    sym (past-links v is ∙ past-services v unserved ∙ first-front (can_step v) (landings v) (resyncs v) (kvs.Land number) (first-range (can_step v) kvs.Land number 0 (length v.spaces) (omega arith) (omega arith) can first))
   where
     named : (spaces : List SpaceValue) (k : ℕ) → option_map_or is_ready (slice_get spaces k) false ≡ true → k < length spaces
     named spaces k h = by (slice_get spaces k) refl
@@ -164,7 +173,27 @@ landing-first v number is unserved can first =
         by None e = absurd (true≢false (sym h ∙ ap (λ o. option_map_or is_ready o false) e))
         by (Some s) e = slice_get_within spaces k s e
 
--- and where nothing can be made, the list is empty
-pub no-step : (v : CoreValue) → IsFirstHop v None → ((broker : ℕ) → can_step v (kvs.Serve broker) ≡ false) → ((number : ℕ) → can_step v (kvs.Land number) ≡ false) → None ≡ slice_get (possible v) 0
-no-step v is unserved unlanded =
-    sym (past-links v is ∙ past-services v unserved ∙ ap (λ xs. slice_get xs 0) (none-of (can_step v) kvs.Land unlanded (range_with_len 0 (length v.spaces))))
+-- then the lowest broker asks anew that has missed something
+pub resync-first : (v : CoreValue) (broker : ℕ) → IsFirstHop v None → ((lower : ℕ) → can_step v (kvs.Serve lower) ≡ false) → ((number : ℕ) → can_step v (kvs.Land number) ≡ false)
+    → can_step v (kvs.Resync broker) ≡ true → ((lower : ℕ) → lower < broker → can_step v (kvs.Resync lower) ≡ false)
+    → Some (kvs.Resync broker) ≡ slice_get (possible v) 0
+resync-first v broker is unserved unlanded can first =
+    let l = lt-is broker v.size (and-left (nat_lt broker v.size) _ (and-left _ (list_any (is_behind v.fanout broker) v.spaces) can)) in
+    sym (past-links v is ∙ past-services v unserved ∙ past-landings v unlanded ∙ first-range (can_step v) kvs.Resync broker 0 v.size (omega arith) (omega arith) can first)
+
+-- and where none of these can be made, the list is empty
+pub no-step : (v : CoreValue) → IsFirstHop v None → ((broker : ℕ) → can_step v (kvs.Serve broker) ≡ false) → ((number : ℕ) → can_step v (kvs.Land number) ≡ false) → ((broker : ℕ) → can_step v (kvs.Resync broker) ≡ false)
+    → None ≡ slice_get (possible v) 0
+no-step v is unserved unlanded unsynced =
+    sym (past-links v is ∙ past-services v unserved ∙ past-landings v unlanded ∙ ap (λ xs. slice_get xs 0) (none-of (can_step v) kvs.Resync unsynced (range_with_len 0 v.size)))
+
+-- nor a loss
+pub no-more : (v : CoreValue) → IsFirstHop v None → ((broker : ℕ) → can_step v (kvs.Serve broker) ≡ false) → ((number : ℕ) → can_step v (kvs.Land number) ≡ false) → ((broker : ℕ) → can_step v (kvs.Resync broker) ≡ false)
+    → (step : KvsStep) → can_step v step ≡ false
+no-more v is unserved unlanded unsynced (kvs.Deliver from to) = no-delivery v is from to
+no-more v is unserved unlanded unsynced (kvs.Land number) = unlanded number
+no-more v is unserved unlanded unsynced (kvs.Serve broker) = unserved broker
+no-more v is unserved unlanded unsynced (kvs.Lose from to) = or-left _ _ (no-delivery v is from to)
+no-more v is unserved unlanded unsynced (kvs.Repeat from to) = or-left _ _ (no-delivery v is from to)
+no-more v is unserved unlanded unsynced (kvs.Swap from to) = or-left _ _ (no-delivery v is from to)
+no-more v is unserved unlanded unsynced (kvs.Resync broker) = unsynced broker

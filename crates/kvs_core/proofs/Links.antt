@@ -18,7 +18,10 @@ use Rattle.kvs_core.specs.Sound.{IsSound}
 use Rattle.kvs_core.specs.Steps.{can_step, is_announced}
 use Rattle.kvs_requests.specs.Stages.{is_message, is_on}
 use Rattle.kvs_core.specs.Value.{CoreValue}
-use Rattle.kvs_core.specs.Walk.{between, sent}
+use Rattle.kvs_space.specs.declared.links.Loss.{Loss}
+use Rattle.kvs_space.specs.declared.links.Loss.TheVariants as loss
+use Rattle.kvs_core.specs.Order.{loss_step}
+use Rattle.kvs_core.specs.Walk.{between, lost, sent}
 use Rattle.kvs_core.proofs.Delivering.{coming}
 use Rattle.kvs_core.proofs.Ordering.{any-at}
 use Rattle.kvs_requests.proofs.Ways.{parent-le}
@@ -87,6 +90,31 @@ module _ {X : Type 0} (can : X → Bool) (f : ℕ → X) where
       none : (a b : ℕ) → ((k : ℕ) → a ≤ k → k < b → (k ≡ p) ⊎ ((c ≤ k) × (k < e)) → ⊥) → passing a b ≡ []
       none a b off = none-from a (b - a) (λ k low high. fails k (off k low (omega (arith, low, high))))
 
+  -- what passes is in one range
+  pub one-part : (c e size : ℕ) → c ≤ e → e ≤ size → ((k : ℕ) → can (f k) ≡ true → (c ≤ k) × (k < e))
+      → filter can (map f (range_with_len 0 size)) ≡ filter can (map f (between c e))
+  unfolding passing
+  one-part c e size m n only =
+      ap (λ k. filter can (map f (range_with_len 0 k))) whole
+      ∙ split 0 c size (omega arith) (omega (arith, m, n))
+      ∙ ap (λ xs. xs ++ passing c size) (none 0 c (λ k low high o. omega (arith, high, o.0)))
+      ∙ split c e size m n
+      ∙ ap (λ xs. passing c e ++ xs) (none e size (λ k low high o. omega (arith, low, o.1)))
+      ∙ append-nil (passing c e)
+    where
+      whole : size ≡ size - 0
+      whole = omega arith
+
+      fails : (k : ℕ) → ((c ≤ k) × (k < e) → ⊥) → can (f k) ≡ false
+      fails k off = by (can (f k)) refl
+        where
+          by : (b : Bool) → can (f k) ≡ b → can (f k) ≡ false
+          by false q = q
+          by true q = absurd (off (only k q))
+
+      none : (a b : ℕ) → ((k : ℕ) → a ≤ k → k < b → (c ≤ k) × (k < e) → ⊥) → passing a b ≡ []
+      none a b off = none-from a (b - a) (λ k low high. fails k (off k low (omega (arith, low, high))))
+
 -- a link joins a broker and the one above it
 linked : (fanout size : ℕ) (spaces : List SpaceValue) (from to : ℕ) (st : Stage) → is_message from to st ≡ true → AtPlace fanout size spaces st
     → (to ≡ parent fanout from) ⊎ ((0 < to) × (to < size) × (parent fanout to ≡ from))
@@ -147,3 +175,20 @@ sent-parts v sound from above below end within at first last =
             let b = children v.fanout from k sound.fanout c.0 c.2 in
             let s = c.1 in
             inr (omega (arith, b.0, first), omega (arith, b.0, b.1, s, first, last))
+
+-- the losses on the links from a broker that can be made
+pub lost-part : (v : CoreValue) → IsSound v → (kind : Loss) (from below end : ℕ) → below ≡ min (from * v.fanout + 1) v.size → end ≡ min (below + v.fanout) v.size
+    → filter (can_step v) (lost kind v.size from) ≡ filter (can_step v) (map (loss_step kind from) (between below end))
+lost-part v sound kind from below end first last = one-part (can_step v) (loss_step kind from) below end v.size (omega (arith, first, last)) (omega (arith, last)) only
+  where
+    announced : (kind : Loss) (k : ℕ) → can_step v (loss_step kind from k) ≡ true → is_announced v from k ≡ true
+    announced loss.Lost k h = h
+    announced loss.Repeated k h = h
+    announced loss.Swapped k h = h
+
+    only : (k : ℕ) → can_step v (loss_step kind from k) ≡ true → (below ≤ k) × (k < end)
+    only k h =
+        let c = coming v from k (announced kind k h) in
+        let b = children v.fanout from k sound.fanout c.above (eq-is _ _ c.sender) in
+        let s = c.within in
+        (omega (arith, b.0, s, first), omega (arith, b.0, b.1, s, first, last))

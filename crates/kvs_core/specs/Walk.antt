@@ -3,6 +3,8 @@ use Rattle.std.specs.Prelude.{ℕ, zero, suc, ◌-◌, List, [], ◌∷◌, Resu
 use Rattle.std.specs.List.{range_with_len}
 use Rattle.kvs_rules.specs.declared.events.KvsStep.{KvsStep}
 use Rattle.kvs_rules.specs.declared.events.KvsStep.TheVariants as kvs
+use Rattle.kvs_space.specs.declared.links.Loss.{Loss}
+use Rattle.kvs_core.specs.Order.{loss_step}
 use Rattle.kvs_core.specs.declared.service.walk.Strand.{Strand}
 use Rattle.kvs_core.specs.declared.service.walk.Strand.TheVariants as strand
 
@@ -17,6 +19,8 @@ abbrev pub step_of : Strand → ℕ → KvsStep
 step_of (strand.Deliveries from) at = kvs.Deliver from at
 step_of strand.Services at = kvs.Serve at
 step_of strand.Landings at = kvs.Land at
+step_of strand.Resyncs at = kvs.Resync at
+step_of (strand.Losses kind from) at = loss_step kind from at
 
 -- the numbers from one up to another
 abbrev pub between : ℕ → ℕ → List ℕ
@@ -29,3 +33,7 @@ sent brokers from = map (kvs.Deliver from) (range_with_len 0 brokers)
 -- the deliveries between so many brokers, by sender and then by receiver
 abbrev pub deliveries : ℕ → List KvsStep
 deliveries brokers = flat_map (sent brokers) (range_with_len 0 brokers)
+
+-- the losses of one kind on the links from a broker to so many, by receiver
+abbrev pub lost : Loss → ℕ → ℕ → List KvsStep
+lost kind brokers from = map (loss_step kind from) (range_with_len 0 brokers)

@@ -1,5 +1,6 @@
 pub mod Finding
 pub mod Announced
+pub mod Losses
 pub mod Replaying
 pub mod Rulings
 pub mod Hearings

@@ -12,16 +12,13 @@ use Rattle.fence_merge.specs.Merging.{MergerValue}
 use Rattle.kvs_space.specs.Links.{IsAnnounced, IsAnnouncedBut, greatest}
 use Rattle.kvs_space.specs.Sound.{IsSoundSpace, idle}
 use Rattle.kvs_space.specs.Space.{SpaceValue, seen, begun}
+use Rattle.kvs_space.proofs.Announced.{parent-low}
 use Rattle.kvs_space.proofs.Posting.{no-fences}
 
 -- where no broker has heard of a namespace, rank 0 is the first to
 module _ (size : ℕ) (some : 1 ≤ size) where
   none : (b : ℕ) → b < size → slice_index (replicate size 0) b ≡ 0
   none b low = get_or-replicate size b 0 0 low
-
-  parent-low : (b fanout : ℕ) → parent fanout b ≤ b
-  parent-low b zero = omega arith
-  parent-low b (suc fanout) = omega arith
 
   pub first-but : (fanout : ℕ) → IsAnnouncedBut 0 1 fanout (replicate size 0) (replicate size [])
   first-but fanout = record {
@@ -30,8 +27,9 @@ module _ (size : ℕ) (some : 1 ≤ size) where
     higher = let z = none 0 (omega arith) in omega arith;
     others = λ b above below ne.
         let low : b < size = subst (λ m. b < m) (length-replicate size 0) below in
-        let up : parent fanout b < size = let q = parent-low b fanout in omega arith in
-        ap (greatest (slice_index (replicate size 0) b)) (get_or-replicate size b [] [] low) ∙ none b low ∙ sym (none (parent fanout b) up);
+        let up : parent fanout b < size = let q = parent-low fanout b in omega arith in
+        let e : greatest (slice_index (replicate size 0) b) (get_or (replicate size []) b []) ≡ 0 = ap (greatest (slice_index (replicate size 0) b)) (get_or-replicate size b [] [] low) ∙ none b low in
+        omega (arith, e);
     here = λ h. absurd (omega arith);
   }
 

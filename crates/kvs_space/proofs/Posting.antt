@@ -23,6 +23,7 @@ use Rattle.fence_merge.specs.Fences.{AreFences}
 use Rattle.fence_merge.specs.Merging.{MergerValue}
 use Rattle.kvs_rules.specs.Brokers.{parent}
 use Rattle.kvs_space.specs.Sound.{ArePosted, IsSoundSpace}
+use Rattle.kvs_space.proofs.Announced.{parent-low}
 
 pub posts-append : (gs rest : List Group) → posts_in (gs ++ rest) ≡ posts_in gs ++ posts_in rest
 posts-append [] rest = refl
@@ -128,10 +129,11 @@ begun-space fanout grant size name known stores links n l k st ls = record {
   some = let m = long in omega arith;
   announced = record {
     same_len = ap length ls ∙ length-replicate size [] ∙ sym long;
-    newest = λ b above below.
+    under = λ b above below.
         let lb : b < size = subst (λ m. b < m) long below in
-        let p : parent fanout b < size = let q = parent-low b fanout in omega arith in
-        ap (greatest (slice_index known b)) (ap (λ x. get_or x b []) ls ∙ get_or-replicate size b [] [] lb) ∙ one b lb ∙ sym (one (parent fanout b) p);
+        let p : parent fanout b < size = let q = parent-low fanout b in omega arith in
+        let e : greatest (slice_index known b) (get_or links b []) ≡ slice_index known (parent fanout b) = ap (greatest (slice_index known b)) (ap (λ x. get_or x b []) ls ∙ get_or-replicate size b [] [] lb) ∙ one b lb ∙ sym (one (parent fanout b) p) in
+        omega (arith, e);
   };
   newest = one 0 (omega arith);
   replicas = record {
@@ -151,10 +153,6 @@ begun-space fanout grant size name known stores links n l k st ls = record {
 
   one : (b : ℕ) → b < size → slice_index known b ≡ 1
   one b lb = ap (λ x. slice_index x b) k ∙ get_or-replicate size b 1 0 lb
-
-  parent-low : (b fanout : ℕ) → parent fanout b ≤ b
-  parent-low b zero = omega arith
-  parent-low b (suc fanout) = omega arith
 
 -- the same, as the code has it
 pub begun-as : (fanout : ℕ) (grant : List ℕ) (size : ℕ) (name : Name) (history : List (List Group)) (known : List ℕ) (stores : List Store) (links : List (List ℕ)) (merger : MergerValue) → history ≡ [] → merger ≡ record { fences = []; ready = [] }

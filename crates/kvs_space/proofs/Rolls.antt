@@ -18,7 +18,11 @@ use Rattle.std.proofs.lemmas.Slice.Eq.{bytes_eq-Decides}
 use Rattle.std.proofs.Math.Seq.{map-set_same}
 use Rattle.kvs_model.specs.Store.{Name}
 use Rattle.kvs_space.specs.Roll.{IsRoll, RollValue, is_awake}
-use Rattle.kvs_space.specs.Space.{SpaceValue, has_news, is_at_rest, is_known_to, is_named, is_ready, link_at}
+use Rattle.kvs_rules.specs.Brokers.{parent}
+use Rattle.kvs_space.specs.Losses.{resynced}
+use Rattle.kvs_space.specs.Space.{SpaceValue, has_news, is_at_rest, is_behind, is_known_to, is_named, is_ready, link_at}
+use Rattle.kvs_space.proofs.Announced.{parent-low}
+use Rattle.kvs_space.proofs.Losses.{resynced-names, resynced-same}
 use Rattle.kvs_space.proofs.Finding.{and-left, and-right, both-true, eq-is, eq-true, found-passes, found-within, lt-is, lt-true, none-passes}
 
 -- a place among what f makes is one among what it makes it of
@@ -77,27 +81,62 @@ upto roll (suc n) = suc (get_or roll.awake n 0)
 pub upto-more : (roll : RollValue) (n : ℕ) → upto roll (n + 1) ≡ get_or roll.awake n 0 + 1
 upto-more roll n = let next : n + 1 ≡ suc n = omega arith in ap (upto roll) next ∙ omega arith
 
--- of a namespace at rest nothing is told, and nothing lands there
-pub rests-removed : (s : SpaceValue) → is_at_rest s ≡ true → s.removed ≡ true
-rests-removed s e = and-left s.removed _ (and-left (s.removed && not (is_ready s)) _ e)
+-- of a namespace at rest nothing is told, nothing lands there, and no broker is behind
+module _ (s : SpaceValue) (rests : is_at_rest s ≡ true) where
+  apart-level : (s.removed && not (is_ready s) && list_all (λ link. length link == 0) s.links) ≡ true
+  apart-level = and-left _ (list_all (λ known. known == slice_index s.known 0) s.known) rests
 
-pub rests-unready : (s : SpaceValue) → is_at_rest s ≡ true → is_ready s ≡ false
-rests-unready s e = turned (is_ready s) (and-right s.removed _ (and-left (s.removed && not (is_ready s)) _ e))
-  where
-    turned : (b : Bool) → not b ≡ true → b ≡ false
-    turned true h = cc
-    turned false h = refl
+  pub rests-removed : s.removed ≡ true
+  rests-removed = and-left s.removed _ (and-left (s.removed && not (is_ready s)) _ apart-level)
+
+  pub rests-unready : is_ready s ≡ false
+  rests-unready = turned (is_ready s) (and-right s.removed _ (and-left (s.removed && not (is_ready s)) _ apart-level))
+    where
+      turned : (b : Bool) → not b ≡ true → b ≡ false
+      turned true h = cc
+      turned false h = refl
+
+  rests-empty : (broker : ℕ) → has_news broker s ≡ false
+  rests-empty broker = elim (cases_lt broker (length s.links)) [
+    | inl l ↦ let n = eq-is (length (link_at s.links broker)) 0 (AllPass-from_list_all (λ link. length link == 0) s.links (and-right (s.removed && not (is_ready s)) _ apart-level) broker [] l) in ap (nat_lt 0) n
+    | inr past ↦ ap (λ link. nat_lt 0 (length link)) (outside s.links broker past)
+  ]
+    where
+      outside : (links : List (List ℕ)) (k : ℕ) → length links ≤ k → link_at links k ≡ []
+      outside [] k h = refl
+      outside (link ∷ links) zero h = absurd (omega arith)
+      outside (link ∷ links) (suc k) h = outside links k (omega arith)
+
+  rests-known : (broker : ℕ) → broker < length s.known → slice_index s.known broker ≡ slice_index s.known 0
+  rests-known broker l = eq-is _ _ (AllPass-from_list_all (λ known. known == slice_index s.known 0) s.known (and-right (s.removed && not (is_ready s) && list_all (λ link. length link == 0) s.links) _ rests) broker 0 l)
+
+  rests-even : (fanout broker : ℕ) → is_behind fanout broker s ≡ false
+  rests-even fanout broker = elim (cases_lt broker (length s.known)) [
+    | inl l ↦
+        let p = parent-low fanout broker in
+        let one = rests-known broker l in
+        let other = rests-known (parent fanout broker) (omega arith) in
+        let same : slice_index s.known broker ≡ slice_index s.known (parent fanout broker) = one ∙ sym other in
+        no-right (nat_lt broker (length s.known)) _ (lt-false _ _ (omega (arith, same)))
+    | inr past ↦ no-left (nat_lt broker (length s.known)) _ (lt-false _ _ past)
+  ]
+    where
+      lt-false : (a b : ℕ) → b ≤ a → nat_lt a b ≡ false
+      lt-false a b h = grind (arith, nat_tests)
+
+      no-right : (a b : Bool) → b ≡ false → (a && b) ≡ false
+      no-right true b e = e
+      no-right false b e = refl
+
+      no-left : (a b : Bool) → a ≡ false → (a && b) ≡ false
+      no-left true b e = cc
+      no-left false b e = refl
 
 pub rests-silent : (broker : ℕ) (s : SpaceValue) → is_at_rest s ≡ true → has_news broker s ≡ false
-rests-silent broker s e = elim (cases_lt broker (length s.links)) [
-  | inl l ↦ let n = eq-is (length (link_at s.links broker)) 0 (AllPass-from_list_all (λ link. length link == 0) s.links (and-right (s.removed && not (is_ready s)) _ e) broker [] l) in ap (nat_lt 0) n
-  | inr past ↦ ap (λ link. nat_lt 0 (length link)) (outside s.links broker past)
-]
-  where
-    outside : (links : List (List ℕ)) (k : ℕ) → length links ≤ k → link_at links k ≡ []
-    outside [] k h = refl
-    outside (link ∷ links) zero h = absurd (omega arith)
-    outside (link ∷ links) (suc k) h = outside links k (omega arith)
+rests-silent broker s e = rests-empty s e broker
+
+pub rests-level : (fanout broker : ℕ) (s : SpaceValue) → is_at_rest s ≡ true → is_behind fanout broker s ≡ false
+rests-level fanout broker s e = rests-even s e fanout broker
 
 -- the roll of no namespaces
 pub roll-none : IsRoll (record { names = []; awake = [] }) []
@@ -167,6 +206,18 @@ module _ {roll : RollValue} {spaces : List SpaceValue} (is : IsRoll roll spaces)
     pub roll-living : old.removed ≡ false → IsRoll roll (set spaces i s)
     roll-living live = wakes (not old.removed) (λ e. ap not (rests-removed old e)) (ap not live)
 
+  -- after a resync: none at rest is behind
+  pub roll-resynced : (fanout broker : ℕ) → IsRoll roll (map (resynced fanout broker) spaces)
+  roll-resynced fanout broker = record {
+    names = is.names ∙ sym (resynced-names fanout broker spaces);
+    rises = is.rises;
+    within = λ k d l. subst (λ n. get_or roll.awake k d < n) (sym (length-map spaces (resynced fanout broker))) (is.within k d l);
+    resting = λ k d l h.
+        let inside : k < length spaces = subst (λ n. k < n) (length-map spaces (resynced fanout broker)) l in
+        let rests = is.resting k d inside h in
+        ap is_at_rest (get_or-map (resynced fanout broker) spaces k d d inside ∙ resynced-same fanout broker (get_or spaces k d) (rests-level fanout broker (get_or spaces k d) rests)) ∙ rests;
+  }
+
   -- one at rest needs to be awake no longer
   pub roll-rested : (i : ℕ) → ((d : SpaceValue) → is_at_rest (get_or spaces i d) ≡ true) → IsRoll (record { names = roll.names; awake = filter (λ other. not (other == i)) roll.awake }) spaces
   roll-rested i rests = record {
@@ -189,6 +240,13 @@ module _ {roll : RollValue} {spaces : List SpaceValue} (is : IsRoll roll spaces)
   pub upto-within : (n : ℕ) → n ≤ length roll.awake → upto roll n ≤ length spaces
   upto-within zero l = omega arith
   upto-within (suc n) l = let w = is.within n 0 (omega arith) in omega arith
+
+  awake-reached : (n j : ℕ) → j < n → n ≤ length roll.awake → get_or roll.awake j 0 < upto roll n
+  awake-reached zero j h q = absurd (omega arith)
+  awake-reached (suc n) j h q = elim (cases_eq j n) [
+    | inl e ↦ let e = ap (λ i. get_or roll.awake i 0) e in omega arith
+    | inr ne ↦ let r = is.rises j n 0 (omega (arith, ne)) (omega arith) in omega arith
+  ]
 
   -- of a test that namespaces at rest fail
   module _ (p : SpaceValue → Bool) (quiet : (s : SpaceValue) → is_at_rest s ≡ true → p s ≡ false) where
@@ -215,6 +273,10 @@ module _ {roll : RollValue} {spaces : List SpaceValue} (is : IsRoll roll spaces)
             rezero (y ∷ ys) zero x l = refl
             rezero (y ∷ ys) (suc i) x l = rezero ys i x (omega arith)
 
+    -- between those awake before and the place that is awake next, or the end, none passes
+    pub between-fails : (n k : ℕ) (d : SpaceValue) → n ≤ length roll.awake → upto roll n ≤ k → k < length spaces → (n < length roll.awake → k < get_or roll.awake n 0) → p (get_or spaces k d) ≡ false
+    between-fails n k d l from low next = awake-fails n k d low next (λ j jn at. absurd (let r = awake-reached n j jn l in omega (arith, at, from)))
+
     -- the first of those awake that passes is the first of all
     pub first-awake : (n : ℕ) → n < length roll.awake → ((d : SpaceValue) → p (get_or spaces (get_or roll.awake n 0) d) ≡ true) → ((j : ℕ) (d : SpaceValue) → j < n → p (get_or spaces (get_or roll.awake j 0) d) ≡ false) → position p spaces ≡ Some (get_or roll.awake n 0)
     first-awake n l passes fails =
@@ -228,14 +290,7 @@ module _ {roll : RollValue} {spaces : List SpaceValue} (is : IsRoll roll spaces)
     -- those awake hold all that pass: so many pass up to the place that is awake next, or the end, as up
     -- to the one before it
     pub awake-count : (n m : ℕ) → n ≤ length roll.awake → upto roll n ≤ m → m ≤ length spaces → (n < length roll.awake → m ≤ get_or roll.awake n 0) → count_by p (take m spaces) ≡ count_by p (take (upto roll n) spaces)
-    awake-count n m l low high next = same-count p spaces (upto roll n) m low high (λ k d from below. awake-fails n k d (omega (arith, high)) (λ q. let b = next q in omega (arith, below)) (λ j jn at. absurd (let r = reached n j jn l in omega (arith, at, from))))
-      where
-        reached : (n j : ℕ) → j < n → n ≤ length roll.awake → get_or roll.awake j 0 < upto roll n
-        reached zero j h q = absurd (omega arith)
-        reached (suc n) j h q = elim (cases_eq j n) [
-          | inl e ↦ let e = ap (λ i. get_or roll.awake i 0) e in omega arith
-          | inr ne ↦ let r = is.rises j n 0 (omega (arith, ne)) (omega arith) in omega arith
-        ]
+    awake-count n m l low high next = same-count p spaces (upto roll n) m low high (λ k d from below. between-fails n k d l from (omega (arith, high, below)) (λ q. let b = next q in omega (arith, below)))
 
   -- where a broker has heard of the namespace of a name, it is known there
   module _ (name : Name) (broker : ℕ) where

@@ -139,6 +139,6 @@ next-but s next l = record {
   same_len = s.announced.same_len;
   within = s.some;
   higher = l;
-  others = λ b pos below ne. s.announced.newest b pos below;
+  others = λ b pos below ne. s.announced.under b pos below;
   here = λ h. absurd (omega arith);
 }

@@ -1,5 +1,6 @@
 pub mod Space
 pub mod Links
+pub mod Losses
 pub mod Rulings
 pub mod Sound
 pub mod Roll

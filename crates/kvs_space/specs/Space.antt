@@ -11,6 +11,7 @@ use Rattle.fence_merge.specs.declared.member.Member.{Member}
 use Rattle.fence_merge.specs.Fences.{Fences}
 use Rattle.fence_merge.specs.Groups.{group_of}
 use Rattle.fence_merge.specs.Merging.{MergerValue}
+use Rattle.kvs_rules.specs.Brokers.{parent}
 use Rattle.kvs_rules.specs.Log.{same_command}
 use Rattle.kvs_rules.specs.Namespaces.{is_primary}
 
@@ -96,7 +97,13 @@ link_at links broker = slice_index_or links broker []
 abbrev pub has_news : ℕ → SpaceValue → Bool
 has_news broker s = nat_lt 0 (length (link_at s.links broker))
 
--- whether nothing happens in the namespace any more: it was removed, each broker has heard that, and
--- nothing is ready to land
+-- whether the broker knows of fewer roots than the broker above it
+abbrev pub is_behind : ℕ → ℕ → SpaceValue → Bool
+is_behind fanout broker s = nat_lt broker (length s.known)
+    && nat_lt (slice_index s.known broker) (slice_index s.known (parent fanout broker))
+
+-- whether nothing happens in the namespace any more: it was removed, each broker has heard that, no
+-- announcement is on the way, and nothing is ready to land
 abbrev pub is_at_rest : SpaceValue → Bool
 is_at_rest s = s.removed && not (is_ready s) && list_all (λ link. length link == 0) s.links
+    && list_all (λ known. known == slice_index s.known 0) s.known

@@ -7,6 +7,9 @@ mod roll;
 mod space;
 mod telling;
 
-pub use roll::{Roll, count_live, find_known, first_landing, first_news, is_news, let_rest};
+pub use links::Loss;
+pub use roll::{
+    Roll, count_live, find_known, first_landing, first_news, is_behind, is_news, let_rest, resync,
+};
 pub use space::{Rise, Ruling, Space, SpaceFault, is_landing, number_of};
 pub use telling::{KvsEvents, changing, denial, hearing, landing};

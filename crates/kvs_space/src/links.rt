@@ -2,11 +2,22 @@
 ghost use Rattle.std.specs.Prelude.{◌≡◌, ℕ, ◌+◌, ◌<◌, ◌≤◌, ◌==◌, List, [], ◌∷◌, ◌++◌, nat_lt, length, OnOk, IfOk, option_to_list, slice_index, slice_set, IsSome, ◌↔◌};
 ghost use Rattle.std.specs.List.{list_all};
 ghost use Rattle.kvs_space.specs.Space.{link_at};
-ghost use Rattle.kvs_space.specs.Links.{AreTold, IsAnnounced, IsAnnouncedBut, IsNext};
+ghost use Rattle.kvs_space.specs.Links.{AreTold, IsAnnounced, IsAnnouncedBut, IsNext, after_loss};
 
 use std::alloc::{AllocError, Global};
 use std::collections::VecDeque;
 use std::marker::Model;
+
+/// What may befall the number that was sent first.
+#[derive(Clone, Copy, Debug, PartialEq, Eq)]
+pub enum Loss {
+    /// It never comes.
+    Lost,
+    /// A copy of it comes behind the others too.
+    Repeated,
+    /// It comes behind the others.
+    Swapped,
+}
 
 /// The numbers that are on the way to one broker, the oldest first.
 #[derive(Drop)]
@@ -46,6 +57,23 @@ impl Link {
         ensures some { IsSome result ↔ (0 < length self.old) }
     {
         self.numbers.pop_front()
+    }
+
+    /// Lets the number that was sent first be lost, repeated or moved behind the others.
+    pub fn lose(&mut self, loss: Loss) -> Result<(), AllocError>
+        ensures { OnOk result (self.new ≡ after_loss loss self.old) }
+    {
+        match self.pop() {
+            Some(number) => match loss {
+                Loss::Lost => Ok(()),
+                Loss::Repeated => {
+                    self.numbers.push_front(number)?;
+                    self.push(number)
+                }
+                Loss::Swapped => self.push(number),
+            },
+            None => Ok(()),
+        }
     }
 
     /// Whether nothing is on its way.

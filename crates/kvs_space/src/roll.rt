@@ -1,9 +1,10 @@
 //! Which namespaces there are, and in which of them something may still happen.
-ghost use Rattle.std.specs.Prelude.{◌≡◌, ◌≢◌, ◌<◌, ◌++◌, ◌∷◌, List, [], ◌==◌, not, None, OnOk, length};
-ghost use Rattle.std.specs.List.{AllPairs, filter, list_any, position};
+ghost use Rattle.std.specs.Prelude.{◌≡◌, ◌≢◌, ◌<◌, ◌++◌, ◌∷◌, List, [], ◌==◌, not, None, OnOk, length, map};
+ghost use Rattle.std.specs.List.{All, AllPairs, filter, list_any, position};
 ghost use Rattle.std.specs.Str.{bytes_eq};
 ghost use Rattle.kvs_space.specs.Roll.{IsRoll};
-ghost use Rattle.kvs_space.specs.Space.{SpaceValue, has_news, is_known_to, is_named, is_ready, live_in};
+ghost use Rattle.kvs_space.specs.Space.{SpaceValue, has_news, is_behind, is_known_to, is_named, is_ready, live_in};
+ghost use Rattle.kvs_space.specs.Losses.{resynced};
 
 use crate::space::Space;
 use indexmap::IndexSet;
@@ -138,6 +139,51 @@ pub fn is_news(roll: &Roll, spaces: &Vec<Space>, broker: u32) -> bool
     ensures { result ≡ list_any (has_news broker) spaces.now.items }
 {
     first_news(roll, spaces, broker).is_some()
+}
+
+/// The place of the first namespace of which a broker knows fewer roots than the broker above it.
+fn first_behind(roll: &Roll, spaces: &Vec<Space>, fanout: u32, broker: u32) -> Option<usize>
+    requires roll { IsRoll roll.now spaces.now.items }
+    requires fanout { 0 < fanout }
+    ensures { result ≡ position (is_behind fanout broker) spaces.now.items }
+{
+    for place in &roll.awake {
+        if spaces[*place].is_behind(fanout, broker) {
+            return Some(*place);
+        }
+    }
+    None
+}
+
+/// Whether a broker knows of fewer roots of a namespace than the broker above it.
+pub fn is_behind(roll: &Roll, spaces: &Vec<Space>, fanout: u32, broker: u32) -> bool
+    requires roll { IsRoll roll.now spaces.now.items }
+    requires fanout { 0 < fanout }
+    ensures { result ≡ list_any (is_behind fanout broker) spaces.now.items }
+{
+    first_behind(roll, spaces, fanout, broker).is_some()
+}
+
+/// Announces to a broker each root that the broker above it knows and it does not: the newest of
+/// each namespace in which it is behind.
+pub fn resync(
+    roll: &Roll,
+    spaces: &mut Vec<Space>,
+    fanout: u32,
+    broker: u32,
+) -> Result<(), AllocError>
+    requires roll { IsRoll roll.now spaces.old.items }
+    requires fanout { 0 < fanout }
+    requires linked { All (λ s. length s.links ≡ length s.known) spaces.old.items }
+    ensures resynced { OnOk result
+        (spaces.new.items ≡ map (resynced fanout broker) spaces.old.items) }
+    ensures roll { OnOk result (IsRoll roll.now spaces.new.items) }
+{
+    for place in &roll.awake {
+        let space = &mut spaces[*place];
+        space.resync(fanout, broker)?;
+    }
+    Ok(())
 }
 
 /// The place of the first namespace in which something is ready to land.

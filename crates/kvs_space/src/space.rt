@@ -5,14 +5,16 @@ ghost use Rattle.kvs_txn.specs.declared.answers.Refusal.{Refusal as RefusalValue
 ghost use Rattle.kvs_model.specs.Store.{Store as Contents};
 ghost use Rattle.kvs_model.specs.History.{after, after_groups, first_store};
 ghost use Rattle.kvs_rules.specs.Namespaces.{is_primary, primary, scope_of};
-ghost use Rattle.kvs_space.specs.Space.{seen, number_of, has_heard_end, is_named, has_news, link_at, is_ready, is_at_rest};
+ghost use Rattle.kvs_space.specs.Space.{seen, number_of, has_heard_end, is_named, has_news, link_at, is_ready, is_at_rest, is_behind};
+ghost use Rattle.kvs_space.specs.Losses.{resynced, with_loss};
+ghost use Rattle.std.specs.List.{list_all};
 ghost use Rattle.kvs_space.specs.Sound.{IsSoundSpace, idle};
 ghost use Rattle.std.specs.Option.{option_map, option_map_or};
 ghost use Rattle.kvs_space.specs.Rulings.{HasTaken, IsOfFirst, IsHearing, IsRemoving, IsRuled};
 ghost use Rattle.fence_merge.specs.Merging.{pushed, joined};
 ghost use Rattle.fence_merge.specs.Fences.{AreFences, fence_of};
 
-use crate::links::{Link, are_empty, deliver, hear};
+use crate::links::{Link, Loss, are_empty, deliver, hear};
 use fence_merge::{JoinFault, Member, Merger, PushFault};
 use kvs_txn::{Group, GroupList, Refusal, Scope};
 use lists::{Bytes, Copied, ListOf};
@@ -126,6 +128,13 @@ fn next_number(number: u64) -> Result<u64, SpaceFault>
     ensures { IfOk result (λ next. next ≡ number + 1) }
 {
     number.checked_add(1).ok_or(SpaceFault::NoMemory)
+}
+
+/// Whether all brokers know of so many roots.
+fn know_all(known: &Vec<u64>, roots: u64) -> bool
+    ensures { result ≡ list_all (λ count. count == roots) known.now.items }
+{
+    known.iter().all(|count| *count == roots)
 }
 
 /// Does the transactions of a landing, none of which is refused.
@@ -387,12 +396,24 @@ impl Space {
         0 < self.merger.ready()
     }
 
+    /// Whether a broker knows of fewer roots than the broker above it.
+    pub fn is_behind(&self, fanout: u32, broker: u32) -> bool
+        requires { 0 < fanout }
+        ensures { result ≡ is_behind fanout broker self.now }
+    {
+        let above = broker.saturating_sub(1) / fanout;
+        (broker as usize) < self.known.len() && self.known(broker) < self.known(above)
+    }
+
     /// Whether nothing happens in the namespace any more: it was removed, each broker has heard
-    /// that, and nothing is ready to land.
+    /// that, no announcement is on the way, and nothing is ready to land.
     pub fn is_at_rest(&self) -> bool
         ensures { result ≡ is_at_rest self.now }
     {
-        self.removed && !self.is_ready() && are_empty(&self.links)
+        self.removed
+            && !self.is_ready()
+            && are_empty(&self.links)
+            && know_all(&self.known, self.known(0))
     }
 
     /// Delivers the oldest announcement on the way to a broker.
@@ -417,6 +438,29 @@ impl Space {
         let (from, upto) = (seen(before, landed), seen(after, landed));
         catch_up(&mut self.stores, &self.history, scope, at, from, upto)?;
         Ok(Rise { before, after })
+    }
+
+    /// Lets the oldest announcement on the way to a broker be lost, repeated or moved.
+    pub fn lose(&mut self, loss: Loss, to: u32) -> Result<(), AllocError>
+        requires within { to < length self.old.links }
+        ensures { OnOk result (self.new ≡ with_loss loss to self.old) }
+    {
+        let link = &mut self.links[to as usize];
+        link.lose(loss)
+    }
+
+    /// Announces to a broker what the broker above it knows, if that is more.
+    pub fn resync(&mut self, fanout: u32, broker: u32) -> Result<(), AllocError>
+        requires fanout { 0 < fanout }
+        requires linked { length self.old.links ≡ length self.old.known }
+        ensures { OnOk result (self.new ≡ resynced fanout broker self.old) }
+    {
+        if self.is_behind(fanout, broker) {
+            let newest = self.known(broker.saturating_sub(1) / fanout);
+            let link = &mut self.links[broker as usize];
+            link.push(newest)?;
+        }
+        Ok(())
     }
 
     /// Takes a commit, which is ready to land at once.

@@ -1,7 +1,7 @@
 -- The first step of the list, and where there is none.
-use Rattle.std.proofs.Common.{◌≡◌, ◌≢◌, ◌∙◌, ℕ, zero, suc, ◌+◌, ◌<◌, ◌≤◌, ◌⊎◌, inl, inr, ◌||◌, List, [], ◌∷◌, ◌++◌, length, map, Bool, true, false, cond, Option, Some, None, refl, sym, ap, subst, arith, true≢false}
+use Rattle.std.proofs.Common.{◌≡◌, ◌≢◌, ◌∙◌, ℕ, zero, suc, ◌+◌, ◌<◌, ◌≤◌, ◌⊎◌, inl, inr, ◌||◌, List, [], ◌∷◌, ◌++◌, length, map, Bool, true, false, cond, not, Option, Some, None, refl, sym, ap, subst, arith, true≢false}
 use Rattle.std.specs.Prelude.{Err, IfSome, Ok, flat_map, slice_get}
-use Rattle.std.specs.List.{filter, range_with_len}
+use Rattle.std.specs.List.{filter, list_any, range_with_len}
 use Rattle.std.specs.Option.{option_map_or}
 use Rattle.std.proofs.lemmas.Bool.{cases_eq}
 use Rattle.std.proofs.lemmas.Option.{slice_get_within}
@@ -10,10 +10,10 @@ use Rattle.job_service.specs.kvs_rules.Brokers.{parent}
 use Rattle.job_service.specs.kvs_rules.declared.events.KvsStep.{KvsStep}
 use Rattle.job_service.specs.kvs_rules.declared.events.KvsStep.TheVariants as kvs
 use Rattle.job_service.proofs.kvs_requests_proofs.Ways.{parent-le}
-use Rattle.job_service.proofs.kvs_space_proofs.Finding.{and-left, lt-is}
-use Rattle.job_service.specs.kvs_space.Space.{SpaceValue, is_ready}
+use Rattle.job_service.proofs.kvs_space_proofs.Finding.{and-left, lt-is, or-left}
+use Rattle.job_service.specs.kvs_space.Space.{SpaceValue, has_news, is_behind, is_ready}
 use Rattle.job_service.specs.kvs_core.Order.{all_steps, possible as core_possible}
-use Rattle.job_service.specs.kvs_core.Steps.{can_step as core_can_step}
+use Rattle.job_service.specs.kvs_core.Steps.{can_step as core_can_step, has_missed, is_announced}
 use Rattle.job_service.specs.kvs_core.Walk.{nth}
 use Rattle.content_service.specs.Steps.{can_step as contents_can_step}
 use Rattle.services.specs.Order.{possible}
@@ -69,8 +69,11 @@ module _ {X : Type 0} where
 
 -- where no step of so many brokers and namespaces passes
 module _ (p : KvsStep → Bool) (brokers spaces : ℕ) (none : filter p (all_steps brokers spaces) ≡ []) where
-  behind : (filter p (map kvs.Serve (range_with_len 0 brokers)) ≡ []) × (filter p (map kvs.Land (range_with_len 0 spaces)) ≡ [])
+  behind : (filter p (map kvs.Serve (range_with_len 0 brokers)) ≡ []) × (filter p (map kvs.Land (range_with_len 0 spaces) ++ map kvs.Resync (range_with_len 0 brokers)) ≡ [])
   behind = parts-empty p _ _ (parts-empty p (flat_map (λ from. map (kvs.Deliver from) (range_with_len 0 brokers)) (range_with_len 0 brokers)) _ none).1
+
+  last : (filter p (map kvs.Land (range_with_len 0 spaces)) ≡ []) × (filter p (map kvs.Resync (range_with_len 0 brokers)) ≡ [])
+  last = parts-empty p _ _ behind.1
 
   pub no-delivery : (from to : ℕ) → from < brokers → to < brokers → p (kvs.Deliver from to) ≡ false
   no-delivery from to f t =
@@ -82,7 +85,10 @@ module _ (p : KvsStep → Bool) (brokers spaces : ℕ) (none : filter p (all_ste
   no-service broker l = range-none p kvs.Serve 0 brokers behind.0 broker (omega arith) (omega (arith, l))
 
   pub no-landing : (number : ℕ) → number < spaces → p (kvs.Land number) ≡ false
-  no-landing number l = range-none p kvs.Land 0 spaces behind.1 number (omega arith) (omega (arith, l))
+  no-landing number l = range-none p kvs.Land 0 spaces last.0 number (omega arith) (omega (arith, l))
+
+  pub no-resync : (broker : ℕ) → broker < brokers → p (kvs.Resync broker) ≡ false
+  no-resync broker l = range-none p kvs.Resync 0 brokers last.1 broker (omega arith) (omega (arith, l))
 
 -- where the list of all is empty no step can be made
 module _ (v : ServicesValue) (fit : IsFit v) (linked : AreLinked v) (none : possible v ≡ []) where
@@ -93,14 +99,29 @@ module _ (v : ServicesValue) (fit : IsFit v) (linked : AreLinked v) (none : poss
       by true e = h e
       by false e = e
 
-  pub none-can : (s : KvsStep) → can_step v s ≡ false
-  none-can (kvs.Deliver from to) = ends (kvs.Deliver from to) (λ h.
+  none-sent : (from to : ℕ) → can_step v (kvs.Deliver from to) ≡ false
+  none-sent from to = ends (kvs.Deliver from to) (λ h.
       let l = linked from to h in
       no-delivery (can_step v) v.size (length v.jobs.manager.core.spaces) none from to l.0 (low l.0 l.1))
     where
       low : from < v.size → (to ≡ parent v.fanout from) ⊎ ((0 < to) × (to < v.size) × (parent v.fanout to ≡ from)) → to < v.size
       low f (inl e) = let le = parent-le v.fanout from in omega (arith, f, e, le)
       low f (inr e) = e.1
+
+  -- where nothing comes, nothing is announced
+  none-announced : (from to : ℕ) → (is_announced v.jobs.manager.core from to || false) ≡ false
+  none-announced from to = ap (λ b. b || false) (or-left (is_announced v.jobs.manager.core from to) _ (or-left (core_can_step v.jobs.manager.core (kvs.Deliver from to)) _ (none-sent from to)))
+
+  pub none-can : (s : KvsStep) → can_step v s ≡ false
+  none-can (kvs.Deliver from to) = none-sent from to
+  none-can (kvs.Lose from to) = none-announced from to
+  none-can (kvs.Repeat from to) = none-announced from to
+  none-can (kvs.Swap from to) = none-announced from to
+  none-can (kvs.Resync broker) = ends (kvs.Resync broker) (λ h. no-resync (can_step v) v.size (length v.jobs.manager.core.spaces) none broker (low (has_missed v.jobs.manager.core broker) refl h))
+    where
+      low : (b : Bool) → has_missed v.jobs.manager.core broker ≡ b → (b || false) ≡ true → broker < v.size
+      low true e g = subst (λ n. broker < n) fit.jobs_size (lt-is broker v.jobs.manager.core.size (and-left _ (not (list_any (has_news broker) v.jobs.manager.core.spaces)) (and-left _ (list_any (is_behind v.jobs.manager.core.fanout broker) v.jobs.manager.core.spaces) e)))
+      low false e g = absurd (true≢false (sym g))
   none-can (kvs.Serve broker) = ends (kvs.Serve broker) (λ h. no-service (can_step v) v.size (length v.jobs.manager.core.spaces) none broker (low (core_can_step v.jobs.manager.core (kvs.Serve broker)) refl h))
     where
       low : (b : Bool) → core_can_step v.jobs.manager.core (kvs.Serve broker) ≡ b → (b || contents_can_step v.contents (kvs.Serve broker)) ≡ true → broker < v.size

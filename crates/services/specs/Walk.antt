@@ -10,3 +10,4 @@ abbrev pub step_of : Strand → ℕ → KvsStep
 step_of (strand.Deliveries from) at = kvs.Deliver from at
 step_of strand.Services at = kvs.Serve at
 step_of strand.Landings at = kvs.Land at
+step_of strand.Resyncs at = kvs.Resync at

@@ -2,7 +2,7 @@
 ghost use Rattle.std.specs.Prelude.{◌≡◌, ◌<◌, true, false, None, map, slice_get, IfOk, IfSome};
 ghost use Rattle.std.specs.List.{filter};
 ghost use Rattle.job_service.specs.kvs_core.Walk.{between, deliveries, nth, sent};
-ghost use Rattle.services.specs.Order.{possible};
+ghost use Rattle.services.specs.Order.{possible, possible_losses};
 ghost use Rattle.services.specs.Steps.{can_step};
 ghost use Rattle.services.specs.Walk.{step_of};
 
@@ -18,6 +18,8 @@ enum Strand {
     Services,
     /// The landings, by namespace.
     Landings,
+    /// The resyncs, by broker.
+    Resyncs,
 }
 
 impl Strand {
@@ -29,6 +31,7 @@ impl Strand {
             Strand::Deliveries { from } => KvsStep::Deliver { from, to: at },
             Strand::Services => KvsStep::Serve { broker: at },
             Strand::Landings => KvsStep::Land { namespace: at },
+            Strand::Resyncs => KvsStep::Resync { broker: at },
         }
     }
 }
@@ -108,10 +111,15 @@ impl Services {
             Err(left) => left,
         };
         let spaces = self.core().namespaces();
-        match self.nth_along(Strand::Services, 0, self.size, left) {
-            Ok(step) => Ok(step),
-            Err(left) => self.nth_along(Strand::Landings, 0, spaces, left),
-        }
+        let left = match self.nth_along(Strand::Services, 0, self.size, left) {
+            Ok(step) => return Ok(step),
+            Err(left) => left,
+        };
+        let left = match self.nth_along(Strand::Landings, 0, spaces, left) {
+            Ok(step) => return Ok(step),
+            Err(left) => left,
+        };
+        self.nth_along(Strand::Resyncs, 0, self.size, left)
     }
 
     /// The first step, by the same walk.
@@ -141,5 +149,14 @@ impl Services {
             return self.core().nth(number);
         }
         self.nth_of_both(number)
+    }
+    /// The loss of this number, from 0, among those that can be made, in their order; or, where
+    /// there are no more than so many, what the number has left behind them all.
+    pub fn nth_loss(&self, number: u64) -> Result<KvsStep, u64>
+        requires { self.now.spent ≡ false }
+        ensures value { result ≡ nth (possible_losses self.now) number }
+        ensures can { IfOk result (λ step. can_step self.now step ≡ true) }
+    {
+        self.core().nth_loss(number)
     }
 }

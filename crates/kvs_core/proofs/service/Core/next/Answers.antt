@@ -4,7 +4,7 @@ use Rattle.kvs_rules.specs.declared.events.KvsStep.TheVariants as kvs
 use Rattle.kvs_core.specs.Order.{possible}
 use Rattle.kvs_core.specs.Sound.{IsSound}
 use Rattle.kvs_core.specs.View.{value_of}
-use Rattle.kvs_core.proofs.Choosing.{IsFirstHop, delivery-first, service-first, landing-first, no-step}
+use Rattle.kvs_core.proofs.Choosing.{IsFirstHop, delivery-first, service-first, landing-first, resync-first, no-step, no-more}
 use Rattle.kvs_core.proofs.service.Core.next.Goals as goal
 
 pub returns-in-Some-clause-first : goal.returns-in-Some-clause-first
@@ -25,7 +25,17 @@ returns-in-Some-first_landing-clause-first c =
     landing-first c.args.self.now c.in-Some-first_landing.namespace (subst (λ v. IsFirstHop v None) c.self.view_is (record { news = c.in_default.ensures.announced; carried = c.in_default.ensures.carried }))
     (c.in_default-first_answer.ensures.none refl) c.in-Some-first_landing.ensures.some c.in-Some-first_landing.ensures.first
 
+pub returns-in-Some-first_resync-clause-first : goal.returns-in-Some-first_resync-clause-first
+returns-in-Some-first_resync-clause-first c =
+    resync-first c.args.self.now c.in-Some-first_resync.broker (subst (λ v. IsFirstHop v None) c.self.view_is (record { news = c.in_default.ensures.announced; carried = c.in_default.ensures.carried }))
+    (c.in_default-first_answer.ensures.none refl) (c.in_default-first_landing.ensures.none refl) c.in-Some-first_resync.ensures.some c.in-Some-first_resync.ensures.first
+
 pub returns-clause-first : goal.returns-clause-first
 returns-clause-first c =
     no-step c.args.self.now (subst (λ v. IsFirstHop v None) c.self.view_is (record { news = c.in_default.ensures.announced; carried = c.in_default.ensures.carried }))
-    (c.in_default-first_answer.ensures.none refl) (c.in_default-first_landing.ensures.none refl)
+    (c.in_default-first_answer.ensures.none refl) (c.in_default-first_landing.ensures.none refl) (c.in_default-first_resync.ensures.none refl)
+
+pub returns-clause-none : goal.returns-clause-none
+returns-clause-none c = λ _ step.
+    no-more c.args.self.now (subst (λ v. IsFirstHop v None) c.self.view_is (record { news = c.in_default.ensures.announced; carried = c.in_default.ensures.carried }))
+    (c.in_default-first_answer.ensures.none refl) (c.in_default-first_landing.ensures.none refl) (c.in_default-first_resync.ensures.none refl) step

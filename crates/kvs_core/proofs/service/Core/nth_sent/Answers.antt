@@ -1,4 +1,4 @@
-use Rattle.std.proofs.Common.{◌≡◌, ◌∙◌, ◌+◌, ◌-◌, ◌*◌, ◌/◌, min, refl, ap, sym, subst, map, arith}
+use Rattle.std.proofs.Common.{◌≡◌, ◌∙◌, ◌+◌, ◌-◌, ◌*◌, ◌/◌, min, refl, ap, sym, subst, map}
 use Rattle.std.specs.List.{filter}
 use Rattle.kvs_rules.specs.Brokers.{parent}
 use Rattle.kvs_rules.specs.declared.events.KvsStep.TheVariants as kvs
@@ -28,13 +28,8 @@ returns-clause-value c =
     let sound = subst IsSound c.self.view_is (c.self.invariant.0 (ap (λ v. v.spent) c.self.view_is ∙ c.requires.ready)) in
     let above = c.saturating_sub.result / c.self.inside.fanout in
     let at : above ≡ parent v.fanout from = ap (λ n. n / c.self.inside.fanout) c.saturating_sub.ensures ∙ ap (λ v. (from - 1) / v.fanout) c.self.view_is in
-    let below = c.min-below.result in
-    let end = c.min-end.result in
-    let size : c.self.inside.size ≡ v.size = ap (λ v. v.size) c.self.view_is in
-    let fanout : c.self.inside.fanout ≡ v.fanout = ap (λ v. v.fanout) c.self.view_is in
-    let times : from * c.self.inside.fanout ≡ from * v.fanout = ap (λ f. from * f) fanout in
-    let first : below ≡ min (from * v.fanout + 1) v.size = omega (arith, size, times, c.saturating_mul.ensures, c.saturating_add.ensures, c.min-below.ensures) in
-    let last : end ≡ min (below + v.fanout) v.size = omega (arith, size, fanout, c.saturating_add-2.ensures, c.min-end.ensures) in
+    let below = c.below.result.0 in
+    let end = c.below.result.1 in
     c.nth_along-2.ensures.value
-    ∙ sym (ap (λ steps. nth steps c.args.number) (sent-parts v sound from above below end c.requires.within at first last)
+    ∙ sym (ap (λ steps. nth steps c.args.number) (sent-parts v sound from above below end c.requires.within at c.below.ensures.first c.below.ensures.end)
     ∙ behind (filter (can_step v) (map (kvs.Deliver from) (between above (above + 1)))) (filter (can_step v) (map (kvs.Deliver from) (between below end))) c.args.number c.in-Err.left (sym c.nth_along.ensures.value ∙ c.in-Err.is))
