@@ -116,6 +116,10 @@ module _ (actors : List Actor) (label : Option (List ℕ)) where
   quiet_events log (kvs.Deliver from to) es h = quiet_works to es h
   quiet_events log (kvs.Serve broker) es h = quiet_works broker es h
   quiet_events log (kvs.Land number) es h = quiet_rulings h.0 es h.2
+  quiet_events log (kvs.Lose from to) es h = subst (λ es. Each (IsQuiet actors label) (map (entered top) es)) (sym h) tt
+  quiet_events log (kvs.Repeat from to) es h = subst (λ es. Each (IsQuiet actors label) (map (entered top) es)) (sym h) tt
+  quiet_events log (kvs.Swap from to) es h = subst (λ es. Each (IsQuiet actors label) (map (entered top) es)) (sym h) tt
+  quiet_events log (kvs.Resync broker) es h = subst (λ es. Each (IsQuiet actors label) (map (entered top) es)) (sym h) tt
 
   pub quiet_stretch : (work : Workload) (c : List Entry) (s : KvsStep) (made : List Entry) → IsKvsStretch work c top s made → Each (IsQuiet actors label) made
   quiet_stretch work c s made h = subst (Each (IsQuiet actors label)) (sym h.split) (quiet_events (log_of work top c) s h.events h.allowed)

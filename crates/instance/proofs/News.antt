@@ -56,6 +56,10 @@ pub made_news : (log : Log) (s : KvsStep) (events : List KvsEvent) → AreMadeBy
 made_news log (kvs.Deliver from to) events h = each_weaker (IsBrokersWork to) IsNews (work_news to) events h
 made_news log (kvs.Serve broker) events h = each_weaker (IsBrokersWork broker) IsNews (work_news broker) events h
 made_news log (kvs.Land number) events h = each_weaker (λ e. IsRuling h.0 e ⊎ ComesTo 0 e) IsNews (land_news h.0) events h.2
+made_news log (kvs.Lose from to) events h = subst (Each IsNews) (sym h) tt
+made_news log (kvs.Repeat from to) events h = subst (Each IsNews) (sym h) tt
+made_news log (kvs.Swap from to) events h = subst (Each IsNews) (sym h) tt
+made_news log (kvs.Resync broker) events h = subst (Each IsNews) (sym h) tt
 
 log_one : (work : Workload) (c : List Entry) (e : KvsEvent) → IsNews e → log_of work top (c ++ entered 0 e ∷ []) ≡ log_of work top c ++ Happened e ∷ []
 log_one work c (event.Landed space number authors groups) n = log_push work top c (entered 0 (event.Landed space number authors groups))

@@ -24,7 +24,7 @@ const BEHIND_A_POST: &str =
         job.x stands, still";
 
 /// The keys that actors put and commit, each in its first command and at a broker.
-type Posed = (u32, &'static str);
+pub type Posed = (u32, &'static str);
 
 const PAIR: [Posed; 2] = [(1, "a"), (2, "b")];
 
@@ -70,7 +70,7 @@ fn pose(alloc: Global, core: &mut Core, actor: u32, posed: Posed) -> Result<(), 
     Ok(())
 }
 
-fn pose_all(alloc: Global, core: &mut Core, rows: &[Posed]) -> Result<(), Fail>
+pub fn pose_all(alloc: Global, core: &mut Core, rows: &[Posed]) -> Result<(), Fail>
     requires ready { core.old.spent ≡ false }
     requires size { core.old.size ≡ 4 }
     ensures ready { OnOk result (core.new.spent ≡ false) }
@@ -95,7 +95,7 @@ fn names_of(alloc: Global, authors: &AuthorNames) -> Result<String, Fail> {
     Ok(names)
 }
 
-fn tell(alloc: Global, text: &mut Vec<u8>, event: &KvsEvent) -> Result<(), Fail> {
+pub fn tell(alloc: Global, text: &mut Vec<u8>, event: &KvsEvent) -> Result<(), Fail> {
     let words = match event {
         KvsEvent::Landed {
             number,
@@ -131,7 +131,7 @@ fn run(alloc: Global, core: &mut Core, text: &mut Vec<u8>) -> Result<(), Fail>
     Ok(())
 }
 
-fn take_all(alloc: Global, core: &mut Core, text: &mut Vec<u8>) -> Result<(), Fail>
+pub fn take_all(alloc: Global, core: &mut Core, text: &mut Vec<u8>) -> Result<(), Fail>
     requires { core.old.spent ≡ false }
     ensures { OnOk result (core.new.spent ≡ false) }
 {
@@ -152,7 +152,7 @@ fn take_all(alloc: Global, core: &mut Core, text: &mut Vec<u8>) -> Result<(), Fa
 }
 
 /// Tells which of three keys have values, and whether no step is left.
-fn tell_end(alloc: Global, core: &Core, text: &mut Vec<u8>) -> Result<(), Fail>
+pub fn tell_end(alloc: Global, core: &Core, text: &mut Vec<u8>) -> Result<(), Fail>
     requires { core.now.spent ≡ false }
 {
     'keys: for key in ["a", "b", "job.x"] {
@@ -180,7 +180,7 @@ fn story(alloc: Global, core: &mut Core) -> Result<Vec<u8>, Fail>
 }
 
 /// A tree of four brokers, in which nothing has happened.
-fn begin(alloc: Global) -> Result<Core, Fail>
+pub fn begin(alloc: Global) -> Result<Core, Fail>
     ensures ready { IfOk result (λ core. core.spent ≡ false) }
     ensures size { IfOk result (λ core. core.size ≡ 4) }
     ensures posted { IfOk result (λ core. posted core ≡ []) }

@@ -14,4 +14,6 @@ mod contents;
 #[cfg(test)]
 mod landings;
 #[cfg(test)]
+mod losses;
+#[cfg(test)]
 mod requests;
