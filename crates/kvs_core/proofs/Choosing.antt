@@ -193,7 +193,7 @@ pub no-more : (v : CoreValue) → IsFirstHop v None → ((broker : ℕ) → can_
 no-more v is unserved unlanded unsynced (kvs.Deliver from to) = no-delivery v is from to
 no-more v is unserved unlanded unsynced (kvs.Land number) = unlanded number
 no-more v is unserved unlanded unsynced (kvs.Serve broker) = unserved broker
-no-more v is unserved unlanded unsynced (kvs.Lose from to) = or-left _ _ (no-delivery v is from to)
-no-more v is unserved unlanded unsynced (kvs.Repeat from to) = or-left _ _ (no-delivery v is from to)
-no-more v is unserved unlanded unsynced (kvs.Swap from to) = or-left _ _ (no-delivery v is from to)
+no-more v is unserved unlanded unsynced (kvs.Lose from to) = or-left (is_announced v from to) _ (no-delivery v is from to)
+no-more v is unserved unlanded unsynced (kvs.Repeat from to) = or-left (is_announced v from to) _ (no-delivery v is from to)
+no-more v is unserved unlanded unsynced (kvs.Swap from to) = or-left (is_announced v from to) _ (no-delivery v is from to)
 no-more v is unserved unlanded unsynced (kvs.Resync broker) = unsynced broker

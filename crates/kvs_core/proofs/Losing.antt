@@ -59,9 +59,6 @@ module _ (v : CoreValue) (from to : ℕ) (sender : (parent v.fanout to == from) 
   abbrev after : Loss → CoreValue
   after kind = record { spent = spent; size = v.size; fanout = v.fanout; grant = v.grant; spaces = set v.spaces k (with_loss kind to old); rows = v.rows }
 
-  link : List ℕ
-  link = link_at old.links to
-
   counted : (kind : Loss) (n : ℕ) → length (after_loss kind (link_at old.links to)) ≡ n → messages (after kind) from to + length (link_at old.links to) ≡ messages v from to + n
   counted kind n e =
       let sum = sum_by-set (λ s. length (link_at s.links to)) v.spaces k (with_loss kind to old) old within in

@@ -3,11 +3,11 @@ use Rattle.std.proofs.Common.{◌≡◌, ◌≢◌, ℕ, zero, suc, ◌+◌, ◌
 use Rattle.std.specs.Prelude.{nat_lt, slice_index, if◌then◌else◌}
 use Rattle.std.specs.Global.{Vec}
 use Rattle.indexmap.specs.IndexSet.{insert_key}
-use Rattle.std.specs.List.{All, AllPairs, count_by, filter, list_any, position, position_or_len}
+use Rattle.std.specs.List.{All, AllPairs, count_by, filter, list_all, list_any, position, position_or_len}
 use Rattle.std.specs.Str.{bytes_eq}
 use Rattle.std.proofs.lemmas.Bool.{cases_eq, cases_lt}
 use Rattle.std.proofs.lemmas.Bool.Decides.{nat_tests}
-use Rattle.std.proofs.lemmas.List.{get_or-map, get_or-set_same, get_or-set_other, get_or_append_left, length-map, length-set, map-append, take_all}
+use Rattle.std.proofs.lemmas.List.{ext_get_or, get_or-map, get_or-set_same, get_or-set_other, get_or_append_left, get_or_default, length-map, length-set, map-append, take_all}
 use Rattle.std.proofs.lemmas.List.Elements.{All-filter, All-push}
 use Rattle.std.proofs.lemmas.List.Folds.{Any-from_list_any, list_any-append}
 use Rattle.std.proofs.lemmas.List.Kept.{AllPairs-filter}
@@ -291,6 +291,50 @@ module _ {roll : RollValue} {spaces : List SpaceValue} (is : IsRoll roll spaces)
     -- to the one before it
     pub awake-count : (n m : ℕ) → n ≤ length roll.awake → upto roll n ≤ m → m ≤ length spaces → (n < length roll.awake → m ≤ get_or roll.awake n 0) → count_by p (take m spaces) ≡ count_by p (take (upto roll n) spaces)
     awake-count n m l low high next = same-count p spaces (upto roll n) m low high (λ k d from below. between-fails n k d l from (omega (arith, high, below)) (λ q. let b = next q in omega (arith, below)))
+
+  -- a resync that goes over those awake: up to the place that is awake next, or the end, each namespace is
+  -- resynced, and the others are as before
+  module _ (fanout broker n : ℕ) (now : List SpaceValue) (long : length now ≡ length spaces)
+      (so_far : (k : ℕ) (d : SpaceValue) → k < upto roll n → get_or now k d ≡ resynced fanout broker (get_or spaces k d))
+      (rest : (k : ℕ) (d : SpaceValue) → upto roll n ≤ k → get_or now k d ≡ get_or spaces k d) where
+    unmoved : (k : ℕ) (d : SpaceValue) → n ≤ length roll.awake → upto roll n ≤ k → k < length spaces → (n < length roll.awake → k < get_or roll.awake n 0) → get_or now k d ≡ resynced fanout broker (get_or spaces k d)
+    unmoved k d l from low next = rest k d from ∙ sym (resynced-same fanout broker (get_or spaces k d) (between-fails (is_behind fanout broker) (rests-level fanout broker) n k d l from low next))
+
+    module _ (l : n < length roll.awake) (p : ℕ) (at : p ≡ get_or roll.awake n 0) (old new : SpaceValue) (read : old ≡ get_or now p old) (is_new : new ≡ resynced fanout broker old) where
+      pub resynced-next : (k : ℕ) (d : SpaceValue) → k < upto roll (n + 1) → get_or (set now p new) k d ≡ resynced fanout broker (get_or spaces k d)
+      resynced-next k d h =
+          let within = is.within n 0 l in
+          let inside : p < length spaces = omega (arith, at, within) in
+          let there : p < length now = omega (arith, long, inside) in
+          let next = awake-next n l in
+          let more = upto-more roll n in
+          elim (cases_eq k p) [
+            | inl e ↦
+                ap (λ j. get_or (set now p new) j d) e ∙ get_or-set_same now p new d there ∙ is_new
+                ∙ ap (resynced fanout broker) (read ∙ get_or_default now p old d there ∙ rest p d (omega (arith, at, next)) ∙ ap (λ j. get_or spaces j d) (sym e))
+            | inr ne ↦
+                get_or-set_other now p k new d ne ∙ elim (cases_lt k (upto roll n)) [
+                  | inl lt ↦ so_far k d lt
+                  | inr ge ↦ unmoved k d (omega arith) ge (omega (arith, h, more, at, inside)) (λ q. omega (arith, h, more, at, ne))
+                ]
+          ]
+
+      pub resynced-rest : (k : ℕ) (d : SpaceValue) → upto roll (n + 1) ≤ k → get_or (set now p new) k d ≡ get_or spaces k d
+      resynced-rest k d h =
+          let next = awake-next n l in
+          let more = upto-more roll n in
+          get_or-set_other now p k new d (λ e. omega (arith, e, h, more, at)) ∙ rest k d (omega (arith, h, more, next))
+
+    pub resynced-all : n ≡ length roll.awake → now ≡ map (resynced fanout broker) spaces
+    resynced-all e = ext_get_or none now (map (resynced fanout broker) spaces) (long ∙ sym (length-map spaces (resynced fanout broker))) (λ k l.
+        let inside : k < length spaces = omega (arith, long, l) in
+        elim (cases_lt k (upto roll n)) [
+          | inl lt ↦ so_far k none lt
+          | inr ge ↦ unmoved k none (omega (arith, e)) ge inside (λ q. absurd (omega (arith, e, q)))
+        ] ∙ sym (get_or-map (resynced fanout broker) spaces k none none inside))
+      where
+        none : SpaceValue
+        none = record { name = []; removed = false; history = []; known = []; stores = []; links = []; merger = record { fences = []; ready = [] } }
 
   -- where a broker has heard of the namespace of a name, it is known there
   module _ (name : Name) (broker : ℕ) where
