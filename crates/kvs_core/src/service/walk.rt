@@ -152,6 +152,7 @@ impl Core {
             ≡ nth (filter (can_step self.now) (lost kind self.now.size from)) number }
         ensures can { IfOk result (λ step. can_step self.now step ≡ true) }
     {
+        let _ = &self.spent;
         let (below, end) = self.below(from);
         self.nth_along(Strand::Losses { kind, from }, below, end, number)
     }

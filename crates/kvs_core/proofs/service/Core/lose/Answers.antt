@@ -20,12 +20,12 @@ lose-requires c =
     let s = c.self.invariant.0 (ap (λ v. v.spent) c.self.view_is ∙ c.requires.ready) in
     let on = coming (value_of c.self.inside) c.args.from c.args.to (subst (λ v. is_announced v c.args.from c.args.to ≡ true) (sym c.self.view_is) c.requires.can) in
     let within = found-within (has_news c.args.to) c.self.inside.spaces.items c.in-Some.k c.in-Some.ensures in
-    linked-low s c.in-Some.k within c.index_mut-space.result.now c.index_mut-space.ensures.value c.args.to on.within
+    record { within = linked-low s c.in-Some.k within c.index_mut-space.result.now c.index_mut-space.ensures.value c.args.to on.within }
 
 pub let_rest-requires-clause-roll : goal.let_rest-requires-clause-roll
 let_rest-requires-clause-roll c =
     let within = found-within (has_news c.args.to) c.self.inside.spaces.items c.in-Some.k c.in-Some.ensures in
-    roll-told (c.self.invariant.1 (ap (λ v. v.spent) c.self.view_is ∙ c.requires.ready)) c.in-Some.k c.lose.new.self c.index_mut-space.result.now within c.index_mut-space.ensures.value (ap (λ s. s.name) c.in_ok-lose.ensures) c.args.to
+    roll-told (c.self.invariant.1 (ap (λ v. v.spent) c.self.view_is ∙ c.requires.ready)) c.in-Some.k c.lose.new.self c.index_mut-space.result.now within c.index_mut-space.ensures.value (ap (λ s. s.name) c.in_ok-lose-in-Some.ensures) c.args.to
     (ap (has_news c.args.to) c.index_mut-space.ensures.value ∙ found-passes (has_news c.args.to) c.self.inside.spaces.items c.in-Some.k c.index_mut-space.result.now c.in-Some.ensures)
 
 pub invariant_of-self-in-Some : goal.invariant_of-self-in-Some
@@ -33,7 +33,7 @@ invariant_of-self-in-Some c = (
   λ _.
       let s = c.self.invariant.0 (ap (λ v. v.spent) c.self.view_is ∙ c.requires.ready) in
       let within = found-within (has_news c.args.to) c.self.inside.spaces.items c.in-Some.k c.in-Some.ensures in
-      subst (λ x. IsSound (record { spent = false; size = c.self.inside.size; fanout = c.self.inside.fanout; grant = c.self.inside.grant; spaces = set₁ c.self.inside.spaces.items c.in-Some.k x; rows = c.self.inside.rows.items })) (sym c.in_ok-lose.ensures)
+      subst (λ x. IsSound (record { spent = false; size = c.self.inside.size; fanout = c.self.inside.fanout; grant = c.self.inside.grant; spaces = set₁ c.self.inside.spaces.items c.in-Some.k x; rows = c.self.inside.rows.items })) (sym c.in_ok-lose-in-Some.ensures)
       (lost-sound s c.in-Some.k within c.index_mut-space.result.now c.index_mut-space.ensures.value c.args.kind c.args.to false),
   λ _. c.let_rest.ensures,
 )
@@ -47,5 +47,5 @@ returns-clause-makes c =
     let v = value_of c.self.inside in
     silent c.new.result c.new.ensures (loss-made c.args.kind c.args.from c.args.to)
     (subst (λ old. Moves (loss_step c.args.kind c.args.from c.args.to) old (record { spent = false; size = v.size; fanout = v.fanout; grant = v.grant; spaces = set₁ v.spaces c.in-Some.k c.lose.new.self; rows = v.rows })) c.self.view_is
-    (subst (λ x. Moves (loss_step c.args.kind c.args.from c.args.to) v (record { spent = false; size = v.size; fanout = v.fanout; grant = v.grant; spaces = set₁ v.spaces c.in-Some.k x; rows = v.rows })) (sym c.in_ok-lose.ensures)
+    (subst (λ x. Moves (loss_step c.args.kind c.args.from c.args.to) v (record { spent = false; size = v.size; fanout = v.fanout; grant = v.grant; spaces = set₁ v.spaces c.in-Some.k x; rows = v.rows })) (sym c.in_ok-lose-in-Some.ensures)
     (lost-moves s c.in-Some.k within c.index_mut-space.result.now c.index_mut-space.ensures.value c.args.kind c.args.from c.args.to on.sender on.within news)))

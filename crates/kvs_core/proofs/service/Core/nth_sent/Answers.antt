@@ -28,8 +28,8 @@ returns-clause-value c =
     let sound = subst IsSound c.self.view_is (c.self.invariant.0 (ap (λ v. v.spent) c.self.view_is ∙ c.requires.ready)) in
     let above = c.saturating_sub.result / c.self.inside.fanout in
     let at : above ≡ parent v.fanout from = ap (λ n. n / c.self.inside.fanout) c.saturating_sub.ensures ∙ ap (λ v. (from - 1) / v.fanout) c.self.view_is in
-    let below = c.below.result.0 in
-    let end = c.below.result.1 in
+    let below = c.below-below.result.0 in
+    let end = c.below-below.result.1 in
     c.nth_along-2.ensures.value
-    ∙ sym (ap (λ steps. nth steps c.args.number) (sent-parts v sound from above below end c.requires.within at c.below.ensures.first c.below.ensures.end)
+    ∙ sym (ap (λ steps. nth steps c.args.number) (sent-parts v sound from above below end c.requires.within at c.below-below.ensures.first c.below-below.ensures.end)
     ∙ behind (filter (can_step v) (map (kvs.Deliver from) (between above (above + 1)))) (filter (can_step v) (map (kvs.Deliver from) (between below end))) c.args.number c.in-Err.left (sym c.nth_along.ensures.value ∙ c.in-Err.is))
