@@ -1,6 +1,6 @@
 //! Announcements that are lost, repeated or swapped: each broker hears of the last landing
 //! nevertheless.
-ghost use Rattle.std.specs.Prelude.{◌≡◌, true, false, IfSome, OnOk};
+ghost use Rattle.std.specs.Prelude.{◌≡◌, ◌<◌, true, false, length, IfSome, OnOk};
 ghost use Rattle.kvs_core.specs.Steps.{can_step};
 
 use crate::brokers::{Posed, begin, pose_all, take_all, tell, tell_end};
@@ -61,32 +61,36 @@ const LOSSES: [(u64, Result<KvsStep, u64>); 7] = [
     (8, Err(2)),
 ];
 
-/// The step that is made: the first of a plan, where it can be made, and else the core's own.
-fn choice(core: &Core, plan: &[KvsStep], at: usize) -> Option<KvsStep>
+/// The step of this place in a plan, where it can be made.
+fn planned(core: &Core, plan: &[KvsStep], at: usize) -> Option<KvsStep>
     requires { core.now.spent ≡ false }
-    ensures { IfSome result (λ step. can_step core.now step ≡ true) }
+    ensures within { IfSome result (λ step. at < length plan.now) }
+    ensures can { IfSome result (λ step. can_step core.now step ≡ true) }
 {
-    if let Some(step) = plan.get(at) {
-        if core.can(*step) {
-            return Some(*step);
-        }
+    if at < plan.len() && core.can(plan[at]) {
+        Some(plan[at])
+    } else {
+        None
     }
-    core.next()
 }
 
-/// Makes the steps of a plan and those of the core until none is left.
+/// Makes the steps of a plan as soon as each can be made, and those of the core until none is left.
 fn run(alloc: Global, core: &mut Core, plan: &[KvsStep], text: &mut Vec<u8>) -> Result<(), Fail>
     requires { core.old.spent ≡ false }
     ensures { OnOk result (core.new.spent ≡ false) }
 {
     let mut at = 0;
     'steps: for _ in 0..100 {
-        let Some(step) = choice(core, plan, at) else {
-            return Ok(());
+        let step = match planned(core, plan, at) {
+            Some(step) => {
+                at += 1;
+                step
+            }
+            None => match core.next() {
+                Some(step) => step,
+                None => return Ok(()),
+            },
         };
-        if plan.get(at) == Some(&step) {
-            at += 1;
-        }
         let events = core.turn(step)?;
         'events: for event in events.as_slice() {
             tell(alloc, text, event)?;
