@@ -1,7 +1,7 @@
 -- A core in which other announcements are on the way, and nothing else has changed.
-use Rattle.std.proofs.Common.{◌≡◌, ℕ, zero, suc, ◌^◌, ◌+◌, ◌<◌, ◌≤◌, inl, inr, List, [], ◌∷◌, length, map, Bool, cond, not, Option, Some, None, option_map, refl, sym, ap, ap₂, ◌∙◌, subst, arith, get_or, set}
+use Rattle.std.proofs.Common.{◌≡◌, ℕ, suc, ◌^◌, ◌+◌, ◌<◌, ◌≤◌, inl, inr, List, [], ◌∷◌, length, map, Bool, cond, not, Some, option_map, refl, sym, ap, ap₂, ◌∙◌, subst, arith, get_or, set}
 use Rattle.std.specs.Prelude.{slice_get, slice_index}
-use Rattle.std.specs.List.{count_by, list_any}
+use Rattle.std.specs.List.{count_by}
 use Rattle.std.specs.Option.{option_map_or}
 use Rattle.std.proofs.lemmas.Bool.{cases_eq, cases_lt}
 use Rattle.std.proofs.lemmas.List.{length-set, length-map, get_or-map, get_or-set_same, get_or-set_other, get_or_default}
@@ -11,14 +11,13 @@ use Rattle.fence_merge.specs.Fences.{fence_of}
 use Rattle.kvs_model.specs.Store.{Name}
 use Rattle.kvs_rules.specs.Log.{Log}
 use Rattle.kvs_rules.specs.Namespaces.{Setting, most_live}
-use Rattle.kvs_requests.specs.declared.rows.Row.{Row}
 use Rattle.kvs_requests.specs.declared.rows.Stage.{Stage}
 use Rattle.kvs_requests.specs.declared.rows.Stage.TheVariants as stage
 use Rattle.kvs_requests.specs.Rows.{AtPlace}
 use Rattle.kvs_requests.proofs.Tables.{rows-respaced}
 use Rattle.kvs_space.specs.Losses.{resynced}
 use Rattle.kvs_space.specs.Sound.{IsSoundSpace}
-use Rattle.kvs_space.specs.Space.{SpaceValue, carries, is_authored, known_at, live_in, name_at, queued}
+use Rattle.kvs_space.specs.Space.{SpaceValue, carries, known_at, live_in, name_at}
 use Rattle.kvs_space.proofs.Losses.{resynced-links, with_links}
 use Rattle.kvs_core.specs.Agrees.{Agrees}
 use Rattle.kvs_core.specs.Sound.{IsSound}

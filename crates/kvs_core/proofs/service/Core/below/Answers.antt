@@ -1,4 +1,4 @@
-use Rattle.std.proofs.Common.{◌≡◌, ◌+◌, ◌*◌, min, ap, arith}
+use Rattle.std.proofs.Common.{◌≡◌, ◌*◌, ap, arith}
 use Rattle.kvs_core.proofs.service.Core.below.Goals as goal
 
 pub returns-clause-first : goal.returns-clause-first
