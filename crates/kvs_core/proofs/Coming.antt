@@ -1,7 +1,6 @@
 -- Who asks of a core at rest comes to rank 0 alone, behind all that wait.
 use Rattle.std.proofs.Common.{◌≡◌, ◌≢◌, List, [], ◌∷◌, ◌++◌, Bool, true, false, ◌||◌, refl, sym, ap, ◌∙◌, subst, true≢false}
 use Rattle.std.specs.Prelude.{ℕ, IsSome, IsTrue}
-use Rattle.std.specs.List.{list_any}
 use Rattle.kvs_txn.specs.declared.txn.By.{By}
 use Rattle.kvs_model.specs.Store.{Name}
 use Rattle.kvs_rules.specs.Landings.{IsMember}

@@ -1,10 +1,9 @@
 -- The roots of `primary`, and the store that each broker has.
 use Rattle.std.specs.Prelude.{slice_index}
-use Rattle.std.proofs.Common.{◌≡◌, ℕ, ◌<◌, ◌-◌, List, [], ◌∷◌, length, Some, cond, option_map, if◌then◌else◌, refl, sym, ap, ◌∙◌, subst, arith, get_or}
+use Rattle.std.proofs.Common.{◌≡◌, ℕ, ◌<◌, ◌-◌, List, [], ◌∷◌, length, Some, cond, option_map, refl, sym, ap, ◌∙◌, subst, arith, get_or}
 use Rattle.std.specs.Option.{option_map_or}
 use Rattle.std.proofs.lemmas.Option.{slice_get-get_or}
 use Rattle.kvs_model.specs.History.{after, first_store}
-use Rattle.kvs_model.specs.Store.{empty_store}
 use Rattle.kvs_txn.specs.declared.txn.Scope.TheVariants as scope
 use Rattle.kvs_rules.specs.Log.{Log}
 use Rattle.kvs_rules.specs.Namespaces.{Setting, is_opened, is_primary, primary, scope_of, store_after}
@@ -14,7 +13,7 @@ use Rattle.kvs_space.specs.Sound.{IsSoundSpace}
 use Rattle.kvs_space.specs.Space.{SpaceValue, begun, known_at, seen}
 use Rattle.kvs_core.specs.Agrees.{Agrees, SpaceAgrees}
 use Rattle.kvs_core.specs.Histories.{history_of}
-use Rattle.kvs_core.specs.Seen.{primary_heard, root_of, store_at}
+use Rattle.kvs_core.specs.Seen.{root_of, store_at}
 use Rattle.kvs_core.specs.Sound.{IsSound}
 use Rattle.kvs_core.specs.Value.{CoreValue}
 use Rattle.kvs_core.proofs.Heads.{head-of, opened-there}

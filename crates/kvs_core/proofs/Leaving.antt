@@ -1,31 +1,27 @@
 -- Moments of contents leave a core where it stands.
-use Rattle.std.proofs.Common.{◌≡◌, ◌≢◌, ℕ, ◌<◌, List, [], ◌∷◌, ◌++◌, length, Bool, true, false, ◌||◌, Option, Some, None, refl, sym, ap, ◌∙◌, subst, true≢false, get_or}
-use Rattle.std.specs.Prelude.{IsSome}
-use Rattle.std.specs.List.{AllByRecursion as Each}
+use Rattle.std.proofs.Common.{◌≡◌, ◌≢◌, ℕ, ◌<◌, [], ◌∷◌, ◌++◌, length, Bool, true, false, ◌||◌, Option, Some, None, refl, sym, ap, ◌∙◌, subst, true≢false, get_or}
 use Rattle.std.specs.Option.{option_map_or}
 use Rattle.kvs_txn.specs.declared.txn.By.{By}
 use Rattle.kvs_model.specs.Store.{Name}
-use Rattle.kvs_rules.specs.declared.events.KvsAnswer.{KvsAnswer}
 use Rattle.kvs_rules.specs.declared.events.KvsAnswer.TheVariants as answer
 use Rattle.kvs_rules.specs.declared.events.KvsEvent.TheVariants as event
 use Rattle.kvs_rules.specs.Log.{Asked, Happened, Resumed, Log, Moment, asks_now, is_asked, same_command}
-use Rattle.kvs_rules.specs.Namespaces.{Request, Setting, name_opened, number_landed}
-use Rattle.kvs_rules.specs.Answers.{IsLegalAnswer, IsLegalMoment}
-use Rattle.kvs_rules.specs.Brokers.{number_heard}
+use Rattle.kvs_rules.specs.Namespaces.{Request, Setting, name_opened}
+use Rattle.kvs_rules.specs.Answers.{IsLegalMoment}
 use Rattle.kvs_rules.proofs.Stores.{any_push}
 use Rattle.kvs_requests.specs.declared.rows.Row.{Row}
-use Rattle.kvs_requests.specs.Agreement.{Entrants, RowAgrees, RowsAgree}
+use Rattle.kvs_requests.specs.Agreement.{Entrants, RowsAgree}
 use Rattle.kvs_requests.specs.Rows.{asks_contents, is_about_contents}
 use Rattle.kvs_requests.proofs.Later.{Grows, IsAside, Upholds, row-kept}
 use Rattle.kvs_requests.proofs.Tables.{aside-answered, aside-asked, open-before, outside-kept, same-self, strange-kept}
-use Rattle.kvs_space.specs.Space.{SpaceValue, queued}
+use Rattle.kvs_space.specs.Space.{queued}
 use Rattle.kvs_core.specs.Agrees.{Agrees}
 use Rattle.kvs_core.specs.Contents.{IsOfContents}
 use Rattle.kvs_core.specs.Value.{CoreValue}
 use Rattle.kvs_core.proofs.Carried.{plain-asks, IsPlain, each-map, space-plain, waiting}
 use Rattle.kvs_rules.specs.declared.events.KvsAsk.TheVariants as ask
 use Rattle.kvs_core.proofs.Turns.{turns-later}
-use Rattle.kvs_core.proofs.Heads.{IsElsewhere, agrees-of, head-kept, head-of, rows-of}
+use Rattle.kvs_core.proofs.Heads.{IsElsewhere, agrees-of, head-kept, head-of}
 use Rattle.kvs_core.proofs.Moving.{grows-silent}
 
 or-true : (b : Bool) → (b || true) ≡ true

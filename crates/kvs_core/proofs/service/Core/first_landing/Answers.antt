@@ -1,4 +1,4 @@
-use Rattle.std.proofs.Common.{◌≡◌, ◌∙◌, ℕ, ◌<◌, true, false, ap, subst, sym}
+use Rattle.std.proofs.Common.{◌≡◌, ◌∙◌, ℕ, ◌<◌, true, false, ap, subst}
 use Rattle.kvs_rules.specs.declared.events.KvsStep.TheVariants as kvs
 use Rattle.kvs_core.specs.Steps.{can_step}
 use Rattle.kvs_core.specs.View.{value_of}
