@@ -103,11 +103,11 @@ missing v broker h =
 behind-above : (fanout broker : ℕ) (s : SpaceValue) → is_behind fanout broker s ≡ true → 0 < broker
 behind-above fanout broker s h = elim (cases_eq broker 0) [
   | inl e ↦ absurd (
-    let p = parent-low fanout broker in
-    let none : parent fanout broker ≡ broker = omega (arith, e) in
-    let same : slice_index s.known (parent fanout broker) ≡ slice_index s.known broker = ap (slice_index s.known) none in
-    let less = lt-is _ _ (and-right (nat_lt broker (length s.known)) _ h) in
-    omega (arith, same, less))
+      let p = parent-low fanout broker in
+      let none : parent fanout broker ≡ broker = omega (arith, e) in
+      let same : slice_index s.known (parent fanout broker) ≡ slice_index s.known broker = ap (slice_index s.known) none in
+      let less = lt-is _ _ (and-right (nat_lt broker (length s.known)) _ h) in
+      omega (arith, same, less))
   | inr ne ↦ omega (arith, ne)
 ]
 
@@ -176,8 +176,8 @@ module _ {v : CoreValue} (s : IsSound v) where
     pub resynced-sound : (spent : Bool) → IsSound (record { spent = spent; size = v.size; fanout = v.fanout; grant = v.grant; spaces = map (resynced v.fanout broker) v.spaces; rows = v.rows })
     resynced-sound spent = relinked-sound (map (resynced v.fanout broker) v.spaces) (relinked-map v.fanout broker v.spaces) spent s
         (λ k d l.
-            let inside : k < length v.spaces = subst (λ n. k < n) (length-map v.spaces (resynced v.fanout broker)) l in
-            subst (IsSoundSpace v.fanout v.grant) (sym (get_or-map (resynced v.fanout broker) v.spaces k d d inside)) (resync-sound (s.spaces k d inside) broker))
+        let inside : k < length v.spaces = subst (λ n. k < n) (length-map v.spaces (resynced v.fanout broker)) l in
+        subst (IsSoundSpace v.fanout v.grant) (sym (get_or-map (resynced v.fanout broker) v.spaces k d d inside)) (resync-sound (s.spaces k d inside) broker))
 
     pub resynced-moves : has_missed v broker ≡ true → Moves (kvs.Resync broker) v (record { spent = false; size = v.size; fanout = v.fanout; grant = v.grant; spaces = map (resynced v.fanout broker) v.spaces; rows = v.rows })
     resynced-moves h = relinked-moves (map (resynced v.fanout broker) v.spaces) (relinked-map v.fanout broker v.spaces) (kvs.Resync broker) (resync-does v s broker false h)

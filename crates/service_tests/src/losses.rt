@@ -101,12 +101,7 @@ fn run(alloc: Global, core: &mut Core, plan: &[KvsStep], text: &mut Vec<u8>) -> 
 
 /// What follows once these rows are asked: what happens, what actors are told then, and what stands
 /// in the end.
-fn story(
-    alloc: Global,
-    core: &mut Core,
-    rows: &[Posed],
-    plan: &[KvsStep],
-) -> Result<Vec<u8>, Fail>
+fn story(alloc: Global, core: &mut Core, rows: &[Posed], plan: &[KvsStep]) -> Result<Vec<u8>, Fail>
     requires ready { core.old.spent ≡ false }
     requires size { core.old.size ≡ 4 }
 {
