@@ -67,8 +67,8 @@ fn steps_of(alloc: Global, how: Schedule) -> Result<Vec<Step>, Fail> {
 fn a_seed_gives_one_order(rt: HostRuntime) -> Result<(), Fail> {
     let settled = steps_of(rt.alloc(), Schedule::Settled)?;
     for seed in [0, 1, 2, u64::MAX] {
-        let one = steps_of(rt.alloc(), Schedule::Shuffled(seed))?;
-        let again = steps_of(rt.alloc(), Schedule::Shuffled(seed))?;
+        let one = steps_of(rt.alloc(), Schedule::Shuffled { seed, losses: 0 })?;
+        let again = steps_of(rt.alloc(), Schedule::Shuffled { seed, losses: 0 })?;
         assert_eq!(rt; one == again, true);
         assert_eq!(rt; one == settled, false);
     }
