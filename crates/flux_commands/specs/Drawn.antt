@@ -35,6 +35,7 @@ generated_options = record {
   fanout = 2;
   hash = Sha1;
   shuffle = None;
+  losses = 0;
   journal = false;
   backfill = false;
 }

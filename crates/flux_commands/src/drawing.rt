@@ -31,6 +31,7 @@ pub const DRAWN_OPTIONS: Options = Options {
     fanout: 2,
     hash: Hash::Sha1,
     shuffle: None,
+    losses: 0,
     journal: false,
     backfill: false,
 };

@@ -1,5 +1,5 @@
 -- What clap answers of the command's words, and what the reference says of them.
-use Rattle.std.proofs.Common.{◌≡◌, ◌≢◌, ◌∙◌, ◌++◌, ◌||◌, cond, Bool, true, false, List, [], ◌∷◌, Option, Some, None, is_some, refl, sym, ap, inl, inr, codes, fold, bytes_eq, subst, true≢false}
+use Rattle.std.proofs.Common.{◌≡◌, ◌≢◌, ◌∙◌, ◌++◌, ◌||◌, cond, Bool, true, false, List, [], ◌∷◌, map, Option, Some, None, is_some, refl, sym, ap, inl, inr, codes, fold, bytes_eq, subst, true≢false}
 use Rattle.std.specs.Prelude.{option_and_then, if◌then◌else◌}
 use Rattle.std.specs.List.{list_any}
 use Rattle.clap.specs.Walk.{Row, Rule, Text, first_of, has_row, one_of, row_text, rows_of, with_default}
@@ -16,14 +16,16 @@ use Rattle.clap.proofs.WalkLemmas.{first_value-rows, one_text-rows}
 use Rattle.clap.proofs.FaultLemmas.{leaf_fault}
 use Rattle.std.proofs.lemmas.Slice.Eq.{bytes_eq-Decides}
 use Rattle.run_options.specs.declared.given.Given.{Given}
-use Rattle.run_options.specs.Given.{brokers_of, hash_of, nothing, number_of, with_fanout, with_hash, with_shuffle, with_size, with_value}
+use Rattle.run_options.specs.Given.{nothing, with_value}
 use Rattle.run_options.specs.Words.{wants_value, with_word, with_words}
 use Rattle.run_options.proofs.Steps.{alone, paired, unpaired}
 use Rattle.run_options.specs.Command.{is_dashes, run_app}
-use Rattle.run_options.specs.Matches.{IsFlag, flag_of, given_by, given_in}
-use Rattle.run_options.proofs.Rows.{IsSetByRow, Sound, absent, at_none, find_new, find_old, found, has_find, read, same_given, value_in}
+use Rattle.run_options.specs.Matches.{IsFlag, flag_of, given_in}
+use Rattle.run_options.proofs.Rows.{IsSetByRow, Sound, absent, at_none, find_new, find_old, found, has_find, not_name, read, texts, value_in}
+use Rattle.run_options.proofs.Sets.{Flags, given_of, same_given}
+use Rattle.run_options.proofs.Views.{Names, hyphen_refused, names, no_value}
 use Rattle.run_options.proofs.Whole.{Ends, fault, left, walk_tie}
-use Rattle.run_options.proofs.Walks.{Name, by_size, by_fanout, by_hash, by_shuffle, Flag, by_journal, by_backfill, at, flag_rule, flag_text, rule, run_rules, run_shape, text}
+use Rattle.run_options.proofs.Walks.{Name, Flag, by_journal, by_backfill, all_names, at, flag_rule, flag_rules, flag_text, rule, run_rules, run_shape, text}
 
 -- ---- defaults
 
@@ -54,10 +56,6 @@ flag_default f rows = go (has_row (flag_text f) rows)
     go true = refl
     go false = refl
 
-next_default : (n : Name) (rs : List Row) (rest : List Rule) → defaults_fault (with_default rs (rule n)) rest ≡ [] → defaults_fault rs (rule n ∷ rest) ≡ []
-unfolding defaults_fault
-next_default n rs rest e = ap (λ ks. or_else ks (defaults_fault (with_default rs (rule n)) rest)) (valueless n rs) ∙ e
-
 next_flag : (f : Flag) (rs : List Row) (rest : List Rule) → defaults_fault (with_default rs (flag_rule f)) rest ≡ [] → defaults_fault rs (flag_rule f ∷ rest) ≡ []
 unfolding defaults_fault
 next_flag f rs rest e = ap (λ ks. or_else ks (defaults_fault (with_default rs (flag_rule f)) rest)) (flag_default f rs) ∙ e
@@ -66,20 +64,21 @@ flag_defaults : (rs : List Row) → defaults_fault rs (flag_rule by_journal ∷ 
 unfolding defaults_fault
 flag_defaults rs = next_flag by_journal rs (flag_rule by_backfill ∷ []) (next_flag by_backfill (with_default rs (flag_rule by_journal)) [] refl)
 
-defaults_pass : (rows : List Row) → defaults_fault rows run_rules ≡ []
+valued_pass : (ns : List Name) (rows : List Row) (rest : List Rule) → defaults_fault rows rest ≡ [] → defaults_fault rows (map rule ns ++ rest) ≡ []
 unfolding defaults_fault
-defaults_pass rows = next_default by_size rows (rule by_fanout ∷ rule by_hash ∷ rule by_shuffle ∷ flag_rule by_journal ∷ flag_rule by_backfill ∷ [])
-    (next_default by_fanout (with_default rows (rule by_size)) (rule by_hash ∷ rule by_shuffle ∷ flag_rule by_journal ∷ flag_rule by_backfill ∷ [])
-    (next_default by_hash (with_default (with_default rows (rule by_size)) (rule by_fanout)) (rule by_shuffle ∷ flag_rule by_journal ∷ flag_rule by_backfill ∷ [])
-    (next_default by_shuffle (with_default (with_default (with_default rows (rule by_size)) (rule by_fanout)) (rule by_hash)) (flag_rule by_journal ∷ flag_rule by_backfill ∷ [])
-    (flag_defaults (with_default (with_default (with_default (with_default rows (rule by_size)) (rule by_fanout)) (rule by_hash)) (rule by_shuffle))))))
+valued_pass [] rows rest e = e
+valued_pass (n ∷ ns) rows rest e = ap (λ ks. or_else ks (defaults_fault (with_default rows (rule n)) (map rule ns ++ rest))) (valueless n rows)
+    ∙ ap (λ rs. defaults_fault rs (map rule ns ++ rest)) (no_default n rows) ∙ valued_pass ns rows rest e
+
+defaults_pass : (rows : List Row) → defaults_fault rows run_rules ≡ []
+defaults_pass rows = valued_pass all_names rows flag_rules (flag_defaults rows)
+
+finish_valued : (ns : List Name) (rows : List Row) (rest : List Rule) → fold with_default rows (map rule ns ++ rest) ≡ fold with_default rows rest
+finish_valued [] rows rest = refl
+finish_valued (n ∷ ns) rows rest = ap (λ rs. fold with_default rs (map rule ns ++ rest)) (no_default n rows) ∙ finish_valued ns rows rest
 
 finish : (rows : List Row) → fold with_default rows run_rules ≡ with_flags rows
-finish rows =
-    ap (λ rs. with_flags (with_default (with_default (with_default rs (rule by_fanout)) (rule by_hash)) (rule by_shuffle))) (no_default by_size rows)
-    ∙ ap (λ rs. with_flags (with_default (with_default rs (rule by_hash)) (rule by_shuffle))) (no_default by_fanout rows)
-    ∙ ap (λ rs. with_flags (with_default rs (rule by_shuffle))) (no_default by_hash rows)
-    ∙ ap with_flags (no_default by_shuffle rows)
+finish rows = finish_valued all_names rows flag_rules
 
 -- ---- the parse
 
@@ -102,8 +101,11 @@ unfolding run_app
 matches_are words = finish (rows_of_words words)
 
 -- what the matches' rows give
+abbrev shown_flags : List Row → Flags
+shown_flags rows f = flag_of (one_of (flag_text f) rows)
+
 abbrev given_of_rows : List Row → Option Given
-given_of_rows rows = given_by (first_of (codes "size") rows) (first_of (codes "fanout") rows) (first_of (codes "hash") rows) (first_of (codes "shuffle") rows) (flag_of (one_of (codes "journal") rows)) (flag_of (one_of (codes "backfill") rows))
+given_of_rows rows = given_of (texts rows) (shown_flags rows)
 
 -- a flag that is not given has a row of its own, and other rows stay
 not_given : (f : Flag) (rows : List Row) → has_row (flag_text f) rows ≡ false → with_default rows (flag_rule f) ≡ rows ++ default_row f ∷ []
@@ -142,10 +144,7 @@ found_old : (id : Text) (rows : List Row) → bytes_eq (codes "journal") id ≡ 
 found_old id rows journal backfill = found_default by_backfill id (with_default rows (flag_rule by_journal)) backfill ∙ found_default by_journal id rows journal
 
 first_old : (n : Name) (rows : List Row) → first_of (text n) (with_flags rows) ≡ first_of (text n) rows
-first_old by_size rows = ap value_in (found_old (codes "size") rows refl refl)
-first_old by_fanout rows = ap value_in (found_old (codes "fanout") rows refl refl)
-first_old by_hash rows = ap value_in (found_old (codes "hash") rows refl refl)
-first_old by_shuffle rows = ap value_in (found_old (codes "shuffle") rows refl refl)
+first_old n rows = ap value_in (found_old (text n) rows (not_name by_journal n) (not_name by_backfill n))
 
 flag_text_in : (f : Flag) (rows : List Row) → Sound rows → one_of (flag_text f) (with_flags rows) ≡ Some (flag_shown (has_row (flag_text f) rows))
 flag_text_in by_journal rows s =
@@ -163,7 +162,7 @@ flag_read false = refl
 
 -- what the matches give is what the uses give
 given_same : (rows : List Row) → Sound rows → given_of_rows (with_flags rows) ≡ read rows
-given_same rows s = same_given (first_old by_size rows) (first_old by_fanout rows) (first_old by_hash rows) (first_old by_shuffle rows) (flag by_journal) (flag by_backfill)
+given_same rows s = same_given (texts (with_flags rows)) (texts rows) (shown_flags (with_flags rows)) (λ f. has_row (flag_text f) rows) (λ n. first_old n rows) flag
   where
     flag : (f : Flag) → flag_of (one_of (flag_text f) (with_flags rows)) ≡ has_row (flag_text f) rows
     flag f = ap flag_of (flag_text_in f rows s) ∙ flag_read (has_row (flag_text f) rows)
@@ -194,11 +193,11 @@ pub taken : (words : List Text) (f : Found) → rows_of f ≡ matches_of run_app
     → with_words nothing words ≡ given_in f
 unfolding given_in
 taken words f rows other passes =
-    let texts : (id : Text) → first_of id (matches_of run_app words) ≡ first_value f id = λ id. ap (first_of id) (sym rows) ∙ sym (first_value-rows f id) in
-    let flag : (id : Text) → flag_of (one_of id (matches_of run_app words)) ≡ flag_of (one_text f id) = λ id. ap (λ rs. flag_of (one_of id rs)) (sym rows) ∙ ap flag_of (sym (one_text-rows f id)) in
+    let text_in : (id : Text) → first_of id (matches_of run_app words) ≡ first_value f id = λ id. ap (first_of id) (sym rows) ∙ sym (first_value-rows f id) in
+    let flag_in : (id : Text) → flag_of (one_of id (matches_of run_app words)) ≡ flag_of (one_text f id) = λ id. ap (λ rs. flag_of (one_of id rs)) (sym rows) ∙ ap flag_of (sym (one_text-rows f id)) in
     rows_taken words other passes
-    ∙ same_given (texts (codes "size")) (texts (codes "fanout")) (texts (codes "hash")) (texts (codes "shuffle"))
-    (flag (codes "journal")) (flag (codes "backfill"))
+    ∙ same_given (texts (matches_of run_app words)) (λ n. first_value f (text n)) (shown_flags (matches_of run_app words)) (λ g. flag_of (one_text f (flag_text g)))
+    (λ n. text_in (text n)) (λ g. flag_in (flag_text g))
 
 -- and each flag is written out in them
 flag_in : (f : Flag) (rows : List Row) → Sound rows → IsFlag (one_of (flag_text f) (with_flags rows))
@@ -226,15 +225,11 @@ refused words other fails = go (spelled_first words other)
 
 -- `--` spells nothing
 dashes_value : (g : Given) (name value : Text) → is_dashes value ≡ true → with_value g name value ≡ None
-dashes_value g name value is = ap (with_value g name) ((bytes_eq-Decides value (45 ∷ 45 ∷ [])).0 is) ∙ by (bytes_eq name (codes "--size")) (bytes_eq name (codes "--fanout")) (bytes_eq name (codes "--hash")) (bytes_eq name (codes "--shuffle"))
+dashes_value g name value is = go (names name)
   where
-    by : (a b c d : Bool) → (if a then option_and_then (with_size g) (brokers_of (45 ∷ 45 ∷ [])) else if b then option_and_then (with_fanout g) (brokers_of (45 ∷ 45 ∷ []))
-        else if c then option_and_then (with_hash g) (hash_of (45 ∷ 45 ∷ [])) else if d then option_and_then (with_shuffle g) (number_of (45 ∷ 45 ∷ [])) else None) ≡ None
-    by true b c d = refl
-    by false true c d = refl
-    by false false true d = refl
-    by false false false true = refl
-    by false false false false = refl
+    go : Names name → with_value g name value ≡ None
+    go (inl n) = ap (λ w. with_value g w value) n.1 ∙ hyphen_refused n.0 g value (45 ∷ [], (bytes_eq-Decides value (45 ∷ 45 ∷ [])).0 is)
+    go (inr none) = no_value g name value none
 
 Refuses : List Text → Type 0
 Refuses words = list_any is_dashes words ≡ true → (g : Given) → with_words g words ≡ None

@@ -1,14 +1,15 @@
 -- The rows of clap's matches, one a use, and what they give.
-use Rattle.std.proofs.Common.{◌≡◌, ◌∙◌, ◌++◌, ◌||◌, cond, Bool, true, false, List, [], ◌∷◌, Option, Some, None, is_some, refl, sym, ap, codes, find, slice_get, bytes_eq, true≢false}
+use Rattle.std.proofs.Common.{◌≡◌, ◌∙◌, ◌++◌, ◌||◌, cond, Bool, true, false, List, [], ◌∷◌, Option, Some, None, is_some, refl, sym, ap, codes, find, slice_get, bytes_eq, subst, true≢false}
 use Rattle.std.specs.Prelude.{option_and_then, if◌then◌else◌}
 use Rattle.clap.specs.Walk.{Row, Text, at_row, first_of, has_row, more_values, one_of, row_text, used}
 use Rattle.clap.specs.declared.builder.value_parser.Reading.TheVariants as reading
 use Rattle.clap.specs.declared.parser.matches.ValueSource.TheVariants.{CommandLine}
+use Rattle.std.proofs.lemmas.Slice.Eq.{bytes_eq-Decides}
 use Rattle.run_options.specs.declared.given.Given.{Given}
-use Rattle.run_options.specs.Given.{brokers_of, hash_of, number_of, with_backfill, with_journal, with_value}
-use Rattle.run_options.specs.Matches.{field, given_by}
-use Rattle.run_options.proofs.Walks.{Name, by_size, by_fanout, by_hash, by_shuffle, Flag, by_journal, by_backfill, dashed, flag_rule, flag_text, rule, text}
-use Rattle.run_options.proofs.Sets.{backfill_again, backfill_new, fanout_again, fanout_new, hash_again, hash_new, journal_again, journal_new, shuffle_again, shuffle_new, size_again, size_new, with_flag}
+use Rattle.run_options.specs.Given.{with_value}
+use Rattle.run_options.proofs.Walks.{Name, by_size, Flag, by_journal, by_backfill, dashed, flag_rule, flag_text, rule, text}
+use Rattle.run_options.proofs.Sets.{Flags, Texts, given_of, put, raise, same_given, with_flag}
+use Rattle.run_options.proofs.Sets as sets
 
 -- the row of a use
 abbrev pub made : Text → Text → Row
@@ -115,9 +116,6 @@ has_other id other v rows e = has_find id (rows ++ made other v ∷ []) ∙ ap i
 pub first_other : (id other v : Text) (rows : List Row) → bytes_eq other id ≡ false → first_of id (rows ++ made other v ∷ []) ≡ first_of id rows
 first_other id other v rows e = ap value_in (find_old _ rows (made other v) e)
 
-pub first_own : (id v : Text) (rows : List Row) → has_row id rows ≡ false → bytes_eq id id ≡ true → first_of id (rows ++ made id v ∷ []) ≡ Some v
-first_own id v rows none same = ap value_in (find_new _ rows (made id v) (absent id rows none) ∙ ap (λ b. cond b (Some (made id v)) None) same)
-
 set_other : (id other v : Text) (rows : List Row) → bytes_eq other id ≡ false → IsSetByRow id rows → IsSetByRow id (rows ++ made other v ∷ [])
 set_other id other v rows e was = ap (option_and_then row_text) (find_old _ rows (made other v) e) ∙ was
     ∙ ap (λ b. cond b (Some (codes "true")) None) (sym (has_other id other v rows e))
@@ -142,15 +140,17 @@ set_new id other rows was = go (found id rows) refl
         ∙ ap (λ b. cond b (Some (codes "true")) None) (has_find id rows) ∙ ap shown e
         ∙ ap shown (sym (find_kept _ rows (made other (codes "true")) q e)) ∙ sym has
 
-not_flag : (n : Name) (f : Flag) → bytes_eq (text n) (flag_text f) ≡ false
+pub not_flag : (n : Name) (f : Flag) → bytes_eq (text n) (flag_text f) ≡ false
 not_flag by_size by_journal = refl
-not_flag by_fanout by_journal = refl
-not_flag by_hash by_journal = refl
-not_flag by_shuffle by_journal = refl
 not_flag by_size by_backfill = refl
-not_flag by_fanout by_backfill = refl
-not_flag by_hash by_backfill = refl
-not_flag by_shuffle by_backfill = refl
+not_flag _ by_journal = refl
+not_flag _ by_backfill = refl
+
+pub not_name : (f : Flag) (n : Name) → bytes_eq (flag_text f) (text n) ≡ false
+not_name by_journal by_size = refl
+not_name by_backfill by_size = refl
+not_name by_journal _ = refl
+not_name by_backfill _ = refl
 
 pub sound_new : (n : Name) (v : Text) (rows : List Row) → Sound rows → Sound (rows ++ made (text n) v ∷ [])
 sound_new n v rows s = record {
@@ -164,44 +164,37 @@ sound_flag f rows s = record {
   flags = λ g. set_new (flag_text g) (flag_text f) rows (s.flags g);
 }
 
-has_flag : (f : Flag) (rows : List Row) → has_row (flag_text f) rows ≡ false → has_row (flag_text f) (rows ++ flag_row f ∷ []) ≡ true
-has_flag f rows none = has_find (flag_text f) (rows ++ flag_row f ∷ []) ∙ ap is_some (find_new _ rows (flag_row f) (absent (flag_text f) rows none)) ∙ same f
-  where
-    same : (f : Flag) → is_some (cond (bytes_eq (flag_text f) (flag_text f)) (Some (flag_row f)) None) ≡ true
-    same by_journal = refl
-    same by_backfill = refl
-
 -- ---- what rows give
 
-pub same_given : {a x b y : Option Text} {c z d w : Option Text} {j l k m : Bool} → a ≡ x → b ≡ y → c ≡ z → d ≡ w → j ≡ l → k ≡ m → given_by a b c d j k ≡ given_by x y z w l m
-same_given {a} {x} {b} {y} {c} {z} {d} {w} {j} {l} {k} {m} ea eb ec ed ej ek =
-    ap (λ t. given_by t b c d j k) ea ∙ ap (λ t. given_by x t c d j k) eb ∙ ap (λ t. given_by x y t d j k) ec ∙ ap (λ t. given_by x y z t j k) ed
-    ∙ ap (λ t. given_by x y z w t k) ej ∙ ap (λ t. given_by x y z w l t) ek
+abbrev pub texts : List Row → Texts
+texts rows n = first_of (text n) rows
+
+abbrev flags : List Row → Flags
+flags rows f = has_row (flag_text f) rows
 
 abbrev pub read : List Row → Option Given
-read rows = given_by (first_of (codes "size") rows) (first_of (codes "fanout") rows) (first_of (codes "hash") rows) (first_of (codes "shuffle") rows) (has_row (codes "journal") rows) (has_row (codes "backfill") rows)
+read rows = given_of (texts rows) (flags rows)
 
 no_text : (n : Name) (rows : List Row) → has_row (text n) rows ≡ false → first_of (text n) rows ≡ None
 no_text n rows none = ap value_in (absent (text n) rows none)
 
+-- the row of this use, under the text of an option
+first_new : (n m : Name) (v : Text) (rows : List Row) → has_row (text n) rows ≡ false
+    → first_of (text m) (rows ++ made (text n) v ∷ []) ≡ put n v (texts rows) m
+first_new n m v rows none = go (bytes_eq (text n) (text m)) refl
+  where
+    go : (b : Bool) → bytes_eq (text n) (text m) ≡ b → first_of (text m) (rows ++ made (text n) v ∷ []) ≡ cond b (Some v) (first_of (text m) rows)
+    go true e =
+        let gone : has_row (text m) rows ≡ false = subst (λ id. has_row id rows ≡ false) ((bytes_eq-Decides (text n) (text m)).0 e) none in
+        ap value_in (find_new _ rows (made (text n) v) (absent (text m) rows gone) ∙ ap (λ b. cond b (Some (made (text n) v)) None) e)
+    go false e = first_other (text m) (text n) v rows e
+
 pub given_new : (n : Name) (v : Text) (rows : List Row) → has_row (text n) rows ≡ false
     → option_and_then (λ g. with_value g (dashed n) v) (read rows) ≡ read (rows ++ made (text n) v ∷ [])
-given_new by_size v rows none =
-    ap (λ t. option_and_then (λ g. with_value g (dashed by_size) v) (given_by t (first_of (codes "fanout") rows) (first_of (codes "hash") rows) (first_of (codes "shuffle") rows) (has_row (codes "journal") rows) (has_row (codes "backfill") rows))) (no_text by_size rows none)
-    ∙ size_new (brokers_of v) (field brokers_of (first_of (codes "fanout") rows)) (field hash_of (first_of (codes "hash") rows)) (field number_of (first_of (codes "shuffle") rows)) (has_row (codes "journal") rows) (has_row (codes "backfill") rows)
-    ∙ same_given (sym (first_own (codes "size") v rows none refl)) (sym (first_other (codes "fanout") (codes "size") v rows refl)) (sym (first_other (codes "hash") (codes "size") v rows refl)) (sym (first_other (codes "shuffle") (codes "size") v rows refl)) (sym (has_other (codes "journal") (codes "size") v rows refl)) (sym (has_other (codes "backfill") (codes "size") v rows refl))
-given_new by_fanout v rows none =
-    ap (λ t. option_and_then (λ g. with_value g (dashed by_fanout) v) (given_by (first_of (codes "size") rows) t (first_of (codes "hash") rows) (first_of (codes "shuffle") rows) (has_row (codes "journal") rows) (has_row (codes "backfill") rows))) (no_text by_fanout rows none)
-    ∙ fanout_new (brokers_of v) (field brokers_of (first_of (codes "size") rows)) (field hash_of (first_of (codes "hash") rows)) (field number_of (first_of (codes "shuffle") rows)) (has_row (codes "journal") rows) (has_row (codes "backfill") rows)
-    ∙ same_given (sym (first_other (codes "size") (codes "fanout") v rows refl)) (sym (first_own (codes "fanout") v rows none refl)) (sym (first_other (codes "hash") (codes "fanout") v rows refl)) (sym (first_other (codes "shuffle") (codes "fanout") v rows refl)) (sym (has_other (codes "journal") (codes "fanout") v rows refl)) (sym (has_other (codes "backfill") (codes "fanout") v rows refl))
-given_new by_hash v rows none =
-    ap (λ t. option_and_then (λ g. with_value g (dashed by_hash) v) (given_by (first_of (codes "size") rows) (first_of (codes "fanout") rows) t (first_of (codes "shuffle") rows) (has_row (codes "journal") rows) (has_row (codes "backfill") rows))) (no_text by_hash rows none)
-    ∙ hash_new (hash_of v) (field brokers_of (first_of (codes "size") rows)) (field brokers_of (first_of (codes "fanout") rows)) (field number_of (first_of (codes "shuffle") rows)) (has_row (codes "journal") rows) (has_row (codes "backfill") rows)
-    ∙ same_given (sym (first_other (codes "size") (codes "hash") v rows refl)) (sym (first_other (codes "fanout") (codes "hash") v rows refl)) (sym (first_own (codes "hash") v rows none refl)) (sym (first_other (codes "shuffle") (codes "hash") v rows refl)) (sym (has_other (codes "journal") (codes "hash") v rows refl)) (sym (has_other (codes "backfill") (codes "hash") v rows refl))
-given_new by_shuffle v rows none =
-    ap (λ t. option_and_then (λ g. with_value g (dashed by_shuffle) v) (given_by (first_of (codes "size") rows) (first_of (codes "fanout") rows) (first_of (codes "hash") rows) t (has_row (codes "journal") rows) (has_row (codes "backfill") rows))) (no_text by_shuffle rows none)
-    ∙ shuffle_new (number_of v) (field brokers_of (first_of (codes "size") rows)) (field brokers_of (first_of (codes "fanout") rows)) (field hash_of (first_of (codes "hash") rows)) (has_row (codes "journal") rows) (has_row (codes "backfill") rows)
-    ∙ same_given (sym (first_other (codes "size") (codes "shuffle") v rows refl)) (sym (first_other (codes "fanout") (codes "shuffle") v rows refl)) (sym (first_other (codes "hash") (codes "shuffle") v rows refl)) (sym (first_own (codes "shuffle") v rows none refl)) (sym (has_other (codes "journal") (codes "shuffle") v rows refl)) (sym (has_other (codes "backfill") (codes "shuffle") v rows refl))
+given_new n v rows none =
+    sets.given_new n v (texts rows) (flags rows) (no_text n rows none)
+    ∙ same_given (put n v (texts rows)) (texts (rows ++ made (text n) v ∷ [])) (flags rows) (flags (rows ++ made (text n) v ∷ []))
+    (λ m. sym (first_new n m v rows none)) (λ f. sym (has_other (flag_text f) (text n) v rows (not_flag n f)))
 
 some_text : (n : Name) (rows : List Row) → Sound rows → has_row (text n) rows ≡ true → (t : Text) × (first_of (text n) rows ≡ Some t)
 some_text n rows s has = go (first_of (text n) rows) (sym (s.held n) ∙ has)
@@ -212,37 +205,26 @@ some_text n rows s has = go (first_of (text n) rows) (sym (s.held n) ∙ has)
 
 pub given_again : (n : Name) (v : Text) (rows : List Row) → Sound rows → has_row (text n) rows ≡ true
     → option_and_then (λ g. with_value g (dashed n) v) (read rows) ≡ None
-given_again by_size v rows s has =
-    let found = some_text by_size rows s has in
-    ap (λ t. option_and_then (λ g. with_value g (dashed by_size) v) (given_by t (first_of (codes "fanout") rows) (first_of (codes "hash") rows) (first_of (codes "shuffle") rows) (has_row (codes "journal") rows) (has_row (codes "backfill") rows))) found.1
-    ∙ size_again (brokers_of v) (brokers_of found.0) (field brokers_of (first_of (codes "fanout") rows)) (field hash_of (first_of (codes "hash") rows)) (field number_of (first_of (codes "shuffle") rows)) (has_row (codes "journal") rows) (has_row (codes "backfill") rows)
-given_again by_fanout v rows s has =
-    let found = some_text by_fanout rows s has in
-    ap (λ t. option_and_then (λ g. with_value g (dashed by_fanout) v) (given_by (first_of (codes "size") rows) t (first_of (codes "hash") rows) (first_of (codes "shuffle") rows) (has_row (codes "journal") rows) (has_row (codes "backfill") rows))) found.1
-    ∙ fanout_again (brokers_of v) (brokers_of found.0) (field brokers_of (first_of (codes "size") rows)) (field hash_of (first_of (codes "hash") rows)) (field number_of (first_of (codes "shuffle") rows)) (has_row (codes "journal") rows) (has_row (codes "backfill") rows)
-given_again by_hash v rows s has =
-    let found = some_text by_hash rows s has in
-    ap (λ t. option_and_then (λ g. with_value g (dashed by_hash) v) (given_by (first_of (codes "size") rows) (first_of (codes "fanout") rows) t (first_of (codes "shuffle") rows) (has_row (codes "journal") rows) (has_row (codes "backfill") rows))) found.1
-    ∙ hash_again (hash_of v) (hash_of found.0) (field brokers_of (first_of (codes "size") rows)) (field brokers_of (first_of (codes "fanout") rows)) (field number_of (first_of (codes "shuffle") rows)) (has_row (codes "journal") rows) (has_row (codes "backfill") rows)
-given_again by_shuffle v rows s has =
-    let found = some_text by_shuffle rows s has in
-    ap (λ t. option_and_then (λ g. with_value g (dashed by_shuffle) v) (given_by (first_of (codes "size") rows) (first_of (codes "fanout") rows) (first_of (codes "hash") rows) t (has_row (codes "journal") rows) (has_row (codes "backfill") rows))) found.1
-    ∙ shuffle_again (number_of v) (number_of found.0) (field brokers_of (first_of (codes "size") rows)) (field brokers_of (first_of (codes "fanout") rows)) (field hash_of (first_of (codes "hash") rows)) (has_row (codes "journal") rows) (has_row (codes "backfill") rows)
+given_again n v rows s has =
+    let found = some_text n rows s has in
+    sets.given_again n v found.0 (texts rows) (flags rows) found.1
+
+-- the row of this flag, under the text of a flag
+has_new : (f g : Flag) (rows : List Row) → has_row (flag_text f) rows ≡ false → has_row (flag_text g) (rows ++ flag_row f ∷ []) ≡ raise f (flags rows) g
+has_new f g rows none = go (bytes_eq (flag_text f) (flag_text g)) refl
+  where
+    go : (b : Bool) → bytes_eq (flag_text f) (flag_text g) ≡ b → has_row (flag_text g) (rows ++ flag_row f ∷ []) ≡ (b || has_row (flag_text g) rows)
+    go true e =
+        let gone : has_row (flag_text g) rows ≡ false = subst (λ id. has_row id rows ≡ false) ((bytes_eq-Decides (flag_text f) (flag_text g)).0 e) none in
+        has_find (flag_text g) (rows ++ flag_row f ∷ [])
+        ∙ ap is_some (find_new _ rows (flag_row f) (absent (flag_text g) rows gone) ∙ ap (λ b. cond b (Some (flag_row f)) None) e)
+    go false e = has_other (flag_text g) (flag_text f) (codes "true") rows e
 
 pub flagged_new : (f : Flag) (rows : List Row) → has_row (flag_text f) rows ≡ false → option_and_then (with_flag f) (read rows) ≡ read (rows ++ flag_row f ∷ [])
-flagged_new by_journal rows none =
-    ap (λ b. option_and_then with_journal (given_by (first_of (codes "size") rows) (first_of (codes "fanout") rows) (first_of (codes "hash") rows) (first_of (codes "shuffle") rows) b (has_row (codes "backfill") rows))) none
-    ∙ journal_new (field brokers_of (first_of (codes "size") rows)) (field brokers_of (first_of (codes "fanout") rows)) (field hash_of (first_of (codes "hash") rows)) (field number_of (first_of (codes "shuffle") rows)) (has_row (codes "backfill") rows)
-    ∙ same_given (sym (first_other (codes "size") (codes "journal") (codes "true") rows refl)) (sym (first_other (codes "fanout") (codes "journal") (codes "true") rows refl)) (sym (first_other (codes "hash") (codes "journal") (codes "true") rows refl)) (sym (first_other (codes "shuffle") (codes "journal") (codes "true") rows refl)) (sym (has_flag by_journal rows none)) (sym (has_other (codes "backfill") (codes "journal") (codes "true") rows refl))
-flagged_new by_backfill rows none =
-    ap (λ b. option_and_then with_backfill (given_by (first_of (codes "size") rows) (first_of (codes "fanout") rows) (first_of (codes "hash") rows) (first_of (codes "shuffle") rows) (has_row (codes "journal") rows) b)) none
-    ∙ backfill_new (field brokers_of (first_of (codes "size") rows)) (field brokers_of (first_of (codes "fanout") rows)) (field hash_of (first_of (codes "hash") rows)) (field number_of (first_of (codes "shuffle") rows)) (has_row (codes "journal") rows)
-    ∙ same_given (sym (first_other (codes "size") (codes "backfill") (codes "true") rows refl)) (sym (first_other (codes "fanout") (codes "backfill") (codes "true") rows refl)) (sym (first_other (codes "hash") (codes "backfill") (codes "true") rows refl)) (sym (first_other (codes "shuffle") (codes "backfill") (codes "true") rows refl)) (sym (has_other (codes "journal") (codes "backfill") (codes "true") rows refl)) (sym (has_flag by_backfill rows none))
+flagged_new f rows none =
+    sets.flagged_new f (texts rows) (flags rows) none
+    ∙ same_given (texts rows) (texts (rows ++ flag_row f ∷ [])) (raise f (flags rows)) (flags (rows ++ flag_row f ∷ []))
+    (λ n. sym (first_other (text n) (flag_text f) (codes "true") rows (not_name f n))) (λ g. sym (has_new f g rows none))
 
 pub flagged_again : (f : Flag) (rows : List Row) → has_row (flag_text f) rows ≡ true → option_and_then (with_flag f) (read rows) ≡ None
-flagged_again by_journal rows has =
-    ap (λ b. option_and_then with_journal (given_by (first_of (codes "size") rows) (first_of (codes "fanout") rows) (first_of (codes "hash") rows) (first_of (codes "shuffle") rows) b (has_row (codes "backfill") rows))) has
-    ∙ journal_again (field brokers_of (first_of (codes "size") rows)) (field brokers_of (first_of (codes "fanout") rows)) (field hash_of (first_of (codes "hash") rows)) (field number_of (first_of (codes "shuffle") rows)) (has_row (codes "backfill") rows)
-flagged_again by_backfill rows has =
-    ap (λ b. option_and_then with_backfill (given_by (first_of (codes "size") rows) (first_of (codes "fanout") rows) (first_of (codes "hash") rows) (first_of (codes "shuffle") rows) (has_row (codes "journal") rows) b)) has
-    ∙ backfill_again (field brokers_of (first_of (codes "size") rows)) (field brokers_of (first_of (codes "fanout") rows)) (field hash_of (first_of (codes "hash") rows)) (field number_of (first_of (codes "shuffle") rows)) (has_row (codes "journal") rows)
+flagged_again f rows has = sets.flagged_again f (texts rows) (flags rows) has

@@ -1,5 +1,5 @@
 -- Words at which clap's walk fails, and a word behind `--NAME`.
-use Rattle.std.proofs.Common.{◌≡◌, ◌≢◌, ◌∙◌, ◌⊎◌, ◌&&◌, ◌||◌, cond, ℕ, Bool, true, false, not, List, [], ◌∷◌, length, Option, Some, None, is_some, refl, sym, ap, inl, inr, codes, suc, slice_get, bytes_eq, chars, subst, true≢false, ◌==◌}
+use Rattle.std.proofs.Common.{◌≡◌, ◌≢◌, ◌∙◌, ◌++◌, ◌⊎◌, ◌&&◌, ◌||◌, cond, ℕ, Bool, true, false, not, List, [], ◌∷◌, length, map, Option, Some, None, is_some, refl, sym, ap, inl, inr, codes, suc, slice_get, bytes_eq, chars, subst, true≢false, ◌==◌}
 use Rattle.std.specs.Prelude.{option_and_then, if◌then◌else◌}
 use Rattle.std.specs.List.{after_first, list_any, before_first}
 use Rattle.std.specs.Option.{option_map_or}
@@ -14,7 +14,7 @@ use Rattle.std.specs.List.{position_or_len}
 use Rattle.std.specs.Prelude.{take, ◌+◌}
 use Rattle.std.proofs.Common.{arith}
 use Rattle.clap.specs.Walk.{Step, after_step}
-use Rattle.run_options.proofs.Walks.{Name, by_size, by_fanout, by_hash, by_shuffle, Flag, by_journal, by_backfill, at, dashed, flag_dashed, flag_rule, flag_text, holding, run_rules, run_shape, text, waits, rule}
+use Rattle.run_options.proofs.Walks.{Name, by_size, Flag, by_journal, by_backfill, all_names, at, dashed, flag_dashed, flag_rule, flag_rules, flag_text, holding, run_rules, run_shape, text, waits, rule}
 
 pub some_fault : (k : _) (ks : Kinds) → k ∷ ks ≢ []
 some_fault k ks = λ e. cc
@@ -103,13 +103,15 @@ flipped xs ys e = go (bytes_eq ys xs) refl
 abbrev flag_named : Bool → Bool → Option Rule
 flag_named j k = cond j (Some (flag_rule by_journal)) (cond k (Some (flag_rule by_backfill)) None)
 
-by_long : (a b c d j k : Bool) → a ≡ false → b ≡ false → c ≡ false → d ≡ false
-    → (cond (true && (a || false)) (Some (rule by_size)) (cond (true && (b || false)) (Some (rule by_fanout)) (cond (true && (c || false)) (Some (rule by_hash))
-    (cond (true && (d || false)) (Some (rule by_shuffle)) (cond (true && (j || false)) (Some (flag_rule by_journal)) (cond (true && (k || false)) (Some (flag_rule by_backfill)) None))))))
-    ≡ flag_named j k
-by_long a b c d true k ea eb ec ed = rw (ea, eb, ec, ed) refl
-by_long a b c d false true ea eb ec ed = rw (ea, eb, ec, ed) refl
-by_long a b c d false false ea eb ec ed = rw (ea, eb, ec, ed) refl
+by_flag : (j k : Bool) → cond (true && (j || false)) (Some (flag_rule by_journal)) (cond (true && (k || false)) (Some (flag_rule by_backfill)) None) ≡ flag_named j k
+by_flag true k = refl
+by_flag false true = refl
+by_flag false false = refl
+
+by_long : (ns : List Name) (rest : List Rule) (name : Text) → ((n : Name) → bytes_eq (text n) name ≡ false)
+    → arg_by_long (map rule ns ++ rest) name ≡ arg_by_long rest name
+by_long [] rest name other = refl
+by_long (n ∷ ns) rest name other = ap (λ b. cond (true && (b || false)) (Some (rule n)) (arg_by_long (map rule ns ++ rest) name)) (other n) ∙ by_long ns rest name other
 
 unknown_flag : (j k : Bool) (v : Option Text) (h : Held) → (j ≡ true → is_some v ≡ true) → (k ≡ true → is_some v ≡ true)
     → long_fault run_rules false (flag_named j k) v h ≢ []
@@ -131,9 +133,7 @@ unknown_long rest h u =
     let whole : before_first (λ b. b == 61) (45 ∷ 45 ∷ rest) ≡ 45 ∷ 45 ∷ name = before_more 45 (45 ∷ rest) refl ∙ ap (λ t. 45 ∷ t) (before_more 45 rest refl) in
     let other : (n : Name) → bytes_eq (text n) name ≡ false = λ n. flipped name (text n) (ap (λ t. bytes_eq t (dashed n)) (sym whole) ∙ u.names n) in
     let is : arg_by_long run_rules name ≡ flag_named (bytes_eq (flag_text by_journal) name) (bytes_eq (flag_text by_backfill) name) =
-    by_long (bytes_eq (codes "size") name) (bytes_eq (codes "fanout") name) (bytes_eq (codes "hash") name) (bytes_eq (codes "shuffle") name)
-    (bytes_eq (flag_text by_journal) name) (bytes_eq (flag_text by_backfill) name)
-    (other by_size) (other by_fanout) (other by_hash) (other by_shuffle) in
+    by_long all_names flag_rules name other ∙ by_flag (bytes_eq (flag_text by_journal) name) (bytes_eq (flag_text by_backfill) name) in
     let valued : (f : Flag) → bytes_eq (flag_text f) name ≡ true → is_some (name_and_value rest).1 ≡ true = λ f e.
     let same : flag_text f ≡ name = (bytes_eq-Decides (flag_text f) name).0 e in
     let named : bytes_eq (before_first (λ b. b == 61) (45 ∷ 45 ∷ rest)) (flag_dashed f) ≡ true =
@@ -184,9 +184,7 @@ unknown_turn word rows p other u = subst (λ ks. ks ≢ []) (sym (turn_idle rows
 
 pub missing : (n : Name) (rows : List Row) → settle_fault run_rules false (holding rows (Some (text n, []))) ≢ []
 missing by_size rows = some_fault _ _
-missing by_fanout rows = some_fault _ _
-missing by_hash rows = some_fault _ _
-missing by_shuffle rows = some_fault _ _
+missing _ rows = some_fault _ _
 
 -- the word is the option's value, or begins with a hyphen and fails
 abbrev pub IsValueOf : Name → Text → List Row → Type 0
@@ -203,15 +201,11 @@ ByShort n so word rows = (turn_so (option (text n)) so word (holding rows (Some 
 
 plain_value : (n : Name) (word : Text) (rows : List Row) → after_so n None word rows ≡ at rows (Some (text n, word ∷ []))
 plain_value by_size word rows = refl
-plain_value by_fanout word rows = refl
-plain_value by_hash word rows = refl
-plain_value by_shuffle word rows = refl
+plain_value _ word rows = refl
 
 plain_passes : (n : Name) (word : Text) (rows : List Row) → turn_so (option (text n)) None word (holding rows (Some (text n, []))) ≡ []
 plain_passes by_size word rows = refl
-plain_passes by_fanout word rows = refl
-plain_passes by_hash word rows = refl
-plain_passes by_shuffle word rows = refl
+plain_passes _ word rows = refl
 
 by_char : (n : Name) (o : Option ℕ) (x : ℕ) (xs word : Text) (rows : List Row) → slice_get (chars (x ∷ xs)) 0 ≡ o → ByShort n (Some (x ∷ xs)) word rows
 unfolding flags_fault bundle_met

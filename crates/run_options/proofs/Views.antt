@@ -6,30 +6,20 @@ use Rattle.std.proofs.lemmas.Slice.Eq.{bytes_eq-Decides}
 use Rattle.std.proofs.lemmas.Bool.Decides.{nat_tests}
 use Rattle.run_options.specs.declared.given.Given.{Given}
 use Rattle.workload.specs.Words.{number_value}
-use Rattle.run_options.specs.Given.{as_brokers, brokers_of, hash_of, most_digits, number_of, with_backfill, with_fanout, with_hash, with_journal, with_shuffle, with_size, with_value}
+use Rattle.run_options.specs.Given.{as_brokers, as_losses, most_digits, number_of, with_backfill, with_fanout, with_journal, with_losses, with_shuffle, with_size, with_value}
 use Rattle.run_options.specs.Words.{is_flag, wants_value, with_word, with_words}
 use Rattle.run_options.proofs.Sets.{with_flag}
 use Rattle.run_options.proofs.Steps.{alone, paired, unpaired}
 use Rattle.run_options.proofs.Strays.{IsUnknown, HasHyphen, before_more}
-use Rattle.run_options.proofs.Walks.{Name, by_size, by_fanout, by_hash, by_shuffle, Flag, by_journal, by_backfill, dashed, flag_dashed}
+use Rattle.run_options.proofs.Walks.{Name, by_size, by_fanout, by_hash, by_shuffle, by_losses, Flag, by_journal, by_backfill, Passes, dashed, flag_dashed, passes}
 
 abbrev Text : Type 0
 Text = List ℕ
 
 -- ---- a word that the reference refuses
 
-by_names : (a b c d : Bool) (x y z w : Option Given) → a ≡ false → b ≡ false → c ≡ false → d ≡ false
-    → (if a then x else if b then y else if c then z else if d then w else None) ≡ None
-by_names false false false false x y z w ea eb ec ed = refl
-by_names true b c d x y z w ea eb ec ed = absurd (true≢false ea)
-by_names false true c d x y z w ea eb ec ed = absurd (true≢false eb)
-by_names false false true d x y z w ea eb ec ed = absurd (true≢false ec)
-by_names false false false true x y z w ea eb ec ed = absurd (true≢false ed)
-
-no_value : (g : Given) (name value : Text) → ((n : Name) → bytes_eq name (dashed n) ≡ false) → with_value g name value ≡ None
-no_value g name value other = by_names (bytes_eq name (dashed by_size)) (bytes_eq name (dashed by_fanout)) (bytes_eq name (dashed by_hash)) (bytes_eq name (dashed by_shuffle))
-    (option_and_then (with_size g) (brokers_of value)) (option_and_then (with_fanout g) (brokers_of value)) (option_and_then (with_hash g) (hash_of value)) (option_and_then (with_shuffle g) (number_of value))
-    (other by_size) (other by_fanout) (other by_hash) (other by_shuffle)
+pub no_value : (g : Given) (name value : Text) → ((n : Name) → bytes_eq name (dashed n) ≡ false) → with_value g name value ≡ None
+no_value g name value other = rw (other by_size, other by_fanout, other by_hash, other by_shuffle, other by_losses) refl
 
 pub record IsStray (word : Text) : Type 0 where
   pub unknown : IsUnknown word
@@ -78,25 +68,15 @@ pub data View (word : Text) : Type 0 where
   stray : IsStray word → View word
 
 -- the name is an option's, or none's
-abbrev Names : Text → Type 0
+abbrev pub Names : Text → Type 0
 Names name = ((n : Name) × (name ≡ dashed n)) ⊎ ((n : Name) → bytes_eq name (dashed n) ≡ false)
 
-names : (name : Text) → Names name
-names name = go (bytes_eq name (dashed by_size)) (bytes_eq name (dashed by_fanout)) (bytes_eq name (dashed by_hash)) (bytes_eq name (dashed by_shuffle)) refl refl refl refl
+pub names : (name : Text) → Names name
+names name = go (passes (λ n. bytes_eq name (dashed n)))
   where
-    none : bytes_eq name (dashed by_size) ≡ false → bytes_eq name (dashed by_fanout) ≡ false → bytes_eq name (dashed by_hash) ≡ false → bytes_eq name (dashed by_shuffle) ≡ false
-        → (n : Name) → bytes_eq name (dashed n) ≡ false
-    none ea eb ec ed by_size = ea
-    none ea eb ec ed by_fanout = eb
-    none ea eb ec ed by_hash = ec
-    none ea eb ec ed by_shuffle = ed
-
-    go : (a b c d : Bool) → bytes_eq name (dashed by_size) ≡ a → bytes_eq name (dashed by_fanout) ≡ b → bytes_eq name (dashed by_hash) ≡ c → bytes_eq name (dashed by_shuffle) ≡ d → Names name
-    go true b c d ea eb ec ed = inl (by_size, (bytes_eq-Decides name (dashed by_size)).0 ea)
-    go false true c d ea eb ec ed = inl (by_fanout, (bytes_eq-Decides name (dashed by_fanout)).0 eb)
-    go false false true d ea eb ec ed = inl (by_hash, (bytes_eq-Decides name (dashed by_hash)).0 ec)
-    go false false false true ea eb ec ed = inl (by_shuffle, (bytes_eq-Decides name (dashed by_shuffle)).0 ed)
-    go false false false false ea eb ec ed = inr (none ea eb ec ed)
+    go : Passes (λ n. bytes_eq name (dashed n)) → Names name
+    go (inl n) = inl (n.0, (bytes_eq-Decides name (dashed n.0)).0 n.1)
+    go (inr none) = inr none
 
 -- the word is no flag's
 abbrev NoFlag : Text → Type 0
@@ -167,15 +147,11 @@ view word = one (bytes_eq word (flag_dashed by_journal)) (bytes_eq word (flag_da
 
 pub whole_wants : (n : Name) (v : Text) → wants_value (dashed n ++ 61 ∷ v) ≡ false
 whole_wants by_size v = refl
-whole_wants by_fanout v = refl
-whole_wants by_hash v = refl
-whole_wants by_shuffle v = refl
+whole_wants _ v = refl
 
 pub whole_word : (n : Name) (v : Text) (g : Given) → with_word g (dashed n ++ 61 ∷ v) ≡ with_value g (dashed n) v
 whole_word by_size v g = refl
-whole_word by_fanout v g = refl
-whole_word by_hash v g = refl
-whole_word by_shuffle v g = refl
+whole_word _ v g = refl
 
 pub flag_wants : (f : Flag) → wants_value (flag_dashed f) ≡ false
 flag_wants by_journal = refl
@@ -187,9 +163,7 @@ flag_word by_backfill g = refl
 
 pub named_wants : (n : Name) → wants_value (dashed n) ≡ true
 named_wants by_size = refl
-named_wants by_fanout = refl
-named_wants by_hash = refl
-named_wants by_shuffle = refl
+named_wants _ = refl
 
 -- no value begins with a hyphen
 no_number : (rest : Text) (a b c : Bool) → (if a && (b && false && c) then Some (number_value (45 ∷ rest)) else None) ≡ None
@@ -205,6 +179,7 @@ hyphen_value by_size g rest = ap (λ o. option_and_then (with_size g) (option_an
 hyphen_value by_fanout g rest = ap (λ o. option_and_then (with_fanout g) (option_and_then as_brokers o)) (hyphen_number rest)
 hyphen_value by_hash g rest = refl
 hyphen_value by_shuffle g rest = ap (option_and_then (with_shuffle g)) (hyphen_number rest)
+hyphen_value by_losses g rest = ap (λ o. option_and_then (with_losses g) (option_and_then as_losses o)) (hyphen_number rest)
 
 pub hyphen_refused : (n : Name) (g : Given) (word : Text) → HasHyphen word → with_value g (dashed n) word ≡ None
 hyphen_refused n g word h = ap (with_value g (dashed n)) h.1 ∙ hyphen_value n g h.0

@@ -1,5 +1,5 @@
 -- What clap's walk makes of one word.
-use Rattle.std.proofs.Common.{◌≡◌, ◌++◌, true, false, List, [], ◌∷◌, Option, Some, None, refl, codes}
+use Rattle.std.proofs.Common.{◌≡◌, ◌⊎◌, ◌++◌, ◌&&◌, Bool, true, false, List, [], ◌∷◌, map, Option, Some, None, refl, sym, ap, inl, inr, codes, bytes_eq, true≢false}
 use Rattle.clap.specs.Walk.{Held, Row, Rule, Text, Walk, idle, option, settled_rows, used, walked}
 use Rattle.clap.specs.Simple.{Shape, is_simple, built, new_shape}
 use Rattle.clap.specs.Kinds.{or_else}
@@ -13,17 +13,76 @@ pub data Name : Type 0 where
   by_fanout : Name
   by_hash : Name
   by_shuffle : Name
+  by_losses : Name
 
 abbrev pub text : Name → Text
 text by_size = codes "size"
 text by_fanout = codes "fanout"
 text by_hash = codes "hash"
 text by_shuffle = codes "shuffle"
+text by_losses = codes "losses"
+
+-- all of them, as they stand in the command
+abbrev pub all_names : List Name
+all_names = by_size ∷ by_fanout ∷ by_hash ∷ by_shuffle ∷ by_losses ∷ []
 
 abbrev pub dashed : Name → Text
 dashed n = 45 ∷ 45 ∷ text n
 
--- the options without one
+-- each has a text of its own
+pub same_name : (n m : Name) → bytes_eq (text n) (text m) ≡ true → n ≡ m
+same_name by_size by_size e = refl
+same_name by_fanout by_fanout e = refl
+same_name by_hash by_hash e = refl
+same_name by_shuffle by_shuffle e = refl
+same_name by_losses by_losses e = refl
+same_name _ _ e = absurd (true≢false (sym e))
+
+-- ---- a test of each
+
+abbrev pub both : Bool → Bool → Bool
+both a b = a && b
+
+abbrev pub every : (Name → Bool) → Bool
+every p = both (p by_size) (both (p by_fanout) (both (p by_hash) (both (p by_shuffle) (p by_losses))))
+
+not_first : (a b : Bool) → a ≡ false → both a b ≡ false
+not_first a b e = ap (λ x. both x b) e
+
+not_later : (a b : Bool) → b ≡ false → both a b ≡ false
+not_later true b e = e
+not_later false b e = refl
+
+pub not_every : (p : Name → Bool) (n : Name) → p n ≡ false → every p ≡ false
+not_every p by_size e = not_first _ _ e
+not_every p by_fanout e = not_later _ _ (not_first _ _ e)
+not_every p by_hash e = not_later _ _ (not_later _ _ (not_first _ _ e))
+not_every p by_shuffle e = not_later _ _ (not_later _ _ (not_later _ _ (not_first _ _ e)))
+not_every p by_losses e = not_later _ _ (not_later _ _ (not_later _ _ (not_later _ _ e)))
+
+-- one passes, or none
+abbrev pub Passes : (Name → Bool) → Type 0
+Passes p = ((n : Name) × (p n ≡ true)) ⊎ ((n : Name) → p n ≡ false)
+
+pub passes : (p : Name → Bool) → Passes p
+passes p = at by_size (λ size. at by_fanout (λ fanout. at by_hash (λ hash. at by_shuffle (λ shuffle. at by_losses (λ losses. inr (none size fanout hash shuffle losses))))))
+  where
+    at : (n : Name) → (p n ≡ false → Passes p) → Passes p
+    at n next = go (p n) refl
+      where
+        go : (b : Bool) → p n ≡ b → Passes p
+        go true e = inl (n, e)
+        go false e = next e
+
+    none : p by_size ≡ false → p by_fanout ≡ false → p by_hash ≡ false → p by_shuffle ≡ false → p by_losses ≡ false → (n : Name) → p n ≡ false
+    none size fanout hash shuffle losses by_size = size
+    none size fanout hash shuffle losses by_fanout = fanout
+    none size fanout hash shuffle losses by_hash = hash
+    none size fanout hash shuffle losses by_shuffle = shuffle
+    none size fanout hash shuffle losses by_losses = losses
+
+-- ---- the options without a value
+
 pub data Flag : Type 0 where
   by_journal : Flag
   by_backfill : Flag
@@ -50,8 +109,11 @@ flag_rule f = record (flag (flag_text f)) {
   range = Some (record { start_inclusive = 0; end_inclusive = 0 });
 }
 
+abbrev pub flag_rules : List Rule
+flag_rules = flag_rule by_journal ∷ flag_rule by_backfill ∷ []
+
 abbrev pub run_rules : List Rule
-run_rules = rule by_size ∷ rule by_fanout ∷ rule by_hash ∷ rule by_shuffle ∷ flag_rule by_journal ∷ flag_rule by_backfill ∷ []
+run_rules = map rule all_names ++ flag_rules
 
 abbrev pub run_shape : Shape
 run_shape = record (new_shape (codes "run")) {
@@ -87,32 +149,24 @@ waits n rows = record (at rows (Some (text n, []))) { waiting = option (text n) 
 pub whole_turn : (n : Name) (v : Text) (rows : List Row) (p : Option (Text × List Text))
     → turn_fault run_shape [] (at rows p) (dashed n ++ 61 ∷ v) ≡ or_else (react_fault run_rules false (rule n) (v ∷ []) (holding rows p)) []
 whole_turn by_size v rows p = refl
-whole_turn by_fanout v rows p = refl
-whole_turn by_hash v rows p = refl
-whole_turn by_shuffle v rows p = refl
+whole_turn _ v rows p = refl
 
 pub whole_walk : (n : Name) (v : Text) (rows : List Row) (p : Option (Text × List Text))
     → walked run_rules [] (at rows p) (dashed n ++ 61 ∷ v) ≡ at (used (rule n) (v ∷ []) (settled_rows run_rules p rows)) None
 unfolding walked
 whole_walk by_size v rows p = refl
-whole_walk by_fanout v rows p = refl
-whole_walk by_hash v rows p = refl
-whole_walk by_shuffle v rows p = refl
+whole_walk _ v rows p = refl
 
 pub named_turn : (n : Name) (rows : List Row) (p : Option (Text × List Text))
     → turn_fault run_shape [] (at rows p) (dashed n) ≡ or_else (settle_fault run_rules false (holding rows p)) []
 named_turn by_size rows p = refl
-named_turn by_fanout rows p = refl
-named_turn by_hash rows p = refl
-named_turn by_shuffle rows p = refl
+named_turn _ rows p = refl
 
 pub named_walk : (n : Name) (rows : List Row) (p : Option (Text × List Text))
     → walked run_rules [] (at rows p) (dashed n) ≡ waits n (settled_rows run_rules p rows)
 unfolding walked
 named_walk by_size rows p = refl
-named_walk by_fanout rows p = refl
-named_walk by_hash rows p = refl
-named_walk by_shuffle rows p = refl
+named_walk _ rows p = refl
 
 pub flag_turn : (f : Flag) (rows : List Row) (p : Option (Text × List Text))
     → turn_fault run_shape [] (at rows p) (flag_dashed f) ≡ or_else (react_fault run_rules false (flag_rule f) [] (holding rows p)) []

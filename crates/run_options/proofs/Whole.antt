@@ -15,7 +15,7 @@ use Rattle.run_options.proofs.Sets.{nothing_then, then_in_turn, then_same, with_
 use Rattle.run_options.proofs.Steps.{alone, ended, paired, unpaired}
 use Rattle.run_options.proofs.Strays.{HasHyphen, IsValueOf, first_fails, late_turn, missing, some_fault, unknown_turn, waits_turn}
 use Rattle.run_options.proofs.Views.{IsStray, View, flagged, hyphen_refused, named, named_wants, stray, view, flag_wants, flag_word, whole, whole_wants, whole_word}
-use Rattle.run_options.proofs.Walks.{Name, by_size, by_fanout, by_hash, by_shuffle, Flag, at, dashed, flag_dashed, flag_rule, flag_text, flag_turn, flag_walk, holding, named_turn, named_walk, rule, run_rules, run_shape, text, waits, whole_turn, whole_walk}
+use Rattle.run_options.proofs.Walks.{Name, by_size, Flag, at, dashed, flag_dashed, flag_rule, flag_text, flag_turn, flag_walk, holding, named_turn, named_walk, rule, run_rules, run_shape, text, waits, whole_turn, whole_walk}
 
 abbrev held_after : Walk → List Text → Held
 held_after w words = (fold (walked run_rules []) w words).held
@@ -99,15 +99,11 @@ reacts a values rows p e = ap (λ t. or_else (or_else t (use_fault false a value
 
 pending_fault : (n : Name) (v : Text) (rows : List Row) → settle_fault run_rules false (holding rows (Some (text n, v ∷ []))) ≡ use_fault false (rule n) (v ∷ []) rows
 pending_fault by_size v rows = refl
-pending_fault by_fanout v rows = refl
-pending_fault by_hash v rows = refl
-pending_fault by_shuffle v rows = refl
+pending_fault _ v rows = refl
 
 pending_rows : (n : Name) (v : Text) (rows : List Row) → settled_rows run_rules (Some (text n, v ∷ [])) rows ≡ used (rule n) (v ∷ []) rows
 pending_rows by_size v rows = refl
-pending_rows by_fanout v rows = refl
-pending_rows by_hash v rows = refl
-pending_rows by_shuffle v rows = refl
+pending_rows _ v rows = refl
 
 -- ---- the walk
 

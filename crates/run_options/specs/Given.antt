@@ -24,6 +24,14 @@ as_brokers n = if nat_le 1 n && nat_le n 32 then Some n else None
 abbrev pub brokers_of : List ℕ → Option ℕ
 brokers_of text = option_and_then as_brokers (number_of text)
 
+-- a number of losses: 0 to 10,000
+abbrev pub as_losses : ℕ → Option ℕ
+as_losses n = if nat_le n 10000 then Some n else None
+
+-- the number of losses that a text writes
+abbrev pub losses_of : List ℕ → Option ℕ
+losses_of text = option_and_then as_losses (number_of text)
+
 -- the hash that a text names
 abbrev pub hash_of : List ℕ → Option Hash
 hash_of text = if bytes_eq text (codes "sha1") then Some Sha1
@@ -37,6 +45,7 @@ nothing = record {
   fanout = None;
   hash = None;
   shuffle = None;
+  losses = None;
   journal = false;
   backfill = false;
 }
@@ -54,6 +63,9 @@ with_hash g h = if is_some g.hash then None else Some (record g { hash = Some h 
 abbrev pub with_shuffle : Given → ℕ → Option Given
 with_shuffle g seed = if is_some g.shuffle then None else Some (record g { shuffle = Some seed })
 
+abbrev pub with_losses : Given → ℕ → Option Given
+with_losses g n = if is_some g.losses then None else Some (record g { losses = Some n })
+
 abbrev pub with_journal : Given → Option Given
 with_journal g = if g.journal then None else Some (record g { journal = true })
 
@@ -68,16 +80,18 @@ with_value g name value = if bytes_eq name (codes "--size")
     else if bytes_eq name (codes "--hash") then option_and_then (with_hash g) (hash_of value)
     else if bytes_eq name (codes "--shuffle")
     then option_and_then (with_shuffle g) (number_of value)
+    else if bytes_eq name (codes "--losses") then option_and_then (with_losses g) (losses_of value)
     else None
 
--- the options: four brokers, two below one, SHA-1, no drawn order, no journal and no backfill where
--- the words say nothing else
+-- the options: four brokers, two below one, SHA-1, no drawn order, no losses, no journal and no
+-- backfill where the words say nothing else
 abbrev pub options_from : Given → Options
 options_from g = record {
   size = unwrap_or g.size 4;
   fanout = unwrap_or g.fanout 2;
   hash = unwrap_or g.hash Sha1;
   shuffle = g.shuffle;
+  losses = unwrap_or g.losses 0;
   journal = g.journal;
   backfill = g.backfill;
 }
@@ -86,12 +100,19 @@ options_from g = record {
 abbrev pub IsBrokers : ℕ → Type 0
 IsBrokers n = (1 ≤ n) × (n ≤ 32)
 
--- the numbers of brokers that are given
+-- a number of losses: at most 10,000
+abbrev pub AreLosses : ℕ → Type 0
+AreLosses n = n ≤ 10000
+
+-- the numbers of brokers and of losses that are given
 pub record IsWithin (g : Given) : Type 0 where
   pub size : IfSome g.size IsBrokers
   pub fanout : IfSome g.fanout IsBrokers
+  pub losses : IfSome g.losses AreLosses
 
--- an instance has 1 to 32 brokers, and so many stand below one
+-- an instance has 1 to 32 brokers, and so many stand below one; at most 10,000 announcements are
+-- lost, repeated or swapped
 pub record AreWithin (o : Options) : Type 0 where
   pub size : IsBrokers o.size
   pub fanout : IsBrokers o.fanout
+  pub losses : AreLosses o.losses

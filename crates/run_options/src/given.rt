@@ -1,6 +1,6 @@
 //! What words gave.
 ghost use Rattle.std.specs.Prelude.{◌≡◌, IfSome};
-ghost use Rattle.run_options.specs.Given.{brokers_of, hash_of, number_of, options_from, AreWithin, IsBrokers, IsWithin};
+ghost use Rattle.run_options.specs.Given.{brokers_of, hash_of, losses_of, number_of, options_from, AreWithin, AreLosses, IsBrokers, IsWithin};
 
 use crate::Options;
 use fl_digest::Hash;
@@ -9,6 +9,9 @@ use workload::words::number;
 /// The most digits of a number.
 const MOST_DIGITS: usize = 20;
 
+/// The most losses of a run.
+const MOST_LOSSES: u64 = 10_000;
+
 /// The options that words gave.
 #[derive(Clone, Copy)]
 pub struct Given {
@@ -16,6 +19,7 @@ pub struct Given {
     pub fanout: Option<u32>,
     pub hash: Option<Hash>,
     pub shuffle: Option<u64>,
+    pub losses: Option<u32>,
     pub journal: bool,
     pub backfill: bool,
 }
@@ -37,6 +41,19 @@ pub fn brokers(text: &str) -> Option<u32>
 {
     let number = number_of(text)?;
     if 1 <= number && number <= 32 {
+        Some(number as u32)
+    } else {
+        None
+    }
+}
+
+/// A number of losses, 0 to 10,000.
+pub fn losses(text: &str) -> Option<u32>
+    ensures value { result ≡ losses_of text.now }
+    ensures within { IfSome result AreLosses }
+{
+    let number = number_of(text)?;
+    if number <= MOST_LOSSES {
         Some(number as u32)
     } else {
         None
@@ -65,6 +82,7 @@ impl Given {
             fanout: self.fanout.unwrap_or(2),
             hash: self.hash.unwrap_or(Hash::Sha1),
             shuffle: self.shuffle,
+            losses: self.losses.unwrap_or(0),
             journal: self.journal,
             backfill: self.backfill,
         }

@@ -30,6 +30,9 @@ pub struct Options {
     pub hash: Hash,
     /// The seed by which the order of the run's steps is drawn, where it is: any number below 2^64.
     pub shuffle: Option<u64>,
+    /// How many announcements of roots between brokers may be lost, repeated or swapped, where the
+    /// order is drawn: 0 to 10,000.
+    pub losses: u32,
     /// Whether the journal is printed behind the answers.
     pub journal: bool,
     /// Whether a job may run before the first in the queue, where that one isn't delayed.
