@@ -147,4 +147,4 @@ module _ (v : WorldValue) where
             sym (ap (λ l. slice_get l 0) going ∙ ap (λ l. slice_get (or_close (l ++ losses v)) 0) is ∙ ap Some same)
 
     pub close_first : before_end v ≡ [] → losses v ≡ [] → Some step.Close ≡ slice_get (possible_steps v) 0
-    close_first none no = sym (ap (λ l. slice_get l 0) going ∙ ap₂ (λ l m. slice_get (or_close (l ++ m)) 0) none no)
+    close_first none unlosing = sym (ap (λ l. slice_get l 0) going ∙ ap₂ (λ l m. slice_get (or_close (l ++ m)) 0) none unlosing)

@@ -1,15 +1,17 @@
 -- The steps that are listed before the end are exactly those that can be made.
-use Rattle.std.proofs.Common.{◌≡◌, ◌∙◌, ℕ, ◌+◌, ◌<◌, ◌==◌, inl, inr, List, [], ◌∷◌, ◌++◌, map, Bool, true, false, ◌&&◌, ◌||◌, Option, Some, None, length, is_err, refl, sym, ap, subst, true≢false, arith}
+use Rattle.std.proofs.Common.{◌≡◌, ◌∙◌, ℕ, ◌+◌, ◌<◌, ◌==◌, inl, inr, List, [], ◌∷◌, ◌++◌, map, Bool, true, false, ◌&&◌, Option, Some, None, length, is_err, refl, sym, ap, subst, true≢false, arith}
 use Rattle.std.specs.Prelude.{Result, not, is_some, nat_lt, option_and_then, option_map, slice_get, slice_index_or, unwrap_or, Contains, if◌then◌else◌}
 use Rattle.std.specs.List.{cons_option, enumerate_from, range_with_len}
 use Rattle.std.specs.Option.{option_map_or}
 use Rattle.std.proofs.lemmas.Bool.{eq-eqb, eqb-true, ltb-true}
 use Rattle.std.proofs.lemmas.Option.{slice_get_within, unwrap_or-slice_get}
 use Rattle.std.proofs.lemmas.List.Elements.{Contains-append_left, Contains-append_right, Contains-append_cases}
-use Rattle.instance.specs.kvs_core.Order.{all_steps}
+use Rattle.instance.specs.kvs_core.Order.{all_steps, losses}
+use Rattle.instance.specs.kvs_core.Steps.{can_step as core_can_step}
 use Rattle.instance.specs.kvs_core.Walk.{nth}
 use Rattle.instance.specs.kvs_rules.declared.events.KvsStep.{KvsStep}
 use Rattle.instance.specs.services.Order.{possible as turns, possible_losses}
+use Rattle.instance.specs.services.job_service.kvs_space.declared.links.Loss.TheVariants as loss
 use Rattle.instance.specs.services.Steps.{can_step}
 use Rattle.instance.specs.workload.declared.work.Line.{Line}
 use Rattle.instance.specs.answers.declared.steps.Step.{Step}
@@ -47,10 +49,6 @@ pub both : (a b : Bool) → (a && b) ≡ true → (a ≡ true) × (b ≡ true)
 both true true h = (refl, refl)
 both true false h = cc
 both false b h = cc
-
-or_so : (a b : Bool) → a ≡ true → (a || b) ≡ true
-or_so true b h = refl
-or_so false b h = cc
 
 -- a living instance is one that was born and hasn't gone
 pub living_is : (o : Option Home) (h : Home) → option_and_then if_living o ≡ Some h → (o ≡ Some h) × (h.gone ≡ false)
@@ -296,8 +294,11 @@ module _ (v : WorldValue) where
             subst (λ t. can_make v t ≡ true) m.1 (of_is i h (may_go v.homes) here alive m.0)
         lived kind.Loss c =
             let m = from_map (step.Kvs i) (possible_losses h.instance.services) s c in
-            let w = from_filter _ _ m.0 m.1 in
-            subst (λ t. can_make v t ≡ true) m.2 (of_is i h (λ h. can_step h.instance.services m.0) here alive (or_so _ _ w.1))
+            let core = h.instance.services.jobs.manager.core in
+            let w = from_filter (core_can_step core) (losses core.size loss.Lost ++ (losses core.size loss.Repeated ++ losses core.size loss.Swapped)) m.0 m.1 in
+            let here_too : core_can_step core m.0 ≡ true = w.1 in
+            let can : can_step h.instance.services m.0 ≡ true = cc in
+            subst (λ t. can_make v t ≡ true) m.2 (of_is i h (λ h. can_step h.instance.services m.0) here alive can)
 
     made_of : (k : Kind) (s : Step) → Contains (steps_of v k) s → can_make v s ≡ true
     made_of k s c =

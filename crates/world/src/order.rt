@@ -62,7 +62,7 @@ impl Order {
 
     /// How many losses may still be made.
     pub fn losses_left(&self) -> u32
-        ensures { result ≡ losses_left self }
+        ensures { result ≡ losses_left self.now }
     {
         match self {
             Order::Settled => 0,
