@@ -1,7 +1,7 @@
 //! The command that clap reads, and what its matches give.
 ghost use Rattle.std.specs.Prelude.{◌≡◌, ◌≢◌, IfOk, IfSome, codes, false, map, string_bytes};
 ghost use Rattle.clap.specs.Words.{app_of, first_value, found_of, kind_of, one_text, rule_of};
-ghost use Rattle.run_options.specs.Command.{flag, run_app, valued, IsParse};
+ghost use Rattle.run_options.specs.Command.{bare, flag, run_app, valued, IsParse};
 ghost use Rattle.run_options.specs.Given.{brokers_of, hash_of, losses_of, number_of, AreLosses, IsBrokers, IsWithin};
 ghost use Rattle.run_options.specs.Matches.{field, given_in, IsFlag};
 
@@ -27,13 +27,20 @@ fn flag<'a>(alloc: Global, name: &'a str) -> Arg<'a>
     Arg::new(alloc, name).long(name).action(ArgAction::SetTrue)
 }
 
+/// The command of a run without its options.
+fn bare<'a>(alloc: Global) -> Command<'a>
+    ensures { app_of result ≡ bare }
+{
+    Command::new(alloc, "run")
+        .no_binary_name(true)
+        .disable_help_flag(true)
+}
+
 /// The command of a run, whose words are its options.
 fn command<'a>(alloc: Global) -> Result<Command<'a>, AllocError>
     ensures { IfOk result (λ command. app_of command ≡ run_app) }
 {
-    let run = Command::new(alloc, "run")
-        .no_binary_name(true)
-        .disable_help_flag(true);
+    let run = bare(alloc);
     let run = run.arg(valued(alloc, "size"))?;
     let run = run.arg(valued(alloc, "fanout"))?;
     let run = run.arg(valued(alloc, "hash"))?;

@@ -1,13 +1,12 @@
-use Rattle.std.proofs.Common.{◌≡◌, ◌∙◌, ap₂, rules}
-use Rattle.clap.specs.Words.{app_of, with_rule}
-use Rattle.run_options.specs.Command.{bare, run_app}
+use Rattle.std.proofs.Common.{◌∙◌, ap₂}
+use Rattle.clap.specs.Words.{with_rule}
+use Rattle.run_options.specs.Command.{run_app}
 use Rattle.run_options.proofs.command.command.Goals as goal
 
 pub returns : goal.returns
 unfolding run_app
 returns c =
-    let bare_is : app_of c.disable_help_flag-run.result ≡ bare = search rules in
-    let size = c.in_ok-run.ensures.shape c.valued.ensures.own ∙ ap₂ with_rule bare_is c.valued.ensures.rule in
+    let size = c.in_ok-run.ensures.shape c.valued.ensures.own ∙ ap₂ with_rule c.bare-run.ensures c.valued.ensures.rule in
     let fanout = c.in_ok-run-2.ensures.shape c.valued-2.ensures.own ∙ ap₂ with_rule size c.valued-2.ensures.rule in
     let hash = c.in_ok-run-3.ensures.shape c.valued-3.ensures.own ∙ ap₂ with_rule fanout c.valued-3.ensures.rule in
     let shuffle = c.in_ok-run-4.ensures.shape c.valued-4.ensures.own ∙ ap₂ with_rule hash c.valued-4.ensures.rule in
