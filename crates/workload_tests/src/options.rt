@@ -10,6 +10,7 @@ const DEFAULT: Options = Options {
     fanout: 2,
     hash: Hash::Sha1,
     shuffle: None,
+    losses: 0,
     journal: false,
     backfill: false,
 };
@@ -20,7 +21,7 @@ struct Case {
     options: Option<Options>,
 }
 
-const CASES: [Case; 105] = [
+const CASES: [Case; 120] = [
     Case {
         words: &[],
         options: Some(DEFAULT),
@@ -195,6 +196,81 @@ const CASES: [Case; 105] = [
         options: None,
     },
     Case {
+        words: &["--losses", "0"],
+        options: Some(DEFAULT),
+    },
+    Case {
+        words: &["--losses=10000"],
+        options: Some(Options {
+            losses: 10000,
+            ..DEFAULT
+        }),
+    },
+    Case {
+        words: &["--losses", "10001"],
+        options: None,
+    },
+    Case {
+        words: &["--losses"],
+        options: None,
+    },
+    Case {
+        words: &["--losses="],
+        options: None,
+    },
+    Case {
+        words: &["--losses", "4294967296"],
+        options: None,
+    },
+    Case {
+        words: &["--losses", "-1"],
+        options: None,
+    },
+    Case {
+        words: &["--losses", "7", "--losses=7"],
+        options: None,
+    },
+    Case {
+        words: &["--losses", "0", "--losses", "0"],
+        options: None,
+    },
+    Case {
+        words: &["--losses", "00000000000000000040"],
+        options: Some(Options {
+            losses: 40,
+            ..DEFAULT
+        }),
+    },
+    Case {
+        words: &["--losses", "--shuffle", "3"],
+        options: None,
+    },
+    Case {
+        words: &["--loss", "3"],
+        options: None,
+    },
+    Case {
+        words: &["--shuffle", "3", "--losses=20"],
+        options: Some(Options {
+            shuffle: Some(3),
+            losses: 20,
+            ..DEFAULT
+        }),
+    },
+    Case {
+        words: &["--losses", "20", "--journal", "--shuffle=3"],
+        options: Some(Options {
+            shuffle: Some(3),
+            losses: 20,
+            journal: true,
+            ..DEFAULT
+        }),
+    },
+    Case {
+        words: &["--shuffle", "--losses", "20"],
+        options: None,
+    },
+    Case {
         words: &["--shuffle", "3", "--journal", "--size=7"],
         options: Some(Options {
             size: 7,
@@ -233,6 +309,7 @@ const CASES: [Case; 105] = [
             fanout: 3,
             hash: Hash::Sha256,
             shuffle: None,
+            losses: 0,
             journal: true,
             backfill: false,
         }),
