@@ -1,5 +1,5 @@
 -- The options that texts give, each at most once.
-use Rattle.std.proofs.Common.{◌≡◌, ◌∙◌, ◌||◌, cond, ℕ, Bool, true, false, List, Option, Some, None, is_some, option_map, refl, sym, ap, subst, bytes_eq, true≢false}
+use Rattle.std.proofs.Common.{◌≡◌, ◌∙◌, ◌||◌, cond, ℕ, Bool, true, false, Option, Some, None, is_some, option_map, refl, sym, ap, subst, bytes_eq, true≢false}
 use Rattle.std.specs.Prelude.{option_and_then, if◌then◌else◌}
 use Rattle.clap.specs.Walk.{Text}
 use Rattle.fl_digest.specs.declared.Hash.{Hash}
