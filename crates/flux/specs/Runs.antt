@@ -1,8 +1,9 @@
 -- What a run promises.
-use Rattle.std.specs.Prelude.{ℕ, List, Option, Some, None, Bool, not, is_some, if◌then◌else◌}
+use Rattle.std.specs.Prelude.{ℕ, ◌≤◌, List, Option, Some, None, Bool, count_by, not, is_some, if◌then◌else◌}
 use Rattle.run_options.specs.declared.Options.{Options}
 use Rattle.world.specs.workload.declared.work.Workload.{Workload}
 use Rattle.world.specs.answers.Chronicle.{Setup}
+use Rattle.world.specs.Choice.{is_loss}
 use Rattle.world.specs.declared.order.Schedule.{Schedule}
 use Rattle.world.specs.declared.order.Schedule.TheVariants as schedule
 use Rattle.world.specs.hierarchy.Headline.{IsTrueRun}
@@ -40,22 +41,24 @@ setup_of terms o work = record {
   work = work;
 }
 
--- the order in which a run makes its steps
+-- the order in which a run makes its steps, and how many of them may be losses
 abbrev pub schedule_of : Options → Schedule
 schedule_of o = by o.shuffle
   where
     by : Option ℕ → Schedule
     by None = schedule.Settled
-    by (Some seed) = schedule.Shuffled seed
+    by (Some seed) = schedule.Shuffled seed o.losses
 
 -- the chronicle of the workload keeps what a run promises; it is legal and whole, settled where no
--- drawn order is asked for, the text prints it, and the steps made tell the whole of it
+-- drawn order is asked for, the text prints it, and the steps made tell the whole of it; no more of
+-- them lose, repeat or swap an announcement than the options allow
 pub record IsRunOf (terms : Terms) (o : Options) (work : Workload)
     (run : Run) (text : List ℕ) : Type 0 where
   pub promises : KeepsItsPromises (setup_of terms o work) run.chronicle
   pub true_run : IsTrueRun (setup_of terms o work) (is_settled o) o.journal run.chronicle text
   pub stretches : AreRunStretches (setup_of terms o work) run.steps.items run.ends.items
       run.chronicle
+  pub losses : count_by is_loss run.steps.items ≤ o.losses
 
 -- the source was read to its end, its text is a workload's, and this is a run of that workload,
 -- which the text prints

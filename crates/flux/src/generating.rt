@@ -1,5 +1,5 @@
 //! The summaries of runs of workloads that a seed draws.
-ghost use Rattle.std.specs.Prelude.{◌≡◌, ◌≤◌, ℕ, List, true, false, All, IfOk};
+ghost use Rattle.std.specs.Prelude.{◌≡◌, ◌≤◌, ℕ, List, count_by, true, false, All, IfOk};
 ghost use Rattle.flux_commands.specs.Drawn.{generated_options};
 ghost use Rattle.world.specs.workload.Laws.{HasOwnLabels, IsBuilt, IsWithin, KeepsTallies};
 ghost use Rattle.world.specs.homes.Grant.{grant_text};
@@ -7,6 +7,7 @@ ghost use Rattle.world.specs.hierarchy.Headline.{IsTrueRun};
 ghost use Rattle.world.specs.hierarchy.Promises.{KeepsItsPromises};
 ghost use Rattle.world.specs.hierarchy.Stretches.{AreRunStretches};
 ghost use Rattle.summaries.specs.Summary.{IsSummary};
+ghost use Rattle.world.specs.Choice.{is_loss};
 ghost use Rattle.flux.specs.Runs.{setup_of};
 
 use crate::playing::{Played, play};
@@ -49,6 +50,8 @@ pub fn play_drawn(alloc: Global, terms: Terms, work: Workload) -> Result<Played,
         played.ended.steps.items played.ended.ends.items played.ended.chronicle) }
     ensures promises { IfOk result (λ played.
         KeepsItsPromises (setup_of terms generated_options work) played.ended.chronicle) }
+    ensures losses { IfOk result
+        (λ played. count_by is_loss played.ended.steps.items ≤ generated_options.losses) }
     ensures summary { IfOk result (λ played. IsSummary
         (setup_of terms generated_options work) played.ended.chronicle played.text.items) }
 {

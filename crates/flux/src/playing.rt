@@ -1,5 +1,5 @@
 //! A run of a workload, to its end.
-ghost use Rattle.std.specs.Prelude.{◌≡◌, [], false, true, All, IfOk, OnOk};
+ghost use Rattle.std.specs.Prelude.{◌≡◌, ◌≤◌, ◌+◌, [], count_by, false, true, All, IfOk, OnOk};
 ghost use Rattle.run_options.specs.Given.{AreWithin};
 ghost use Rattle.world.specs.workload.Laws.{HasOwnLabels, IsBuilt, IsWithin, KeepsTallies};
 ghost use Rattle.world.specs.answers.Headline.{output_text};
@@ -8,7 +8,7 @@ ghost use Rattle.world.specs.hierarchy.Laws.{AreValid};
 ghost use Rattle.world.specs.hierarchy.Legal.{IsSettledRun};
 ghost use Rattle.world.specs.hierarchy.Promises.{KeepsItsPromises};
 ghost use Rattle.world.specs.hierarchy.Stretches.{AreRunStretches};
-ghost use Rattle.world.specs.Choice.{order_of};
+ghost use Rattle.world.specs.Choice.{is_loss, losses_left, order_of};
 ghost use Rattle.world.specs.declared.order.Order.TheVariants as order;
 ghost use Rattle.flux.specs.Runs.{is_settled, schedule_of, setup_of, terms_of};
 
@@ -29,12 +29,16 @@ pub struct Played {
     pub ended: Ended,
 }
 
-/// The order in which a run makes its steps: drawn where its options have a seed.
+/// The order in which a run makes its steps: drawn where its options have a seed, with losses as
+/// they allow.
 fn schedule_of(options: Options) -> Schedule
     ensures { result ≡ schedule_of options }
 {
     match options.shuffle {
-        Some(seed) => Schedule::Shuffled(seed),
+        Some(seed) => Schedule::Shuffled {
+            seed,
+            losses: options.losses,
+        },
         None => Schedule::Settled,
     }
 }
@@ -63,6 +67,9 @@ fn make_steps(world: &mut World) -> Result<(), CoreFault>
     ensures closed { OnOk result (world.new.closed ≡ true) }
     ensures settled { world.old.order ≡ order.Settled
         → OnOk result (IsSettledRun world.new.set world.new.chronicle) }
+    ensures losses { OnOk result
+        (count_by is_loss world.new.steps + losses_left world.new.order
+        ≡ count_by is_loss world.old.steps + losses_left world.old.order) }
 {
     for _ in 0..u64::MAX {
         match world.next(0) {
@@ -101,7 +108,7 @@ fn begun(alloc: Global, terms: Terms, options: Options, work: Workload) -> Resul
     ensures ready { IfOk result (λ world. world.spent ≡ false) }
     ensures set { IfOk result (λ world. world.set ≡ setup_of terms options work) }
     ensures order { IfOk result (λ world. world.order ≡ order_of (schedule_of options)) }
-    ensures empty { IfOk result (λ world. world.chronicle ≡ []) }
+    ensures empty { IfOk result (λ world. (world.chronicle ≡ []) × (world.steps ≡ [])) }
 {
     let setting = Setting {
         size: options.size,
@@ -125,6 +132,8 @@ fn run(alloc: Global, terms: Terms, options: Options, work: Workload) -> Result<
         played.ended.steps.items played.ended.ends.items played.ended.chronicle) }
     ensures valid { IfOk result
         (λ played. AreValid (setup_of terms options work) played.ended.chronicle) }
+    ensures losses { IfOk result
+        (λ played. count_by is_loss played.ended.steps.items ≤ options.losses) }
 {
     let mut world = begun(alloc, terms, options, work)?;
     // a fault lets go of the world by a call: in place it is some six minutes of proof
@@ -168,6 +177,8 @@ pub fn play(
         played.ended.steps.items played.ended.ends.items played.ended.chronicle) }
     ensures promises { IfOk result
         (λ played. KeepsItsPromises (setup_of terms options work) played.ended.chronicle) }
+    ensures losses { IfOk result
+        (λ played. count_by is_loss played.ended.steps.items ≤ options.losses) }
 {
     time_stays_within();
     a_true_run_keeps_its_promises();

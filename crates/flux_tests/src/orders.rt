@@ -1,6 +1,7 @@
 //! The order in which a run makes its steps.
 ghost use Rattle.std.specs.Prelude.{◌≡◌, [], false, IfOk, OnOk};
 
+use kvs_rules::KvsStep;
 use std::alloc::Global;
 use std::test::Fail;
 use workload_reader::laws::{
@@ -67,11 +68,43 @@ fn steps_of(alloc: Global, how: Schedule) -> Result<Vec<Step>, Fail> {
 fn a_seed_gives_one_order(rt: HostRuntime) -> Result<(), Fail> {
     let settled = steps_of(rt.alloc(), Schedule::Settled)?;
     for seed in [0, 1, 2, u64::MAX] {
-        let one = steps_of(rt.alloc(), Schedule::Shuffled(seed))?;
-        let again = steps_of(rt.alloc(), Schedule::Shuffled(seed))?;
+        let one = steps_of(rt.alloc(), Schedule::Shuffled { seed, losses: 0 })?;
+        let again = steps_of(rt.alloc(), Schedule::Shuffled { seed, losses: 0 })?;
         assert_eq!(rt; one == again, true);
         assert_eq!(rt; one == settled, false);
     }
+    Ok(())
+}
+
+/// Whether a step loses, repeats or swaps an announcement between brokers.
+fn is_loss(step: &Step) -> bool {
+    matches!(
+        step,
+        Step::Kvs {
+            step: KvsStep::Lose { .. } | KvsStep::Repeat { .. } | KvsStep::Swap { .. },
+            ..
+        }
+    )
+}
+
+/// How many steps of a run in this order do so.
+fn losses_of(alloc: Global, how: Schedule) -> Result<usize, Fail> {
+    let steps = steps_of(alloc, how)?;
+    Ok(steps.iter().filter(|step| is_loss(step)).count())
+}
+
+#[test]
+fn a_run_loses_no_more_than_it_may(rt: HostRuntime) -> Result<(), Fail> {
+    let mut made = 0;
+    for seed in 1..4 {
+        for losses in [0, 1, 4] {
+            let lost = losses_of(rt.alloc(), Schedule::Shuffled { seed, losses })?;
+            assert_eq!(rt; lost <= losses as usize, true);
+            made += lost;
+        }
+    }
+    assert_eq!(rt; 0 < made, true);
+    assert_eq!(rt; losses_of(rt.alloc(), Schedule::Settled)?, 0);
     Ok(())
 }
 

@@ -32,3 +32,4 @@ pub mod Keeping
 pub mod Having
 pub mod Named
 pub mod Heads
+mod Hearing

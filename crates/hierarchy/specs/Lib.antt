@@ -1,5 +1,6 @@
 pub mod Births
 pub mod Own
+pub mod Heard
 pub mod Families
 pub mod Legal
 pub mod Whole

@@ -9,6 +9,7 @@ pub mod ends;
 pub mod family;
 pub mod growing;
 pub mod grown;
+pub mod hearings;
 pub mod laws;
 pub mod promises;
 pub mod workloads;

@@ -57,7 +57,7 @@ pub not_every : (p : Name → Bool) (n : Name) → p n ≡ false → every p ≡
 not_every p by_size e = not_first _ _ e
 not_every p by_fanout e = not_later (p by_size) _ (not_first _ _ e)
 not_every p by_hash e = not_later (p by_size) _ (not_later (p by_fanout) _ (not_first _ _ e))
-not_every p by_shuffle e = not_later (p by_size) _ (not_later (p by_fanout) _ (not_later (p by_hash) _ (not_first _ (p by_losses) e)))
+not_every p by_shuffle e = not_later (p by_size) _ (not_later (p by_fanout) _ (not_later (p by_hash) _ (not_first _ _ e)))
 not_every p by_losses e = not_later (p by_size) _ (not_later (p by_fanout) _ (not_later (p by_hash) _ (not_later (p by_shuffle) _ e)))
 
 -- one passes, or none

@@ -27,7 +27,8 @@ fn flag<'a>(alloc: Global, name: &'a str) -> Arg<'a>
     Arg::new(alloc, name).long(name).action(ArgAction::SetTrue)
 }
 
-/// The command of a run without its options.
+/// The command with no option yet: its words stand without the program's name, and it adds no
+/// option of its own.
 fn bare<'a>(alloc: Global) -> Command<'a>
     ensures { app_of result ≡ bare }
 {
@@ -40,8 +41,7 @@ fn bare<'a>(alloc: Global) -> Command<'a>
 fn command<'a>(alloc: Global) -> Result<Command<'a>, AllocError>
     ensures { IfOk result (λ command. app_of command ≡ run_app) }
 {
-    let run = bare(alloc);
-    let run = run.arg(valued(alloc, "size"))?;
+    let run = bare(alloc).arg(valued(alloc, "size"))?;
     let run = run.arg(valued(alloc, "fanout"))?;
     let run = run.arg(valued(alloc, "hash"))?;
     let run = run.arg(valued(alloc, "shuffle"))?;

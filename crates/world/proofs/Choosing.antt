@@ -33,12 +33,12 @@ both_parts v =
     ∙ ap (λ xs. steps_of v kind.Post ++ xs) (append_assoc (steps_of v kind.Birth) _ end
     ∙ ap (λ xs. steps_of v kind.Birth ++ xs) (append_assoc (steps_of v kind.End) [] end)))))
 
-listed_at : (xs : List Step) (number : ℕ) (s : Step) → nth xs number ≡ Ok s → Contains xs s
+pub listed_at : (xs : List Step) (number : ℕ) (s : Step) → nth xs number ≡ Ok s → Contains xs s
 listed_at xs number s e =
     let low = below xs number s e in
     (number, low, same_item (get_or xs number s) s (sym (slice_get-get_or xs number s low) ∙ got xs number s e))
 
-now_made : (v : WorldValue) → v.closed ≡ false → (s : Step) → can_make v s ≡ true → CanMake v s
+pub now_made : (v : WorldValue) → v.closed ≡ false → (s : Step) → can_make v s ≡ true → CanMake v s
 now_made v runs (step.Issue actor) can = (runs, can)
 now_made v runs (step.Kvs i s) can = (runs, can)
 now_made v runs (step.Feed actor) can = (runs, can)
@@ -65,9 +65,9 @@ pub none_listed : (v : WorldValue) (left : ℕ) → nth (before_end v) 0 ≡ Err
 none_listed v left e = nil_from_length (before_end v) (let all = lengthy (before_end v) 0 left e in omega (arith, all))
 
 -- a step leaves a run as settled as it was
-pub behind_settled : (o : Order) → is_settled (behind o) ≡ is_settled o
-behind_settled order.Settled = refl
-behind_settled (order.Shuffled draws word) = refl
+pub behind_settled : (s : Step) (o : Order) → is_settled (behind s o) ≡ is_settled o
+behind_settled s order.Settled = refl
+behind_settled s (order.Shuffled draws word losses) = refl
 
 -- nothing that holds between the steps reads the order
 pub reordered : (v : WorldValue) (s : Setup) (o : Order) → s ≡ v.set → IsSound v → IsSound (record v { set = s; order = o })

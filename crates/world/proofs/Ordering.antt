@@ -6,10 +6,12 @@ use Rattle.std.specs.Option.{option_map_or}
 use Rattle.std.proofs.lemmas.Bool.{eq-eqb, eqb-true, ltb-true}
 use Rattle.std.proofs.lemmas.Option.{slice_get_within, unwrap_or-slice_get}
 use Rattle.std.proofs.lemmas.List.Elements.{Contains-append_left, Contains-append_right, Contains-append_cases}
-use Rattle.instance.specs.kvs_core.Order.{all_steps}
+use Rattle.instance.specs.kvs_core.Order.{all_steps, losses}
+use Rattle.instance.specs.kvs_core.Steps.{can_step as core_can_step}
 use Rattle.instance.specs.kvs_core.Walk.{nth}
 use Rattle.instance.specs.kvs_rules.declared.events.KvsStep.{KvsStep}
-use Rattle.instance.specs.services.Order.{possible as turns}
+use Rattle.instance.specs.services.Order.{possible as turns, possible_losses}
+use Rattle.instance.specs.services.job_service.kvs_space.declared.links.Loss.TheVariants as loss
 use Rattle.instance.specs.services.Steps.{can_step}
 use Rattle.instance.specs.workload.declared.work.Line.{Line}
 use Rattle.instance.specs.answers.declared.steps.Step.{Step}
@@ -103,6 +105,11 @@ abbrev pub AreOwnLines : WorldValue → Type 0
 AreOwnLines v = (actor : ℕ) (p : Place) → slice_get v.places actor ≡ Some p → p.next < length v.set.work.lines
     → (d : Line) → (slice_index_or v.set.work.lines p.next d).actor ≡ actor
 
+-- not a kind of losses, which stand behind all other steps
+abbrev pub IsBefore : Kind → Type 0
+IsBefore kind.Loss = ⊥
+IsBefore _ = Unit {0}
+
 -- not a step of an instance's services
 abbrev pub IsNoTurn : Step → Type 0
 IsNoTurn (step.Kvs instance s) = ⊥
@@ -111,10 +118,10 @@ IsNoTurn _ = Unit {0}
 module _ (v : WorldValue) where
   -- ---- where a step stands in the list
 
-  abbrev issued : List Step
+  abbrev pub issued : List Step
   issued = map step.Issue (issues v)
 
-  abbrev timed : List Step
+  abbrev pub timed : List Step
   timed = only_if (can_tick v) step.Tick ++ issued
 
   abbrev ended : List Step
@@ -139,17 +146,18 @@ module _ (v : WorldValue) where
   in_replied : (s : Step) → Contains replied s → Contains (before_end v) s
   in_replied s c = in_fed s (Contains-append_right (steps_of v kind.Feed) replied s c)
 
-  in_kind : (k : Kind) (s : Step) → Contains (steps_of v k) s → Contains (before_end v) s
-  in_kind kind.Turn s c = Contains-append_left (steps_of v kind.Turn) fed s c
-  in_kind kind.Feed s c = in_fed s (Contains-append_left (steps_of v kind.Feed) replied s c)
-  in_kind kind.Reply s c = in_replied s (Contains-append_left (steps_of v kind.Reply) posted s c)
-  in_kind kind.Post s c = in_replied s (Contains-append_right (steps_of v kind.Reply) posted s
+  in_kind : (k : Kind) → IsBefore k → (s : Step) → Contains (steps_of v k) s → Contains (before_end v) s
+  in_kind kind.Turn b s c = Contains-append_left (steps_of v kind.Turn) fed s c
+  in_kind kind.Feed b s c = in_fed s (Contains-append_left (steps_of v kind.Feed) replied s c)
+  in_kind kind.Reply b s c = in_replied s (Contains-append_left (steps_of v kind.Reply) posted s c)
+  in_kind kind.Post b s c = in_replied s (Contains-append_right (steps_of v kind.Reply) posted s
       (Contains-append_left (steps_of v kind.Post) born s c))
-  in_kind kind.Birth s c = in_replied s (Contains-append_right (steps_of v kind.Reply) posted s
+  in_kind kind.Birth b s c = in_replied s (Contains-append_right (steps_of v kind.Reply) posted s
       (Contains-append_right (steps_of v kind.Post) born s (Contains-append_left (steps_of v kind.Birth) ended s c)))
-  in_kind kind.End s c = in_replied s (Contains-append_right (steps_of v kind.Reply) posted s
+  in_kind kind.End b s c = in_replied s (Contains-append_right (steps_of v kind.Reply) posted s
       (Contains-append_right (steps_of v kind.Post) born s (Contains-append_right (steps_of v kind.Birth) ended s
       (Contains-append_left (steps_of v kind.End) timed s c))))
+  in_kind kind.Loss b s c = absurd b
 
   in_timed : (s : Step) → Contains timed s → Contains (before_end v) s
   in_timed s c = in_replied s (Contains-append_right (steps_of v kind.Reply) posted s
@@ -157,26 +165,50 @@ module _ (v : WorldValue) where
       (Contains-append_right (steps_of v kind.End) timed s c))))
 
   -- a step of an instance, as one of its kind
-  in_steps : (k : Kind) (i : ℕ) (h : Home) (s : Step) → slice_get v.homes i ≡ Some h → Contains (steps_at v k (i, h)) s → Contains (before_end v) s
-  in_steps k i h s here c = in_kind k s (in_flat_map (steps_at v k) (enumerate_from 0 v.homes) (i, h) s
+  in_steps : (k : Kind) → IsBefore k → (i : ℕ) (h : Home) (s : Step) → slice_get v.homes i ≡ Some h → Contains (steps_at v k (i, h)) s → Contains (before_end v) s
+  in_steps k b i h s here c = in_kind k b s (in_flat_map (steps_at v k) (enumerate_from 0 v.homes) (i, h) s
       (subst (λ n. Contains (enumerate_from 0 v.homes) (n, h)) (let same : 0 + i ≡ i = omega arith in same) (in_enumerated 0 v.homes i h here)) c)
 
-  in_living : (k : Kind) (i : ℕ) (h : Home) (s : Step) → slice_get v.homes i ≡ Some h → h.gone ≡ false → Contains (steps_in v k i h) s → Contains (before_end v) s
-  in_living k i h s here alive c = in_steps k i h s here (subst (λ b. Contains (if b then steps_left v k i else steps_in v k i h) s) (sym alive) c)
+  in_living : (k : Kind) → IsBefore k → (i : ℕ) (h : Home) (s : Step) → slice_get v.homes i ≡ Some h → h.gone ≡ false → Contains (steps_in v k i h) s → Contains (before_end v) s
+  in_living k b i h s here alive c = in_steps k b i h s here (subst (λ b. Contains (if b then steps_left v k i else steps_in v k i h) s) (sym alive) c)
 
   in_only : (can : Bool) (s : Step) → can ≡ true → Contains (only_if can s) s
   in_only can s is = subst (λ b. Contains (only_if b s) s) (sym is) (first s [])
 
-  from_only : (can : Bool) (s t : Step) → Contains (only_if can s) t → (can ≡ true) × (s ≡ t)
+  pub from_only : (can : Bool) (s t : Step) → Contains (only_if can s) t → (can ≡ true) × (s ≡ t)
   from_only true s t c = (refl, elim (split s [] t c) [ inl e ↦ e | inr d ↦ absurd (nobody t d) ])
   from_only false s t c = absurd (nobody t c)
 
-  from_steps : (k : Kind) (s : Step) → Contains (steps_of v k) s → (i : ℕ) × (h : Home) × (slice_get v.homes i ≡ Some h) × Contains (steps_at v k (i, h)) s
+  pub from_steps : (k : Kind) (s : Step) → Contains (steps_of v k) s → (i : ℕ) × (h : Home) × (slice_get v.homes i ≡ Some h) × Contains (steps_at v k (i, h)) s
   from_steps k s c =
       let m = from_flat_map (steps_at v k) (enumerate_from 0 v.homes) s c in
       let at = from_enumerated 0 v.homes m.0 m.1 in
       let same : at.0 ≡ m.0.0 = omega (arith, at.1) in
       (m.0.0, m.0.1, subst (λ n. slice_get v.homes n ≡ Some m.0.1) same at.2, m.2)
+
+  -- what holds of the steps of each kind but losses, of the tick and of issues holds of all that are
+  -- listed
+  pub each_listed : (P : Step → Type 0) → ((k : Kind) → IsBefore k → (s : Step) → Contains (steps_of v k) s → P s) → ((s : Step) → Contains timed s → P s)
+      → (s : Step) → Contains (before_end v) s → P s
+  each_listed P of_kind of_timed s c = elim (Contains-append_cases (steps_of v kind.Turn) fed s c) [
+    | inl d ↦ of_kind kind.Turn tt s d
+    | inr c ↦ elim (Contains-append_cases (steps_of v kind.Feed) replied s c) [
+      | inl d ↦ of_kind kind.Feed tt s d
+      | inr c ↦ elim (Contains-append_cases (steps_of v kind.Reply) posted s c) [
+        | inl d ↦ of_kind kind.Reply tt s d
+        | inr c ↦ elim (Contains-append_cases (steps_of v kind.Post) born s c) [
+          | inl d ↦ of_kind kind.Post tt s d
+          | inr c ↦ elim (Contains-append_cases (steps_of v kind.Birth) ended s c) [
+            | inl d ↦ of_kind kind.Birth tt s d
+            | inr c ↦ elim (Contains-append_cases (steps_of v kind.End) timed s c) [
+              | inl d ↦ of_kind kind.End tt s d
+              | inr d ↦ of_timed s d
+            ]
+          ]
+        ]
+      ]
+    ]
+  ]
 
   -- ---- what is said of an instance
 
@@ -226,6 +258,7 @@ module _ (v : WorldValue) where
       left gone kind.Post c = absurd (nobody s c)
       left gone kind.Birth c = absurd (nobody s c)
       left gone kind.End c = absurd (nobody s c)
+      left gone kind.Loss c = absurd (nobody s c)
 
       module _ (alive : h.gone ≡ false) where
         bears : (o : Option ℕ) → bearing h.instance ≡ o → Contains (cons_option (option_map (step.Birth i) o) []) s → can_make v s ≡ true
@@ -259,6 +292,13 @@ module _ (v : WorldValue) where
         lived kind.End c =
             let m = from_only (may_go v.homes h) (step.End i) s c in
             subst (λ t. can_make v t ≡ true) m.1 (of_is i h (may_go v.homes) here alive m.0)
+        lived kind.Loss c =
+            let m = from_map (step.Kvs i) (possible_losses h.instance.services) s c in
+            let core = h.instance.services.jobs.manager.core in
+            let w = from_filter (core_can_step core) (losses core.size loss.Lost ++ (losses core.size loss.Repeated ++ losses core.size loss.Swapped)) m.0 m.1 in
+            let here_too : core_can_step core m.0 ≡ true = w.1 in
+            let can : can_step h.instance.services m.0 ≡ true = cc in
+            subst (λ t. can_make v t ≡ true) m.2 (of_is i h (λ h. can_step h.instance.services m.0) here alive can)
 
     made_of : (k : Kind) (s : Step) → Contains (steps_of v k) s → can_make v s ≡ true
     made_of k s c =
@@ -294,25 +334,10 @@ module _ (v : WorldValue) where
 
     -- what is listed can be made
     pub possible : (s : Step) → Contains (before_end v) s → can_make v s ≡ true
-    possible s c = elim (Contains-append_cases (steps_of v kind.Turn) fed s c) [
-      | inl d ↦ made_of kind.Turn s d
-      | inr c ↦ elim (Contains-append_cases (steps_of v kind.Feed) replied s c) [
-        | inl d ↦ made_of kind.Feed s d
-        | inr c ↦ elim (Contains-append_cases (steps_of v kind.Reply) posted s c) [
-          | inl d ↦ made_of kind.Reply s d
-          | inr c ↦ elim (Contains-append_cases (steps_of v kind.Post) born s c) [
-            | inl d ↦ made_of kind.Post s d
-            | inr c ↦ elim (Contains-append_cases (steps_of v kind.Birth) ended s c) [
-              | inl d ↦ made_of kind.Birth s d
-              | inr c ↦ elim (Contains-append_cases (steps_of v kind.End) timed s c) [
-                | inl d ↦ made_of kind.End s d
-                | inr d ↦ made_timed s d
-              ]
-            ]
-          ]
-        ]
-      ]
-    ]
+    possible = each_listed (λ s. can_make v s ≡ true) (λ k before. made_of k) made_timed
+
+    pub loss_possible : (s : Step) → Contains (steps_of v kind.Loss) s → can_make v s ≡ true
+    loss_possible = made_of kind.Loss
 
   -- ---- what can be made is listed
 
@@ -326,20 +351,20 @@ module _ (v : WorldValue) where
       let below = slice_get_within v.places actor p place in
       let c : Contains (steps_left v kind.Reply i) (step.Answer actor) = in_map step.Answer (left_in v.places i) actor
       (in_filter (waits_in v.places i) (range_with_len 0 (length v.places)) actor w (in_range 0 (length v.places) actor (omega arith) (omega (arith, below)))) in
-      in_steps kind.Reply i h (step.Answer actor) here (subst (λ b. Contains (if b then steps_left v kind.Reply i else steps_in v kind.Reply i h) (step.Answer actor)) (sym gone) c)
+      in_steps kind.Reply tt i h (step.Answer actor) here (subst (λ b. Contains (if b then steps_left v kind.Reply i else steps_in v kind.Reply i h) (step.Answer actor)) (sym gone) c)
 
   listed_answer : (actor i : ℕ) (h : Home) → slice_get v.homes i ≡ Some h → h.gone ≡ false → instance_can_answer h.instance actor ≡ true → Contains (before_end v) (step.Answer actor)
   listed_answer actor i h here alive can =
       let seat = says_some (λ (seat : Seat). has_come h.instance.services (last_command actor seat) (has_heard h.instance.services seat) seat.waiting) (slice_get h.instance.seats actor) can in
       let below = slice_get_within h.instance.seats actor seat.0 seat.1 in
-      in_living kind.Reply i h (step.Answer actor) here alive (in_map step.Answer (answers h.instance) actor
+      in_living kind.Reply tt i h (step.Answer actor) here alive (in_map step.Answer (answers h.instance) actor
       (in_filter (instance_can_answer h.instance) (range_with_len 0 (length h.instance.seats)) actor can (in_range 0 (length h.instance.seats) actor (omega arith) (omega (arith, below)))))
 
   listed_feed : (actor i : ℕ) (h : Home) → slice_get v.homes i ≡ Some h → h.gone ≡ false → instance_can_feed h.instance actor ≡ true → Contains (before_end v) (step.Feed actor)
   listed_feed actor i h here alive can =
       let seat = says_some (λ (seat : Seat). is_fed_next h.instance.services (last_command actor seat) seat) (slice_get h.instance.seats actor) can in
       let below = slice_get_within h.instance.seats actor seat.0 seat.1 in
-      in_living kind.Feed i h (step.Feed actor) here alive (in_map step.Feed (feeds h.instance) actor
+      in_living kind.Feed tt i h (step.Feed actor) here alive (in_map step.Feed (feeds h.instance) actor
       (in_filter (instance_can_feed h.instance) (range_with_len 0 (length h.instance.seats)) actor can (in_range 0 (length h.instance.seats) actor (omega arith) (omega (arith, below)))))
 
   listed_issue : AreOwnLines v → (actor : ℕ) → can_issue v actor ≡ true → Contains (before_end v) (step.Issue actor)
@@ -380,15 +405,15 @@ module _ (v : WorldValue) where
       by p i h place home here false alive is = listed_answer actor i h here alive is
   listed own (step.Post i) other can =
       let h = is_of i (λ h. can_post h.instance) can in
-      in_living kind.Post i h.0 (step.Post i) h.1 h.2 (in_only (can_post h.0.instance) (step.Post i) h.3)
+      in_living kind.Post tt i h.0 (step.Post i) h.1 h.2 (in_only (can_post h.0.instance) (step.Post i) h.3)
   listed own (step.Birth i job) other can =
       let h = is_of i (λ h. is_job job (bearing h.instance)) can in
       let b = says_some (λ other. other == job) (bearing h.0.instance) h.3 in
       let is : bearing h.0.instance ≡ Some job = b.1 ∙ ap Some (eqb-true b.0 job b.2) in
-      in_living kind.Birth i h.0 (step.Birth i job) h.1 h.2 (subst (λ o. Contains (cons_option (option_map (step.Birth i) o) []) (step.Birth i job)) (sym is) (first (step.Birth i job) []))
+      in_living kind.Birth tt i h.0 (step.Birth i job) h.1 h.2 (subst (λ o. Contains (cons_option (option_map (step.Birth i) o) []) (step.Birth i job)) (sym is) (first (step.Birth i job) []))
   listed own (step.End i) other can =
       let h = is_of i (may_go v.homes) can in
-      in_living kind.End i h.0 (step.End i) h.1 h.2 (in_only (may_go v.homes h.0) (step.End i) h.3)
+      in_living kind.End tt i h.0 (step.End i) h.1 h.2 (in_only (may_go v.homes h.0) (step.End i) h.3)
   listed own step.Tick other can = in_timed step.Tick (Contains-append_left (only_if (can_tick v) step.Tick) issued step.Tick (in_only (can_tick v) step.Tick can))
   listed own step.Close other can = cc
 
@@ -405,7 +430,7 @@ module _ (v : WorldValue) where
           from h here alive can [] is = true≢false (sym can ∙ turns_listed i h here is s)
           from h here alive can (t ∷ more) is =
               some (before_end v) (step.Kvs i t)
-              (in_living kind.Turn i h (step.Kvs i t) here alive (subst (λ l. Contains (map (step.Kvs i) l) (step.Kvs i t)) (sym is) (first (step.Kvs i t) (map (step.Kvs i) more)))) none
+              (in_living kind.Turn tt i h (step.Kvs i t) here alive (subst (λ l. Contains (map (step.Kvs i) l) (step.Kvs i t)) (sym is) (first (step.Kvs i t) (map (step.Kvs i) more)))) none
 
       never : (s : Step) → can_make v s ≡ true → ⊥
       never (step.Issue actor) can = some (before_end v) (step.Issue actor) (listed own (step.Issue actor) tt can) none

@@ -28,7 +28,7 @@ use Rattle.instance.specs.job_manager.Posts.{is_posted_for}
 use Rattle.instance.proofs.job_rules_proofs.Among.{Among, among_append, among_from, among_kept, among_left, among_map, among_right}
 use Rattle.instance.specs.kvs_core.Walk.{nth}
 use Rattle.instance.specs.manager_rules.Times.{IsEndDue}
-use Rattle.instance.specs.services.Order.{possible}
+use Rattle.instance.specs.services.Order.{possible, possible_losses}
 use Rattle.homes.specs.Homes.{ListTurns}
 use Rattle.world.specs.Order.{left_in, only_if, steps_at, steps_in, steps_left, steps_of, waits_in}
 use Rattle.world.specs.Sound.{IsSound}
@@ -95,6 +95,7 @@ module _ (v : WorldValue) where
   in_plain kind.Post i h t a issue = only_plain (can_post h.instance) (step.Post i) t (λ bad. bad) a issue
   in_plain kind.Birth i h t a issue = born_plain i (bearing h.instance) t a issue
   in_plain kind.End i h t a issue = only_plain (may_go v.homes h) (step.End i) t (λ bad. bad) a issue
+  in_plain kind.Loss i h t a issue = (let m = among_map (step.Kvs i) (possible_losses h.instance.services) t a in subst IsStart (sym m.2) issue)
 
   left_plain : (k : Kind) (i : ℕ) (t : Step) → Among t (steps_left v k i) → IsStart t → ⊥
   left_plain kind.Turn i t a issue = absurd a
@@ -103,6 +104,7 @@ module _ (v : WorldValue) where
   left_plain kind.Post i t a issue = absurd a
   left_plain kind.Birth i t a issue = absurd a
   left_plain kind.End i t a issue = absurd a
+  left_plain kind.Loss i t a issue = absurd a
 
   at_plain : (k : Kind) (i : ℕ) (h : Home) (t : Step) (b : Bool) → Among t (if b then steps_left v k i else steps_in v k i h) → IsStart t → ⊥
   at_plain k i h t true a issue = left_plain k i t a issue

@@ -1,8 +1,10 @@
 -- Which of the steps that can be made comes next.
-use Rattle.std.specs.Prelude.{◌%◌, Bool, true, false, List, length, Option, slice_get}
+use Rattle.std.specs.Prelude.{◌≡◌, ℕ, ◌%◌, ◌-◌, ◌<◌, Bool, true, false, List, length, Option, slice_get, if◌then◌else◌}
 use Rattle.rand_pcg.specs.Pcg.{pcg32}
 use Rattle.instance.specs.workload.Draws.{seeded}
+use Rattle.instance.specs.kvs_rules.declared.events.KvsStep.TheVariants as kvs
 use Rattle.instance.specs.answers.declared.steps.Step.{Step}
+use Rattle.instance.specs.answers.declared.steps.Step.TheVariants as step
 use Rattle.world.specs.declared.order.Order.{Order}
 use Rattle.world.specs.declared.order.Order.TheVariants as order
 use Rattle.world.specs.declared.order.Schedule.{Schedule}
@@ -12,19 +14,38 @@ use Rattle.world.specs.declared.order.Schedule.TheVariants as schedule
 -- or in a shuffled run the one whose number is the drawn word modulo their count
 abbrev pub chosen : Order → List Step → Option Step
 chosen order.Settled steps = slice_get steps 0
-chosen (order.Shuffled draws word) steps = slice_get steps (word % length steps)
+chosen (order.Shuffled draws word losses) steps = slice_get steps (word % length steps)
 
 -- whether nothing is drawn, so that a command is issued once nothing else can be done
 abbrev pub is_settled : Order → Bool
 is_settled order.Settled = true
-is_settled (order.Shuffled draws word) = false
+is_settled (order.Shuffled draws word losses) = false
 
--- the order behind a step: a shuffled run draws its next word
-abbrev pub behind : Order → Order
-behind order.Settled = order.Settled
-behind (order.Shuffled draws word) = order.Shuffled (pcg32 draws).1 (pcg32 draws).0
+-- whether a step loses, repeats or swaps an announcement between brokers
+abbrev pub is_loss : Step → Bool
+is_loss (step.Kvs i (kvs.Lose from to)) = true
+is_loss (step.Kvs i (kvs.Repeat from to)) = true
+is_loss (step.Kvs i (kvs.Swap from to)) = true
+is_loss _ = false
+
+-- how many losses may still be made: none in a settled run
+abbrev pub losses_left : Order → ℕ
+losses_left order.Settled = 0
+losses_left (order.Shuffled draws word losses) = losses
+
+-- a step that is a loss may be made while some are left
+abbrev pub MayLose : Order → Step → Type 0
+MayLose o s = is_loss s ≡ true → 0 < losses_left o
+
+-- the order behind a step: a shuffled run draws its next word, and may make a loss less where the
+-- step was one
+abbrev pub behind : Step → Order → Order
+behind s order.Settled = order.Settled
+behind s (order.Shuffled draws word losses) = order.Shuffled (pcg32 draws).1 (pcg32 draws).0
+    (if is_loss s then losses - 1 else losses)
 
 -- the order of a run that has made no step
 abbrev pub order_of : Schedule → Order
 order_of schedule.Settled = order.Settled
-order_of (schedule.Shuffled seed) = order.Shuffled (pcg32 (seeded seed)).1 (pcg32 (seeded seed)).0
+order_of (schedule.Shuffled seed losses) = order.Shuffled (pcg32 (seeded seed)).1 (pcg32 (seeded seed)).0
+    losses

@@ -1,14 +1,15 @@
 -- The steps that a world can make, in the order in which it makes them.
-use Rattle.std.specs.Prelude.{◌==◌, ◌&&◌, ℕ, List, [], ◌∷◌, ◌++◌, Bool, false, Option, Some, None, filter_map, flat_map, length, map, option_and_then, option_map, slice_get, if◌then◌else◌}
+use Rattle.std.specs.Prelude.{◌==◌, ◌&&◌, ℕ, nat_lt, List, [], ◌∷◌, ◌++◌, Bool, false, Option, Some, None, filter_map, flat_map, length, map, option_and_then, option_map, slice_get, if◌then◌else◌}
 use Rattle.std.specs.List.{cons_option, enumerate_from, filter, range_with_len}
 use Rattle.std.specs.Option.{option_map_or}
-use Rattle.instance.specs.services.Order.{possible}
+use Rattle.instance.specs.services.Order.{possible, possible_losses}
 use Rattle.instance.specs.answers.declared.steps.Step.{Step}
 use Rattle.instance.specs.answers.declared.steps.Step.TheVariants as step
 use Rattle.instance.specs.Family.{bearing}
 use Rattle.instance.specs.Order.{answers, feeds}
 use Rattle.instance.specs.Steps.{can_post}
 use Rattle.homes.specs.Times.{may_go}
+use Rattle.world.specs.Choice.{losses_left}
 use Rattle.world.specs.Steps.{can_issue, can_tick}
 use Rattle.world.specs.Value.{WorldValue}
 use Rattle.homes.specs.declared.homes.Home.{Home}
@@ -39,6 +40,7 @@ steps_in v kind.Reply i h = map step.Answer (answers h.instance)
 steps_in v kind.Post i h = only_if (can_post h.instance) (step.Post i)
 steps_in v kind.Birth i h = cons_option (option_map (step.Birth i) (bearing h.instance)) []
 steps_in v kind.End i h = only_if (may_go v.homes h) (step.End i)
+steps_in v kind.Loss i h = map (step.Kvs i) (possible_losses h.instance.services)
 
 -- those that are left where it has gone: its actors are told
 abbrev pub steps_left : WorldValue → Kind → ℕ → List Step
@@ -70,8 +72,8 @@ issues v = filter_map (issue_at v) (range_with_len 0 (length v.set.work.lines))
 
 -- ---- all
 
--- what can be made before the end: a step of a service, a feed of a watch, a reply, a post, a birth,
--- an end of a child, a tick, an issue by line
+-- what can be made before the end, but for losses: a step of a service, a feed of a watch, a reply, a
+-- post, a birth, an end of a child, a tick, an issue by line
 abbrev pub before_end : WorldValue → List Step
 before_end v = steps_of v kind.Turn
     ++ (steps_of v kind.Feed
@@ -81,6 +83,14 @@ before_end v = steps_of v kind.Turn
     ++ (steps_of v kind.End
     ++ (only_if (can_tick v) step.Tick ++ map step.Issue (issues v)))))))
 
+-- the losses that may be made
+abbrev pub losses : WorldValue → List Step
+losses v = if nat_lt 0 (losses_left v.order) then steps_of v kind.Loss else []
+
+-- all that can be made before the end: losses stand last
+abbrev pub all_before_end : WorldValue → List Step
+all_before_end v = before_end v ++ losses v
+
 -- the end comes where nothing else can
 abbrev pub or_close : List Step → List Step
 or_close [] = step.Close ∷ []
@@ -88,4 +98,4 @@ or_close (s ∷ more) = s ∷ more
 
 -- the steps that can be made, in order
 abbrev pub possible_steps : WorldValue → List Step
-possible_steps v = if v.closed then [] else or_close (before_end v)
+possible_steps v = if v.closed then [] else or_close (all_before_end v)

@@ -1,7 +1,9 @@
 //! The order in which the steps of a run are made.
 ghost use Rattle.std.specs.Prelude.{◌≡◌};
-ghost use Rattle.world.specs.Choice.{behind, order_of};
+ghost use Rattle.world.specs.Choice.{behind, is_loss, losses_left, order_of};
 
+use instance::answers::Step;
+use instance::kvs_rules::KvsStep;
 use instance::workload::Draws;
 
 /// Which of the steps that can be made comes next.
@@ -9,16 +11,34 @@ use instance::workload::Draws;
 pub enum Schedule {
     /// The first in the fixed order, so that each command is issued once nothing else can be made.
     Settled,
-    /// One that is drawn, by the words that this seed begins.
-    Shuffled(u64),
+    /// One that is drawn, by the words that the seed begins; at most so many of the steps lose,
+    /// repeat or swap an announcement between brokers.
+    Shuffled { seed: u64, losses: u32 },
 }
 
 /// How the next step is chosen: the first, or the one that the drawn word says, with the words
-/// behind it.
+/// behind it and how many losses may still be made.
 #[derive(Drop)]
 pub enum Order {
     Settled,
-    Shuffled { draws: Draws, word: u32 },
+    Shuffled {
+        draws: Draws,
+        word: u32,
+        losses: u32,
+    },
+}
+
+/// Whether a step loses, repeats or swaps an announcement between brokers.
+fn is_loss(step: Step) -> bool
+    ensures { result ≡ is_loss step }
+{
+    match step {
+        Step::Kvs { instance: _, step } => matches!(
+            step,
+            KvsStep::Lose { .. } | KvsStep::Repeat { .. } | KvsStep::Swap { .. }
+        ),
+        _ => false,
+    }
 }
 
 impl Order {
@@ -28,20 +48,43 @@ impl Order {
     {
         match how {
             Schedule::Settled => Order::Settled,
-            Schedule::Shuffled(seed) => {
+            Schedule::Shuffled { seed, losses } => {
                 let mut draws = Draws::new(seed);
                 let word = draws.word();
-                Order::Shuffled { draws, word }
+                Order::Shuffled {
+                    draws,
+                    word,
+                    losses,
+                }
             }
         }
     }
 
-    /// Goes on behind a step: a shuffled run draws its next word.
-    pub fn advance(&mut self)
-        ensures { self.new ≡ behind self.old }
+    /// How many losses may still be made.
+    pub fn losses_left(&self) -> u32
+        ensures { result ≡ losses_left self.now }
     {
-        if let Order::Shuffled { draws, word } = self {
+        match self {
+            Order::Settled => 0,
+            Order::Shuffled { losses, .. } => *losses,
+        }
+    }
+
+    /// Goes on behind a step: a shuffled run draws its next word, and may make a loss less where
+    /// the step was one.
+    pub fn advance(&mut self, step: Step)
+        ensures { self.new ≡ behind step self.old }
+    {
+        if let Order::Shuffled {
+            draws,
+            word,
+            losses,
+        } = self
+        {
             *word = draws.word();
+            if is_loss(step) {
+                *losses = losses.saturating_sub(1);
+            }
         }
     }
 }

@@ -1,7 +1,7 @@
 //! The steps that can be made, by number.
 ghost use Rattle.std.specs.Prelude.{◌≡◌, true, false, IfOk};
 ghost use Rattle.services.specs.kvs_core.Walk.{nth};
-ghost use Rattle.services.specs.Order.{possible};
+ghost use Rattle.services.specs.Order.{possible, possible_losses};
 ghost use Rattle.services.specs.Steps.{can_step};
 ghost use Rattle.instance.specs.Agrees.{AreLinesOf};
 ghost use Rattle.instance.specs.Order.{answers, feeds, issues};
@@ -21,6 +21,16 @@ impl Instance {
         ensures can { IfOk result (λ step. can_step self.now.services step ≡ true) }
     {
         self.services.nth(number)
+    }
+
+    /// The loss of this number among those of the services, or what the number has left behind
+    /// them.
+    pub fn nth_loss(&self, number: u64) -> Result<KvsStep, u64>
+        requires { self.now.spent ≡ false }
+        ensures value { result ≡ nth (possible_losses self.now.services) number }
+        ensures can { IfOk result (λ step. can_step self.now.services step ≡ true) }
+    {
+        self.services.nth_loss(number)
     }
 
     /// The actor of this number among those whose open watch can be fed, or what the number has

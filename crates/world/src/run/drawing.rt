@@ -6,16 +6,18 @@ ghost use Rattle.hierarchy.specs.Legal.{HasRunRest};
 ghost use Rattle.instance.specs.Steps.{IsStart};
 ghost use Rattle.instance.specs.kvs_core.Walk.{nth};
 ghost use Rattle.homes.specs.Homes.{living_at};
-ghost use Rattle.world.specs.Order.{before_end, issues, left_in, possible_steps, steps_at, steps_in, steps_of};
+ghost use Rattle.world.specs.Choice.{MayLose};
+ghost use Rattle.world.specs.Order.{all_before_end, before_end, issues, left_in, losses, possible_steps, steps_at, steps_in, steps_of};
 ghost use Rattle.world.specs.Steps.{CanMake, MayStart, can_issue};
 ghost use Rattle.world.specs.Walks.{by_instances, by_the_run, next_at};
 ghost use Rattle.homes.specs.declared.homes.Home.{Home as HomeValue};
 
 use super::World;
+use crate::order::Order;
 use homes::{Home, Place, rest, turns_are_listed};
 use instance::answers::Step;
 
-/// The kinds of steps that instances have, in their fixed order.
+/// The kinds of steps that instances have, in their fixed order; losses stand behind all others.
 #[derive(Clone, Copy, Debug, PartialEq, Eq)]
 enum Kind {
     Turn,
@@ -24,6 +26,7 @@ enum Kind {
     Post,
     Birth,
     End,
+    Loss,
 }
 
 /// A step that may be made, as the number 0 of it alone, or what the number has left behind it.
@@ -99,6 +102,10 @@ impl World {
                 let can = self.may_go(home);
                 nth_of_one(can.then_some(Step::End { instance }), number)
             }
+            Kind::Loss => match home.instance.nth_loss(number) {
+                Ok(step) => Ok(Step::Kvs { instance, step }),
+                Err(left) => Err(left),
+            },
         }
     }
 
@@ -117,7 +124,9 @@ impl World {
         }
         match kind {
             Kind::Reply => nth_left(&self.places, instance, number),
-            Kind::Turn | Kind::Feed | Kind::Post | Kind::Birth | Kind::End => Err(number),
+            Kind::Turn | Kind::Feed | Kind::Post | Kind::Birth | Kind::End | Kind::Loss => {
+                Err(number)
+            }
         }
     }
 
@@ -138,8 +147,8 @@ impl World {
         Err(left)
     }
 
-    /// The step of this number among those of all kinds, kind by kind, or what the number has left
-    /// behind them.
+    /// The step of this number among those of all kinds but losses, kind by kind, or what the number
+    /// has left behind them.
     fn nth_of_all(&self, number: u64) -> Result<Step, u64>
         requires ready { self.now.spent ≡ false }
         requires runs { self.now.closed ≡ false }
@@ -217,8 +226,8 @@ impl World {
         }
     }
 
-    /// The step of this number among those that can be made before the end, or what the number has
-    /// left behind them.
+    /// The step of this number among those that can be made before the end, but for losses, or what
+    /// the number has left behind them.
     pub(super) fn nth(&self, number: u64) -> Result<Step, u64>
         requires ready { self.now.spent ≡ false }
         requires runs { self.now.closed ≡ false }
@@ -233,11 +242,44 @@ impl World {
         }
     }
 
-    /// The first step in the fixed order.
+    /// The loss of this number among those that may be made, or what the number has left behind
+    /// them.
+    fn nth_loss(&self, number: u64) -> Result<Step, u64>
+        requires ready { self.now.spent ≡ false }
+        requires runs { self.now.closed ≡ false }
+        ensures { result ≡ nth (losses self.now) number }
+    {
+        if self.order.losses_left() == 0 {
+            Err(number)
+        } else {
+            self.nth_of(Kind::Loss, number)
+        }
+    }
+
+    /// The step of this number among all that can be made before the end, or what the number has
+    /// left behind them.
+    fn nth_with_losses(&self, number: u64) -> Result<Step, u64>
+        requires ready { self.now.spent ≡ false }
+        requires runs { self.now.closed ≡ false }
+        ensures value { result ≡ nth (all_before_end self.now) number }
+        ensures can { IfOk result (λ step. CanMake self.now step) }
+        ensures may { IfOk result (MayLose self.now.order) }
+    {
+        // what holds of the world is known where it is looked at
+        let _ = &self.alloc;
+        match self.nth(number) {
+            Ok(step) => Ok(step),
+            Err(left) => self.nth_loss(left),
+        }
+    }
+
+    /// The first step in the fixed order of a settled run.
     pub(super) fn first(&self) -> Option<Step>
-        requires { self.now.spent ≡ false }
+        requires ready { self.now.spent ≡ false }
+        requires settled { self.now.order ≡ Order.Settled }
         ensures first { result ≡ slice_get (possible_steps self.now) 0 }
         ensures some { IfSome result (λ step. CanMake self.now step) }
+        ensures may { IfSome result (MayLose self.now.order) }
         ensures none { (result ≡ None) ↔ (self.now.closed ≡ true) }
         ensures rests { IfSome result (λ step. MayStart self.now step) }
         ensures told { IfSome result (λ step. IsStart step
@@ -261,9 +303,9 @@ impl World {
     fn count(&self) -> u64
         requires ready { self.now.spent ≡ false }
         requires runs { self.now.closed ≡ false }
-        ensures { result ≡ min (length (before_end self.now)) (2 ^ 64 - 1) }
+        ensures { result ≡ min (length (all_before_end self.now)) (2 ^ 64 - 1) }
     {
-        match self.nth(u64::MAX) {
+        match self.nth_with_losses(u64::MAX) {
             Ok(_) => u64::MAX,
             Err(left) => u64::MAX - left,
         }
@@ -276,6 +318,7 @@ impl World {
         ensures value { result
             ≡ slice_get (possible_steps self.now) (word % length (possible_steps self.now)) }
         ensures some { IfSome result (λ step. CanMake self.now step) }
+        ensures may { IfSome result (MayLose self.now.order) }
         ensures none { (result ≡ None) ↔ (self.now.closed ≡ true) }
     {
         if self.closed {
@@ -287,7 +330,7 @@ impl World {
         if count == 0 {
             return Some(Step::Close);
         }
-        match self.nth(u64::from(word) % count) {
+        match self.nth_with_losses(u64::from(word) % count) {
             Ok(step) => Some(step),
             Err(_) => None,
         }

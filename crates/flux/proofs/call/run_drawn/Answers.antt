@@ -9,7 +9,7 @@ returns-clause-done g c = λ zero.
         work = c.in-Ok.work;
         drawn = c.in-Ok.ensures.work;
         answers = played.run.0;
-        ran = record { promises = played.promises; true_run = played.run.1; stretches = played.stretches };
+        ran = record { promises = played.promises; true_run = played.run.1; stretches = played.stretches; losses = played.losses };
         summary = played.summary;
       },
       search rules,
@@ -23,7 +23,7 @@ returns-clause-cut g c = λ five.
         work = c.in-Ok.work;
         drawn = c.in-Ok.ensures.work;
         answers = played.run.0;
-        ran = record { promises = played.promises; true_run = played.run.1; stretches = played.stretches };
+        ran = record { promises = played.promises; true_run = played.run.1; stretches = played.stretches; losses = played.losses };
         summary = played.summary;
       },
       search rules,

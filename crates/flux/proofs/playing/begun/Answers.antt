@@ -10,11 +10,11 @@ use Rattle.flux.specs.Runs.{is_settled, schedule_of, setup_of}
 use Rattle.flux.proofs.playing.begun.Goals as goal
 
 -- the order is as settled as the options
-settled_so : (size fanout : ℕ) (hash : Hash) (shuffle : Option ℕ) (journal backfill : Bool) →
-    let o : Options = record { size = size; fanout = fanout; hash = hash; shuffle = shuffle; journal = journal; backfill = backfill } in
+settled_so : (size fanout : ℕ) (hash : Hash) (shuffle : Option ℕ) (losses : ℕ) (journal backfill : Bool) →
+    let o : Options = record { size = size; fanout = fanout; hash = hash; shuffle = shuffle; losses = losses; journal = journal; backfill = backfill } in
     is_settled_order (order_of (schedule_of o)) ≡ is_settled o
-settled_so size fanout hash None journal backfill = refl
-settled_so size fanout hash (Some seed) journal backfill = refl
+settled_so size fanout hash None losses journal backfill = refl
+settled_so size fanout hash (Some seed) losses journal backfill = refl
 
 pub returns-clause-set : goal.returns-clause-set
 returns-clause-set c =
@@ -22,4 +22,4 @@ returns-clause-set c =
     let given : Setup = setup_of c.args.terms o c.args.work in
     IfOk-weaker c.new.result _ (λ world. world.set ≡ setup_of c.args.terms o c.args.work)
     (λ world is. is ∙ ap₂ (λ (t : Terms) (b : Bool). (let s : Setup = record given { settled = b; terms = t } in s)) c.terms_of-terms.ensures
-    (ap (λ (how : Schedule). is_settled_order (order_of how)) c.schedule_of.ensures ∙ settled_so o.size o.fanout o.hash o.shuffle o.journal o.backfill)) c.new.ensures.set
+    (ap (λ (how : Schedule). is_settled_order (order_of how)) c.schedule_of.ensures ∙ settled_so o.size o.fanout o.hash o.shuffle o.losses o.journal o.backfill)) c.new.ensures.set

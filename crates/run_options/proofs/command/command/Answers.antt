@@ -6,7 +6,7 @@ use Rattle.run_options.proofs.command.command.Goals as goal
 pub returns : goal.returns
 unfolding run_app
 returns c =
-    let size = c.in_ok-run.ensures.shape c.valued.ensures.own ∙ ap₂ with_rule c.bare-run.ensures c.valued.ensures.rule in
+    let size = c.in_ok-run.ensures.shape c.valued.ensures.own ∙ ap₂ with_rule c.bare.ensures c.valued.ensures.rule in
     let fanout = c.in_ok-run-2.ensures.shape c.valued-2.ensures.own ∙ ap₂ with_rule size c.valued-2.ensures.rule in
     let hash = c.in_ok-run-3.ensures.shape c.valued-3.ensures.own ∙ ap₂ with_rule fanout c.valued-3.ensures.rule in
     let shuffle = c.in_ok-run-4.ensures.shape c.valued-4.ensures.own ∙ ap₂ with_rule hash c.valued-4.ensures.rule in

@@ -21,12 +21,13 @@ same : (c : After-index-home) (home : Home) → slice_get c.args.self.now.homes 
 same c home e =
     item_is (value_of c.self.inside).homes c.args.instance c.index-home.result.now (low c) c.index-home.ensures home (ap (λ v. slice_get v.homes c.args.instance) c.self.view_is ∙ e)
 
-others : (v : WorldValue) (k : Kind) (i : ℕ) → (k ≡ kind.Turn) ⊎ ((k ≡ kind.Feed) ⊎ ((k ≡ kind.Post) ⊎ ((k ≡ kind.Birth) ⊎ (k ≡ kind.End)))) → steps_left v k i ≡ []
+others : (v : WorldValue) (k : Kind) (i : ℕ) → (k ≡ kind.Turn) ⊎ ((k ≡ kind.Feed) ⊎ ((k ≡ kind.Post) ⊎ ((k ≡ kind.Birth) ⊎ ((k ≡ kind.End) ⊎ (k ≡ kind.Loss))))) → steps_left v k i ≡ []
 others v k i (inl e) = ap (λ k. steps_left v k i) e
 others v k i (inr (inl e)) = ap (λ k. steps_left v k i) e
 others v k i (inr (inr (inl e))) = ap (λ k. steps_left v k i) e
 others v k i (inr (inr (inr (inl e)))) = ap (λ k. steps_left v k i) e
-others v k i (inr (inr (inr (inr e)))) = ap (λ k. steps_left v k i) e
+others v k i (inr (inr (inr (inr (inl e))))) = ap (λ k. steps_left v k i) e
+others v k i (inr (inr (inr (inr (inr e))))) = ap (λ k. steps_left v k i) e
 
 pub nth_in-requires-clause-able : goal.nth_in-requires-clause-able
 nth_in-requires-clause-able c =

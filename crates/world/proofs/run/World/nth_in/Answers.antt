@@ -1,5 +1,5 @@
 use Rattle.std.proofs.Common.{◌∙◌, ap, sym}
-use Rattle.instance.specs.services.Order.{possible}
+use Rattle.instance.specs.services.Order.{possible, possible_losses}
 use Rattle.instance.specs.kvs_core.Walk.{nth}
 use Rattle.instance.specs.answers.declared.steps.Step.TheVariants as step
 use Rattle.instance.specs.Order.{answers, feeds}
@@ -48,3 +48,17 @@ returns-in-Err-nth_answer c =
     let h = c.args.home.now in
     sym (ap (λ k. nth (steps_in v k c.args.instance h) c.args.number) c.in-Reply.is
     ∙ unmapped step.Answer (answers h.instance) c.args.number c.in-Err-nth_answer.left (sym c.in-Err-nth_answer.ensures.value))
+
+pub returns-in-Ok-nth_loss : goal.returns-in-Ok-nth_loss
+returns-in-Ok-nth_loss c =
+    let v = c.args.self.now in
+    let h = c.args.home.now in
+    sym (ap (λ k. nth (steps_in v k c.args.instance h) c.args.number) c.in-Loss.is
+    ∙ mapped (step.Kvs c.args.instance) (possible_losses h.instance.services) c.args.number c.in-Ok-nth_loss.step (sym c.in-Ok-nth_loss.ensures.value))
+
+pub returns-in-Err-nth_loss : goal.returns-in-Err-nth_loss
+returns-in-Err-nth_loss c =
+    let v = c.args.self.now in
+    let h = c.args.home.now in
+    sym (ap (λ k. nth (steps_in v k c.args.instance h) c.args.number) c.in-Loss.is
+    ∙ unmapped (step.Kvs c.args.instance) (possible_losses h.instance.services) c.args.number c.in-Err-nth_loss.left (sym c.in-Err-nth_loss.ensures.value))
