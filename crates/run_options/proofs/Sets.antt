@@ -1,5 +1,5 @@
 -- The options that texts give, each at most once.
-use Rattle.std.proofs.Common.{◌≡◌, ◌∙◌, ◌||◌, cond, ℕ, Bool, true, false, List, Option, Some, None, is_some, option_map, refl, sym, ap, subst, bytes_eq, true≢false}
+use Rattle.std.proofs.Common.{◌≡◌, ◌∙◌, ◌||◌, cond, ℕ, Bool, true, false, Option, Some, None, is_some, option_map, refl, sym, ap, subst, bytes_eq, true≢false}
 use Rattle.std.specs.Prelude.{option_and_then, if◌then◌else◌}
 use Rattle.clap.specs.Walk.{Text}
 use Rattle.fl_digest.specs.declared.Hash.{Hash}
@@ -57,13 +57,8 @@ values t j = record {
   backfill = j by_backfill;
 }
 
--- `given_by`, where each text fits
 abbrev pub given_of : Texts → Flags → Option Given
-given_of t j = cond (every (λ n. fits n (t n))) (Some (values t j)) None
-
-pub given_of_is : (t : Texts) (j : Flags)
-    → given_of t j ≡ given_by (t by_size) (t by_fanout) (t by_hash) (t by_shuffle) (t by_losses) (j by_journal) (j by_backfill)
-given_of_is t j = refl
+given_of t j = given_by (t by_size) (t by_fanout) (t by_hash) (t by_shuffle) (t by_losses) (j by_journal) (j by_backfill)
 
 pub same_given : (t u : Texts) (j k : Flags) → ((n : Name) → t n ≡ u n) → ((f : Flag) → j f ≡ k f) → given_of t j ≡ given_of u k
 same_given t u j k texts flags = λ i. given_of (λ n. texts n i) (λ f. flags f i)

@@ -1,5 +1,5 @@
 -- Words at which clap's walk fails, and a word behind `--NAME`.
-use Rattle.std.proofs.Common.{◌≡◌, ◌≢◌, ◌∙◌, ◌++◌, ◌⊎◌, ◌&&◌, ◌||◌, cond, ℕ, Bool, true, false, not, List, [], ◌∷◌, length, map, Option, Some, None, is_some, refl, sym, ap, inl, inr, codes, suc, slice_get, bytes_eq, chars, subst, true≢false, ◌==◌}
+use Rattle.std.proofs.Common.{◌≡◌, ◌≢◌, ◌∙◌, ◌++◌, ◌⊎◌, ◌&&◌, ◌||◌, cond, ℕ, Bool, true, false, not, List, [], ◌∷◌, length, map, Option, Some, None, is_some, refl, sym, ap, inl, inr, suc, slice_get, bytes_eq, chars, subst, true≢false, ◌==◌}
 use Rattle.std.specs.Prelude.{option_and_then, if◌then◌else◌}
 use Rattle.std.specs.List.{after_first, list_any, before_first}
 use Rattle.std.specs.Option.{option_map_or}

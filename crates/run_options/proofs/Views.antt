@@ -1,5 +1,5 @@
 -- What a word is, as the reference reads it.
-use Rattle.std.proofs.Common.{◌≡◌, ◌∙◌, ◌++◌, ◌⊎◌, ◌&&◌, ◌||◌, ◌+◌, ◌==◌, cond, ℕ, suc, Bool, true, false, not, List, [], ◌∷◌, length, Option, Some, None, refl, sym, ap, inl, inr, codes, bytes_eq, true≢false, arith, take, drop}
+use Rattle.std.proofs.Common.{◌≡◌, ◌∙◌, ◌++◌, ◌⊎◌, ◌&&◌, ◌||◌, ◌+◌, ◌==◌, cond, ℕ, suc, Bool, true, false, not, List, [], ◌∷◌, length, Some, None, refl, sym, ap, inl, inr, codes, bytes_eq, true≢false, arith, take, drop}
 use Rattle.std.specs.Prelude.{option_and_then, if◌then◌else◌, nat_le, nat_lt, ◌^◌}
 use Rattle.std.specs.List.{list_any, before_first, after_first, position_or_len}
 use Rattle.std.proofs.lemmas.Slice.Eq.{bytes_eq-Decides}

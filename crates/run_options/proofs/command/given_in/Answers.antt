@@ -1,11 +1,11 @@
-use Rattle.std.proofs.Common.{◌≡◌, ◌∙◌, ℕ, List, Bool, true, false, cond, Option, Some, None, is_some, option_and_then, option_map, ap, ap₂, sym, refl, inl, inr, rules, codes}
+use Rattle.std.proofs.Common.{◌≡◌, ◌∙◌, ℕ, List, Bool, true, false, cond, Option, Some, None, is_some, option_and_then, option_map, ap, ap₂, sym, inl, inr, rules, codes}
 use Rattle.clap.specs.Words.{first_value, found_of, one_text}
 use Rattle.clap.specs.declared.parser.matches.Found.{Found}
 use Rattle.fl_digest.specs.declared.Hash.{Hash}
 use Rattle.run_options.specs.Given.{brokers_of, hash_of, losses_of, number_of}
 use Rattle.run_options.specs.declared.given.Given.{Given}
 use Rattle.run_options.specs.Matches.{IsFlag, field, flag_of, given_in}
-use Rattle.run_options.proofs.Sets.{Flags, Texts, fits, given_of, none_given, values}
+use Rattle.run_options.proofs.Sets.{Flags, Texts, fits, none_given, values}
 use Rattle.run_options.proofs.Walks.{Name, by_size, by_fanout, by_hash, by_shuffle, by_losses, both, every, flag_text, text}
 use Rattle.run_options.proofs.command.given_in.Goals as goal
 
