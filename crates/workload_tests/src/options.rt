@@ -18,293 +18,130 @@ const DEFAULT: Options = Options {
 /// Words, and the options that they spell.
 struct Case {
     words: &'static [&'static str],
-    options: Option<Options>,
+    options: Options,
 }
 
-const CASES: [Case; 120] = [
+/// Words that spell options.
+const CASES: [Case; 28] = [
     Case {
         words: &[],
-        options: Some(DEFAULT),
+        options: DEFAULT,
     },
     Case {
         words: &["--size", "1"],
-        options: Some(Options { size: 1, ..DEFAULT }),
+        options: Options { size: 1, ..DEFAULT },
     },
     Case {
         words: &["--size", "32"],
-        options: Some(Options {
+        options: Options {
             size: 32,
             ..DEFAULT
-        }),
-    },
-    Case {
-        words: &["--size", "0"],
-        options: None,
-    },
-    Case {
-        words: &["--size", "33"],
-        options: None,
+        },
     },
     Case {
         words: &["--size=7"],
-        options: Some(Options { size: 7, ..DEFAULT }),
-    },
-    Case {
-        words: &["--size="],
-        options: None,
-    },
-    Case {
-        words: &["--size"],
-        options: None,
-    },
-    Case {
-        words: &["--size", ""],
-        options: None,
+        options: Options { size: 7, ..DEFAULT },
     },
     Case {
         words: &["--size", "00000000000000000032"],
-        options: Some(Options {
+        options: Options {
             size: 32,
             ..DEFAULT
-        }),
-    },
-    Case {
-        words: &["--size", "000000000000000000032"],
-        options: None,
-    },
-    Case {
-        words: &["--size", "+4"],
-        options: None,
-    },
-    Case {
-        words: &["--size", "-4"],
-        options: None,
-    },
-    Case {
-        words: &["--size", " 4"],
-        options: None,
-    },
-    Case {
-        words: &["--size", "4x"],
-        options: None,
-    },
-    Case {
-        words: &["--size", "18446744073709551617"],
-        options: None,
-    },
-    Case {
-        words: &["--size", "4294967300"],
-        options: None,
-    },
-    Case {
-        words: &["--size", "4", "--size", "4"],
-        options: None,
-    },
-    Case {
-        words: &["--size=4", "--size", "5"],
-        options: None,
-    },
-    Case {
-        words: &["--size", "--journal"],
-        options: None,
+        },
     },
     Case {
         words: &["--fanout", "1"],
-        options: Some(Options {
+        options: Options {
             fanout: 1,
             ..DEFAULT
-        }),
+        },
     },
     Case {
         words: &["--fanout=32"],
-        options: Some(Options {
+        options: Options {
             fanout: 32,
             ..DEFAULT
-        }),
-    },
-    Case {
-        words: &["--fanout=0"],
-        options: None,
-    },
-    Case {
-        words: &["--fanout", "33"],
-        options: None,
-    },
-    Case {
-        words: &["--fanout", "2", "--fanout=2"],
-        options: None,
+        },
     },
     Case {
         words: &["--hash", "sha1"],
-        options: Some(DEFAULT),
+        options: DEFAULT,
     },
     Case {
         words: &["--hash=sha256"],
-        options: Some(Options {
+        options: Options {
             hash: Hash::Sha256,
             ..DEFAULT
-        }),
-    },
-    Case {
-        words: &["--hash", "SHA1"],
-        options: None,
-    },
-    Case {
-        words: &["--hash", ""],
-        options: None,
-    },
-    Case {
-        words: &["--hash=sha1=x"],
-        options: None,
-    },
-    Case {
-        words: &["--hash", "sha1", "--hash", "sha1"],
-        options: None,
+        },
     },
     Case {
         words: &["--shuffle", "0"],
-        options: Some(Options {
+        options: Options {
             shuffle: Some(0),
             ..DEFAULT
-        }),
+        },
     },
     Case {
         words: &["--shuffle=18446744073709551615"],
-        options: Some(Options {
+        options: Options {
             shuffle: Some(18446744073709551615),
             ..DEFAULT
-        }),
-    },
-    Case {
-        words: &["--shuffle", "18446744073709551616"],
-        options: None,
-    },
-    Case {
-        words: &["--shuffle="],
-        options: None,
-    },
-    Case {
-        words: &["--shuffle"],
-        options: None,
-    },
-    Case {
-        words: &["--shuffle", "x"],
-        options: None,
-    },
-    Case {
-        words: &["--shuffle", "3", "--shuffle=3"],
-        options: None,
+        },
     },
     Case {
         words: &["--losses", "0"],
-        options: Some(DEFAULT),
+        options: DEFAULT,
     },
     Case {
         words: &["--losses=10000"],
-        options: Some(Options {
+        options: Options {
             losses: 10000,
             ..DEFAULT
-        }),
-    },
-    Case {
-        words: &["--losses", "10001"],
-        options: None,
-    },
-    Case {
-        words: &["--losses"],
-        options: None,
-    },
-    Case {
-        words: &["--losses="],
-        options: None,
-    },
-    Case {
-        words: &["--losses", "4294967296"],
-        options: None,
-    },
-    Case {
-        words: &["--losses", "-1"],
-        options: None,
-    },
-    Case {
-        words: &["--losses", "7", "--losses=7"],
-        options: None,
-    },
-    Case {
-        words: &["--losses", "0", "--losses", "0"],
-        options: None,
+        },
     },
     Case {
         words: &["--losses", "00000000000000000040"],
-        options: Some(Options {
+        options: Options {
             losses: 40,
             ..DEFAULT
-        }),
-    },
-    Case {
-        words: &["--losses", "--shuffle", "3"],
-        options: None,
-    },
-    Case {
-        words: &["--loss", "3"],
-        options: None,
+        },
     },
     Case {
         words: &["--shuffle", "3", "--losses=20"],
-        options: Some(Options {
+        options: Options {
             shuffle: Some(3),
             losses: 20,
             ..DEFAULT
-        }),
+        },
     },
     Case {
         words: &["--losses", "20", "--journal", "--shuffle=3"],
-        options: Some(Options {
+        options: Options {
             shuffle: Some(3),
             losses: 20,
             journal: true,
             ..DEFAULT
-        }),
-    },
-    Case {
-        words: &["--shuffle", "--losses", "20"],
-        options: None,
+        },
     },
     Case {
         words: &["--shuffle", "3", "--journal", "--size=7"],
-        options: Some(Options {
+        options: Options {
             size: 7,
             shuffle: Some(3),
             journal: true,
             ..DEFAULT
-        }),
+        },
     },
     Case {
         words: &["--journal"],
-        options: Some(Options {
+        options: Options {
             journal: true,
             ..DEFAULT
-        }),
-    },
-    Case {
-        words: &["--journal", "--journal"],
-        options: None,
-    },
-    Case {
-        words: &["--journal="],
-        options: None,
-    },
-    Case {
-        words: &["--journal=true"],
-        options: None,
-    },
-    Case {
-        words: &["--journal", "true"],
-        options: None,
+        },
     },
     Case {
         words: &["--journal", "--hash=sha256", "--fanout", "3", "--size=5"],
-        options: Some(Options {
+        options: Options {
             size: 5,
             fanout: 3,
             hash: Hash::Sha256,
@@ -312,59 +149,7 @@ const CASES: [Case; 120] = [
             losses: 0,
             journal: true,
             backfill: false,
-        }),
-    },
-    Case {
-        words: &["--"],
-        options: None,
-    },
-    Case {
-        words: &["--", "--size", "4"],
-        options: None,
-    },
-    Case {
-        words: &["--journal", "--"],
-        options: None,
-    },
-    Case {
-        words: &["--help"],
-        options: None,
-    },
-    Case {
-        words: &["-h"],
-        options: None,
-    },
-    Case {
-        words: &["-s", "4"],
-        options: None,
-    },
-    Case {
-        words: &["--siz", "4"],
-        options: None,
-    },
-    Case {
-        words: &["size", "4"],
-        options: None,
-    },
-    Case {
-        words: &["--SIZE", "4"],
-        options: None,
-    },
-    Case {
-        words: &["--workers", "1"],
-        options: None,
-    },
-    Case {
-        words: &["help"],
-        options: None,
-    },
-    Case {
-        words: &[""],
-        options: None,
-    },
-    Case {
-        words: &["=4"],
-        options: None,
+        },
     },
     Case {
         words: &[
@@ -376,228 +161,172 @@ const CASES: [Case; 120] = [
             "--hash",
             "sha256",
         ],
-        options: Some(Options {
+        options: Options {
             size: 7,
             fanout: 3,
             hash: Hash::Sha256,
             shuffle: Some(12),
             ..DEFAULT
-        }),
+        },
     },
     Case {
         words: &["--shuffle", "00000000000000000020"],
-        options: Some(Options {
+        options: Options {
             shuffle: Some(20),
             ..DEFAULT
-        }),
-    },
-    Case {
-        words: &["--shuffle", "000000000000000000020"],
-        options: None,
-    },
-    Case {
-        words: &["--size", "-"],
-        options: None,
-    },
-    Case {
-        words: &["-"],
-        options: None,
-    },
-    Case {
-        words: &["--size", "--fanout", "2"],
-        options: None,
-    },
-    Case {
-        words: &["--size", "--fanout=2"],
-        options: None,
-    },
-    Case {
-        words: &["--hash", "--"],
-        options: None,
-    },
-    Case {
-        words: &["--hash", "--", "sha1"],
-        options: None,
-    },
-    Case {
-        words: &["--size", "4", "--"],
-        options: None,
-    },
-    Case {
-        words: &["--size=--"],
-        options: None,
-    },
-    Case {
-        words: &["--=4"],
-        options: None,
-    },
-    Case {
-        words: &["--size", "4", ""],
-        options: None,
-    },
-    Case {
-        words: &["", "--size", "4"],
-        options: None,
-    },
-    Case {
-        words: &["--size==4"],
-        options: None,
-    },
-    Case {
-        words: &["--hash=sha1", "--hash=sha256"],
-        options: None,
-    },
-    Case {
-        words: &["--journal", "--size", "4", "--journal"],
-        options: None,
-    },
-    Case {
-        words: &["--journal=", "--size", "4"],
-        options: None,
-    },
-    Case {
-        words: &["-size", "4"],
-        options: None,
-    },
-    Case {
-        words: &["-é"],
-        options: None,
-    },
-    Case {
-        words: &["--size", "é"],
-        options: None,
-    },
-    Case {
-        words: &["--size", "４"],
-        options: None,
-    },
-    Case {
-        words: &["--version"],
-        options: None,
-    },
-    Case {
-        words: &["-V"],
-        options: None,
-    },
-    Case {
-        words: &["--size", "4", "run"],
-        options: None,
+        },
     },
     Case {
         words: &["--backfill"],
-        options: Some(Options {
+        options: Options {
             backfill: true,
             ..DEFAULT
-        }),
-    },
-    Case {
-        words: &["--backfill", "--backfill"],
-        options: None,
-    },
-    Case {
-        words: &["--backfill=1"],
-        options: None,
-    },
-    Case {
-        words: &["--backfill="],
-        options: None,
-    },
-    Case {
-        words: &["--backfill=true"],
-        options: None,
-    },
-    Case {
-        words: &["--backfill", "1"],
-        options: None,
+        },
     },
     Case {
         words: &["--backfill", "--size", "7"],
-        options: Some(Options {
+        options: Options {
             size: 7,
             backfill: true,
             ..DEFAULT
-        }),
+        },
     },
     Case {
         words: &["--fanout=3", "--backfill"],
-        options: Some(Options {
+        options: Options {
             fanout: 3,
             backfill: true,
             ..DEFAULT
-        }),
+        },
     },
     Case {
         words: &["--hash", "sha256", "--backfill"],
-        options: Some(Options {
+        options: Options {
             hash: Hash::Sha256,
             backfill: true,
             ..DEFAULT
-        }),
+        },
     },
     Case {
         words: &["--backfill", "--shuffle=12"],
-        options: Some(Options {
+        options: Options {
             shuffle: Some(12),
             backfill: true,
             ..DEFAULT
-        }),
+        },
     },
     Case {
         words: &["--backfill", "--journal"],
-        options: Some(Options {
+        options: Options {
             journal: true,
             backfill: true,
             ..DEFAULT
-        }),
+        },
     },
     Case {
         words: &["--journal", "--backfill"],
-        options: Some(Options {
+        options: Options {
             journal: true,
             backfill: true,
             ..DEFAULT
-        }),
+        },
     },
-    Case {
-        words: &["--size", "--backfill"],
-        options: None,
-    },
-    Case {
-        words: &["--backfill", "--journal", "--backfill"],
-        options: None,
-    },
-    Case {
-        words: &["--journal", "--backfill", "--journal"],
-        options: None,
-    },
-    Case {
-        words: &["--backfill", "--"],
-        options: None,
-    },
-    Case {
-        words: &["--backfil"],
-        options: None,
-    },
-    Case {
-        words: &["--backfills"],
-        options: None,
-    },
-    Case {
-        words: &["--Backfill"],
-        options: None,
-    },
-    Case {
-        words: &["--back-fill"],
-        options: None,
-    },
-    Case {
-        words: &["-backfill"],
-        options: None,
-    },
-    Case {
-        words: &["backfill"],
-        options: None,
-    },
+];
+
+/// Words that spell none.
+const REFUSED: [&[&str]; 92] = [
+    &["--size", "0"],
+    &["--size", "33"],
+    &["--size="],
+    &["--size"],
+    &["--size", ""],
+    &["--size", "000000000000000000032"],
+    &["--size", "+4"],
+    &["--size", "-4"],
+    &["--size", " 4"],
+    &["--size", "4x"],
+    &["--size", "18446744073709551617"],
+    &["--size", "4294967300"],
+    &["--size", "4", "--size", "4"],
+    &["--size=4", "--size", "5"],
+    &["--size", "--journal"],
+    &["--fanout=0"],
+    &["--fanout", "33"],
+    &["--fanout", "2", "--fanout=2"],
+    &["--hash", "SHA1"],
+    &["--hash", ""],
+    &["--hash=sha1=x"],
+    &["--hash", "sha1", "--hash", "sha1"],
+    &["--shuffle", "18446744073709551616"],
+    &["--shuffle="],
+    &["--shuffle"],
+    &["--shuffle", "x"],
+    &["--shuffle", "3", "--shuffle=3"],
+    &["--losses", "10001"],
+    &["--losses"],
+    &["--losses="],
+    &["--losses", "4294967296"],
+    &["--losses", "-1"],
+    &["--losses", "7", "--losses=7"],
+    &["--losses", "0", "--losses", "0"],
+    &["--losses", "--shuffle", "3"],
+    &["--loss", "3"],
+    &["--shuffle", "--losses", "20"],
+    &["--journal", "--journal"],
+    &["--journal="],
+    &["--journal=true"],
+    &["--journal", "true"],
+    &["--"],
+    &["--", "--size", "4"],
+    &["--journal", "--"],
+    &["--help"],
+    &["-h"],
+    &["-s", "4"],
+    &["--siz", "4"],
+    &["size", "4"],
+    &["--SIZE", "4"],
+    &["--workers", "1"],
+    &["help"],
+    &[""],
+    &["=4"],
+    &["--shuffle", "000000000000000000020"],
+    &["--size", "-"],
+    &["-"],
+    &["--size", "--fanout", "2"],
+    &["--size", "--fanout=2"],
+    &["--hash", "--"],
+    &["--hash", "--", "sha1"],
+    &["--size", "4", "--"],
+    &["--size=--"],
+    &["--=4"],
+    &["--size", "4", ""],
+    &["", "--size", "4"],
+    &["--size==4"],
+    &["--hash=sha1", "--hash=sha256"],
+    &["--journal", "--size", "4", "--journal"],
+    &["--journal=", "--size", "4"],
+    &["-size", "4"],
+    &["-é"],
+    &["--size", "é"],
+    &["--size", "４"],
+    &["--version"],
+    &["-V"],
+    &["--size", "4", "run"],
+    &["--backfill", "--backfill"],
+    &["--backfill=1"],
+    &["--backfill="],
+    &["--backfill=true"],
+    &["--backfill", "1"],
+    &["--size", "--backfill"],
+    &["--backfill", "--journal", "--backfill"],
+    &["--journal", "--backfill", "--journal"],
+    &["--backfill", "--"],
+    &["--backfil"],
+    &["--backfills"],
+    &["--Backfill"],
+    &["--back-fill"],
+    &["-backfill"],
+    &["backfill"],
 ];
 
 /// These words, each a string.
@@ -612,13 +341,27 @@ fn strings(alloc: Global, words: &[&str]) -> Result<Vec<String>, Fail> {
 /// Whether the words of a case spell its options.
 fn spells(alloc: Global, case: &Case) -> Result<bool, Fail> {
     let words = strings(alloc, case.words)?;
-    Ok(read_options(alloc, &words)? == case.options)
+    Ok(read_options(alloc, &words)? == Some(case.options))
+}
+
+/// Whether words spell no options.
+fn spell_none(alloc: Global, words: &[&str]) -> Result<bool, Fail> {
+    let words = strings(alloc, words)?;
+    Ok(read_options(alloc, &words)?.is_none())
 }
 
 #[test]
 fn words_and_their_options(rt: HostRuntime) -> Result<(), Fail> {
     for case in &CASES {
         assert!(rt; spells(rt.alloc(), case)?, "{:?}", case.words);
+    }
+    Ok(())
+}
+
+#[test]
+fn words_that_are_refused(rt: HostRuntime) -> Result<(), Fail> {
+    for words in &REFUSED {
+        assert!(rt; spell_none(rt.alloc(), words)?, "{:?}", words);
     }
     Ok(())
 }
