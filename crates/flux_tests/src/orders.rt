@@ -95,15 +95,15 @@ fn losses_of(alloc: Global, how: Schedule) -> Result<usize, Fail> {
 
 #[test]
 fn a_run_loses_no_more_than_it_may(rt: HostRuntime) -> Result<(), Fail> {
-    let mut made = 0;
+    let mut some = false;
     for seed in 1..4 {
         for losses in [0, 1, 4] {
             let lost = losses_of(rt.alloc(), Schedule::Shuffled { seed, losses })?;
             assert_eq!(rt; lost <= losses as usize, true);
-            made += lost;
+            some = some || 0 < lost;
         }
     }
-    assert_eq!(rt; 0 < made, true);
+    assert_eq!(rt; some, true);
     assert_eq!(rt; losses_of(rt.alloc(), Schedule::Settled)?, 0);
     Ok(())
 }
