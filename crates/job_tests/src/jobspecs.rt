@@ -1,5 +1,4 @@
 //! Jobspecs (Flux RFC 14 and 25), and the faults of other texts.
-use fl_json::JsonFault;
 use job_spec::{JobSpec, Place, SpecFault, read};
 use lists::Copied;
 use std::test::Fail;
@@ -10,20 +9,13 @@ const J1: &str =
         \"label\":\"task\"}],\"tasks\":[{\"command\":[\"true\"],\"slot\":\"task\",\
         \"count\":{\"per_slot\":1}}],\"attributes\":{\"system\":{\"duration\":0}},\"version\":1}";
 
-/// A job with a duration, and with keys that are read over.
-const J2: &str =
-    "{\"resources\":[{\"type\":\"slot\",\"count\":1,\"with\":[{\"type\":\"core\",\"count\":1}],\
-        \"label\":\"task\"}],\"tasks\":[{\"command\":[\"sleep\",\"10\"],\"slot\":\"task\",\
-        \"count\":{\"per_slot\":1}}],\"attributes\":{\"system\":{\"duration\":3600.0,\
-        \"cwd\":\"/home/u\",\"environment\":{\"LANG\":\"C\"},\
-        \"shell\":{\"options\":{\"rlimit\":{\"nofile\":1024}}}}},\"version\":1}";
-
 /// What is told of the first job.
 const PLAIN: &str = "on None false 1 of 1+0 PerSlot(1) for 0: true";
 
-/// What is told of the first job, a part of it, and what stands in its place: the version and the
-/// list of resources.
-const RESOURCES: [&str; 15] = [
+/// What is told of a text, which is the first job with a thing in a part's place, the part, and the
+/// thing. It stands alone where there is no part; the slot of the first job may be written `@`.
+const ROWS: [&str; 109] = [
+    // The version and the list of resources.
     "on None false 1 of 1+0 PerSlot(1) for 0: true | \"version\":1 | \"version\":1",
     "on None false 1 of 1+0 PerSlot(1) for 0: true | \"version\":1 | \"version\":1.0",
     "2 BadVersion | \"version\":1 | \"version\":2",
@@ -39,10 +31,7 @@ const RESOURCES: [&str; 15] = [
     "3 BadField(Resources) | \"type\":\"slot\", | ",
     "3 BadField(Resources) | \"type\":\"slot\" | \"type\":5",
     "4 BadShape(Resources) | \"type\":\"slot\" | \"type\":\"socket\"",
-];
-
-/// The same in a slot.
-const SLOTS: [&str; 29] = [
+    // The slot.
     "3 BadField(Slot) | \"slot\",\"count\":1 | \"slot\"",
     "3 BadField(Slot) | \"slot\",\"count\":1 | \"slot\",\"count\":\"1\"",
     "3 BadField(Slot) | \"slot\",\"count\":1 | \"slot\",\"count\":{\"min\":1}",
@@ -78,10 +67,7 @@ const SLOTS: [&str; 29] = [
     "5 BadCount(Core) | {\"type\":\"core\",\"count\":1} | {\"type\":\"gpu\",\"count\":0},\
         {\"type\":\"core\",\"count\":0}",
     "4 BadShape(Slot) | \"count\":1} | \"count\":0},{\"type\":\"socket\"}",
-];
-
-/// The same in the tasks.
-const TASKS: [&str; 22] = [
+    // The tasks.
     "3 BadField(Task) | \"tasks\" | \"other\"",
     "3 BadField(Task) | \"tasks\":[ | \"tasks\":5, \"other\":[",
     "4 BadShape(Task) | \"tasks\":[ | \"tasks\":[], \"other\":[",
@@ -104,10 +90,7 @@ const TASKS: [&str; 22] = [
     "5 BadCount(Count) | {\"per_slot\":1} | {\"total\":0}",
     "5 BadCount(Count) | {\"per_slot\":1} | {\"per_slot\":65537}",
     "on None false 1 of 1+0 Total(4) for 0: true | {\"per_slot\":1} | {\"total\":4}",
-];
-
-/// The same in the attributes.
-const ATTRIBUTES: [&str; 20] = [
+    // The attributes.
     "on None false 1 of 1+0 PerSlot(1) for 0: true | \"attributes\" | \"other\"",
     "on None false 1 of 1+0 PerSlot(1) for 0: true | \"attributes\": | \"attributes\":null, \
         \"other\":",
@@ -137,45 +120,50 @@ const ATTRIBUTES: [&str; 20] = [
         \"value\":\"fJf\"},{\"value\":\"1234\",\"scheme\":\"afterany\"},{\"scheme\":\"afterok\",\
         \"value\":\"0000.0003.e800.0000\"},{\"scheme\":\"afternotok\",\"value\":\"f1\",\
         \"other\":5}]",
-];
-
-/// What is told of the first job, and what stands in place of its slot.
-const NODES: [&str; 12] = [
-    "on Some(2) false 1 of 1+0 PerSlot(1) for 0: true | {\"type\":\"node\",\"count\":2,\
+    // Nodes have a slot each.
+    "on Some(2) false 1 of 1+0 PerSlot(1) for 0: true | @ | {\"type\":\"node\",\"count\":2,\
         \"with\":[@]}",
-    "on Some(2) true 1 of 1+0 PerSlot(1) for 0: true | {\"type\":\"node\",\"count\":2,\
+    "on Some(2) true 1 of 1+0 PerSlot(1) for 0: true | @ | {\"type\":\"node\",\"count\":2,\
         \"exclusive\":true,\"with\":[@]}",
-    "on Some(65536) false 1 of 1+0 PerSlot(1) for 0: true | {\"type\":\"node\",\"count\":65536,\
+    "on Some(65536) false 1 of 1+0 PerSlot(1) for 0: true | @ | {\"type\":\"node\",\"count\":65536,\
         \"exclusive\":false,\"with\":[@]}",
-    "3 BadField(Node) | {\"type\":\"node\",\"with\":[@]}",
-    "5 BadCount(Node) | {\"type\":\"node\",\"count\":0,\"exclusive\":5,\"with\":[@]}",
-    "3 BadField(Node) | {\"type\":\"node\",\"count\":1,\"exclusive\":null,\"with\":[]}",
-    "3 BadField(Node) | {\"type\":\"node\",\"count\":1,\"other\":[@]}",
-    "4 BadShape(Node) | {\"type\":\"node\",\"count\":1,\"with\":[]}",
-    "4 BadShape(Node) | {\"type\":\"node\",\"count\":1,\"with\":[5,@]}",
-    "3 BadField(Node) | {\"type\":\"node\",\"count\":1,\"with\":[5]}",
-    "4 BadShape(Node) | {\"type\":\"node\",\"count\":1,\"with\":[{\"type\":\"core\",\"count\":1}]}",
-    "3 BadField(Slot) | {\"type\":\"node\",\"count\":1,\"with\":[{\"type\":\"slot\"}]}",
+    "3 BadField(Node) | @ | {\"type\":\"node\",\"with\":[@]}",
+    "5 BadCount(Node) | @ | {\"type\":\"node\",\"count\":0,\"exclusive\":5,\"with\":[@]}",
+    "3 BadField(Node) | @ | {\"type\":\"node\",\"count\":1,\"exclusive\":null,\"with\":[]}",
+    "3 BadField(Node) | @ | {\"type\":\"node\",\"count\":1,\"other\":[@]}",
+    "4 BadShape(Node) | @ | {\"type\":\"node\",\"count\":1,\"with\":[]}",
+    "4 BadShape(Node) | @ | {\"type\":\"node\",\"count\":1,\"with\":[5,@]}",
+    "3 BadField(Node) | @ | {\"type\":\"node\",\"count\":1,\"with\":[5]}",
+    "4 BadShape(Node) | @ | {\"type\":\"node\",\"count\":1,\"with\":[{\"type\":\"core\",\"count\":1}]}",
+    "3 BadField(Slot) | @ | {\"type\":\"node\",\"count\":1,\"with\":[{\"type\":\"slot\"}]}",
+    // The first of several faults counts.
+    "1 NotJson(not JSON) |  | ",
+    "1 NotJson(no whole number of 64 bits at byte 1) |  | [0.5",
+    "2 BadVersion |  | \"version\"",
+    "3 BadField(Resources) |  | {\"version\":1}",
+    "2 BadVersion |  | {\"version\":2,\"resources\":[]}",
+    "4 BadShape(Resources) |  | {\"version\":1,\"tasks\":[],\"resources\":[]}",
+    "3 BadField(Slot) |  | {\"version\":1,\"resources\":[{\"type\":\"slot\"}],\"tasks\":5}",
+    "5 BadCount(Slot) |  | {\"attributes\":5,\"version\":1,\"resources\":[{\"type\":\"slot\",\
+        \"count\":0}]}",
+    "3 BadField(Slot) |  | {\"version\":1,\"resources\":[{\"type\":\"slot\",\"count\":1,\"label\":5,\
+        \"with\":5}]}",
+    // Other keys are read over.
+    "on None false 1 of 1+0 PerSlot(1) for 3600: sleep 10 |  | {\"resources\":[{\"type\":\"slot\",\"count\":1,\"with\":[{\"type\":\"core\",\"count\":1}],\
+        \"label\":\"task\"}],\"tasks\":[{\"command\":[\"sleep\",\"10\"],\"slot\":\"task\",\
+        \"count\":{\"per_slot\":1}}],\"attributes\":{\"system\":{\"duration\":3600.0,\
+        \"cwd\":\"/home/u\",\"environment\":{\"LANG\":\"C\"},\
+        \"shell\":{\"options\":{\"rlimit\":{\"nofile\":1024}}}}},\"version\":1}",
+    "1 NotJson(no whole number of 64 bits at byte 200) |  | {\"resources\":[{\"type\":\"slot\",\"count\":1,\"with\":[{\"type\":\"core\",\"count\":1}],\
+        \"label\":\"task\"}],\"tasks\":[{\"command\":[\"sleep\",\"10\"],\"slot\":\"task\",\
+        \"count\":{\"per_slot\":1}}],\"attributes\":{\"system\":{\"duration\":0.5,\
+        \"cwd\":\"/home/u\",\"environment\":{\"LANG\":\"C\"},\
+        \"shell\":{\"options\":{\"rlimit\":{\"nofile\":1024}}}}},\"version\":1}",
 ];
 
 /// The slot of the first job.
 const SLOT: &str =
     "{\"type\":\"slot\",\"count\":1,\"with\":[{\"type\":\"core\",\"count\":1}],\"label\":\"task\"}";
-
-/// What is told of short texts in which more than one thing is wrong.
-const SHORT: [&str; 9] = [
-    "1 NotJson(not JSON) | ",
-    "1 NotJson(no whole number of 64 bits at byte 1) | [0.5",
-    "2 BadVersion | \"version\"",
-    "3 BadField(Resources) | {\"version\":1}",
-    "2 BadVersion | {\"version\":2,\"resources\":[]}",
-    "4 BadShape(Resources) | {\"version\":1,\"tasks\":[],\"resources\":[]}",
-    "3 BadField(Slot) | {\"version\":1,\"resources\":[{\"type\":\"slot\"}],\"tasks\":5}",
-    "5 BadCount(Slot) | {\"attributes\":5,\"version\":1,\"resources\":[{\"type\":\"slot\",\
-        \"count\":0}]}",
-    "3 BadField(Slot) | {\"version\":1,\"resources\":[{\"type\":\"slot\",\"count\":1,\"label\":5,\
-        \"with\":5}]}",
-];
 
 /// What is told of a job.
 fn shown(rt: &HostRuntime, spec: &JobSpec) -> Result<String, Fail> {
@@ -214,115 +202,31 @@ fn told(rt: &HostRuntime, text: &str) -> Result<String, Fail> {
     }
 }
 
-/// Whether a text tells this.
-fn tells(rt: &HostRuntime, text: &str, wanted: &str) -> Result<bool, Fail> {
-    let found = told(rt, text)?;
+/// The first job with a thing in a part's place, where that stands first, or the thing alone.
+fn edited(rt: &HostRuntime, part: &str, thing: &str) -> Result<String, Fail> {
+    let part = if part == "@" { SLOT } else { part };
+    let (front, back) = if part.is_empty() {
+        ("", "")
+    } else {
+        J1.split_once(part).ok_or("not there")?
+    };
+    let text = format!(in rt.alloc(); "{front}{thing}{back}")?;
+    Ok(text.replace(rt.alloc(), '@', SLOT)?)
+}
+
+/// Whether a row tells rightly of its text.
+fn tells(rt: &HostRuntime, row: &str) -> Result<bool, Fail> {
+    let (wanted, edit) = row.split_once(" | ").ok_or("no case")?;
+    let (part, thing) = edit.split_once(" | ").ok_or("no edit")?;
+    let found = told(rt, edited(rt, part, thing)?.as_str())?;
     Ok(found.as_str() == wanted)
 }
 
-/// The text with one thing in another's place, where that stands first.
-fn edited(rt: &HostRuntime, text: &str, old: &str, new: &str) -> Result<String, Fail> {
-    let (front, back) = text.split_once(old).ok_or("not there")?;
-    Ok(format!(in rt.alloc(); "{front}{new}{back}")?)
-}
-
-/// What is told of the first job after an edit: a part, and what stands in its place.
-fn told_of(rt: &HostRuntime, edit: &str) -> Result<String, Fail> {
-    let (old, new) = edit.split_once(" | ").ok_or("no edit")?;
-    let text = edited(rt, J1, old, new)?;
-    told(rt, text.as_str())
-}
-
-/// What is told of the first job with a vertex in place of its slot, which may stand in it as `@`.
-fn told_on_nodes(rt: &HostRuntime, vertex: &str) -> Result<String, Fail> {
-    let text = edited(rt, J1, SLOT, vertex)?;
-    match text.as_str().split_once("@") {
-        Some((front, back)) => {
-            let text = format!(in rt.alloc(); "{front}{SLOT}{back}")?;
-            told(rt, text.as_str())
-        }
-        None => told(rt, text.as_str()),
-    }
-}
-
-/// Whether a line tells rightly of the first job after an edit.
-fn tells_of_an_edit(rt: &HostRuntime, line: &str) -> Result<bool, Fail> {
-    let (wanted, edit) = line.split_once(" | ").ok_or("no case")?;
-    let found = told_of(rt, edit)?;
-    Ok(found.as_str() == wanted)
-}
-
-/// Whether a line tells rightly of the first job with a vertex in place of its slot.
-fn tells_of_nodes(rt: &HostRuntime, line: &str) -> Result<bool, Fail> {
-    let (wanted, vertex) = line.split_once(" | ").ok_or("no case")?;
-    let found = told_on_nodes(rt, vertex)?;
-    Ok(found.as_str() == wanted)
-}
-
-/// Whether a line tells rightly of a text.
-fn tells_of_a_text(rt: &HostRuntime, line: &str) -> Result<bool, Fail> {
-    let (wanted, text) = line.split_once(" | ").ok_or("no case")?;
-    tells(rt, text, wanted)
-}
-
 #[test]
-fn resources_are_read_and_refused(rt: HostRuntime) -> Result<(), Fail> {
-    for line in &RESOURCES {
-        assert!(rt; tells_of_an_edit(&rt, line)?, "{line}");
+fn jobspecs_are_read_and_refused(rt: HostRuntime) -> Result<(), Fail> {
+    for row in &ROWS {
+        assert!(rt; tells(&rt, row)?, "{row}");
     }
-    Ok(())
-}
-
-#[test]
-fn slots_are_read_and_refused(rt: HostRuntime) -> Result<(), Fail> {
-    for line in &SLOTS {
-        assert!(rt; tells_of_an_edit(&rt, line)?, "{line}");
-    }
-    Ok(())
-}
-
-#[test]
-fn tasks_are_read_and_refused(rt: HostRuntime) -> Result<(), Fail> {
-    for line in &TASKS {
-        assert!(rt; tells_of_an_edit(&rt, line)?, "{line}");
-    }
-    Ok(())
-}
-
-#[test]
-fn attributes_are_read_and_refused(rt: HostRuntime) -> Result<(), Fail> {
-    for line in &ATTRIBUTES {
-        assert!(rt; tells_of_an_edit(&rt, line)?, "{line}");
-    }
-    Ok(())
-}
-
-#[test]
-fn nodes_have_a_slot_each(rt: HostRuntime) -> Result<(), Fail> {
-    for line in &NODES {
-        assert!(rt; tells_of_nodes(&rt, line)?, "{line}");
-    }
-    Ok(())
-}
-
-#[test]
-fn the_first_fault_counts(rt: HostRuntime) -> Result<(), Fail> {
-    for line in &SHORT {
-        assert!(rt; tells_of_a_text(&rt, line)?, "{line}");
-    }
-    Ok(())
-}
-
-#[test]
-fn other_keys_are_read_over(rt: HostRuntime) -> Result<(), Fail> {
-    let wanted = "on None false 1 of 1+0 PerSlot(1) for 3600: sleep 10";
-    assert_eq!(rt; told(&rt, J2)?.as_str(), wanted);
-    let text = edited(&rt, J2, "3600.0", "0.5")?;
-    let place = 200;
-    assert_eq!(rt;
-        read(rt.alloc(), text.as_bytes()).err(),
-        Some(SpecFault::NotJson(JsonFault::BadNumber { place }))
-    );
     Ok(())
 }
 
@@ -354,7 +258,7 @@ fn a_job_waits_for_a_hundred_others(rt: HostRuntime) -> Result<(), Fail> {
         list.push_str(one.as_str())?;
     }
     list.push(']')?;
-    let text = edited(&rt, J1, "\"duration\":0", list.as_str())?;
+    let text = edited(&rt, "\"duration\":0", list.as_str())?;
     let spec = read(alloc, text.as_bytes()).ok().ok_or("no jobspec")?;
     assert_eq!(rt; spec.depends.as_slice().len(), 100);
     Ok(())
