@@ -2,7 +2,9 @@
 //!
 //! A case begins with a line of a dollar sign and its words. Behind it stand the lines of its
 //! input, each behind `< `, the lines of its output behind `> `, and, where its status isn't 0,
-//! that and its notice behind `! `. Every other line is a note.
+//! that and its notice behind `! `. A part of a line stands behind `<- ` or `>- `. What is repeated
+//! stands behind `<*N `, `<-*N ` or the same with `>`: `#` is the number of the repetition there,
+//! from 1 on, and `¶` stands between lines that come together. Every other line is a note.
 use flux::{flux, notice};
 use manager_rules::Terms;
 use outside::{MemSink, MemSource};
@@ -18,6 +20,28 @@ struct Case<'a> {
     fault: &'a str,
 }
 
+/// Adds what a line spells behind its first mark.
+fn add(text: &mut String, line: &str) -> Result<(), AllocError> {
+    let (line, end) = match line.strip_prefix('-') {
+        Some(part) => (part, ""),
+        None => (line, "\n"),
+    };
+    let (times, piece) = line.split_once(' ').unwrap_or((line, ""));
+    let Some(times) = times.strip_prefix('*') else {
+        text.push_str(piece)?;
+        return text.push_str(end);
+    };
+    for number in 1..=times.parse::<u32>().ok().unwrap_or(0) {
+        for part in piece.split('¶') {
+            match part.split_once('#') {
+                Some((front, back)) => write!(text, "{front}{number}{back}{end}")?,
+                None => write!(text, "{part}{end}")?,
+            }
+        }
+    }
+    Ok(())
+}
+
 /// Reads a case, which begins behind its dollar sign.
 fn read_case(alloc: Global, text: &str) -> Result<Case<'_>, AllocError> {
     let (words, rest) = text.split_once('\n').unwrap_or((text, ""));
@@ -28,14 +52,10 @@ fn read_case(alloc: Global, text: &str) -> Result<Case<'_>, AllocError> {
         fault: "0 done",
     };
     for line in rest.split('\n') {
-        if let Some(line) = line.strip_prefix("< ") {
-            case.input.push_str(line)?;
-            case.input.push('\n')?;
-        } else if let Some(part) = line.strip_prefix("<- ") {
-            case.input.push_str(part)?;
-        } else if let Some(line) = line.strip_prefix("> ") {
-            case.output.push_str(line)?;
-            case.output.push('\n')?;
+        if let Some(line) = line.strip_prefix('<') {
+            add(&mut case.input, line)?;
+        } else if let Some(line) = line.strip_prefix('>') {
+            add(&mut case.output, line)?;
         } else if let Some(fault) = line.strip_prefix("! ") {
             case.fault = fault;
         }
@@ -58,7 +78,7 @@ fn is_so(alloc: Global, case: &Case<'_>) -> Result<bool, AllocError> {
     let words = words_of(alloc, case.words)?;
     let input = Vec::from_slice(alloc, case.input.as_bytes())?;
     let mut source = MemSource::new(input, 4096, Vec::new(alloc));
-    let mut sink = MemSink::new(alloc, 65_536, 4096, Vec::new(alloc))?;
+    let mut sink = MemSink::new(alloc, 262_144, 4096, Vec::new(alloc))?;
     let run = flux(alloc, &words, &mut source, &mut sink, Terms::PLAIN);
     let told = notice(alloc, &run.fault)?;
     let fault = format!(in alloc; "{} {told}", run.status)?;

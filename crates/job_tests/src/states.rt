@@ -2,6 +2,7 @@
 use event_log::Event;
 use job_states::{Job, ReplayFault, replay};
 use lists::Bytes;
+use std::alloc::Global;
 use std::test::Fail;
 
 /// Events by their names and contexts.
@@ -105,36 +106,33 @@ const LOGS: [(&[(&str, &str)], &str); 15] = [
     ),
 ];
 
-fn event_of(rt: &HostRuntime, name: &str, context: &str) -> Result<Event, Fail> {
-    let name = Bytes::of(rt.alloc(), name.as_bytes())?;
-    let context = if context.is_empty() {
-        None
-    } else {
-        Some(Bytes::of(rt.alloc(), context.as_bytes())?)
-    };
-    Ok(Event {
-        timestamp: 0,
-        name,
-        context,
-    })
-}
-
-fn events_of(rt: &HostRuntime, log: &[(&str, &str)]) -> Result<Vec<Event>, Fail> {
-    let mut events = Vec::new(rt.alloc());
+/// The events of a log.
+fn events_of(alloc: Global, log: &[(&str, &str)]) -> Result<Vec<Event>, Fail> {
+    let mut events = Vec::new(alloc);
     for (name, context) in log {
-        events.push(event_of(rt, name, context)?)?;
+        let name = Bytes::of(alloc, name.as_bytes())?;
+        let context = if context.is_empty() {
+            None
+        } else {
+            Some(Bytes::of(alloc, context.as_bytes())?)
+        };
+        events.push(Event {
+            timestamp: 0,
+            name,
+            context,
+        })?;
     }
     Ok(events)
 }
 
 /// A job in words.
-fn words_of(rt: &HostRuntime, job: &Job) -> Result<String, Fail> {
+fn words_of(alloc: Global, job: &Job) -> Result<String, Fail> {
     let state = job.state;
     let urgency = job.urgency;
     let userid = job.userid;
     let priority = job.priority;
     let status = job.status;
-    let mut words = format!(in rt.alloc(); "{state} {userid} {urgency} {priority:?} {status:?}")?;
+    let mut words = format!(in alloc; "{state} {userid} {urgency} {priority:?} {status:?}")?;
     let marks = [
         (job.severe, " severe"),
         (job.allocated, " allocated"),
@@ -159,24 +157,19 @@ fn words_of(rt: &HostRuntime, job: &Job) -> Result<String, Fail> {
 }
 
 /// What a log tells, in words.
-fn told(rt: &HostRuntime, log: &[(&str, &str)]) -> Result<String, Fail> {
-    match replay(rt.alloc(), &events_of(rt, log)?) {
-        Ok(job) => words_of(rt, &job),
+fn told(alloc: Global, log: &[(&str, &str)]) -> Result<String, Fail> {
+    match replay(alloc, &events_of(alloc, log)?) {
+        Ok(job) => words_of(alloc, &job),
         Err(ReplayFault::NoMemory) => Err(ReplayFault::NoMemory.into()),
-        Err(fault) => Ok(format!(in rt.alloc(); "{fault}")?),
+        Err(fault) => Ok(format!(in alloc; "{fault}")?),
     }
-}
-
-/// Whether a log tells this.
-fn tells(rt: &HostRuntime, log: &[(&str, &str)], wanted: &str) -> Result<bool, Fail> {
-    let found = told(rt, log)?;
-    Ok(found.as_str() == wanted)
 }
 
 #[test]
 fn logs_tell_their_jobs(rt: HostRuntime) -> Result<(), Fail> {
     for (log, wanted) in &LOGS {
-        assert!(rt; tells(&rt, log, wanted)?, "{wanted}");
+        let found = told(rt.alloc(), log)?;
+        assert!(rt; found.as_str() == *wanted, "{wanted}");
     }
     Ok(())
 }

@@ -1,7 +1,7 @@
-//! The dependencies that a submission lists, and the texts of events.
+//! The dependencies that a submission lists.
 use event_log::Event;
 use job_spec::JobSpec;
-use job_texts::{description, needs_of, release_event};
+use job_texts::{description, needs_of};
 use lists::Bytes;
 use std::alloc::Global;
 use std::test::Fail;
@@ -25,15 +25,6 @@ const ROWS: [(&str, &str); 5] = [
     ("{\"depends\":[\"afterany:fJf\"]}", "after:f2 afterany:fJf"),
 ];
 
-/// A submission of this context.
-fn submission(alloc: Global, context: &str) -> Result<Event, Fail> {
-    Ok(Event {
-        timestamp: 5,
-        name: Bytes::of(alloc, b"submit")?,
-        context: Some(Bytes::of(alloc, context.as_bytes())?),
-    })
-}
-
 /// The dependencies of a job, in words.
 fn told(alloc: Global, spec: &JobSpec, event: &Event) -> Result<String, Fail> {
     let mut told = String::new(alloc);
@@ -48,7 +39,11 @@ fn told(alloc: Global, spec: &JobSpec, event: &Event) -> Result<String, Fail> {
 
 /// Whether a job with a submission of this context has these dependencies.
 fn are_listed(alloc: Global, spec: &JobSpec, context: &str, wanted: &str) -> Result<bool, Fail> {
-    let event = submission(alloc, context)?;
+    let event = Event {
+        timestamp: 5,
+        name: Bytes::of(alloc, b"submit")?,
+        context: Some(Bytes::of(alloc, context.as_bytes())?),
+    };
     let found = told(alloc, spec, &event)?;
     Ok(found.as_str() == wanted)
 }
@@ -60,14 +55,5 @@ fn dependencies_are_listed_once(rt: HostRuntime) -> Result<(), Fail> {
     for (context, wanted) in &ROWS {
         assert!(rt; are_listed(alloc, &spec, context, wanted)?, "{context}");
     }
-    Ok(())
-}
-
-#[test]
-fn a_release_tells_its_ranks(rt: HostRuntime) -> Result<(), Fail> {
-    let event = release_event(rt.alloc(), 5, b"0-1")?;
-    let context = event.context.ok_or("no context")?;
-    let text = std::str::from_utf8(context.as_slice())?;
-    assert_eq!(rt; text, "{\"final\":true,\"ranks\":\"0-1\"}");
     Ok(())
 }

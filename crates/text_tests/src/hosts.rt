@@ -9,33 +9,31 @@ fn hosts_of(alloc: Global, text: &str) -> HostList {
     HostList::read(alloc, text.as_bytes()).unwrap_or(HostList::new(alloc))
 }
 
-/// Whether each name is found at its place in a list of three hosts.
-fn are_found(alloc: Global) -> bool {
-    let hosts = hosts_of(alloc, "a,b,a");
+/// Whether each name is found at its place in a list of three hosts, which ends with the third and
+/// is the same as its copy.
+fn are_three(hosts: &HostList) -> bool {
     let rows = [("a", Some(0)), ("b", Some(1)), ("c", None), ("", None)];
-    rows.iter()
-        .all(|(name, place)| hosts.find(name.as_bytes()) == *place)
-}
-
-/// Whether a list of three hosts ends with the third.
-fn are_three(alloc: Global) -> bool {
-    let hosts = hosts_of(alloc, "a,b,a");
+    let are_found = rows
+        .iter()
+        .all(|(name, place)| hosts.find(name.as_bytes()) == *place);
     let is_third = hosts.nth(2).is_some_and(|name| name == b"a".as_slice());
-    is_third && hosts.nth(3).is_none() && hosts.len() == 3 && !hosts.is_empty()
+    let is_all = hosts.nth(3).is_none() && hosts.len() == 3 && !hosts.is_empty();
+    are_found && is_third && is_all && hosts.copy().is_ok_and(|twin| twin == *hosts)
 }
 
-/// Whether a list is the same as its copy.
-fn is_as_its_copy(alloc: Global) -> bool {
-    let hosts = hosts_of(alloc, "a,b,a");
-    hosts.copy().is_ok_and(|twin| twin == hosts)
+/// Whether the last of 65,536 hosts is found.
+fn are_many(hosts: &HostList) -> bool {
+    let last = hosts
+        .nth(65_535)
+        .is_some_and(|name| name == b"n65535".as_slice());
+    last && hosts.len() == 65_536 && hosts.find(b"n65535") == Some(65_535)
 }
 
 #[test]
 fn hosts_are_found_in_their_order(rt: HostRuntime) {
-    assert!(rt; are_found(rt.alloc()));
-    assert!(rt; are_three(rt.alloc()));
-    assert!(rt; is_as_its_copy(rt.alloc()));
+    assert!(rt; are_three(&hosts_of(rt.alloc(), "a,b,a")));
     assert!(rt; hosts_of(rt.alloc(), "a,b,a") != hosts_of(rt.alloc(), "a,a,b"));
+    assert!(rt; are_many(&hosts_of(rt.alloc(), "n[00000-65535]")));
 }
 
 #[test]
@@ -61,13 +59,4 @@ fn names_are_made_and_copied(rt: HostRuntime) {
     assert!(rt; name.is_ok_and(|name| name.as_slice() == b"b7".as_slice()));
     let name = HostName::of(rt.alloc(), b"b7");
     assert!(rt; name.is_ok_and(|name| name.copy().is_ok_and(|twin| twin == name)));
-}
-
-#[test]
-fn the_last_of_65536_hosts_is_found(rt: HostRuntime) {
-    let hosts = hosts_of(rt.alloc(), "n[00000-65535]");
-    let last = hosts
-        .nth(65_535)
-        .is_some_and(|name| name == b"n65535".as_slice());
-    assert!(rt; last && hosts.len() == 65_536 && hosts.find(b"n65535") == Some(65_535));
 }

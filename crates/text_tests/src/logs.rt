@@ -1,6 +1,5 @@
 //! Eventlogs (Flux RFC 18).
 use event_log::{Event, LogFault, line, read};
-use fl_json::JsonFault;
 use lists::Copied;
 use std::test::Fail;
 
@@ -150,44 +149,27 @@ fn nest(rt: &HostRuntime, depth: usize) -> Result<String, Fail> {
 }
 
 /// Whether a text tells this.
-fn tells(rt: &HostRuntime, given: &str, wanted: &str) -> Result<bool, Fail> {
-    let found = told(rt, given.as_bytes())?;
+fn tells(rt: &HostRuntime, given: &[u8], wanted: &str) -> Result<bool, Fail> {
+    let found = told(rt, given)?;
     Ok(found.as_slice() == wanted.as_bytes())
+}
+
+/// Whether a context with as many arrays in one another as there may be is written again as it is
+/// read, and one with another is refused.
+fn are_deep(rt: &HostRuntime) -> Result<bool, Fail> {
+    let deep = nest(rt, 125)?;
+    let is_kept = tells(rt, deep.as_bytes(), deep.as_str())?;
+    let deeper = nest(rt, 126)?;
+    Ok(is_kept && tells(rt, deeper.as_bytes(), "line 1: not JSON")?)
 }
 
 #[test]
 fn logs_are_read_and_written_as_the_rule_says(rt: HostRuntime) -> Result<(), Fail> {
     for (given, wanted) in &TEXTS {
-        assert!(rt; tells(&rt, given, wanted)?, "{given}");
+        assert!(rt; tells(&rt, given.as_bytes(), wanted)?, "{given}");
     }
-    Ok(())
-}
-
-/// Whether a context with so many arrays in one another is written again as it is read.
-fn is_kept(rt: &HostRuntime, depth: usize) -> Result<bool, Fail> {
-    let text = nest(rt, depth)?;
-    tells(rt, text.as_str(), text.as_str())
-}
-
-/// Whether the first line of a text is no JSON.
-fn is_refused(rt: &HostRuntime, text: &[u8]) -> bool {
-    let fault = LogFault::BadLine {
-        line: 1,
-        fault: JsonFault::NotJson,
-    };
-    read(rt.alloc(), text).err() == Some(fault)
-}
-
-/// Whether a context with so many arrays in one another is refused.
-fn is_too_deep(rt: &HostRuntime, depth: usize) -> Result<bool, Fail> {
-    let text = nest(rt, depth)?;
-    Ok(is_refused(rt, text.as_bytes()))
-}
-
-#[test]
-fn logs_that_are_no_json_are_refused(rt: HostRuntime) -> Result<(), Fail> {
-    assert!(rt; is_kept(&rt, 125)?);
-    assert!(rt; is_too_deep(&rt, 126)?);
-    assert!(rt; is_refused(&rt, b"{\"timestamp\":1,\"name\":\"\xff\"}\n"));
+    assert!(rt; are_deep(&rt)?);
+    let no_text = b"{\"timestamp\":1,\"name\":\"\xff\"}\n";
+    assert!(rt; tells(&rt, no_text, "line 1: not JSON")?);
     Ok(())
 }

@@ -1,5 +1,5 @@
 //! Texts of numbers, authors and replies that no run comes to.
-use answers::chronicle::{Chronicle, Entry, NameTexts, Reply};
+use answers::chronicle::{Chronicle, Entry, Reply};
 use answers::printing::{print_answers, print_journal};
 use kvs_txn::{Author, AuthorNames, By, Cause, Found, Group, Refusal, Txn};
 use lists::{Bytes, ListOf};
@@ -115,7 +115,8 @@ fn prints_in_order(alloc: Global) -> Result<bool, AllocError> {
     Ok(answers.as_slice() == b"staged\ntold\n\ncommitted 1\n\n".as_slice())
 }
 
-/// Whether replies of the last numbers there are, of none in the way, and of a clash print so.
+/// Whether replies of the last numbers there are, of nothing in the way or shown, of a clash and of
+/// a limit print so.
 fn print_at_their_ends(alloc: Global) -> Result<bool, AllocError> {
     let last = Reply::Advanced { second: u64::MAX };
     let empty = Reply::Read {
@@ -136,40 +137,10 @@ fn print_at_their_ends(alloc: Global) -> Result<bool, AllocError> {
     )?;
     let busy = prints_reply(alloc, alone, Some(22), "why 22 Busy\n")?;
     let clashed = prints_reply(alloc, clash, None, "refused 1 Clash\n")?;
-    Ok(advanced && valued && busy && clashed)
-}
-
-/// The names of these events.
-fn names(alloc: Global, events: &[&str]) -> Result<NameTexts, AllocError> {
-    let mut names = ListOf::new(alloc);
-    for event in events {
-        names.push(Bytes::of(alloc, event.as_bytes())?)?;
-    }
-    Ok(names)
-}
-
-/// Whether what a watch is told and fed, and what a limit turns away, print so.
-fn watches_print(alloc: Global) -> Result<bool, AllocError> {
-    let watched = Reply::Watched(names(alloc, &["submit", "clean"])?);
-    let unseen = Reply::Watched(names(alloc, &[])?);
-    let fed = Entry::Watched {
-        actor: 0,
-        command: 2,
-        number: 3,
-        first: 0,
-        count: 1,
-    };
-    let told = prints_reply(alloc, watched, Some(10), "watched 10 submit clean\n")?;
-    let nothing = prints_reply(alloc, unseen, Some(10), "watched 10\n")?;
+    let unseen = Reply::Watched(ListOf::new(alloc));
+    let watched = prints_reply(alloc, unseen, Some(10), "watched 10\n")?;
     let checked = prints_reply(alloc, Reply::Checked(7), None, "Checked 7\n")?;
-    let entered = prints_entry(alloc, fed, "watched 0 2 3 0 1\n")?;
-    Ok(told && nothing && checked && entered)
-}
-
-#[test]
-fn watches_and_limits_have_their_texts(rt: HostRuntime) -> Result<(), Fail> {
-    assert!(rt; watches_print(rt.alloc())?);
-    Ok(())
+    Ok(advanced && valued && busy && clashed && watched && checked)
 }
 
 #[test]
