@@ -1,5 +1,5 @@
 //! Jobspecs (Flux RFC 14 and 25), and the faults of other texts.
-use job_spec::{JobSpec, Place, SpecFault, read};
+use job_spec::{JobSpec, SpecFault, read};
 use lists::Copied;
 use std::test::Fail;
 
@@ -8,9 +8,6 @@ const J1: &str =
     "{\"resources\":[{\"type\":\"slot\",\"count\":1,\"with\":[{\"type\":\"core\",\"count\":1}],\
         \"label\":\"task\"}],\"tasks\":[{\"command\":[\"true\"],\"slot\":\"task\",\
         \"count\":{\"per_slot\":1}}],\"attributes\":{\"system\":{\"duration\":0}},\"version\":1}";
-
-/// What is told of the first job.
-const PLAIN: &str = "on None false 1 of 1+0 PerSlot(1) for 0: true";
 
 /// What is told of a text, which is the first job with a thing in a part's place, the part, and the
 /// thing. It stands alone where there is no part; the slot of the first job may be written `@`.
@@ -227,39 +224,6 @@ fn jobspecs_are_read_and_refused(rt: HostRuntime) -> Result<(), Fail> {
     for row in &ROWS {
         assert!(rt; tells(&rt, row)?, "{row}");
     }
-    Ok(())
-}
-
-#[test]
-fn a_text_has_at_most_65536_bytes(rt: HostRuntime) -> Result<(), Fail> {
-    let mut text = String::from_str(rt.alloc(), J1)?;
-    for _ in J1.len()..65_536 {
-        text.push(' ')?;
-    }
-    assert_eq!(rt; told(&rt, text.as_str())?.as_str(), PLAIN);
-    text.push('x')?;
-    assert_eq!(rt;
-        read(rt.alloc(), text.as_bytes()).err(),
-        Some(SpecFault::TooLarge)
-    );
-    assert_eq!(rt; SpecFault::TooLarge.number(), Some(7));
     assert_eq!(rt; SpecFault::NoMemory.number(), None);
-    assert_eq!(rt; SpecFault::BadCount(Place::Gpu).number(), Some(5));
-    Ok(())
-}
-
-#[test]
-fn a_job_waits_for_a_hundred_others(rt: HostRuntime) -> Result<(), Fail> {
-    let alloc = rt.alloc();
-    let mut list = String::from_str(alloc, "\"duration\":0,\"dependencies\":[")?;
-    for number in 0..100u32 {
-        let comma = if number == 0 { "" } else { "," };
-        let one = format!(in alloc; "{comma}{{\"scheme\":\"after\",\"value\":\"{number}\"}}")?;
-        list.push_str(one.as_str())?;
-    }
-    list.push(']')?;
-    let text = edited(&rt, "\"duration\":0", list.as_str())?;
-    let spec = read(alloc, text.as_bytes()).ok().ok_or("no jobspec")?;
-    assert_eq!(rt; spec.depends.as_slice().len(), 100);
     Ok(())
 }

@@ -11,5 +11,3 @@ mod caches;
 mod keepers;
 #[cfg(test)]
 mod merges;
-#[cfg(test)]
-mod plain_stores;

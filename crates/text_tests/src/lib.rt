@@ -5,11 +5,9 @@
 #[cfg(test)]
 mod hosts;
 #[cfg(test)]
-mod ids;
-#[cfg(test)]
 mod logs;
 #[cfg(test)]
-mod references;
+mod roots;
 #[cfg(test)]
 mod sets;
 #[cfg(test)]

@@ -65,19 +65,14 @@ fn text_of(alloc: Global, seed: u64, count: u32) -> Result<String, Fail> {
     Ok(String::from_str(alloc, lines)?)
 }
 
-/// Whether a row stands for this line.
-fn stands_for(alloc: Global, row: &str, found: &str) -> Result<bool, Fail> {
-    let wanted = line(alloc, row)?;
-    Ok(found == wanted.as_str())
-}
-
 #[test]
 fn a_seed_draws_these_lines(rt: HostRuntime) -> Result<(), Fail> {
     let alloc = rt.alloc();
     let text = text_of(alloc, 7, 20)?;
     assert_eq!(rt; text.as_str().split('\n').count(), SEVEN.len());
     for (found, row) in text.as_str().split('\n').zip(&SEVEN) {
-        assert!(rt; stands_for(alloc, row, found)?, "{row}");
+        let wanted = line(alloc, row)?;
+        assert!(rt; found == wanted.as_str(), "{row}");
     }
     Ok(())
 }
@@ -96,13 +91,8 @@ fn what_a_seed_draws_is_read(rt: HostRuntime) -> Result<(), Fail> {
     for seed in [0, 7, u64::MAX] {
         assert_eq!(rt; sizes(rt.alloc(), seed, 300)?, (8, 300), "of {seed}");
     }
-    Ok(())
-}
-
-#[test]
-fn no_commands_are_actors_alone(rt: HostRuntime) -> Result<(), Fail> {
-    let text = text_of(rt.alloc(), 7, 0)?;
-    assert_eq!(rt; text.as_str().split('\n').count(), 8);
+    // no commands are actors alone
+    assert_eq!(rt; sizes(rt.alloc(), 7, 0)?, (8, 0));
     Ok(())
 }
 

@@ -31,25 +31,6 @@ fn fault_in(line: u64, told: Told) -> Option<LineFault> {
     }
 }
 
-/// The fault of a text in which a piece stands so many times between a start and an end.
-fn fault(
-    alloc: Global,
-    start: &[u8],
-    piece: &[u8],
-    times: usize,
-    end: &[u8],
-) -> Result<Option<LineFault>, Fail> {
-    let mut text = Vec::from_slice(alloc, start)?;
-    for _ in 0..times {
-        text.extend_from_slice(piece)?;
-    }
-    text.extend_from_slice(end)?;
-    match read(alloc, text.as_slice(), SIZE).err() {
-        Some(LineFault::NoMemory) => Err(Fail::new("out of memory")),
-        fault => Ok(fault),
-    }
-}
-
 /// A piece that stands so many times between a start and an end, and what is told of that text.
 type Long = (
     &'static [u8],
@@ -63,8 +44,15 @@ type Long = (
 /// Whether a text has the fault that is told of it.
 fn has_its_fault(alloc: Global, case: &Long) -> Result<bool, Fail> {
     let (start, piece, times, end, line, told) = *case;
-    let found = fault(alloc, start, piece, times, end)?;
-    Ok(found == fault_in(line, told))
+    let mut text = Vec::from_slice(alloc, start)?;
+    for _ in 0..times {
+        text.extend_from_slice(piece)?;
+    }
+    text.extend_from_slice(end)?;
+    match read(alloc, text.as_slice(), SIZE).err() {
+        Some(LineFault::NoMemory) => Err(Fail::new("out of memory")),
+        fault => Ok(fault == fault_in(line, told)),
+    }
 }
 
 const AT_THE_LIMITS: [Long; 28] = [
