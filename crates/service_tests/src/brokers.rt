@@ -1,8 +1,9 @@
-//! What no command shows of a tree of brokers: transactions that land at once, and the numbers of
-//! steps.
-ghost use Rattle.std.specs.Prelude.{◌≡◌, ◌<◌, ◌≤◌, false, [], codes, IfOk, OnOk};
+//! What no command shows of a tree of brokers: transactions that land at once, announcements that are
+//! lost, repeated or swapped, and the numbers of steps.
+ghost use Rattle.std.specs.Prelude.{◌≡◌, ◌<◌, ◌≤◌, true, false, [], codes, length, IfOk, IfSome, OnOk};
 ghost use Rattle.kvs_model.specs.History.{first_store};
 ghost use Rattle.kvs_core.specs.Posted.{newest_of, posted};
+ghost use Rattle.kvs_core.specs.Steps.{can_step};
 ghost use Rattle.kvs_requests.specs.Rows.{IsKnownAsk};
 
 use fl_digest::Hash;
@@ -13,24 +14,79 @@ use lists::{Bytes, ListOf};
 use std::alloc::Global;
 use std::test::Fail;
 
-/// What a tree of four brokers tells of the rows of `PAIR`.
-const TOGETHER: &str =
-    "landed 1 by 0 1, 0 heard 1, 1 heard 1, 2 heard 1, 3 heard 1, 0 committed 1, 1 committed 1, a \
-        stands, b stands, still";
-
-/// What it tells of the row of `ONE` behind a post.
-const BEHIND_A_POST: &str =
-    "landed 1 by manager 0, 0 heard 1, 1 heard 1, 2 heard 1, 3 heard 1, 0 committed 1, a stands, \
-        job.x stands, still";
-
 /// The keys that actors put and commit, each in its first command and at a broker.
-pub type Posed = (u32, &'static str);
+type Posed = (u32, &'static str);
+
+const ONE: [Posed; 1] = [(1, "a")];
 
 const PAIR: [Posed; 2] = [(1, "a"), (2, "b")];
 
 const THREE: [Posed; 3] = [(1, "a"), (2, "b"), (0, "c")];
 
-const ONE: [Posed; 1] = [(1, "a")];
+/// Whether the job manager posts first, what is posed then, steps that are made as soon as each can
+/// be, before all others, and what four brokers tell.
+type Story = (bool, &'static [Posed], &'static [KvsStep], &'static str);
+
+const STORIES: [Story; 7] = [
+    // two commits that are ready land at once
+    (
+        false,
+        &PAIR,
+        &[],
+        "landed 1 by 0 1, 0 heard 1, 1 heard 1, 2 heard 1, 3 heard 1, 0 committed 1, 1 committed 1, a \
+            stands, b stands, still",
+    ),
+    // a post lands with a commit
+    (
+        true,
+        &ONE,
+        &[],
+        "landed 1 by manager 0, 0 heard 1, 1 heard 1, 2 heard 1, 3 heard 1, 0 committed 1, a stands, \
+            job.x stands, still",
+    ),
+    // each broker hears of the last landing, whatever is lost, repeated or swapped
+    (
+        false,
+        &ONE,
+        &[KvsStep::Lose { from: 0, to: 2 }],
+        "landed 1 by 0, 0 heard 1, 1 heard 1, 3 heard 1, 2 heard 1, 0 committed 1, a stands, still",
+    ),
+    (
+        false,
+        &ONE,
+        &[KvsStep::Lose { from: 0, to: 1 }],
+        "landed 1 by 0, 0 heard 1, 2 heard 1, 1 heard 1, 3 heard 1, 0 committed 1, a stands, still",
+    ),
+    (
+        false,
+        &ONE,
+        &[KvsStep::Repeat { from: 0, to: 1 }],
+        "landed 1 by 0, 0 heard 1, 1 heard 1, 2 heard 1, 3 heard 1, 0 committed 1, a stands, still",
+    ),
+    (
+        false,
+        &ONE,
+        &[KvsStep::Swap { from: 0, to: 1 }],
+        "landed 1 by 0, 0 heard 1, 1 heard 1, 2 heard 1, 3 heard 1, 0 committed 1, a stands, still",
+    ),
+    // two commits land one behind the other before any broker but rank 0 hears of them, and the
+    // second announcement overtakes the first: broker 1 and the one below it never hear of the first
+    // landing by itself
+    (
+        false,
+        &PAIR,
+        &[
+            KvsStep::Serve { broker: 0 },
+            KvsStep::Land { namespace: 0 },
+            KvsStep::Deliver { from: 2, to: 0 },
+            KvsStep::Serve { broker: 0 },
+            KvsStep::Land { namespace: 0 },
+            KvsStep::Swap { from: 0, to: 1 },
+        ],
+        "landed 1 by 0, 0 heard 1, landed 2 by 1, 0 heard 2, 1 heard 2, 2 heard 1, 2 heard 2, 3 heard \
+            2, 0 committed 1, 1 committed 2, a stands, b stands, still",
+    ),
+];
 
 /// A commit of a key with its own name as its value.
 fn put(alloc: Global, actor: u32, key: &str) -> Result<KvsAsk, Fail>
@@ -70,7 +126,7 @@ fn pose(alloc: Global, core: &mut Core, actor: u32, posed: Posed) -> Result<(), 
     Ok(())
 }
 
-pub fn pose_all(alloc: Global, core: &mut Core, rows: &[Posed]) -> Result<(), Fail>
+fn pose_all(alloc: Global, core: &mut Core, rows: &[Posed]) -> Result<(), Fail>
     requires ready { core.old.spent ≡ false }
     requires size { core.old.size ≡ 4 }
     ensures ready { OnOk result (core.new.spent ≡ false) }
@@ -95,7 +151,7 @@ fn names_of(alloc: Global, authors: &AuthorNames) -> Result<String, Fail> {
     Ok(names)
 }
 
-pub fn tell(alloc: Global, text: &mut Vec<u8>, event: &KvsEvent) -> Result<(), Fail> {
+fn tell(alloc: Global, text: &mut Vec<u8>, event: &KvsEvent) -> Result<(), Fail> {
     let words = match event {
         KvsEvent::Landed {
             number,
@@ -112,26 +168,46 @@ pub fn tell(alloc: Global, text: &mut Vec<u8>, event: &KvsEvent) -> Result<(), F
     Ok(())
 }
 
-fn run(alloc: Global, core: &mut Core, text: &mut Vec<u8>) -> Result<(), Fail>
+/// The step of this place in a plan, where it can be made.
+fn planned(core: &Core, plan: &[KvsStep], at: usize) -> Option<KvsStep>
+    requires { core.now.spent ≡ false }
+    ensures within { IfSome result (λ step. at < length plan.now) }
+    ensures can { IfSome result (λ step. can_step core.now step ≡ true) }
+{
+    if at < plan.len() && core.can(plan[at]) {
+        Some(plan[at])
+    } else {
+        None
+    }
+}
+
+/// Makes the steps of a plan as soon as each can be made, and those of the core until none is left.
+fn run(alloc: Global, core: &mut Core, plan: &[KvsStep], text: &mut Vec<u8>) -> Result<(), Fail>
     requires { core.old.spent ≡ false }
     ensures ready { OnOk result (core.new.spent ≡ false) }
     ensures size { OnOk result (core.new.size ≡ core.old.size) }
 {
+    let mut at = 0;
     'steps: for _ in 0..100 {
-        match core.next() {
-            None => return Ok(()),
+        let step = match planned(core, plan, at) {
             Some(step) => {
-                let events = core.turn(step)?;
-                'events: for event in events.as_slice() {
-                    tell(alloc, text, event)?;
-                }
+                at += 1;
+                step
             }
+            None => match core.next() {
+                Some(step) => step,
+                None => return Ok(()),
+            },
+        };
+        let events = core.turn(step)?;
+        'events: for event in events.as_slice() {
+            tell(alloc, text, event)?;
         }
     }
     Ok(())
 }
 
-pub fn take_all(alloc: Global, core: &mut Core, text: &mut Vec<u8>) -> Result<(), Fail>
+fn take_all(alloc: Global, core: &mut Core, text: &mut Vec<u8>) -> Result<(), Fail>
     requires { core.old.spent ≡ false }
     ensures { OnOk result (core.new.spent ≡ false) }
 {
@@ -152,7 +228,7 @@ pub fn take_all(alloc: Global, core: &mut Core, text: &mut Vec<u8>) -> Result<()
 }
 
 /// Tells which of three keys have values, and whether no step is left.
-pub fn tell_end(alloc: Global, core: &Core, text: &mut Vec<u8>) -> Result<(), Fail>
+fn tell_end(alloc: Global, core: &Core, text: &mut Vec<u8>) -> Result<(), Fail>
     requires { core.now.spent ≡ false }
 {
     'keys: for key in ["a", "b", "job.x"] {
@@ -168,19 +244,8 @@ pub fn tell_end(alloc: Global, core: &Core, text: &mut Vec<u8>) -> Result<(), Fa
     Ok(())
 }
 
-/// What happens until no step is left, what actors are told then, and what stands in the end.
-fn story(alloc: Global, core: &mut Core) -> Result<Vec<u8>, Fail>
-    requires { core.old.spent ≡ false }
-{
-    let mut text = Vec::new(alloc);
-    run(alloc, core, &mut text)?;
-    take_all(alloc, core, &mut text)?;
-    tell_end(alloc, core, &mut text)?;
-    Ok(text)
-}
-
 /// A tree of four brokers, in which nothing has happened.
-pub fn begin(alloc: Global) -> Result<Core, Fail>
+fn begin(alloc: Global) -> Result<Core, Fail>
     ensures ready { IfOk result (λ core. core.spent ≡ false) }
     ensures size { IfOk result (λ core. core.size ≡ 4) }
     ensures posted { IfOk result (λ core. posted core ≡ []) }
@@ -193,35 +258,6 @@ pub fn begin(alloc: Global) -> Result<Core, Fail>
         hash: Hash::Sha1,
     };
     Ok(Core::new(alloc, setting, &grant)?)
-}
-
-/// What follows once these rows are asked.
-fn story_behind(alloc: Global, core: &mut Core, rows: &[Posed]) -> Result<Vec<u8>, Fail>
-    requires ready { core.old.spent ≡ false }
-    requires size { core.old.size ≡ 4 }
-{
-    pose_all(alloc, core, rows)?;
-    story(alloc, core)
-}
-
-/// What a tree of four brokers tells of these rows.
-fn story_of(alloc: Global, rows: &[Posed]) -> Result<Vec<u8>, Fail> {
-    let mut core = begin(alloc)?;
-    let told = story_behind(alloc, &mut core, rows);
-    drop(core);
-    told
-}
-
-/// Whether a tree of four brokers tells this of these rows.
-fn is_story(alloc: Global, rows: &[Posed], wanted: &str) -> Result<bool, Fail> {
-    let text = story_of(alloc, rows)?;
-    Ok(text.as_slice() == wanted.as_bytes())
-}
-
-#[test]
-fn two_commits_that_are_ready_land_at_once(rt: HostRuntime) -> Result<(), Fail> {
-    assert!(rt; is_story(rt.alloc(), &PAIR, TOGETHER)?);
-    Ok(())
 }
 
 /// The job manager's transaction: a value at a key below `job`.
@@ -241,29 +277,40 @@ fn post(alloc: Global, core: &mut Core) -> Result<(), Fail>
     Ok(())
 }
 
-/// What follows once a post is made and these rows are asked.
-fn story_of_a_post(alloc: Global, core: &mut Core, rows: &[Posed]) -> Result<Vec<u8>, Fail>
+/// What follows in a tree in which nothing has happened: what happens, what actors are told then, and
+/// what stands in the end.
+fn told_of(alloc: Global, core: &mut Core, story: &Story) -> Result<Vec<u8>, Fail>
     requires ready { core.old.spent ≡ false }
     requires size { core.old.size ≡ 4 }
     requires posted { posted core.old ≡ [] }
     requires newest { newest_of core.old ≡ first_store (codes "grant") }
 {
-    post(alloc, core)?;
-    story_behind(alloc, core, rows)
+    let (posts, rows, plan, _) = *story;
+    if posts {
+        post(alloc, core)?;
+    }
+    pose_all(alloc, core, rows)?;
+    let mut text = Vec::new(alloc);
+    run(alloc, core, plan, &mut text)?;
+    take_all(alloc, core, &mut text)?;
+    tell_end(alloc, core, &mut text)?;
+    Ok(text)
 }
 
-/// What a tree of four brokers tells of these rows behind a post.
-fn story_behind_a_post(alloc: Global, rows: &[Posed]) -> Result<Vec<u8>, Fail> {
+/// Whether a tree of four brokers tells a story.
+fn is_told(alloc: Global, story: &Story) -> Result<bool, Fail> {
     let mut core = begin(alloc)?;
-    let told = story_of_a_post(alloc, &mut core, rows);
+    let told = told_of(alloc, &mut core, story);
     drop(core);
-    told
+    let text = told?;
+    Ok(text.as_slice() == story.3.as_bytes())
 }
 
 #[test]
-fn a_post_lands_with_a_commit(rt: HostRuntime) -> Result<(), Fail> {
-    let text = story_behind_a_post(rt.alloc(), &ONE)?;
-    assert!(rt; text.as_slice() == BEHIND_A_POST.as_bytes());
+fn trees_of_brokers_tell_their_stories(rt: HostRuntime) -> Result<(), Fail> {
+    for story in &STORIES {
+        assert!(rt; is_told(rt.alloc(), story)?, "{}", story.3);
+    }
     Ok(())
 }
 
@@ -281,7 +328,7 @@ fn marks_of(
 {
     pose_all(alloc, core, rows)?;
     let mut text = Vec::new(alloc);
-    run(alloc, core, &mut text)?;
+    run(alloc, core, &[], &mut text)?;
     let mut marks = marked;
     core.mark_held(commands, &mut marks);
     Ok(marks)
@@ -320,67 +367,131 @@ fn actors_are_marked_whose_answers_wait(rt: HostRuntime) -> Result<(), Fail> {
     Ok(())
 }
 
-/// Has rank 0 serve what waits there, if it can.
-fn serve(core: &mut Core) -> Result<(), Fail>
-    requires ready { core.old.spent ≡ false }
-    ensures ready { OnOk result (core.new.spent ≡ false) }
-{
-    let serve = KvsStep::Serve { broker: 0 };
-    if core.can(serve) {
-        core.turn(serve)?;
-    }
-    Ok(())
-}
+/// Steps by which a commit at broker 1 lands, and is announced.
+const LANDING: [KvsStep; 3] = [
+    KvsStep::Deliver { from: 1, to: 0 },
+    KvsStep::Serve { broker: 0 },
+    KvsStep::Land { namespace: 0 },
+];
 
-/// The step of this number, or how many are lacking, once these rows are asked and rank 0 has
-/// served one if it is to.
-fn nth_of(
-    alloc: Global,
-    core: &mut Core,
-    rows: &[Posed],
-    serves: bool,
-    number: u64,
-) -> Result<Result<KvsStep, u64>, Fail>
+/// What is posed, steps that are made then, whether the losses that can be made next are counted or
+/// the other steps, and which has a number, or how many are lacking.
+type Count = (
+    &'static [Posed],
+    &'static [KvsStep],
+    bool,
+    u64,
+    Result<KvsStep, u64>,
+);
+
+const COUNTS: [Count; 14] = [
+    (
+        &THREE,
+        &[],
+        false,
+        0,
+        Ok(KvsStep::Deliver { from: 1, to: 0 }),
+    ),
+    (
+        &THREE,
+        &[],
+        false,
+        1,
+        Ok(KvsStep::Deliver { from: 2, to: 0 }),
+    ),
+    (&THREE, &[], false, 2, Ok(KvsStep::Serve { broker: 0 })),
+    (&THREE, &[], false, 3, Err(0)),
+    (
+        &THREE,
+        &[KvsStep::Serve { broker: 0 }],
+        false,
+        2,
+        Ok(KvsStep::Land { namespace: 0 }),
+    ),
+    (
+        &THREE,
+        &[KvsStep::Serve { broker: 0 }],
+        false,
+        u64::MAX,
+        Err(u64::MAX - 3),
+    ),
+    (&[], &[], false, 7, Err(7)),
+    (
+        &ONE,
+        &LANDING,
+        true,
+        0,
+        Ok(KvsStep::Lose { from: 0, to: 1 }),
+    ),
+    (
+        &ONE,
+        &LANDING,
+        true,
+        1,
+        Ok(KvsStep::Lose { from: 0, to: 2 }),
+    ),
+    (
+        &ONE,
+        &LANDING,
+        true,
+        2,
+        Ok(KvsStep::Repeat { from: 0, to: 1 }),
+    ),
+    (
+        &ONE,
+        &LANDING,
+        true,
+        3,
+        Ok(KvsStep::Repeat { from: 0, to: 2 }),
+    ),
+    (
+        &ONE,
+        &LANDING,
+        true,
+        4,
+        Ok(KvsStep::Swap { from: 0, to: 1 }),
+    ),
+    (
+        &ONE,
+        &LANDING,
+        true,
+        5,
+        Ok(KvsStep::Swap { from: 0, to: 2 }),
+    ),
+    (&ONE, &LANDING, true, 8, Err(2)),
+];
+
+/// The step of a number, or how many are lacking, once these rows are asked and these steps made.
+fn nth_of(alloc: Global, core: &mut Core, count: &Count) -> Result<Result<KvsStep, u64>, Fail>
     requires ready { core.old.spent ≡ false }
     requires size { core.old.size ≡ 4 }
 {
+    let (rows, plan, is_of_losses, number, _) = *count;
     pose_all(alloc, core, rows)?;
-    if serves {
-        serve(core)?;
+    'steps: for step in plan {
+        if core.can(*step) {
+            core.turn(*step)?;
+        }
     }
-    Ok(core.nth(number))
+    if is_of_losses {
+        Ok(core.nth_loss(number))
+    } else {
+        Ok(core.nth(number))
+    }
 }
 
-/// The same in a tree of four brokers.
-fn nth_behind(
-    alloc: Global,
-    rows: &[Posed],
-    serves: bool,
-    number: u64,
-) -> Result<Result<KvsStep, u64>, Fail> {
+/// Whether a tree of four brokers counts so.
+fn is_counted(alloc: Global, count: &Count) -> Result<bool, Fail> {
     let mut core = begin(alloc)?;
-    let found = nth_of(alloc, &mut core, rows, serves, number);
+    let found = nth_of(alloc, &mut core, count);
     drop(core);
-    found
+    Ok(found? == count.4)
 }
-
-/// The steps that follow `THREE`, those of rank 0 behind a serving, and where the steps end.
-const STEPS: [(bool, u64, Result<KvsStep, u64>); 6] = [
-    (false, 0, Ok(KvsStep::Deliver { from: 1, to: 0 })),
-    (false, 1, Ok(KvsStep::Deliver { from: 2, to: 0 })),
-    (false, 2, Ok(KvsStep::Serve { broker: 0 })),
-    (false, 3, Err(0)),
-    (true, 2, Ok(KvsStep::Land { namespace: 0 })),
-    (true, u64::MAX, Err(u64::MAX - 3)),
-];
 
 #[test]
-fn steps_are_counted_in_their_order(rt: HostRuntime) -> Result<(), Fail> {
-    for (serves, number, wanted) in &STEPS {
-        let found = nth_behind(rt.alloc(), &THREE, *serves, *number)?;
-        assert!(rt; found == *wanted, "at {number}");
+fn steps_and_losses_are_counted_in_their_order(rt: HostRuntime) -> Result<(), Fail> {
+    for count in &COUNTS {
+        assert!(rt; is_counted(rt.alloc(), count)?, "at {}", count.3);
     }
-    let found = nth_behind(rt.alloc(), &[], false, 7)?;
-    assert!(rt; found == Err(7));
     Ok(())
 }

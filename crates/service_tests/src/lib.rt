@@ -14,6 +14,4 @@ mod contents;
 #[cfg(test)]
 mod landings;
 #[cfg(test)]
-mod losses;
-#[cfg(test)]
 mod requests;

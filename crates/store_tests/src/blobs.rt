@@ -16,16 +16,7 @@ fn takes(
     Ok(store.put(reference, bytes).is_ok())
 }
 
-/// Whether a put hands a text back as another content than that which stands.
-fn is_clash(put: Result<(), PutFault>, text: &str) -> bool {
-    match put {
-        Ok(()) => false,
-        Err(PutFault::NoMemory(_back)) => false,
-        Err(PutFault::Clash(back)) => back.as_slice() == text.as_bytes(),
-    }
-}
-
-/// Whether a store hands a text back.
+/// Whether a store hands a text back as another content than that which stands.
 fn hands_back(
     alloc: Global,
     store: &mut BlobStore,
@@ -33,7 +24,11 @@ fn hands_back(
     text: &str,
 ) -> Result<bool, Fail> {
     let other = Bytes::of(alloc, text.as_bytes())?;
-    Ok(is_clash(store.put(reference, other), text))
+    Ok(match store.put(reference, other) {
+        Ok(()) => false,
+        Err(PutFault::NoMemory(_back)) => false,
+        Err(PutFault::Clash(back)) => back.as_slice() == text.as_bytes(),
+    })
 }
 
 /// Whether a store has a text under a reference.

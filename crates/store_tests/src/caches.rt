@@ -34,15 +34,6 @@ fn size_of(value: u8) -> usize {
     }
 }
 
-/// The content of a value, with its reference.
-fn content(alloc: Global, value: u8) -> Result<(BlobRef, Bytes), AllocError>
-    ensures { IfOk result (λ content. Names content.0 content.1) }
-{
-    let bytes = Bytes::from_vec(vec![in alloc; value; size_of(value)]?);
-    let reference = BlobRef::of(Hash::Sha1, bytes.as_slice());
-    Ok((reference, bytes))
-}
-
 /// Whether these are the references of the contents of these values, of which all are known.
 fn are(references: &RefList, values: &[u8], known: &[BlobRef]) -> bool {
     let references = references.as_slice();
@@ -63,7 +54,8 @@ fn is_of(bytes: Option<&Bytes>, value: u8) -> bool {
 fn made(alloc: Global, value: u8, known: &mut Vec<BlobRef>) -> Result<(BlobRef, Bytes), AllocError>
     ensures { IfOk result (λ content. Names content.0 content.1) }
 {
-    let (reference, bytes) = content(alloc, value)?;
+    let bytes = Bytes::from_vec(vec![in alloc; value; size_of(value)]?);
+    let reference = BlobRef::of(Hash::Sha1, bytes.as_slice());
     if let Some(place) = known.get_mut(value as usize) {
         *place = reference;
     }

@@ -91,12 +91,6 @@ fn asked<P: Keeper>(alloc: Global, keeper: &mut P, ask: Ask) -> Result<String, A
     }
 }
 
-/// Whether a keeper answers a call so.
-fn answers<P: Keeper>(alloc: Global, keeper: &mut P, turn: &Turn) -> Result<bool, AllocError> {
-    let answer = asked(alloc, keeper, turn.ask)?;
-    Ok(answer.as_str() == turn.answer)
-}
-
 /// Makes the calls in their order.
 fn walk<P: Keeper>(
     rt: &impl Abort,
@@ -105,7 +99,8 @@ fn walk<P: Keeper>(
     turns: &[Turn],
 ) -> Result<(), AllocError> {
     for turn in turns {
-        assert!(rt; answers(alloc, keeper, turn)?, "{}", turn.answer);
+        let answer = asked(alloc, keeper, turn.ask)?;
+        assert!(rt; answer.as_str() == turn.answer, "{}", turn.answer);
     }
     Ok(())
 }

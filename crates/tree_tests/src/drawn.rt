@@ -4,7 +4,7 @@ ghost use Rattle.tree_store.specs.Landing.{table};
 
 use blob_store::BlobStore;
 use fl_digest::{BlobRef, Hash};
-use kvs_txn::{Path, Scope, Txn};
+use kvs_txn::{Author, Op, Path, Scope, Target, Txn};
 use lists::Bytes;
 use rand_core::utils::NextWord;
 use rand_pcg::Pcg32;
@@ -19,10 +19,10 @@ pub(crate) fn word(draws: &mut Pcg32, below: usize) -> usize {
     draws.next_word() as usize % below.max(1)
 }
 
-/// One of these keys.
-pub(crate) fn key(alloc: Global, draws: &mut Pcg32, keys: &[&str]) -> Result<Path, Fail> {
-    let number = word(draws, keys.len());
-    let text = keys.get(number).ok_or("no key")?;
+/// One of the keys.
+fn key(alloc: Global, draws: &mut Pcg32) -> Result<Path, Fail> {
+    let number = word(draws, KEYS.len());
+    let text = KEYS.get(number).ok_or("no key")?;
     Ok(Path::read(alloc, *text)?)
 }
 
@@ -35,6 +35,68 @@ pub(crate) fn value(alloc: Global, draws: &mut Pcg32) -> Result<Bytes, Fail> {
         bytes.push((draws.next_word() % 256) as u8)?;
     }
     Ok(bytes)
+}
+
+/// The keys of drawn operations.
+pub(crate) const KEYS: [&str; 21] = [
+    "a",
+    "b",
+    "c",
+    "job",
+    "resource",
+    "a.a",
+    "a.b",
+    "a.c",
+    "b.a",
+    "b.c",
+    "c.a",
+    "job.a",
+    "a.a.a",
+    "a.b.c",
+    "b.b.b",
+    "c.c.a",
+    "a.b.c.d",
+    "c.b.a.d",
+    "resource.R",
+    "resource.a.b",
+    ".",
+];
+
+/// An operation at one of them.
+fn operation(alloc: Global, draws: &mut Pcg32) -> Result<Op, Fail> {
+    let path = key(alloc, draws)?;
+    Ok(match word(draws, 10) {
+        0 | 1 | 2 => Op::Put {
+            path,
+            bytes: value(alloc, draws)?,
+        },
+        3 | 4 => Op::Append {
+            path,
+            bytes: value(alloc, draws)?,
+        },
+        5 | 6 => Op::Unlink { path },
+        7 => Op::Mkdir { path },
+        _ => Op::Link {
+            path,
+            target: Target {
+                path: key(alloc, draws)?,
+                namespace: None,
+            },
+        },
+    })
+}
+
+/// A transaction of one to four such operations, of the job manager or of a user.
+pub(crate) fn transaction(alloc: Global, draws: &mut Pcg32) -> Result<Txn, Fail> {
+    let author = match word(draws, 2) {
+        0 => Author::Manager,
+        _ => Author::User(7),
+    };
+    let mut txn = Txn::new(alloc, author);
+    for _ in 0..=word(draws, 4) {
+        txn.stage(operation(alloc, draws)?).ok().ok_or("full")?;
+    }
+    Ok(txn)
 }
 
 /// Does a transaction on the store of a root, which stays where there is no new one.

@@ -1,8 +1,8 @@
 //! Transactions on blobs against those on a store in memory, and the reference of a first store.
-use crate::drawn::{key, land, land_kept, value, word};
+use crate::drawn::{land, land_kept, transaction, value, word};
 use blob_store::BlobStore;
 use fl_digest::{BlobRef, Hash};
-use kvs_txn::{Author, Found, Kind, Listed, Op, Path, Query, Scope, Target, Txn};
+use kvs_txn::{Found, Kind, Listed, Op, Path, Query, Scope};
 use lists::Bytes;
 use plain_store::{ApplyFault, Store};
 use rand_core::SeedableRng;
@@ -22,64 +22,6 @@ const FIRST: &str = "sha1-7c76e6293a7b129f1c2af42517287437a3a4559c";
 
 /// That of the store without names.
 const EMPTY: &str = "sha1-c0a9faf907dda6216fd73bf81d0b3b21a1a8cb91";
-
-const KEYS: [&str; 20] = [
-    "a",
-    "b",
-    "c",
-    "job",
-    "resource",
-    "a.a",
-    "a.b",
-    "b.a",
-    "b.c",
-    "c.a",
-    "job.a",
-    "a.a.a",
-    "a.b.c",
-    "b.b.b",
-    "c.c.a",
-    "a.b.c.d",
-    "c.b.a.d",
-    "resource.R",
-    "resource.a.b",
-    ".",
-];
-
-fn operation(alloc: Global, draws: &mut Pcg32) -> Result<Op, Fail> {
-    let path = key(alloc, draws, &KEYS)?;
-    Ok(match word(draws, 10) {
-        0 | 1 | 2 => Op::Put {
-            path,
-            bytes: value(alloc, draws)?,
-        },
-        3 | 4 => Op::Append {
-            path,
-            bytes: value(alloc, draws)?,
-        },
-        5 | 6 => Op::Unlink { path },
-        7 => Op::Mkdir { path },
-        _ => Op::Link {
-            path,
-            target: Target {
-                path: key(alloc, draws, &KEYS)?,
-                namespace: None,
-            },
-        },
-    })
-}
-
-fn transaction(alloc: Global, draws: &mut Pcg32) -> Result<Txn, Fail> {
-    let author = match word(draws, 2) {
-        0 => Author::Manager,
-        _ => Author::User(7),
-    };
-    let mut txn = Txn::new(alloc, author);
-    for _ in 0..=word(draws, 4) {
-        txn.stage(operation(alloc, draws)?).ok().ok_or("full")?;
-    }
-    Ok(txn)
-}
 
 /// Whether both answers are the same.
 fn are_same(plain: &Result<(), ApplyFault>, tree: &Result<(), TreeFault>) -> bool {

@@ -1,6 +1,6 @@
 //! Walks over a cache that is filled with what they need, in a small store and after drawn
 //! transactions.
-use crate::drawn::{key, land, value, word};
+use crate::drawn::{KEYS, land, transaction};
 use blob_store::BlobStore;
 use cache_node::CacheNode;
 use fl_digest::{BlobRef, Hash, RefList};
@@ -295,27 +295,14 @@ fn does_so(alloc: Global, blobs: &BlobStore, root: BlobRef, walk: Walk) -> Resul
     Ok(cold && left && warm)
 }
 
-/// The key of the first of these walks that does otherwise.
-fn first_amiss(
-    alloc: Global,
-    blobs: &BlobStore,
-    root: BlobRef,
-    walks: &[Walk],
-) -> Result<Option<&'static str>, Fail> {
-    for walk in walks {
-        if !does_so(alloc, blobs, root, *walk)? {
-            return Ok(Some(walk.1));
-        }
-    }
-    Ok(None)
-}
-
 #[test]
 fn walks_need_their_contents_in_order(rt: HostRuntime) -> Result<(), Fail> {
     let alloc = rt.alloc();
     let mut blobs = BlobStore::new(alloc);
     let root = small_store(alloc, &mut blobs)?;
-    assert_eq!(rt; first_amiss(alloc, &blobs, root, &WALKS)?, None);
+    for walk in &WALKS {
+        assert!(rt; does_so(alloc, &blobs, root, *walk)?, "{}", walk.1);
+    }
     Ok(())
 }
 
@@ -360,38 +347,6 @@ fn dirty_contents_are_not_read(rt: HostRuntime) -> Result<(), Fail> {
     Ok(())
 }
 
-const KEYS: [&str; 16] = [
-    "a", "b", "c", "a.a", "a.b", "b.a", "b.c", "c.a", "a.a.a", "a.b.c", "b.b.b", "c.c.a",
-    "a.b.c.d", "c.b.a.d", "a.c", ".",
-];
-
-fn operation(alloc: Global, draws: &mut Pcg32) -> Result<Op, Fail> {
-    let path = key(alloc, draws, &KEYS)?;
-    Ok(match word(draws, 8) {
-        0 | 1 | 2 => Op::Put {
-            path,
-            bytes: value(alloc, draws)?,
-        },
-        3 => Op::Unlink { path },
-        4 => Op::Mkdir { path },
-        _ => Op::Link {
-            path,
-            target: Target {
-                path: key(alloc, draws, &KEYS)?,
-                namespace: None,
-            },
-        },
-    })
-}
-
-fn transaction(alloc: Global, draws: &mut Pcg32) -> Result<Txn, Fail> {
-    let mut txn = Txn::new(alloc, Author::User(7));
-    for _ in 0..=word(draws, 4) {
-        txn.stage(operation(alloc, draws)?).ok().ok_or("full")?;
-    }
-    Ok(txn)
-}
-
 /// Whether a walk from an empty cache finds what the store in memory has, and leaves nothing
 /// pinned.
 fn agrees(
@@ -409,30 +364,15 @@ fn agrees(
     Ok(left && shown(alloc, &found)?.as_slice() == wanted.as_slice())
 }
 
-/// Whether all queries at a key find what the store in memory has.
-fn all_agree_at(
-    alloc: Global,
-    blobs: &BlobStore,
-    cache: &mut CacheNode,
-    root: BlobRef,
-    store: &Store,
-    key: &str,
-) -> Result<bool, Fail> {
-    let path = Path::read(alloc, key)?;
-    for asked in [Query::Get, Query::List, Query::Link] {
-        if !agrees(alloc, blobs, cache, root, store, asked, &path)? {
-            return Ok(false);
-        }
-    }
-    Ok(true)
-}
-
 /// Whether all queries at all keys do.
 fn all_agree(alloc: Global, blobs: &BlobStore, root: BlobRef, store: &Store) -> Result<bool, Fail> {
     let mut cache = CacheNode::new(alloc)?;
     for key in &KEYS {
-        if !all_agree_at(alloc, blobs, &mut cache, root, store, key)? {
-            return Ok(false);
+        let path = Path::read(alloc, key)?;
+        for asked in [Query::Get, Query::List, Query::Link] {
+            if !agrees(alloc, blobs, &mut cache, root, store, asked, &path)? {
+                return Ok(false);
+            }
         }
     }
     Ok(true)
