@@ -49,13 +49,19 @@ fn follow(world: &mut World) -> Result<(), Fail>
     Ok(())
 }
 
-/// The steps of a run in this order.
+/// The steps of a run in this order, whose world knows before and behind them whether it has begun.
 fn steps_of(alloc: Global, how: Schedule) -> Result<Vec<Step>, Fail> {
     let mut world = begin(alloc, WORK, how)?;
+    let begins = world.start();
     match follow(&mut world) {
         Ok(()) => {
+            let knows = begins && !world.start();
             let Ended { steps, .. } = world.finish();
-            Ok(steps)
+            if knows {
+                Ok(steps)
+            } else {
+                Err(Fail::from("it has begun"))
+            }
         }
         Err(fault) => {
             drop(world);
@@ -105,28 +111,5 @@ fn a_run_loses_no_more_than_it_may(rt: HostRuntime) -> Result<(), Fail> {
     }
     assert_eq!(rt; some, true);
     assert_eq!(rt; losses_of(rt.alloc(), Schedule::Settled)?, 0);
-    Ok(())
-}
-
-/// Whether a world that has made no step says so, and no other.
-fn is_begun_once(world: &mut World) -> Result<bool, Fail>
-    requires { world.old.spent ≡ false }
-{
-    let before = world.start();
-    follow(world)?;
-    Ok(before && !world.start())
-}
-
-/// The same of a world that begins.
-fn knows_its_start(alloc: Global) -> Result<bool, Fail> {
-    let mut world = begin(alloc, WORK, Schedule::Settled)?;
-    let known = is_begun_once(&mut world);
-    drop(world);
-    known
-}
-
-#[test]
-fn a_world_knows_whether_it_has_begun(rt: HostRuntime) -> Result<(), Fail> {
-    assert_eq!(rt; knows_its_start(rt.alloc())?, true);
     Ok(())
 }

@@ -49,15 +49,30 @@ fn all_fit(rows: &[Row]) -> bool
 fn advances(alloc: Global, seconds: [u64; 3]) -> Result<Commands, AllocError> {
     let mut commands = Commands::new(alloc, 1)?;
     let [first, second, third] = seconds;
-    commands.issue(by(0), 0, 5, JobAsk::Jobs)?;
-    commands.issue(by(1), 0, 5, JobAsk::Advance { seconds: first })?;
-    commands.issue(by(2), 0, 5, JobAsk::Advance { seconds: second })?;
-    commands.issue(by(3), 0, 5, JobAsk::Advance { seconds: third })?;
+    let by = By {
+        actor: 7,
+        command: 0,
+    };
+    commands.issue(by, 0, 5, JobAsk::Jobs)?;
+    commands.issue(
+        By { command: 1, ..by },
+        0,
+        5,
+        JobAsk::Advance { seconds: first },
+    )?;
+    commands.issue(
+        By { command: 2, ..by },
+        0,
+        5,
+        JobAsk::Advance { seconds: second },
+    )?;
+    commands.issue(
+        By { command: 3, ..by },
+        0,
+        5,
+        JobAsk::Advance { seconds: third },
+    )?;
     Ok(commands)
-}
-
-fn by(command: u32) -> By {
-    By { actor: 7, command }
 }
 
 /// A book of no jobs.
@@ -74,17 +89,11 @@ fn next_of(commands: &Commands, book: &Book, now: u64) -> Result<Option<u64>, Fa
     Ok(next_tick(commands, book, now))
 }
 
-/// The next second, where no job runs.
-fn next(alloc: Global, seconds: [u64; 3], now: u64) -> Result<Option<u64>, Fail> {
+/// Whether this second comes next where no job runs, 0 where none does.
+fn goes_to(alloc: Global, seconds: [u64; 3], now: u64, wanted: u64) -> Result<bool, Fail> {
     let commands = advances(alloc, seconds)?;
     let book = book(alloc)?;
-    next_of(&commands, &book, now)
-}
-
-/// Whether this second comes next, 0 where none does.
-fn goes_to(alloc: Global, seconds: [u64; 3], now: u64, wanted: u64) -> Result<bool, Fail> {
-    let told = next(alloc, seconds, now)?;
-    Ok(told.unwrap_or(0) == wanted)
+    Ok(next_of(&commands, &book, now)?.unwrap_or(0) == wanted)
 }
 
 #[test]

@@ -3,11 +3,11 @@
 ghost use Rattle.std.specs.Prelude.{◌≡◌, ◌<◌, false, true, IfOk, OnOk};
 ghost use Rattle.content_service.specs.Asks.{is_content};
 
+use crate::contents::{SHARED, Text, bytes_of};
 use content_service::ContentService;
 use fl_digest::{BlobRef, Hash};
 use kvs_rules::{KvsAnswer, KvsAsk, KvsStep};
 use kvs_txn::By;
-use lists::Bytes;
 use std::alloc::{AllocError, Global};
 use std::process::Abort;
 use std::test::Fail;
@@ -16,49 +16,6 @@ const SIZE: u32 = 4;
 
 const FANOUT: u32 = 2;
 
-/// The beginning of two contents with one SHA-1 digest (shattered.io).
-const SHARED: [u8; 192] = [
-    37, 80, 68, 70, 45, 49, 46, 51, 10, 37, 226, 227, 207, 211, 10, 10, 10, 49, 32, 48, 32, 111,
-    98, 106, 10, 60, 60, 47, 87, 105, 100, 116, 104, 32, 50, 32, 48, 32, 82, 47, 72, 101, 105, 103,
-    104, 116, 32, 51, 32, 48, 32, 82, 47, 84, 121, 112, 101, 32, 52, 32, 48, 32, 82, 47, 83, 117,
-    98, 116, 121, 112, 101, 32, 53, 32, 48, 32, 82, 47, 70, 105, 108, 116, 101, 114, 32, 54, 32,
-    48, 32, 82, 47, 67, 111, 108, 111, 114, 83, 112, 97, 99, 101, 32, 55, 32, 48, 32, 82, 47, 76,
-    101, 110, 103, 116, 104, 32, 56, 32, 48, 32, 82, 47, 66, 105, 116, 115, 80, 101, 114, 67, 111,
-    109, 112, 111, 110, 101, 110, 116, 32, 56, 62, 62, 10, 115, 116, 114, 101, 97, 109, 10, 255,
-    216, 255, 254, 0, 36, 83, 72, 65, 45, 49, 32, 105, 115, 32, 100, 101, 97, 100, 33, 33, 33, 33,
-    33, 133, 47, 236, 9, 35, 57, 117, 156, 57, 177, 161, 198, 60, 76, 151, 225, 255, 254, 1,
-];
-
-const ONE_END: [u8; 128] = [
-    127, 70, 220, 147, 166, 182, 126, 1, 59, 2, 154, 170, 29, 178, 86, 11, 69, 202, 103, 214, 136,
-    199, 248, 75, 140, 76, 121, 31, 224, 43, 61, 246, 20, 248, 109, 177, 105, 9, 1, 197, 107, 69,
-    193, 83, 10, 254, 223, 183, 96, 56, 233, 114, 114, 47, 231, 173, 114, 143, 14, 73, 4, 224, 70,
-    194, 48, 87, 15, 233, 212, 19, 152, 171, 225, 46, 245, 188, 148, 43, 227, 53, 66, 164, 128, 45,
-    152, 181, 215, 15, 42, 51, 46, 195, 127, 172, 53, 20, 231, 77, 220, 15, 44, 193, 168, 116, 205,
-    12, 120, 48, 90, 33, 86, 100, 97, 48, 151, 137, 96, 107, 208, 191, 63, 152, 205, 168, 4, 70,
-    41, 161,
-];
-
-const OTHER_END: [u8; 128] = [
-    115, 70, 220, 145, 102, 182, 126, 17, 143, 2, 154, 182, 33, 178, 86, 15, 249, 202, 103, 204,
-    168, 199, 248, 91, 168, 76, 121, 3, 12, 43, 61, 226, 24, 248, 109, 179, 169, 9, 1, 213, 223,
-    69, 193, 79, 38, 254, 223, 179, 220, 56, 233, 106, 194, 47, 231, 189, 114, 143, 14, 69, 188,
-    224, 70, 210, 60, 87, 15, 235, 20, 19, 152, 187, 85, 46, 245, 160, 168, 43, 227, 49, 254, 164,
-    128, 55, 184, 181, 215, 31, 14, 51, 46, 223, 147, 172, 53, 0, 235, 77, 220, 13, 236, 193, 168,
-    100, 121, 12, 120, 44, 118, 33, 86, 96, 221, 48, 151, 145, 208, 107, 208, 175, 63, 152, 205,
-    164, 188, 70, 41, 177,
-];
-
-/// A content that is stored or loaded. One and Other have one digest.
-#[derive(Clone, Copy)]
-enum Text {
-    Abc,
-    Empty,
-    Foo,
-    One,
-    Other,
-}
-
 /// What a command asks.
 #[derive(Clone, Copy)]
 enum What {
@@ -66,25 +23,6 @@ enum What {
     Load(Text),
     Flush,
     Drop,
-}
-
-/// The bytes of a content.
-fn bytes_of(alloc: Global, text: Text) -> Result<Bytes, AllocError> {
-    match text {
-        Text::Abc => Bytes::of(alloc, b"abc"),
-        Text::Empty => Bytes::of(alloc, b""),
-        Text::Foo => Bytes::of(alloc, b"foo\n"),
-        Text::One => joined(alloc, &ONE_END),
-        Text::Other => joined(alloc, &OTHER_END),
-    }
-}
-
-/// The shared bytes with others behind them.
-fn joined(alloc: Global, end: &[u8]) -> Result<Bytes, AllocError> {
-    let mut bytes = Vec::new(alloc);
-    bytes.extend_from_slice(&SHARED)?;
-    bytes.extend_from_slice(end)?;
-    Ok(Bytes::from_vec(bytes))
 }
 
 fn ask_of(alloc: Global, what: What) -> Result<KvsAsk, AllocError>
@@ -148,20 +86,6 @@ const STEPS: [KvsStep; 10] = [
     KvsStep::Serve { broker: 3 },
 ];
 
-/// Makes each step that can be made, in their order.
-fn make_round(service: &mut ContentService) -> Result<(), Fail>
-    requires { service.old.spent ≡ false }
-    ensures ready { OnOk result (service.new.spent ≡ false) }
-    ensures size { OnOk result (service.new.size ≡ service.old.size) }
-{
-    'steps: for step in &STEPS {
-        if service.can(*step) {
-            service.turn(*step)?;
-        }
-    }
-    Ok(())
-}
-
 /// Makes steps until none is left.
 fn settle(service: &mut ContentService) -> Result<(), Fail>
     requires { service.old.spent ≡ false }
@@ -169,7 +93,11 @@ fn settle(service: &mut ContentService) -> Result<(), Fail>
     ensures size { OnOk result (service.new.size ≡ service.old.size) }
 {
     'rounds: for _ in 0..20 {
-        make_round(service)?;
+        'steps: for step in &STEPS {
+            if service.can(*step) {
+                service.turn(*step)?;
+            }
+        }
     }
     Ok(())
 }

@@ -18,7 +18,7 @@ const SIZE: u32 = 7;
 const FANOUT: u32 = 2;
 
 /// The beginning of two contents with one SHA-1 digest (shattered.io).
-const SHARED: [u8; 192] = [
+pub(crate) const SHARED: [u8; 192] = [
     37, 80, 68, 70, 45, 49, 46, 51, 10, 37, 226, 227, 207, 211, 10, 10, 10, 49, 32, 48, 32, 111,
     98, 106, 10, 60, 60, 47, 87, 105, 100, 116, 104, 32, 50, 32, 48, 32, 82, 47, 72, 101, 105, 103,
     104, 116, 32, 51, 32, 48, 32, 82, 47, 84, 121, 112, 101, 32, 52, 32, 48, 32, 82, 47, 83, 117,
@@ -52,16 +52,20 @@ const OTHER_END: [u8; 128] = [
 
 /// A content that is stored or loaded. One and Other have one digest.
 #[derive(Clone, Copy)]
-enum Text {
+pub(crate) enum Text {
     Abc,
+    Empty,
+    Foo,
     One,
     Other,
 }
 
 /// The bytes of a content.
-fn bytes_of(alloc: Global, text: Text) -> Result<Bytes, AllocError> {
+pub(crate) fn bytes_of(alloc: Global, text: Text) -> Result<Bytes, AllocError> {
     match text {
         Text::Abc => Bytes::of(alloc, b"abc"),
+        Text::Empty => Bytes::of(alloc, b""),
+        Text::Foo => Bytes::of(alloc, b"foo\n"),
         Text::One => joined(alloc, &ONE_END),
         Text::Other => joined(alloc, &OTHER_END),
     }
