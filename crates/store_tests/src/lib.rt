@@ -1,6 +1,5 @@
-//! Tests of stores in memory, of what merges their transactions, and of what keeps their contents:
-//! of `plain_store`,
-//! `fence_merge`, `blob_store`, `cache_node` and `backing`.
+//! Tests of what merges transactions, and of what keeps contents: of `fence_merge`, `blob_store`,
+//! `cache_node` and `backing`.
 #![tactic(auto)]
 
 #[cfg(test)]

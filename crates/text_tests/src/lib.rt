@@ -1,5 +1,5 @@
-//! Tests of the text formats, of digests and streams: of `idset`, `hostlist`, `fluid_ids`,
-//! `fl_json`, `event_log`, `fl_digest` and `outside`.
+//! Tests of the text formats, of digests and streams: of `idset`, `hostlist`, `fl_json`,
+//! `event_log`, `fl_digest` and `outside`.
 #![tactic(auto)]
 
 #[cfg(test)]
