@@ -15,7 +15,7 @@ fn gives(alloc: Global, source: &mut MemSource, bytes: &[u8]) -> bool {
 }
 
 #[test]
-fn reads_in_pieces(rt: HostRuntime) -> Result<(), Fail> {
+fn pieces_are_read_and_written_up_to_the_fault(rt: HostRuntime) -> Result<(), Fail> {
     let alloc = rt.alloc();
     let mut source = hello(alloc, &[])?;
     assert!(rt; gives(alloc, &mut source, b"hello"));
@@ -24,12 +24,6 @@ fn reads_in_pieces(rt: HostRuntime) -> Result<(), Fail> {
     let mut source = hello(alloc, &[1])?;
     assert!(rt; read_all(alloc, &mut source, 5) == Err(ReadFault::Failed));
     assert!(rt; gives(alloc, &mut source, b"llo"));
-    Ok(())
-}
-
-#[test]
-fn writes_up_to_the_fault(rt: HostRuntime) -> Result<(), Fail> {
-    let alloc = rt.alloc();
     let mut sink = MemSink::new(alloc, 20, 5, [2].to_vec(alloc)?)?;
     let refused = write_all(&mut sink, b"staged\ncommitted 1\n");
     assert!(rt; refused.is_err_and(|e| e.written == 10));
