@@ -388,7 +388,7 @@ fn drawn_stores_are_read_as_in_memory(rt: HostRuntime) -> Result<(), Fail> {
         return Err(Fail::from("no root"));
     };
     let mut landed = 0u32;
-    for number in 0..40u32 {
+    for number in 0..60u32 {
         let txn = transaction(alloc, &mut draws)?;
         let lands = land(alloc, &mut blobs, &mut root, &txn, Scope::Other, Hash::Sha1).is_ok();
         assert_eq!(rt;
