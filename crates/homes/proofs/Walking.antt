@@ -10,8 +10,8 @@ use Rattle.std.proofs.lemmas.List.Folds.{list_any_at, list_any_more}
 use Rattle.std.proofs.lemmas.Option.{slice_get-get_or, slice_get_within}
 use Rattle.instance.specs.job_book.Seconds.{IsSoonest}
 use Rattle.instance.proofs.job_rules_proofs.Among.{all_at, all_from, among_append, among_from, among_left, among_right, contains_from}
-use Rattle.instance.specs.kvs_core.Walk.{nth}
-use Rattle.instance.proofs.kvs_core_proofs.Walking.{behind, within}
+use Rattle.instance.specs.kvs_keys.Walk.{nth}
+use Rattle.instance.proofs.kvs_keys_proofs.Walking.{behind, within}
 use Rattle.instance.specs.manager_rules.Times.{IsLeast}
 use Rattle.homes.proofs.Standing.{same_item}
 use Rattle.homes.specs.Tells.{EachLiving}

@@ -36,5 +36,5 @@ mod Telling
 -- what lies below, for the crates that stand on this one
 pub use Rattle.services.proofs.hostlist_proofs as hostlist_proofs
 pub use Rattle.services.proofs.job_rules_proofs as job_rules_proofs
-pub use Rattle.services.proofs.kvs_core_proofs as kvs_core_proofs
+pub use Rattle.services.proofs.kvs_keys_proofs as kvs_keys_proofs
 pub use Rattle.services.proofs.kvs_rules_proofs as kvs_rules_proofs

@@ -5,7 +5,7 @@ use Rattle.std.specs.Option.{option_map_or}
 use Rattle.std.proofs.lemmas.Option.{slice_get-get_or}
 use Rattle.std.specs.List.{range_with_len}
 use Rattle.std.proofs.lemmas.Bool.{cases_eq}
-use Rattle.services.specs.kvs_core.Walk.{nth}
+use Rattle.services.specs.kvs_keys.Walk.{nth}
 use Rattle.services.specs.workload.declared.work.Line.{Line}
 use Rattle.instance.specs.Order.{issue_of, issues}
 use Rattle.instance.specs.declared.seats.Seat.{Seat}

@@ -17,7 +17,7 @@ use Rattle.job_commands.specs.Desks.{desk_of}
 use Rattle.job_commands.specs.Moments.{IsBeside}
 use Rattle.job_commands.specs.Rows.{CommandsValue}
 use Rattle.job_manager.specs.Posts.{command_of}
-use Rattle.kvs_core.specs.Posted.{LandsUsers, groups_in, posts_landed}
+use Rattle.kvs_keys.specs.Posted.{LandsUsers, groups_in, posts_landed}
 use Rattle.kvs_model.specs.History.{landed_on}
 use Rattle.kvs_model.specs.Operation.{effect}
 use Rattle.kvs_model.specs.Store.{Name, Store}

@@ -3,7 +3,7 @@ use Rattle.std.proofs.Common.{◌≡◌, ℕ, ◌⊎◌, inl, inr, List, [], ◌
 use Rattle.std.specs.List.{AllByRecursion as Each, list_any}
 use Rattle.std.proofs.lemmas.Bool.{false_from_ne_true, or_from}
 use Rattle.job_rules.proofs.Among.{Among, among_flat, among_from, among_map, any_from, each_at}
-use Rattle.kvs_core.specs.Posted.{LandsUsers}
+use Rattle.kvs_keys.specs.Posted.{LandsUsers}
 use Rattle.kvs_model.specs.Store.{Name}
 use Rattle.kvs_rules.proofs.Asking.{command_is}
 use Rattle.kvs_rules.specs.Answers.{IsLegalEvent}

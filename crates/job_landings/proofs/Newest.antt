@@ -3,7 +3,7 @@ use Rattle.std.proofs.Common.{◌≡◌, ℕ, suc, inl, inr, List, [], ◌∷◌
 use Rattle.std.specs.Prelude.{option_and_then}
 use Rattle.std.specs.List.{AllByRecursion as Each, cons_option}
 use Rattle.std.proofs.lemmas.List.{length-append}
-use Rattle.kvs_core.specs.Posted.{LandsUsers}
+use Rattle.kvs_keys.specs.Posted.{LandsUsers}
 use Rattle.kvs_model.specs.History.{after, after_groups, landed_on}
 use Rattle.kvs_model.specs.Operation.{effect}
 use Rattle.kvs_model.specs.Store.{Store}

@@ -2,7 +2,7 @@
 use Rattle.std.proofs.Common.{◌≡◌, List, [], ◌∷◌, ◌++◌, Bool, true, false, cond, ◌||◌, Some, refl, sym, ap, ◌∙◌}
 use Rattle.std.specs.Prelude.{find, flat_map, option_and_then}
 use Rattle.std.specs.List.{list_any}
-use Rattle.kvs_core.specs.Posted.{groups_in, posts_landed}
+use Rattle.kvs_keys.specs.Posted.{groups_in, posts_landed}
 use Rattle.kvs_rules.specs.declared.events.KvsEvent.{KvsEvent}
 use Rattle.kvs_space.proofs.Posting.{none-left, none-right, posts-append, with-post, with-user}
 use Rattle.kvs_txn.specs.declared.txn.Group.{Group}

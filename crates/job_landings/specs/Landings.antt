@@ -4,7 +4,7 @@ use Rattle.std.specs.List.{AllByRecursion as Each, list_any}
 use Rattle.instance_rules.specs.Log.{Instance, Moment, Served}
 use Rattle.job_commands.specs.Moments.{CarriesOut, IsBeside, landing}
 use Rattle.job_manager.specs.Posts.{command_of}
-use Rattle.kvs_core.specs.Posted.{groups_in}
+use Rattle.kvs_keys.specs.Posted.{groups_in}
 use Rattle.kvs_rules.specs.Log.{Happened}
 use Rattle.kvs_rules.specs.Namespaces.{primary}
 use Rattle.kvs_rules.specs.declared.events.KvsEvent.{KvsEvent}

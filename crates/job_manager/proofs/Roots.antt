@@ -5,10 +5,10 @@ use Rattle.std.proofs.lemmas.Bool.{cases_lt}
 use Rattle.event_log.specs.declared.event.Event.{Event}
 use Rattle.job_rules.proofs.Among.{among_from, each_at}
 use Rattle.job_rules.specs.Fits.{AreWithin, IsGrant}
-use Rattle.kvs_core.specs.Histories.{Extends, history_of, landings_in}
-use Rattle.kvs_core.specs.Posted.{newest_of}
-use Rattle.kvs_core.specs.Seen.{root_of}
-use Rattle.kvs_core.specs.Value.{CoreValue}
+use Rattle.kvs_keys.specs.Histories.{Extends, history_of, landings_in}
+use Rattle.kvs_keys.specs.Posted.{newest_of}
+use Rattle.kvs_keys.specs.Seen.{root_of}
+use Rattle.kvs_keys.specs.Value.{KeysValue}
 use Rattle.kvs_model.proofs.Histories.{after-append}
 use Rattle.kvs_model.specs.History.{after, after_groups, first_store}
 use Rattle.kvs_model.specs.Operation.{effect}
@@ -174,7 +174,7 @@ behind-so-many first (groups ∷ ls) more st new k a b =
 
 -- ---- the roots of a core, one step further
 
-module _ (grant : List Node) (old new : CoreValue) (ls : List (List Group)) (history : history_of new ≡ history_of old ++ ls) (granted : new.grant ≡ old.grant)
+module _ (grant : List Node) (old new : KeysValue) (ls : List (List Group)) (history : history_of new ≡ history_of old ++ ls) (granted : new.grant ≡ old.grant)
     (kept : after scope.Primary (history_of old) (length (history_of old)) (first_store old.grant) ≡ Some (newest_of old))
     (roots : AreRoots grant old)
     (goes : (k : ℕ) (mid : Store) → after scope.Primary ls k (newest_of old) ≡ Some mid → IsRoot grant (newest_of new) mid) where
@@ -194,7 +194,7 @@ module _ (grant : List Node) (old new : CoreValue) (ls : List (List Group)) (his
   ]
 
 -- the roots stay where nothing has landed
-pub same-roots : (grant : List Node) (old new : CoreValue) → Extends old new [] → after scope.Primary (history_of old) (length (history_of old)) (first_store old.grant) ≡ Some (newest_of old)
+pub same-roots : (grant : List Node) (old new : KeysValue) → Extends old new [] → after scope.Primary (history_of old) (length (history_of old)) (first_store old.grant) ≡ Some (newest_of old)
     → after scope.Primary (history_of new) (length (history_of new)) (first_store new.grant) ≡ Some (newest_of new) → AreRoots grant old → AreRoots grant new
 same-roots grant old new extends kept now roots number st stands =
     let history : history_of new ≡ history_of old = extends.history ∙ append-nil (history_of old) in
@@ -204,7 +204,7 @@ same-roots grant old new extends kept now roots number st stands =
     subst (λ x. IsRoot grant x st) (sym newest) (roots number st (sym root-same ∙ stands))
 
 -- the first root alone
-pub first-roots : (grant : List Node) (v : CoreValue) → history_of v ≡ [] → newest_of v ≡ first_store v.grant → IsSoundStore grant (newest_of v) → AreRoots grant v
+pub first-roots : (grant : List Node) (v : KeysValue) → history_of v ≡ [] → newest_of v ≡ first_store v.grant → IsSoundStore grant (newest_of v) → AreRoots grant v
 first-roots grant v none newest sound number st stands = by number (sym (ap (λ h. after scope.Primary h number (first_store v.grant)) none) ∙ stands)
   where
     by : (n : ℕ) → after scope.Primary [] n (first_store v.grant) ≡ Some st → IsRoot grant (newest_of v) st

@@ -2,11 +2,11 @@
 ghost use Rattle.std.specs.Prelude.{◌≡◌, ◌<◌, ◌≤◌, ◌++◌, ℕ, All, None, Some, [], ◌∷◌, false, true, is_some, length, IfOk, OnErr, OnOk};
 ghost use Rattle.std.specs.List.{list_any};
 ghost use Rattle.std.specs.Option.{option_copied};
-ghost use Rattle.kvs_core.specs.Agrees.{Agrees};
-ghost use Rattle.kvs_core.specs.Makes.{Makes};
-ghost use Rattle.kvs_core.specs.Posted.{groups_in};
-ghost use Rattle.kvs_core.specs.Requests.{AsksAtRest};
-ghost use Rattle.kvs_core.specs.Steps.{can_step, can_take};
+ghost use Rattle.kvs_keys.specs.Agrees.{Agrees};
+ghost use Rattle.kvs_keys.specs.Makes.{Makes};
+ghost use Rattle.kvs_keys.specs.Posted.{groups_in};
+ghost use Rattle.kvs_keys.specs.Requests.{AsksAtRest};
+ghost use Rattle.kvs_keys.specs.Steps.{can_step, can_take};
 ghost use Rattle.kvs_requests.specs.Rows.{IsKnownAsk};
 ghost use Rattle.kvs_rules.specs.Answers.{IsLegalAnswer};
 ghost use Rattle.kvs_rules.specs.Log.{Asked as AskedAt, Happened, Log, is_asked};
@@ -28,7 +28,7 @@ use crate::post::{Post, Submission};
 use crate::txns::{command_of, txn_of};
 use job_book::Book;
 use job_spec::accepted_texts_tell_jobspecs;
-use kvs_core::{Core, CoreFault, Held, Request, Setting};
+use kvs_keys::{Held, Keys, KeysFault, Request, Setting};
 use kvs_model::stores_stay_stores;
 use kvs_rules::{KvsAsk, KvsEvent, KvsStep};
 use kvs_space::KvsEvents;
@@ -44,7 +44,7 @@ use std::marker::Model;
 pub struct Manager {
     alloc: Global,
     spent: bool,
-    core: Core,
+    core: Keys,
     book: Book,
     /// What waits in the service to land.
     posted: Option<Post>,
@@ -118,7 +118,7 @@ impl Manager {
         setting: Setting,
         grant: &Resources,
         policy: Policy,
-    ) -> Result<Manager, CoreFault>
+    ) -> Result<Manager, KeysFault>
         requires size { (1 ≤ setting.size) × (setting.size ≤ 32) }
         requires fanout { (1 ≤ setting.fanout) × (setting.fanout ≤ 32) }
         requires grant { IsR grant.now }
@@ -136,7 +136,7 @@ impl Manager {
     {
         stores_stay_stores();
         let text = Bytes::from_vec(resource_set::print(alloc, grant)?);
-        let core = Core::new(alloc, setting, &text)?;
+        let core = Keys::new(alloc, setting, &text)?;
         let book = Book::new(alloc, grant, policy)?;
         // ids rise, and live jobs hold units of the grant
         book.keeps();
@@ -209,7 +209,7 @@ impl Manager {
     }
 
     /// Lets a post wait to land, which is due.
-    fn place(&mut self, post: Post) -> Result<(), CoreFault>
+    fn place(&mut self, post: Post) -> Result<(), KeysFault>
         requires ready { self.old.spent ≡ false }
         requires free { self.old.posted ≡ None }
         requires few { length self.old.book.jobs < 2000 }
@@ -231,7 +231,7 @@ impl Manager {
     }
 
     /// Posts a submission, which is due. After an error the manager is spent.
-    pub fn submit(&mut self, x: Submission) -> Result<(), CoreFault>
+    pub fn submit(&mut self, x: Submission) -> Result<(), KeysFault>
         requires ready { self.old.spent ≡ false }
         requires free { self.old.posted ≡ None }
         requires few { length self.old.book.jobs < 2000 }
@@ -244,7 +244,7 @@ impl Manager {
     }
 
     /// Posts an event, which is due. After an error the manager is spent.
-    pub fn post_due(&mut self, due: Due) -> Result<(), CoreFault>
+    pub fn post_due(&mut self, due: Due) -> Result<(), KeysFault>
         requires ready { self.old.spent ≡ false }
         requires free { self.old.posted ≡ None }
         requires few { length self.old.book.jobs < 2000 }
@@ -258,7 +258,7 @@ impl Manager {
 
     /// Makes a step of the service, and tells what happened. The book follows a post that lands.
     /// After an error the manager is spent.
-    pub fn turn(&mut self, step: KvsStep) -> Result<KvsEvents, CoreFault>
+    pub fn turn(&mut self, step: KvsStep) -> Result<KvsEvents, KeysFault>
         requires ready { self.old.spent ≡ false }
         requires can { can_step self.old.core step ≡ true }
         ensures ready { OnOk result (self.new.spent ≡ false) }
@@ -289,7 +289,7 @@ impl Manager {
     }
 
     /// The key-value service.
-    pub fn core(&self) -> &Core
+    pub fn core(&self) -> &Keys
         ensures { result.now ≡ self.now.core }
     {
         &self.core

@@ -27,8 +27,8 @@ use Rattle.job_manager.specs.Value.{ManagerValue}
 use Rattle.job_deeds.proofs.job_rules_proofs.Among.{Among, among_from, contains_from}
 use Rattle.job_deeds.specs.job_states.declared.job.State.{State}
 use Rattle.job_deeds.specs.job_states.declared.job.State.TheVariants as state
-use Rattle.kvs_core.specs.Posted.{newest_of}
-use Rattle.kvs_core.specs.Seen.{primary_heard}
+use Rattle.kvs_keys.specs.Posted.{newest_of}
+use Rattle.kvs_keys.specs.Seen.{primary_heard}
 use Rattle.job_deeds.specs.kvs_model.Store.{Store}
 use Rattle.kvs_rules.proofs.Logs.{landed_rises}
 use Rattle.kvs_rules.specs.Answers as service_rules

@@ -10,7 +10,7 @@ use Rattle.job_commands.specs.declared.ask.Key.TheVariants as key
 use Rattle.job_replies.specs.Jobs.{key_by}
 use Rattle.job_manager.specs.Managed.{IsManaged}
 use Rattle.job_manager.specs.Value.{ManagerValue}
-use Rattle.kvs_core.specs.Posted.{newest_of}
+use Rattle.kvs_keys.specs.Posted.{newest_of}
 use Rattle.job_deeds.specs.kvs_model.OneStore.{own_walk}
 use Rattle.job_deeds.specs.kvs_txn.declared.answers.Found.{Found}
 use Rattle.job_deeds.specs.kvs_txn.declared.answers.Query.TheVariants as query

@@ -32,9 +32,9 @@ use Rattle.job_deeds.proofs.job_rules_proofs.Among.{Among, all_at, all_from, amo
 use Rattle.job_deeds.specs.job_rules.Fits.{IsGrant}
 use Rattle.job_submissions.specs.Made.{AreLabelled}
 use Rattle.job_submissions.specs.declared.faults.Fault.{Fault}
-use Rattle.kvs_core.specs.Agrees.{Agrees}
-use Rattle.kvs_core.specs.Makes as core
-use Rattle.kvs_core.specs.Posted.{LandsUsers, posts_landed}
+use Rattle.kvs_keys.specs.Agrees.{Agrees}
+use Rattle.kvs_keys.specs.Makes as core
+use Rattle.kvs_keys.specs.Posted.{LandsUsers, posts_landed}
 use Rattle.job_deeds.specs.kvs_model.Store.{Name}
 use Rattle.kvs_rules.proofs.Asking.{command_is}
 use Rattle.kvs_rules.proofs.Logs.{legal_joined}

@@ -15,7 +15,7 @@ use Rattle.job_deeds.proofs.job_rules_proofs.Among.{Among, among_from, contains_
 use Rattle.job_manager.specs.Managed.{IsManaged}
 use Rattle.job_manager.specs.Places.{log_seen}
 use Rattle.job_manager.specs.Value.{ManagerValue}
-use Rattle.kvs_core.specs.Seen.{primary_heard, store_at}
+use Rattle.kvs_keys.specs.Seen.{primary_heard, store_at}
 
 -- a job with its log in a store
 record HasLog (st : Store) (jobs : List StoredJob) (id : ℕ) : Type 0 where

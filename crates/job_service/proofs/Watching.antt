@@ -42,10 +42,10 @@ use Rattle.job_manager.specs.Places.{log_seen}
 use Rattle.job_replies.specs.Ready.{is_inactive}
 use Rattle.job_replies.specs.Told.{MayTell}
 use Rattle.job_replies.specs.declared.telling.Told.{Told}
-use Rattle.kvs_core.specs.Agrees.{Agrees, SpaceAgrees}
-use Rattle.kvs_core.specs.Histories.{history_of}
-use Rattle.kvs_core.specs.Posted.{newest_of}
-use Rattle.kvs_core.specs.Seen.{primary_heard, root_of, store_at}
+use Rattle.kvs_keys.specs.Agrees.{Agrees, SpaceAgrees}
+use Rattle.kvs_keys.specs.Histories.{history_of}
+use Rattle.kvs_keys.specs.Posted.{newest_of}
+use Rattle.kvs_keys.specs.Seen.{primary_heard, root_of, store_at}
 use Rattle.kvs_rules.proofs.Asking.{command_is}
 use Rattle.kvs_rules.proofs.Logs.{has_heard_stays}
 use Rattle.kvs_rules.proofs.Sequences.{latest_push}

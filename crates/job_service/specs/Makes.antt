@@ -1,7 +1,7 @@
 -- What a step of the service makes.
 use Rattle.std.specs.Prelude.{◌++◌, List, map}
 use Rattle.std.specs.List.{AllByRecursion as Each}
-use Rattle.kvs_core.specs.Makes.{IsOfKeys}
+use Rattle.kvs_keys.specs.Makes.{IsOfKeys}
 use Rattle.kvs_rules.specs.Sequence.{EachAfter}
 use Rattle.kvs_rules.specs.Steps.{AreMadeBy}
 use Rattle.kvs_rules.specs.declared.events.KvsEvent.{KvsEvent}

@@ -1,7 +1,7 @@
 //! What a landing of the job manager's transaction does to the commands and to the refusals.
 ghost use Rattle.std.specs.Prelude.{◌≡◌, find, slice_get, OnOk};
 ghost use Rattle.std.specs.Option.{option_copied};
-ghost use Rattle.kvs_core.specs.Posted.{groups_in, posts_landed};
+ghost use Rattle.kvs_keys.specs.Posted.{groups_in, posts_landed};
 ghost use Rattle.job_deeds.specs.store_laws.Posts.{is_manager};
 ghost use Rattle.job_service.specs.Landed.{LandsAs, IsLanded, command_of_first};
 

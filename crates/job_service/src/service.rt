@@ -7,7 +7,7 @@ ghost use Rattle.instance_rules.specs.Legal.{IsLegalMoment, OfDesk};
 ghost use Rattle.job_commands.specs.Asks.{told};
 ghost use Rattle.job_replies.specs.Told.{MayTell};
 ghost use Rattle.job_deeds.specs.job_rules.Fits.{IsGrant};
-ghost use Rattle.kvs_core.specs.Steps.{IsStill as CoreIsStill, can_step, can_take};
+ghost use Rattle.kvs_keys.specs.Steps.{IsStill as CoreIsStill, can_step, can_take};
 ghost use Rattle.kvs_requests.specs.Rows.{IsKnownAsk};
 ghost use Rattle.kvs_rules.specs.Log.{Asked as AskedAt, Happened};
 ghost use Rattle.kvs_rules.specs.Quiet.{AreAllTold};
@@ -55,8 +55,8 @@ use job_landings::{number_of_post, what_is_posted_lands_as_it_is_due};
 use job_manager::{Manager, Post};
 use job_replies::{Told, is_ready, tell};
 use job_submissions::{what_is_lacking_is_so_by_the_log, what_is_made_is_due};
-use kvs_core::laws::users_land_where_nothing_is_posted;
-use kvs_core::{Core, CoreFault, Held, KvsEvents, Setting};
+use kvs_keys::laws::users_land_where_nothing_is_posted;
+use kvs_keys::{Held, Keys, KeysFault, KvsEvents, Setting};
 use kvs_rules::{KvsAsk, KvsStep};
 use run_limits::MOST_SUBMITS;
 use std::alloc::{AllocError, Global};
@@ -111,7 +111,7 @@ impl JobService {
         grant: &Resources,
         birth: u64,
         terms: Terms,
-    ) -> Result<JobService, CoreFault>
+    ) -> Result<JobService, KeysFault>
         requires size { (1 ≤ setting.size) × (setting.size ≤ 32) }
         requires fanout { (1 ≤ setting.fanout) × (setting.fanout ≤ 32) }
         requires grant { IsR grant.now }
@@ -147,7 +147,7 @@ impl JobService {
     }
 
     /// The key-value service.
-    pub fn core(&self) -> &Core
+    pub fn core(&self) -> &Keys
         requires { self.now.spent ≡ false }
         ensures value { result.now ≡ self.now.manager.core }
         ensures ready { result.now.spent ≡ false }
@@ -205,7 +205,7 @@ impl JobService {
     /// Makes a step of the key-value service, and gives what happened. Where the post lands, its
     /// command is carried out, and what is due next is looked for. After an error the service is
     /// spent.
-    pub fn turn(&mut self, step: KvsStep) -> Result<KvsEvents, CoreFault>
+    pub fn turn(&mut self, step: KvsStep) -> Result<KvsEvents, KeysFault>
         requires ready { self.old.spent ≡ false }
         requires can { can_step self.old.manager.core step ≡ true }
         ensures ready { OnOk result (self.new.spent ≡ false) }
@@ -257,7 +257,7 @@ impl JobService {
 
     /// Posts what was found to be due, which then waits in the key-value service to land. After an
     /// error the service is spent.
-    pub fn post(&mut self) -> Result<(), CoreFault>
+    pub fn post(&mut self) -> Result<(), KeysFault>
         requires ready { self.old.spent ≡ false }
         requires can { is_some self.old.found ≡ true }
         ensures ready { OnOk result (self.new.spent ≡ false) }

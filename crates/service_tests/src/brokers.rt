@@ -2,12 +2,12 @@
 //! lost, repeated or swapped, and the numbers of steps.
 ghost use Rattle.std.specs.Prelude.{◌≡◌, ◌<◌, ◌≤◌, true, false, [], codes, length, IfOk, IfSome, OnOk};
 ghost use Rattle.kvs_model.specs.History.{first_store};
-ghost use Rattle.kvs_core.specs.Posted.{newest_of, posted};
-ghost use Rattle.kvs_core.specs.Steps.{can_step};
+ghost use Rattle.kvs_keys.specs.Posted.{newest_of, posted};
+ghost use Rattle.kvs_keys.specs.Steps.{can_step};
 ghost use Rattle.kvs_requests.specs.Rows.{IsKnownAsk};
 
 use fl_digest::Hash;
-use kvs_core::{Core, Request, Setting};
+use kvs_keys::{Keys, Request, Setting};
 use kvs_rules::{KvsAnswer, KvsAsk, KvsEvent, KvsStep};
 use kvs_txn::{Author, AuthorNames, By, Found, Op, Path, Txn};
 use lists::{Bytes, ListOf};
@@ -103,7 +103,7 @@ fn put(alloc: Global, actor: u32, key: &str) -> Result<KvsAsk, Fail>
 }
 
 /// Asks for the commit of a key, in an actor's first command.
-fn pose(alloc: Global, core: &mut Core, actor: u32, posed: Posed) -> Result<(), Fail>
+fn pose(alloc: Global, core: &mut Keys, actor: u32, posed: Posed) -> Result<(), Fail>
     requires ready { core.old.spent ≡ false }
     requires size { core.old.size ≡ 4 }
     ensures ready { OnOk result (core.new.spent ≡ false) }
@@ -126,7 +126,7 @@ fn pose(alloc: Global, core: &mut Core, actor: u32, posed: Posed) -> Result<(), 
     Ok(())
 }
 
-fn pose_all(alloc: Global, core: &mut Core, rows: &[Posed]) -> Result<(), Fail>
+fn pose_all(alloc: Global, core: &mut Keys, rows: &[Posed]) -> Result<(), Fail>
     requires ready { core.old.spent ≡ false }
     requires size { core.old.size ≡ 4 }
     ensures ready { OnOk result (core.new.spent ≡ false) }
@@ -169,7 +169,7 @@ fn tell(alloc: Global, text: &mut Vec<u8>, event: &KvsEvent) -> Result<(), Fail>
 }
 
 /// The step of this place in a plan, where it can be made.
-fn planned(core: &Core, plan: &[KvsStep], at: usize) -> Option<KvsStep>
+fn planned(core: &Keys, plan: &[KvsStep], at: usize) -> Option<KvsStep>
     requires { core.now.spent ≡ false }
     ensures within { IfSome result (λ step. at < length plan.now) }
     ensures can { IfSome result (λ step. can_step core.now step ≡ true) }
@@ -182,7 +182,7 @@ fn planned(core: &Core, plan: &[KvsStep], at: usize) -> Option<KvsStep>
 }
 
 /// Makes the steps of a plan as soon as each can be made, and those of the core until none is left.
-fn run(alloc: Global, core: &mut Core, plan: &[KvsStep], text: &mut Vec<u8>) -> Result<(), Fail>
+fn run(alloc: Global, core: &mut Keys, plan: &[KvsStep], text: &mut Vec<u8>) -> Result<(), Fail>
     requires { core.old.spent ≡ false }
     ensures ready { OnOk result (core.new.spent ≡ false) }
     ensures size { OnOk result (core.new.size ≡ core.old.size) }
@@ -207,7 +207,7 @@ fn run(alloc: Global, core: &mut Core, plan: &[KvsStep], text: &mut Vec<u8>) -> 
     Ok(())
 }
 
-fn take_all(alloc: Global, core: &mut Core, text: &mut Vec<u8>) -> Result<(), Fail>
+fn take_all(alloc: Global, core: &mut Keys, text: &mut Vec<u8>) -> Result<(), Fail>
     requires { core.old.spent ≡ false }
     ensures { OnOk result (core.new.spent ≡ false) }
 {
@@ -228,7 +228,7 @@ fn take_all(alloc: Global, core: &mut Core, text: &mut Vec<u8>) -> Result<(), Fa
 }
 
 /// Tells which of three keys have values, and whether no step is left.
-fn tell_end(alloc: Global, core: &Core, text: &mut Vec<u8>) -> Result<(), Fail>
+fn tell_end(alloc: Global, core: &Keys, text: &mut Vec<u8>) -> Result<(), Fail>
     requires { core.now.spent ≡ false }
 {
     'keys: for key in ["a", "b", "job.x"] {
@@ -245,7 +245,7 @@ fn tell_end(alloc: Global, core: &Core, text: &mut Vec<u8>) -> Result<(), Fail>
 }
 
 /// A tree of four brokers, in which nothing has happened.
-fn begin(alloc: Global) -> Result<Core, Fail>
+fn begin(alloc: Global) -> Result<Keys, Fail>
     ensures ready { IfOk result (λ core. core.spent ≡ false) }
     ensures size { IfOk result (λ core. core.size ≡ 4) }
     ensures posted { IfOk result (λ core. posted core ≡ []) }
@@ -257,11 +257,11 @@ fn begin(alloc: Global) -> Result<Core, Fail>
         fanout: 2,
         hash: Hash::Sha1,
     };
-    Ok(Core::new(alloc, setting, &grant)?)
+    Ok(Keys::new(alloc, setting, &grant)?)
 }
 
 /// The job manager's transaction: a value at a key below `job`.
-fn post(alloc: Global, core: &mut Core) -> Result<(), Fail>
+fn post(alloc: Global, core: &mut Keys) -> Result<(), Fail>
     requires ready { core.old.spent ≡ false }
     requires posted { posted core.old ≡ [] }
     requires newest { newest_of core.old ≡ first_store (codes "grant") }
@@ -279,7 +279,7 @@ fn post(alloc: Global, core: &mut Core) -> Result<(), Fail>
 
 /// What follows in a tree in which nothing has happened: what happens, what actors are told then, and
 /// what stands in the end.
-fn told_of(alloc: Global, core: &mut Core, story: &Story) -> Result<Vec<u8>, Fail>
+fn told_of(alloc: Global, core: &mut Keys, story: &Story) -> Result<Vec<u8>, Fail>
     requires ready { core.old.spent ≡ false }
     requires size { core.old.size ≡ 4 }
     requires posted { posted core.old ≡ [] }
@@ -318,7 +318,7 @@ fn trees_of_brokers_tell_their_stories(rt: HostRuntime) -> Result<(), Fail> {
 /// marked, once these rows are asked and no step is left.
 fn marks_of(
     alloc: Global,
-    core: &mut Core,
+    core: &mut Keys,
     rows: &[Posed],
     commands: &[u32; 4],
     marked: [bool; 4],
@@ -462,7 +462,7 @@ const COUNTS: [Count; 14] = [
 ];
 
 /// The step of a number, or how many are lacking, once these rows are asked and these steps made.
-fn nth_of(alloc: Global, core: &mut Core, count: &Count) -> Result<Result<KvsStep, u64>, Fail>
+fn nth_of(alloc: Global, core: &mut Keys, count: &Count) -> Result<Result<KvsStep, u64>, Fail>
     requires ready { core.old.spent ≡ false }
     requires size { core.old.size ≡ 4 }
 {

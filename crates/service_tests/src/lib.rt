@@ -1,4 +1,4 @@
-//! Tests of what no command shows of the services of an instance: steps of `kvs_core` and of the
+//! Tests of what no command shows of the services of an instance: steps of `kvs_keys` and of the
 //! requests on its links, of `kvs_content` and `content_service`, and of `job_clock` and
 //! `job_landings`.
 #![tactic(auto)]

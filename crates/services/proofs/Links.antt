@@ -3,8 +3,8 @@ use Rattle.std.proofs.Common.{◌≡◌, ◌∙◌, ℕ, ◌+◌, ◌*◌, ◌<�
 use Rattle.std.specs.List.{filter}
 use Rattle.job_service.specs.kvs_rules.Brokers.{parent}
 use Rattle.job_service.specs.kvs_rules.declared.events.KvsStep.TheVariants as kvs
-use Rattle.job_service.specs.kvs_core.Walk.{between, sent}
-use Rattle.job_service.proofs.kvs_core_proofs.Links.{children, times-le, two-parts}
+use Rattle.job_service.specs.kvs_keys.Walk.{between, sent}
+use Rattle.job_service.proofs.kvs_keys_proofs.Links.{children, times-le, two-parts}
 use Rattle.job_service.proofs.kvs_requests_proofs.Ways.{parent-le}
 use Rattle.services.specs.Steps.{can_step}
 use Rattle.services.specs.Value.{ServicesValue}

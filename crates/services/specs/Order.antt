@@ -2,7 +2,7 @@
 use Rattle.std.specs.Prelude.{List, length}
 use Rattle.std.specs.List.{filter}
 use Rattle.job_service.specs.kvs_rules.declared.events.KvsStep.{KvsStep}
-use Rattle.job_service.specs.kvs_core.Order.{all_steps, possible_losses as core_losses}
+use Rattle.job_service.specs.kvs_keys.Order.{all_steps, possible_losses as core_losses}
 use Rattle.services.specs.Steps.{can_step}
 use Rattle.services.specs.Value.{ServicesValue}
 

@@ -3,7 +3,7 @@ use Rattle.std.proofs.Common.{◌≡◌, ◌∙◌, ℕ, List, [], ◌++◌, fal
 use Rattle.std.specs.Prelude.{Contains, IfOk, Result, Ok, Err}
 use Rattle.std.proofs.lemmas.List.{nil_from_length}
 use Rattle.std.proofs.lemmas.Option.{slice_get-get_or}
-use Rattle.instance.specs.kvs_core.Walk.{nth}
+use Rattle.instance.specs.kvs_keys.Walk.{nth}
 use Rattle.instance.specs.answers.declared.steps.Step.{Step}
 use Rattle.instance.specs.answers.declared.steps.Step.TheVariants as step
 use Rattle.instance.specs.answers.Chronicle.{Setup}

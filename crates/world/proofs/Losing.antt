@@ -4,8 +4,8 @@ use Rattle.std.specs.Prelude.{Contains, IfOk, Result, Ok, Err, flat_map, nat_lt,
 use Rattle.std.specs.List.{cons_option, range_with_len}
 use Rattle.std.proofs.lemmas.Bool.{ltb-true}
 use Rattle.std.proofs.lemmas.List.Elements.{Contains-append_cases}
-use Rattle.instance.specs.kvs_core.Order.{all_steps}
-use Rattle.instance.specs.kvs_core.Walk.{nth}
+use Rattle.instance.specs.kvs_keys.Order.{all_steps}
+use Rattle.instance.specs.kvs_keys.Walk.{nth}
 use Rattle.instance.specs.kvs_rules.declared.events.KvsStep.{KvsStep}
 use Rattle.instance.specs.kvs_rules.declared.events.KvsStep.TheVariants as kvs
 use Rattle.instance.specs.services.Order.{possible as turns}

@@ -4,7 +4,7 @@ use Rattle.std.specs.Prelude.{Some, Ok, Err, min, nat_le, slice_get, ifâ—Œthenâ—
 use Rattle.std.proofs.Math.Nat.{mod-eq_of_lt}
 use Rattle.std.proofs.lemmas.Nat.{mod_below}
 use Rattle.std.proofs.lemmas.Bool.Decides.{nat_tests}
-use Rattle.instance.specs.kvs_core.Walk.{nth}
+use Rattle.instance.specs.kvs_keys.Walk.{nth}
 use Rattle.instance.specs.answers.declared.steps.Step.{Step}
 use Rattle.instance.specs.answers.declared.steps.Step.TheVariants as step
 use Rattle.world.specs.Order.{all_before_end, or_close, possible_steps}

@@ -26,7 +26,7 @@ use Rattle.instance.specs.declared.seats.Seat.{Seat}
 use Rattle.instance.specs.instance_rules.Family.{IsEndOf, Living, OfLiving}
 use Rattle.instance.specs.job_manager.Posts.{is_posted_for}
 use Rattle.instance.proofs.job_rules_proofs.Among.{Among, among_append, among_from, among_kept, among_left, among_map, among_right}
-use Rattle.instance.specs.kvs_core.Walk.{nth}
+use Rattle.instance.specs.kvs_keys.Walk.{nth}
 use Rattle.instance.specs.manager_rules.Times.{IsEndDue}
 use Rattle.instance.specs.services.Order.{possible, possible_losses}
 use Rattle.homes.specs.Homes.{ListTurns}

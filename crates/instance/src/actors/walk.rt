@@ -1,6 +1,6 @@
 //! The steps that can be made, by number.
 ghost use Rattle.std.specs.Prelude.{◌≡◌, true, false, IfOk};
-ghost use Rattle.services.specs.kvs_core.Walk.{nth};
+ghost use Rattle.services.specs.kvs_keys.Walk.{nth};
 ghost use Rattle.services.specs.Order.{possible, possible_losses};
 ghost use Rattle.services.specs.Steps.{can_step};
 ghost use Rattle.instance.specs.Agrees.{AreLinesOf};

@@ -1,7 +1,7 @@
 //! The steps that can be made, counted in their order.
 ghost use Rattle.std.specs.Prelude.{◌≡◌, ◌<◌, true, false, None, map, slice_get, IfOk, IfSome};
 ghost use Rattle.std.specs.List.{filter};
-ghost use Rattle.job_service.specs.kvs_core.Walk.{between, deliveries, nth, sent};
+ghost use Rattle.job_service.specs.kvs_keys.Walk.{between, deliveries, nth, sent};
 ghost use Rattle.services.specs.Order.{possible, possible_losses};
 ghost use Rattle.services.specs.Steps.{can_step};
 ghost use Rattle.services.specs.Walk.{step_of};

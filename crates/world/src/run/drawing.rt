@@ -4,7 +4,7 @@ ghost use Rattle.std.specs.List.{cons_option};
 ghost use Rattle.std.specs.Option.{option_map_or};
 ghost use Rattle.hierarchy.specs.Legal.{HasRunRest};
 ghost use Rattle.instance.specs.Steps.{IsStart};
-ghost use Rattle.instance.specs.kvs_core.Walk.{nth};
+ghost use Rattle.instance.specs.kvs_keys.Walk.{nth};
 ghost use Rattle.homes.specs.Homes.{living_at};
 ghost use Rattle.world.specs.Choice.{MayLose};
 ghost use Rattle.world.specs.Order.{all_before_end, before_end, issues, left_in, losses, possible_steps, steps_at, steps_in, steps_of};

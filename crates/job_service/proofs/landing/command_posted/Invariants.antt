@@ -1,5 +1,5 @@
 use Rattle.std.proofs.Common.{◌≡◌, [], take}
-use Rattle.kvs_core.specs.Posted.{posts_landed}
+use Rattle.kvs_keys.specs.Posted.{posts_landed}
 use Rattle.job_service.proofs.landing.command_posted.Given as goal
 
 abbrev pub invariant-loop-event : goal.invariant-loop-event

@@ -8,8 +8,8 @@ use Rattle.kvs_model.specs.History.{after_groups, first_store}
 use Rattle.kvs_model.specs.Operation.{op_effect}
 use Rattle.kvs_model.specs.Store.{Path}
 use Rattle.kvs_model.specs.Walk.{resolved}
-use Rattle.kvs_core.specs.Posted.{CanPost, newest_of, post_of, posted}
-use Rattle.kvs_core.specs.Value.{CoreValue}
+use Rattle.kvs_keys.specs.Posted.{CanPost, newest_of, post_of, posted}
+use Rattle.kvs_keys.specs.Value.{KeysValue}
 use Rattle.service_tests.proofs.brokers.post.Goals as goal
 
 -- a value below `job` can be put in the first store
@@ -17,7 +17,7 @@ made : (bytes : List ℕ) → IsSome (after_groups scope.Primary (post_of None (
 unfolding op_effect resolved
 made bytes = refl
 
-can-post : (v : CoreValue) (path : Path) (bytes : List ℕ) (ops : List Op) → posted v ≡ [] → newest_of v ≡ first_store (codes "grant") → path ≡ codes "job" ∷ codes "x" ∷ [] → ops ≡ op.Put path bytes ∷ [] → CanPost v None (record { author = author.Manager; ops = ops })
+can-post : (v : KeysValue) (path : Path) (bytes : List ℕ) (ops : List Op) → posted v ≡ [] → newest_of v ≡ first_store (codes "grant") → path ≡ codes "job" ∷ codes "x" ∷ [] → ops ≡ op.Put path bytes ∷ [] → CanPost v None (record { author = author.Manager; ops = ops })
 can-post v path bytes ops none newest key is =
     subst (λ os. CanPost v None (record { author = author.Manager; ops = os })) (sym (is ∙ ap (λ p. op.Put p bytes ∷ []) key)) (record {
       post = record { manager = refl; below = (record { puts = tt; name = codes "x"; rest = []; key = refl }, tt) };

@@ -1,7 +1,7 @@
 use Rattle.std.proofs.Common.{◌≡◌, ◌∙◌, suc, ◌+◌, ◌-◌, ◌<◌, ◌≤◌, ◌∷◌, true, false, ap, sym, rules, arith, length}
 use Rattle.std.specs.List.{filter, range_with_len}
-use Rattle.services.specs.kvs_core.Walk.{nth}
-use Rattle.services.proofs.kvs_core_proofs.Walking.{peeled, ended, skipped, found, counted}
+use Rattle.services.specs.kvs_keys.Walk.{nth}
+use Rattle.services.proofs.kvs_keys_proofs.Walking.{peeled, ended, skipped, found, counted}
 use Rattle.instance.specs.Order.{answers}
 use Rattle.instance.specs.Steps.{can_answer}
 use Rattle.instance.proofs.actors.Instance.nth_answer.Goals as goal

@@ -1,6 +1,6 @@
 use Rattle.std.proofs.Common.{◌≡◌, ◌-◌, length}
 use Rattle.std.specs.List.{filter, range_with_len}
-use Rattle.services.specs.kvs_core.Walk.{nth}
+use Rattle.services.specs.kvs_keys.Walk.{nth}
 use Rattle.instance.specs.Order.{answers}
 use Rattle.instance.specs.Steps.{can_answer}
 use Rattle.instance.proofs.actors.Instance.nth_answer.Given as goal

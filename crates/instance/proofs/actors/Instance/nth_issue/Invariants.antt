@@ -1,5 +1,5 @@
 use Rattle.std.proofs.Common.{◌≡◌, ◌-◌, ◌≤◌, length}
-use Rattle.services.specs.kvs_core.Walk.{nth}
+use Rattle.services.specs.kvs_keys.Walk.{nth}
 use Rattle.instance.specs.Order.{issues}
 use Rattle.instance.proofs.Numbering.{issues_from}
 use Rattle.instance.proofs.actors.Instance.nth_issue.Given as goal

@@ -1,7 +1,7 @@
 use Rattle.std.proofs.Common.{◌≡◌, ◌<◌, ◌∙◌, ◌++◌, [], ◌∷◌, false, Some, None, length, refl, ap, sym, subst}
-use Rattle.kvs_core.specs.Agrees.{Agrees}
-use Rattle.kvs_core.specs.Posted.{CanPost, IsNewPost, posted}
-use Rattle.kvs_core.specs.Posted as core
+use Rattle.kvs_keys.specs.Agrees.{Agrees}
+use Rattle.kvs_keys.specs.Posted.{CanPost, IsNewPost, posted}
+use Rattle.kvs_keys.specs.Posted as core
 use Rattle.job_manager.specs.Managed.{IsOutstanding, WasDuePost}
 use Rattle.job_manager.specs.Posts.{command_of, post_of}
 use Rattle.manager_rules.specs.Posts.{txn_of}

@@ -24,4 +24,4 @@ pub returns-clause-agrees : goal.returns-clause-agrees
 returns-clause-agrees c = λ space floor.
     let v = value_of c.self.inside in
     subst (λ w. AgreesOnce w (with_contents v c.request.new.self) c.args.by floor c.args.broker space c.args.ask) c.self.view_is
-    (contents-asked v c.content_moments_leave_the_core.ensures c.request.new.self c.args.by c.args.broker c.args.ask c.requires.about c.in_ok-request.ensures.agrees space floor)
+    (contents-asked v c.content_moments_leave_the_keys.ensures c.request.new.self c.args.by c.args.broker c.args.ask c.requires.about c.in_ok-request.ensures.agrees space floor)

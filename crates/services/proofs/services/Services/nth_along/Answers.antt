@@ -2,9 +2,9 @@ use Rattle.std.proofs.Common.{◌≡◌, ◌∙◌, suc, ◌+◌, ◌-◌, ◌<�
 use Rattle.std.specs.Prelude.{Ok}
 use Rattle.std.specs.List.{filter, range_with_len}
 use Rattle.services.specs.Steps.{can_step}
-use Rattle.job_service.specs.kvs_core.Walk.{between, nth}
+use Rattle.job_service.specs.kvs_keys.Walk.{between, nth}
 use Rattle.services.specs.Walk.{step_of}
-use Rattle.job_service.proofs.kvs_core_proofs.Walking.{peeled, ended, skipped, found, counted}
+use Rattle.job_service.proofs.kvs_keys_proofs.Walking.{peeled, ended, skipped, found, counted}
 use Rattle.services.proofs.services.Services.nth_along.Goals as goal
 use Rattle.services.proofs.services.Services.nth_along.Goals.{then-can+else-left-eq0, else-can}
 

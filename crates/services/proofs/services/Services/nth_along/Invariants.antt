@@ -1,7 +1,7 @@
 use Rattle.std.proofs.Common.{◌≡◌, map}
 use Rattle.std.specs.List.{filter}
 use Rattle.services.specs.Steps.{can_step}
-use Rattle.job_service.specs.kvs_core.Walk.{between, nth}
+use Rattle.job_service.specs.kvs_keys.Walk.{between, nth}
 use Rattle.services.specs.Walk.{step_of}
 use Rattle.services.proofs.services.Services.nth_along.Given as goal
 

@@ -2,8 +2,8 @@ use Rattle.std.proofs.Common.{◌≡◌, ◌∙◌, ◌+◌, ◌-◌, ◌<◌, �
 use Rattle.std.specs.Prelude.{Ok, Err, flat_map}
 use Rattle.std.specs.List.{filter, range_with_len}
 use Rattle.services.specs.Steps.{can_step}
-use Rattle.job_service.specs.kvs_core.Walk.{nth, sent}
-use Rattle.job_service.proofs.kvs_core_proofs.Walking.{peeled, ended, behind-all, within-all}
+use Rattle.job_service.specs.kvs_keys.Walk.{nth, sent}
+use Rattle.job_service.proofs.kvs_keys_proofs.Walking.{peeled, ended, behind-all, within-all}
 use Rattle.services.proofs.services.Services.nth_delivery.Goals as goal
 
 pub returns-in-Ok-clause-value : goal.returns-in-Ok-clause-value

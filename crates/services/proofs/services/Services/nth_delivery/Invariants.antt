@@ -2,7 +2,7 @@ use Rattle.std.proofs.Common.{◌≡◌, ◌-◌}
 use Rattle.std.specs.Prelude.{flat_map}
 use Rattle.std.specs.List.{filter, range_with_len}
 use Rattle.services.specs.Steps.{can_step}
-use Rattle.job_service.specs.kvs_core.Walk.{nth, deliveries, sent}
+use Rattle.job_service.specs.kvs_keys.Walk.{nth, deliveries, sent}
 use Rattle.services.proofs.services.Services.nth_delivery.Given as goal
 
 abbrev pub invariant-loop-from : goal.invariant-loop-from

@@ -4,8 +4,8 @@ use Rattle.std.specs.List.{filter, range_with_len}
 use Rattle.job_service.specs.kvs_rules.declared.events.KvsStep.{KvsStep}
 use Rattle.job_service.specs.kvs_rules.declared.events.KvsStep.TheVariants as kvs
 use Rattle.services.specs.Steps.{can_step}
-use Rattle.job_service.specs.kvs_core.Walk.{nth, deliveries}
-use Rattle.job_service.proofs.kvs_core_proofs.Walking.{behind-all, within-all}
+use Rattle.job_service.specs.kvs_keys.Walk.{nth, deliveries}
+use Rattle.job_service.proofs.kvs_keys_proofs.Walking.{behind-all, within-all}
 use Rattle.services.proofs.services.Services.nth_of_both.Goals as goal
 
 unfoldable services : ℕ → List KvsStep

@@ -3,11 +3,11 @@ use Rattle.std.specs.List.{filter}
 use Rattle.job_service.specs.kvs_rules.Brokers.{parent}
 use Rattle.job_service.specs.kvs_rules.declared.events.KvsStep.TheVariants as kvs
 use Rattle.services.specs.Steps.{can_step}
-use Rattle.job_service.specs.kvs_core.Walk.{between, nth}
+use Rattle.job_service.specs.kvs_keys.Walk.{between, nth}
 use Rattle.services.specs.View.{IsFit}
 use Rattle.services.proofs.Links.{AreLinked, sent-parts}
 use Rattle.services.proofs.Linking.{CoreLinked, all_linked}
-use Rattle.job_service.proofs.kvs_core_proofs.Walking.{behind, within}
+use Rattle.job_service.proofs.kvs_keys_proofs.Walking.{behind, within}
 use Rattle.services.proofs.services.Services.nth_sent.Goals as goal
 
 pub returns-in-Ok-clause-value : goal.returns-in-Ok-clause-value

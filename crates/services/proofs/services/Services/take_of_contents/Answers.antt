@@ -22,4 +22,4 @@ returns-clause-tells c =
     let can = subst (λ v. contents_can_take v.contents c.args.by ≡ true) (sym c.self.view_is) c.requires.can in
     subst (λ w. Tells w (record (with_contents v c.take.new.self) { spent = c.self.inside.spent }) c.args.by None c.take.result) c.self.view_is
     (subst (λ b. Tells v (record (with_contents v c.take.new.self) { spent = b }) c.args.by None c.take.result) (sym (ap (λ v. v.spent) c.self.view_is ∙ c.requires.ready))
-    (contents-tell v c.content_moments_leave_the_core.ensures c.take.new.self c.args.by c.take.result can c.take.ensures.legal c.take.ensures.agrees))
+    (contents-tell v c.content_moments_leave_the_keys.ensures c.take.new.self c.args.by c.take.result can c.take.ensures.legal c.take.ensures.agrees))

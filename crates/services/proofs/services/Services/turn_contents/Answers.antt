@@ -18,4 +18,4 @@ pub returns-clause-makes : goal.returns-clause-makes
 returns-clause-makes c =
     let v = value_of c.self.inside in
     subst (λ w. Makes c.args.step w (with_contents v c.turn.new.self) c.in_ok-events.events) c.self.view_is
-    (contents-make v c.content_moments_leave_the_core.ensures c.turn.new.self c.args.step c.in_ok-events.events c.in_ok-events.ensures.makes)
+    (contents-make v c.content_moments_leave_the_keys.ensures c.turn.new.self c.args.step c.in_ok-events.events c.in_ok-events.ensures.makes)

@@ -1,6 +1,6 @@
 use Rattle.std.proofs.Common.{◌∙◌, false, ap, sym, subst}
 use Rattle.std.specs.Prelude.{IsTrue, ◌↔◌}
-use Rattle.instance.specs.kvs_core.Walk.{nth}
+use Rattle.instance.specs.kvs_keys.Walk.{nth}
 use Rattle.homes.specs.Homes.{AreReady, ListTurns, living_at}
 use Rattle.world.specs.Order.{before_end}
 use Rattle.world.specs.Steps.{CanMake}

@@ -1,6 +1,6 @@
 use Rattle.std.proofs.Common.{◌≡◌, ◌∙◌, ◌⊎◌, ◌<◌, inl, inr, ℕ, [], ap, arith, length, map, sym}
 use Rattle.std.specs.Prelude.{Some, slice_get, if◌then◌else◌}
-use Rattle.instance.specs.kvs_core.Walk.{nth}
+use Rattle.instance.specs.kvs_keys.Walk.{nth}
 use Rattle.instance.specs.answers.declared.steps.Step.TheVariants as step
 use Rattle.world.specs.Order.{left_in, steps_at, steps_in, steps_left}
 use Rattle.world.specs.Value.{WorldValue}

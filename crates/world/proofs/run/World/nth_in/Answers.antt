@@ -1,6 +1,6 @@
 use Rattle.std.proofs.Common.{◌∙◌, ap, sym}
 use Rattle.instance.specs.services.Order.{possible, possible_losses}
-use Rattle.instance.specs.kvs_core.Walk.{nth}
+use Rattle.instance.specs.kvs_keys.Walk.{nth}
 use Rattle.instance.specs.answers.declared.steps.Step.TheVariants as step
 use Rattle.instance.specs.Order.{answers, feeds}
 use Rattle.world.specs.Order.{steps_in}

@@ -1,5 +1,5 @@
 use Rattle.std.proofs.Common.{◌≡◌, ◌-◌, ◌≤◌, length}
-use Rattle.instance.specs.kvs_core.Walk.{nth}
+use Rattle.instance.specs.kvs_keys.Walk.{nth}
 use Rattle.world.specs.Order.{issues}
 use Rattle.world.proofs.Lines.{issues_from}
 use Rattle.world.proofs.run.World.nth_issue.Given as goal

@@ -1,6 +1,6 @@
 use Rattle.std.proofs.Common.{◌≡◌, ◌∙◌, ◌<◌, ap, sym, arith}
 use Rattle.std.proofs.lemmas.Bool.{lt-ltb}
-use Rattle.instance.specs.kvs_core.Walk.{nth}
+use Rattle.instance.specs.kvs_keys.Walk.{nth}
 use Rattle.world.specs.Choice.{losses_left}
 use Rattle.world.proofs.Losing.{no_losses, some_losses}
 use Rattle.world.proofs.run.World.nth_loss.Goals as goal

@@ -1,7 +1,7 @@
 use Rattle.std.proofs.Common.{◌≡◌, ◌∙◌, ap, sym, subst, true≢false}
 use Rattle.std.specs.Prelude.{Ok, Err}
-use Rattle.instance.specs.kvs_core.Walk.{nth}
-use Rattle.instance.proofs.kvs_core_proofs.Walking.{behind, within}
+use Rattle.instance.specs.kvs_keys.Walk.{nth}
+use Rattle.instance.proofs.kvs_keys_proofs.Walking.{behind, within}
 use Rattle.world.specs.Order.{before_end, losses}
 use Rattle.world.specs.Sound.{IsRunning}
 use Rattle.world.proofs.Choosing.{listed_at}

@@ -2,8 +2,8 @@ use Rattle.std.proofs.Common.{◌≡◌, ◌∙◌, ℕ, suc, ◌+◌, ◌-◌, 
 use Rattle.std.specs.List.{filter, range_with_len}
 use Rattle.std.specs.Option.{option_map_or}
 use Rattle.std.proofs.lemmas.Option.{slice_get-get_or}
-use Rattle.instance.specs.kvs_core.Walk.{nth}
-use Rattle.instance.proofs.kvs_core_proofs.Walking.{peeled, ended, skipped, found, counted}
+use Rattle.instance.specs.kvs_keys.Walk.{nth}
+use Rattle.instance.proofs.kvs_keys_proofs.Walking.{peeled, ended, skipped, found, counted}
 use Rattle.instance.specs.answers.declared.steps.Step.TheVariants as step
 use Rattle.world.specs.Order.{left_in, waits_in}
 use Rattle.homes.specs.declared.homes.Place.{Place}

@@ -1,6 +1,6 @@
 use Rattle.std.proofs.Common.{◌≡◌, ◌-◌, length}
 use Rattle.std.specs.List.{filter, range_with_len}
-use Rattle.instance.specs.kvs_core.Walk.{nth}
+use Rattle.instance.specs.kvs_keys.Walk.{nth}
 use Rattle.world.specs.Order.{left_in, waits_in}
 use Rattle.world.proofs.run.drawing.nth_left.Given as goal
 

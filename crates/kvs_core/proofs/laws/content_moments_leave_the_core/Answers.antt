@@ -1,5 +1,0 @@
-use Rattle.kvs_core.proofs.Leaving.{contents-leave}
-use Rattle.kvs_core.proofs.laws.content_moments_leave_the_core.Goals as goal
-
-pub returns : goal.returns
-returns c = λ v set log m a legal h. contents-leave v set log m a legal h
