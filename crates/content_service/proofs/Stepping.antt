@@ -189,6 +189,7 @@ module _ (v : ContentServiceValue) (sound : IsSound v) (w : ContentValue) (told 
     delivered-makes = record {
       ready = refl;
       size = refl;
+      fanout = alike.fanout;
       does = (shorter, handing.services);
       own = all-own to events made;
       made = λ log. all-come to events made;
@@ -263,6 +264,7 @@ module _ (v : ContentServiceValue) (sound : IsSound v) (w : ContentValue) (i : �
   served-makes = record {
     ready = refl;
     size = refl;
+    fanout = h.alike.fanout;
     does =
         let put = put-services v.rows rows₁ i within served.stage is in
         let less = due-left (is_flushed v.content broker) row-here.stage served.stage due h.once h.ended in

@@ -24,6 +24,7 @@ pub record Makes (step : KvsStep) (old new : ContentServiceValue)
     (events : List KvsEvent) : Type 0 where
   pub ready : new.spent ≡ false
   pub size : new.size ≡ old.size
+  pub fanout : new.content.fanout ≡ old.content.fanout
   pub does : DoesStep step old new
   pub own : Each IsOfContents events
   pub made : (log : Log) → AreMadeBy log step events

@@ -81,6 +81,7 @@ impl ContentService {
         requires fanout { 1 ≤ fanout }
         ensures ready { IfOk result (λ service. service.spent ≡ false) }
         ensures size { IfOk result (λ service. service.size ≡ size) }
+        ensures fanout { IfOk result (λ service. service.content.fanout ≡ fanout) }
         ensures agrees { IfOk result (λ service. (set : Setting) → set.size ≡ size
             → set.fanout ≡ fanout → set.hash ≡ hash → AgreesService service set []) }
     {
@@ -102,6 +103,7 @@ impl ContentService {
         requires known { is_content ask ≡ true }
         ensures ready { OnOk result (self.new.spent ≡ false) }
         ensures size { OnOk result (self.new.size ≡ self.old.size) }
+        ensures fanout { OnOk result (self.new.content.fanout ≡ self.old.content.fanout) }
         ensures spent { OnErr result (self.new.spent ≡ true) }
         ensures agrees { OnOk result ((set : Setting) (log : Log) (space : Name)
             (floors : Name → ℕ)
@@ -249,6 +251,7 @@ impl ContentService {
         requires can { can_take self.old by ≡ true }
         ensures ready { self.new.spent ≡ false }
         ensures size { self.new.size ≡ self.old.size }
+        ensures fanout { self.new.content.fanout ≡ self.old.content.fanout }
         ensures legal { (set : Setting) (log : Log) → AgreesService self.old set log
             → IsLegalAnswer set log by None result }
         ensures agrees { (set : Setting) (log : Log) → AgreesService self.old set log

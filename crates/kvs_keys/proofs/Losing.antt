@@ -151,7 +151,7 @@ module _ {v : KeysValue} (s : IsSound v) where
       ready = refl;
       size = refl;
       order = kept-or r (λ x. posts_in x.merger.ready) (λ x ls. refl) 0 [];
-      extends = record { history = as-before (kept-or r (λ x. x.history) (λ x ls. refl) 0 []); inside = refl; grant = refl };
+      extends = record { history = as-before (kept-or r (λ x. x.history) (λ x ls. refl) 0 []); inside = refl; grant = refl; fanout = refl };
       does = does;
       agrees = λ set log a. relinked-agrees spaces r false a;
     }

@@ -24,8 +24,9 @@ abbrev pub landings_in : List KvsEvent → List (List Group)
 landings_in events = filter_map landing_in events
 
 -- the landings are those that were made before, and those that these events tell; the job manager's
--- are all in `primary`, and the grant is the same
+-- are all in `primary`, and the grant and the tree of brokers are the same
 pub record Extends (old new : KeysValue) (events : List KvsEvent) : Type 0 where
   pub history : history_of new ≡ history_of old ++ landings_in events
   pub inside : posts_landed events ≡ posts_in (flat_map (λ groups. groups) (landings_in events))
   pub grant : new.grant ≡ old.grant
+  pub fanout : new.fanout ≡ old.fanout

@@ -189,6 +189,7 @@ impl Keys {
         requires fanout { (1 ≤ setting.fanout) × (setting.fanout ≤ 32) }
         ensures ready { IfOk result (λ keys. keys.spent ≡ false) }
         ensures size { IfOk result (λ keys. keys.size ≡ setting.size) }
+        ensures fanout { IfOk result (λ keys. keys.fanout ≡ setting.fanout) }
         ensures posted { IfOk result (λ keys. posted keys ≡ []) }
         ensures newest { IfOk result (λ keys. newest_of keys ≡ first_store grant.now) }
         ensures unlanded { IfOk result (λ keys. history_of keys ≡ []) }

@@ -114,6 +114,7 @@ returns-in_ok-push-in-Commit-clause-moves c =
         history = of-old [] c.self.view_is (history-same c.self.inside.spaces.items c.args.k (found-there s row.namespace c.args.k found) c.index_mut-space.result.now c.push.new.self c.index_mut-space.ensures.value (ap (λ x. x.name) c.in_ok-push-in-Commit.ensures) (ap (λ x. x.history) c.in_ok-push-in-Commit.ensures));
         inside = refl;
         grant = ap (λ v. v.grant) c.self.view_is;
+        fanout = ap (λ v. v.fanout) c.self.view_is;
       };
       does = inl (subst (λ v. all_services c.take_entrant-entrant.new.rows.items < all_services v.rows) c.self.view_is (commit-fewer s c.args.i within row c.index.ensures c.args.k found c.in-Commit.txn stage-is c.index_mut-space.result.now c.push.new.self c.index_mut-space.ensures.value c.in_ok-push-in-Commit.ensures live c.take_entrant-entrant.new.rows.items rows-are));
       agrees = λ set log a. commit-agrees s c.args.i within row c.index.ensures c.args.k found c.in-Commit.txn stage-is c.index_mut-space.result.now c.push.new.self c.index_mut-space.ensures.value c.in_ok-push-in-Commit.ensures live (subst (λ v. Agrees v set log) e a) c.take_entrant-entrant.new.rows.items rows-are;
@@ -142,6 +143,7 @@ returns-in_ok-join-in-Member-clause-moves c =
         history = of-old [] c.self.view_is (history-same c.self.inside.spaces.items c.args.k (found-there s row.namespace c.args.k found) c.index_mut-space.result.now c.join.new.self c.index_mut-space.ensures.value (ap (λ x. x.name) c.in_ok-join-in-Member.ensures.joined) (ap (λ x. x.history) c.in_ok-join-in-Member.ensures.joined));
         inside = refl;
         grant = ap (λ v. v.grant) c.self.view_is;
+        fanout = ap (λ v. v.fanout) c.self.view_is;
       };
       does = inl (subst (λ v. all_services c.take_entrant-entrant.new.rows.items < all_services v.rows) c.self.view_is (fence-fewer s c.args.i within row c.index.ensures c.args.k found c.in-Member.name c.in-Member.count c.in-Member.txn stage-is c.index_mut-space.result.now c.join.new.self c.index_mut-space.ensures.value c.in_ok-join-in-Member.ensures.joined c.in_ok-join-in-Member.ensures.open live c.take_entrant-entrant.new.rows.items rows-are));
       agrees = λ set log a. fence-agrees s c.args.i within row c.index.ensures c.args.k found c.in-Member.name c.in-Member.count c.in-Member.txn stage-is c.index_mut-space.result.now c.join.new.self c.index_mut-space.ensures.value c.in_ok-join-in-Member.ensures.joined c.in_ok-join-in-Member.ensures.open live same (subst (λ v. Agrees v set log) e a) c.take_entrant-entrant.new.rows.items rows-are;

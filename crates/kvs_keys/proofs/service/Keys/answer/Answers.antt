@@ -39,7 +39,7 @@ returns-clause-moves c =
       ready = refl;
       size = ap (λ v. v.size) c.self.view_is;
       order = ap posted c.self.view_is;
-      extends = record { history = as-before (ap history_of c.self.view_is); inside = refl; grant = ap (λ v. v.grant) c.self.view_is };
+      extends = record { history = as-before (ap history_of c.self.view_is); inside = refl; grant = ap (λ v. v.grant) c.self.view_is; fanout = ap (λ v. v.fanout) c.self.view_is };
       does =
           inl (subst (λ v. all_services c.give.new.rows.items < all_services v.rows) c.self.view_is
           (given-less s c.args.broker home c.args.i c.index.result.now within c.index.ensures waits can c.index-space.result.now place c.known.result c.known.ensures c.has_heard_end-ended.result c.has_heard_end-ended.ensures c.store.result.now c.store.ensures c.give.new.rows.items c.in_ok-give.ensures));

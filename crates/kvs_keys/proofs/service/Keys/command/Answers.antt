@@ -37,4 +37,4 @@ returns-clause-agrees c = λ set log a made floors seen fresh rested.
     (asked-turns s (subst IsStill (sym c.self.view_is) (rested settled)) b settled (record { by = c.args.by; broker = c.args.broker; namespace = c.args.namespace; need = c.max-need.result; stage = c.entry-stage.result }) floors (ap is_some made) fresh))
 
 pub returns-clause-extends : goal.returns-clause-extends
-returns-clause-extends c = record { history = as-before (ap history_of c.self.view_is); inside = refl; grant = ap (λ v. v.grant) c.self.view_is }
+returns-clause-extends c = record { history = as-before (ap history_of c.self.view_is); inside = refl; grant = ap (λ v. v.grant) c.self.view_is; fanout = ap (λ v. v.fanout) c.self.view_is }

@@ -25,7 +25,7 @@ returns-clause-moves c =
       ready = ap (λ v. v.spent) c.self.view_is ∙ c.requires.ready;
       size = ap (λ v. v.size) c.self.view_is;
       order = ap posted c.self.view_is;
-      extends = record { history = as-before (ap history_of c.self.view_is); inside = refl; grant = ap (λ v. v.grant) c.self.view_is };
+      extends = record { history = as-before (ap history_of c.self.view_is); inside = refl; grant = ap (λ v. v.grant) c.self.view_is; fanout = ap (λ v. v.fanout) c.self.view_is };
       does =
           subst (λ w. messages (record { spent = v.spent; size = v.size; fanout = v.fanout; grant = v.grant; spaces = v.spaces; rows = c.carry.new.rows.items }) c.args.from c.args.to < messages w c.args.from c.args.to) e
           (fewer-carried v c.args.from c.args.to v.spent c.carry.new.rows.items (c.carry.ensures.left v.size _ s.placed));

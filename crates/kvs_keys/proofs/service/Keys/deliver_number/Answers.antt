@@ -54,6 +54,7 @@ returns-clause-makes c =
         history = of-old (landings_in c.in_ok-events-in-Some.events) c.self.view_is (heard-history s c.in-Some.k within c.index_mut-space.result.now c.deliver.new.self c.index_mut-space.ensures.value heard.name heard.history c.args.to _ c.in_ok-before-in-Some.field-0.before c.in_ok-before-in-Some.field-0.after c.in_ok-events-in-Some.events c.in_ok-events-in-Some.ensures);
         inside = subst Inside (sym c.in_ok-events-in-Some.ensures) (hearing-inside c.args.to _ c.in_ok-before-in-Some.field-0.before c.in_ok-before-in-Some.field-0.after);
         grant = ap (λ v. v.grant) c.self.view_is;
+        fanout = ap (λ v. v.fanout) c.self.view_is;
       };
       does =
           subst (λ w. messages (record { spent = false; size = v.size; fanout = v.fanout; grant = v.grant; spaces = set₁ v.spaces c.in-Some.k c.deliver.new.self; rows = v.rows }) c.args.from c.args.to < messages w c.args.from c.args.to) c.self.view_is

@@ -52,7 +52,7 @@ returns-clause-moves c =
       ready = ap (λ v. v.spent) c.self.view_is ∙ c.requires.ready;
       size = ap (λ v. v.size) c.self.view_is;
       order = ap posted c.self.view_is;
-      extends = record { history = as-before (ap history_of c.self.view_is); inside = refl; grant = ap (λ v. v.grant) c.self.view_is };
+      extends = record { history = as-before (ap history_of c.self.view_is); inside = refl; grant = ap (λ v. v.grant) c.self.view_is; fanout = ap (λ v. v.fanout) c.self.view_is };
       does =
           inl (subst (λ v. all_services c.send_back.new.rows.items < all_services v.rows) c.self.view_is
           (returned-fewer s c.args.i within row read c.args.k found back.asked (back.was any) look back.stage (back.goes any) c.send_back.new.rows.items (back.others any)));

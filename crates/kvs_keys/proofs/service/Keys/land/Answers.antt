@@ -83,6 +83,7 @@ returns-in_ok-events-in-Landed-clause-makes c =
         history = of-old (landings_in c.in_ok-events-in-Landed.events) c.self.view_is (landed-history s c.args.number there.0 c.index_mut-space.result.now c.rule.new.self c.index_mut-space.ensures.value c.in-Landed.root c.in-Landed.groups ruled c.in_ok-events-in-Landed.events told);
         inside = landed-inside s c.args.number there.0 c.index_mut-space.result.now c.rule.new.self c.index_mut-space.ensures.value c.in-Landed.root c.in-Landed.groups ruled c.in_ok-events-in-Landed.events told;
         grant = ap (λ v. v.grant) c.self.view_is;
+        fanout = ap (λ v. v.fanout) c.self.view_is;
       };
       does = subst (λ es. 1 ≤ length es) (sym told) (omega arith);
       own = subst (Each IsOfKeys) (sym told) (tt, (tt, tt));
@@ -115,6 +116,7 @@ returns-in_ok-events-in-Denied-clause-makes c =
         history = of-old (landings_in c.in_ok-events-in-Denied.events) c.self.view_is (denied-history s c.args.number there.0 c.index_mut-space.result.now c.rule.new.self c.index_mut-space.ensures.value c.in-Denied.group c.in-Denied.refusal ruled c.in_ok-events-in-Denied.events told);
         inside = subst Inside (sym told) refl;
         grant = ap (λ v. v.grant) c.self.view_is;
+        fanout = ap (λ v. v.fanout) c.self.view_is;
       };
       does = subst (λ es. 1 ≤ length es) (sym told) (omega arith);
       own = subst (Each IsOfKeys) (sym told) (tt, tt);

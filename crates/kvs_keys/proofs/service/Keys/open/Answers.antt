@@ -94,6 +94,7 @@ returns-clause-makes c =
         history = of-old (landings_in c.in_ok-events.events) c.self.view_is (ap history-in c.in_ok-push.ensures.items ∙ history-wide c.self.inside.spaces.items c.in_ok-space.space (primary-there c.self.inside.spaces.items s.first) ∙ ap (λ ls. history-in c.self.inside.spaces.items ++ ls) (sym (ap landings_in told ∙ changing-told row.namespace 0 row.by (unnamed-other s row.namespace none))));
         inside = subst Inside (sym told) (changing-inside row.namespace 0 row.by (unnamed-other s row.namespace none));
         grant = ap (λ v. v.grant) c.self.view_is;
+        fanout = ap (λ v. v.fanout) c.self.view_is;
       };
       does = inr (subst (λ es. 1 ≤ length es) (sym c.in_ok-events.ensures) (omega arith));
       own = subst (Each IsOfKeys) (sym told) (tt, (tt, tt));

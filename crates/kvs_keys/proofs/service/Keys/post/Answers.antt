@@ -41,4 +41,5 @@ returns-clause-extends c =
       history = of-old [] c.self.view_is (history-same c.self.inside.spaces.items 0 (primary-there c.self.inside.spaces.items s.first) o c.post.new.self c.index_mut-space.ensures.value (ap (λ x. x.name) c.in_ok-post.ensures) (ap (λ x. x.history) c.in_ok-post.ensures));
       inside = refl;
       grant = ap (λ v. v.grant) c.self.view_is;
+      fanout = ap (λ v. v.fanout) c.self.view_is;
     }

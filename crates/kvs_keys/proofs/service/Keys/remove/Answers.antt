@@ -106,6 +106,7 @@ returns-clause-makes c =
         history = of-old (landings_in c.in_ok-events.events) c.self.view_is (history-same c.self.inside.spaces.items c.args.k (found-there s row.namespace c.args.k found) old c.remove.new.self c.index_mut-space.ensures.value c.in_ok-number.ensures.removed.name c.in_ok-number.ensures.removed.history ∙ ap (λ ls. history-in c.self.inside.spaces.items ++ ls) (sym (ap landings_in told ∙ changing-told old.name c.in_ok-number.number row.by (other-primary s c.args.k (found-there s row.namespace c.args.k found) c.requires.other old c.index_mut-space.ensures.value))));
         inside = subst Inside (sym told) (changing-inside old.name c.in_ok-number.number row.by (other-primary s c.args.k (found-there s row.namespace c.args.k found) c.requires.other old c.index_mut-space.ensures.value));
         grant = ap (λ v. v.grant) c.self.view_is;
+        fanout = ap (λ v. v.fanout) c.self.view_is;
       };
       does = inr (subst (λ es. 1 ≤ length es) (sym c.in_ok-events.ensures) (omega arith));
       own = subst (Each IsOfKeys) (sym told) (tt, (tt, tt));

@@ -46,4 +46,4 @@ invariant_of-self c = (
 )
 
 pub returns-clause-extends : goal.returns-clause-extends
-returns-clause-extends c = record { history = as-before (ap history_of c.self.view_is); inside = refl; grant = ap (λ v. v.grant) c.self.view_is }
+returns-clause-extends c = record { history = as-before (ap history_of c.self.view_is); inside = refl; grant = ap (λ v. v.grant) c.self.view_is; fanout = ap (λ v. v.fanout) c.self.view_is }

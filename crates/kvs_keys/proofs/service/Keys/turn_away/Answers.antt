@@ -41,7 +41,7 @@ returns-clause-moves c =
       ready = ap (λ v. v.spent) c.self.view_is ∙ c.requires.ready;
       size = ap (λ v. v.size) c.self.view_is;
       order = ap posted c.self.view_is;
-      extends = record { history = as-before (ap history_of c.self.view_is); inside = refl; grant = ap (λ v. v.grant) c.self.view_is };
+      extends = record { history = as-before (ap history_of c.self.view_is); inside = refl; grant = ap (λ v. v.grant) c.self.view_is; fanout = ap (λ v. v.fanout) c.self.view_is };
       does =
           inl (subst (λ v. all_services c.put_stage.new.rows.items < all_services v.rows) c.self.view_is
           (refused-fewer s c.args.i within c.index.result.now c.index.ensures c.args.given come c.falling-stage.result c.falling-stage.ensures.falls c.put_stage.new.rows.items rows-are));
