@@ -17,7 +17,7 @@ use summaries::summary;
 use world::hierarchy::a_whole_run_is_legal_in_all;
 use world::hierarchy::grown::births_are_numbered;
 use world::homes::hosts_of_brokers;
-use world::kvs_keys::KeysFault;
+use world::kvs_core::CoreFault;
 use world::lists::Bytes;
 use world::manager_rules::Terms;
 use world::resource_set::print;
@@ -37,7 +37,7 @@ fn first_grant(alloc: Global, size: u32, work: &Workload) -> Result<Bytes, Alloc
 }
 
 /// Runs a workload that was drawn to its end. Its text is the run's summary.
-pub fn play_drawn(alloc: Global, terms: Terms, work: Workload) -> Result<Played, KeysFault>
+pub fn play_drawn(alloc: Global, terms: Terms, work: Workload) -> Result<Played, CoreFault>
     requires within { IsWithin 7 work }
     requires built { All (λ line. IsBuilt line.command) work.lines }
     requires labels { HasOwnLabels work.lines }

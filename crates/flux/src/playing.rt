@@ -16,7 +16,7 @@ use run_options::Options;
 use std::alloc::{AllocError, Global};
 use world::answers::{Chronicle, print_answers, print_journal};
 use world::hierarchy::a_true_run_keeps_its_promises;
-use world::kvs_keys::KeysFault;
+use world::kvs_core::CoreFault;
 use world::manager_rules::{Policy, Terms};
 use world::run_laws::time_stays_within;
 use world::workload::Workload;
@@ -59,7 +59,7 @@ fn terms_of(terms: Terms, options: Options) -> Terms
 }
 
 /// Makes every step until the run has ended.
-fn make_steps(world: &mut World) -> Result<(), KeysFault>
+fn make_steps(world: &mut World) -> Result<(), CoreFault>
     requires ready { world.old.spent ≡ false }
     requires settled { IsSettledRun world.old.set world.old.chronicle }
     ensures ready { OnOk result (world.new.spent ≡ false) }
@@ -77,7 +77,7 @@ fn make_steps(world: &mut World) -> Result<(), KeysFault>
             None => return Ok(()),
         }
     }
-    Err(KeysFault::NoMemory)
+    Err(CoreFault::NoMemory)
 }
 
 /// The answers of a run, and its journal behind a line of two dashes where it is asked for.
@@ -99,7 +99,7 @@ fn output(
 }
 
 /// The world of a workload with its options, before anything has happened.
-fn begun(alloc: Global, terms: Terms, options: Options, work: Workload) -> Result<World, KeysFault>
+fn begun(alloc: Global, terms: Terms, options: Options, work: Workload) -> Result<World, CoreFault>
     requires options { AreWithin options }
     requires within { IsWithin options.size work }
     requires built { All (λ line. IsBuilt line.command) work.lines }
@@ -120,7 +120,7 @@ fn begun(alloc: Global, terms: Terms, options: Options, work: Workload) -> Resul
 }
 
 /// Makes the run of a workload.
-fn run(alloc: Global, terms: Terms, options: Options, work: Workload) -> Result<Played, KeysFault>
+fn run(alloc: Global, terms: Terms, options: Options, work: Workload) -> Result<Played, CoreFault>
     requires options { AreWithin options }
     requires within { IsWithin options.size work }
     requires built { All (λ line. IsBuilt line.command) work.lines }
@@ -165,7 +165,7 @@ pub fn play(
     terms: Terms,
     options: Options,
     work: Workload,
-) -> Result<Played, KeysFault>
+) -> Result<Played, CoreFault>
     requires options { AreWithin options }
     requires within { IsWithin options.size work }
     requires built { All (λ line. IsBuilt line.command) work.lines }

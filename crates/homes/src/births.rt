@@ -18,7 +18,7 @@ use instance::lists::Bytes;
 use instance::manager_rules::Terms;
 use instance::resource_set::Resources;
 use instance::workload::{ActorList, Workload};
-use instance::{Instance, KeysFault, Setting};
+use instance::{Instance, CoreFault, Setting};
 use std::alloc::{AllocError, Global};
 
 /// The most brokers of an instance.
@@ -41,7 +41,7 @@ pub fn bear_for(
     alloc: Global,
     outer: &mut Instance,
     job: u64,
-) -> Result<(Bytes, Resources), KeysFault>
+) -> Result<(Bytes, Resources), CoreFault>
     requires ready { outer.old.spent ≡ false }
     requires due { bearing outer.old ≡ Some job }
     ensures ready { OnOk result (outer.new.spent ≡ false) }
@@ -77,7 +77,7 @@ pub fn child_home(
     origin: Origin,
     grant: &Resources,
     second: u64,
-) -> Result<Home, KeysFault>
+) -> Result<Home, CoreFault>
     requires fanout { (1 ≤ setting.fanout) × (setting.fanout ≤ 32) }
     requires within { IsWithin setting.size work.now }
     requires built { All (λ l. IsBuilt l.command) work.now.lines }

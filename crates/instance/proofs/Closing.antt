@@ -16,7 +16,7 @@ use Rattle.services.specs.kvs_rules.Quiet.{IsQuiet, IsShortFence}
 use Rattle.services.specs.instance_rules.Log as rules
 use Rattle.services.specs.instance_rules.Log.{Instance, Log as InstanceLog, service_of}
 use Rattle.services.specs.job_service.Replies.{can_reply}
-use Rattle.services.specs.kvs_keys.Seen.{primary_heard}
+use Rattle.services.specs.kvs_core.Seen.{primary_heard}
 use Rattle.services.specs.Steps.{can_take}
 use Rattle.services.proofs.Waiting.{open_asks, taken_waits}
 use Rattle.services.specs.workload.declared.work.Line.{Line}

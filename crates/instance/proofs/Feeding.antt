@@ -10,7 +10,7 @@ use Rattle.services.specs.kvs_txn.declared.txn.By.{By}
 use Rattle.services.specs.instance_rules.Log as rules
 use Rattle.services.specs.job_service.Feeds.{can_feed}
 use Rattle.services.specs.job_service.declared.feeds.Fed.{Fed}
-use Rattle.services.specs.kvs_keys.Seen.{primary_heard}
+use Rattle.services.specs.kvs_core.Seen.{primary_heard}
 use Rattle.services.specs.Asks.{Feeds, Keeps}
 use Rattle.services.specs.Value.{ServicesValue}
 use Rattle.services.specs.answers.declared.chronicle.Entry.{Entry}

@@ -32,7 +32,7 @@ use Rattle.services.specs.job_service.Value.{JobServiceValue}
 use Rattle.services.specs.Value.{ServicesValue}
 use Rattle.services.specs.Agrees.{AgreesServices}
 use Rattle.services.specs.Asks.{Keeps, MayAsk}
-use Rattle.services.specs.kvs_keys.Requests.{AsksAtRest}
+use Rattle.services.specs.kvs_core.Requests.{AsksAtRest}
 use Rattle.services.specs.workload.declared.work.Command.{Command}
 use Rattle.services.specs.workload.declared.work.Command.TheVariants as command
 use Rattle.services.specs.workload.declared.work.Line.{Line}

@@ -2,7 +2,7 @@
 use Rattle.std.proofs.Common.{◌≡◌, ℕ, ◌-◌, ◌<◌, ◌≤◌, true, Some, refl, sym, ap, ◌∙◌, subst, arith}
 use Rattle.std.specs.Prelude.{IsSomeAnd, slice_get}
 use Rattle.std.proofs.lemmas.Bool.{le-leb, leb-true}
-use Rattle.services.specs.kvs_keys.Seen.{primary_heard}
+use Rattle.services.specs.kvs_core.Seen.{primary_heard}
 use Rattle.services.specs.kvs_rules.Brokers.{heard}
 use Rattle.services.specs.kvs_rules.Log.{Log}
 use Rattle.services.specs.kvs_rules.Namespaces.{landed, primary}

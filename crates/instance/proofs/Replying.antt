@@ -13,7 +13,7 @@ use Rattle.services.specs.kvs_txn.declared.txn.By.{By}
 use Rattle.services.specs.kvs_rules.declared.events.KvsAnswer.{KvsAnswer}
 use Rattle.services.specs.kvs_rules.declared.events.KvsAnswer.TheVariants as answer
 use Rattle.services.specs.kvs_rules.declared.events.KvsEvent.TheVariants as event
-use Rattle.services.specs.kvs_keys.Seen.{primary_heard}
+use Rattle.services.specs.kvs_core.Seen.{primary_heard}
 use Rattle.services.specs.kvs_rules.Brokers.{heard}
 use Rattle.services.specs.kvs_rules.Namespaces.{primary}
 use Rattle.services.specs.kvs_rules.Log.{Log, Moment, Happened, is_asked, is_answered, answers_now, same_command}

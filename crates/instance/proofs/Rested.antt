@@ -1,8 +1,8 @@
 -- Where an instance is at rest, the core is.
 use Rattle.std.proofs.Common.{◌≡◌, ◌||◌, Bool, true, false, refl, true≢false}
 use Rattle.services.specs.answers.Jobs.{instance_of}
-use Rattle.services.specs.kvs_keys.Requests.{AsksAtRest}
-use Rattle.services.specs.kvs_keys.Steps.{can_step, can_take}
+use Rattle.services.specs.kvs_core.Requests.{AsksAtRest}
+use Rattle.services.specs.kvs_core.Steps.{can_step, can_take}
 use Rattle.instance.specs.Makes.{IssuesAtRest}
 use Rattle.instance.proofs.Stilling.{rested_so}
 use Rattle.instance.proofs.Owning.{Own, DoesAgree}

@@ -11,7 +11,7 @@ use Rattle.services.specs.job_service.Agrees.{HasRoom, MayIssue}
 use Rattle.services.specs.job_service.Times.{HasTime}
 use Rattle.services.specs.Agrees.{AgreesServices}
 use Rattle.services.specs.Asks.{Keeps, MayAsk}
-use Rattle.services.specs.kvs_keys.Requests.{AsksAtRest}
+use Rattle.services.specs.kvs_core.Requests.{AsksAtRest}
 use Rattle.services.specs.Value.{ServicesValue}
 use Rattle.services.specs.workload.declared.work.Command.{Command}
 use Rattle.services.specs.workload.declared.work.Line.{Line}

@@ -19,8 +19,8 @@ use Rattle.services.specs.job_service.Children.{is_due as jobs_due}
 use Rattle.services.specs.job_service.Feeds.{can_feed}
 use Rattle.services.specs.job_service.Still.{awaited}
 use Rattle.services.specs.job_states.declared.job.State.{State}
-use Rattle.services.specs.kvs_keys.Agrees.{Agrees}
-use Rattle.services.specs.kvs_keys.Seen.{primary_heard}
+use Rattle.services.specs.kvs_core.Agrees.{Agrees}
+use Rattle.services.specs.kvs_core.Seen.{primary_heard}
 use Rattle.services.specs.Agrees.{AgreesServices}
 use Rattle.services.specs.Steps.{HaveRested, IsStill, can_step, can_take}
 use Rattle.services.specs.Value.{ServicesValue}

@@ -23,6 +23,7 @@ pub use Rattle.services.specs.idset as idset
 pub use Rattle.services.specs.instance_rules as instance_rules
 pub use Rattle.services.specs.job_book as job_book
 pub use Rattle.services.specs.job_manager as job_manager
+pub use Rattle.services.specs.kvs_core as kvs_core
 pub use Rattle.services.specs.kvs_keys as kvs_keys
 pub use Rattle.services.specs.kvs_rules as kvs_rules
 pub use Rattle.services.specs.kvs_txn as kvs_txn

@@ -10,7 +10,7 @@ use Rattle.services.specs.kvs_rules.Log.{Log, Asked}
 use Rattle.services.specs.kvs_rules.Namespaces.{Setting}
 use Rattle.services.specs.job_service.Feeds.{can_feed}
 use Rattle.services.specs.job_service.Replies.{can_reply}
-use Rattle.services.specs.kvs_keys.Seen.{primary_heard}
+use Rattle.services.specs.kvs_core.Seen.{primary_heard}
 use Rattle.services.specs.Steps.{can_take}
 use Rattle.services.specs.Value.{ServicesValue}
 use Rattle.services.specs.workload.declared.work.Command.{Command}

@@ -40,7 +40,7 @@ use crate::seats::{
 use crate::unfinished::close_off;
 use services::Services;
 use services::answers::{Chronicle, Entry, Reply, Step};
-use services::kvs_keys::{Keys, KeysFault, KvsEvents, Setting};
+use services::kvs_core::{Core, CoreFault, KvsEvents, Setting};
 use services::kvs_rules::KvsStep;
 use services::kvs_txn::{Author, By, NumberList, Numbered, Txn};
 use services::laws::shutdowns_leave_services;
@@ -240,7 +240,7 @@ fn seated(alloc: Global, work: &Workload, size: u32) -> Result<Vec<Seat>, AllocE
 
 impl Instance {
     /// The key-value service, which can go on where the instance can.
-    fn core(&self) -> &Keys
+    fn core(&self) -> &Core
         requires { self.now.spent ≡ false }
         ensures value { result.now ≡ self.now.services.jobs.manager.core }
         ensures ready { result.now.spent ≡ false }
@@ -258,7 +258,7 @@ impl Instance {
         work: &Workload,
         birth: u64,
         terms: Terms,
-    ) -> Result<Instance, KeysFault>
+    ) -> Result<Instance, CoreFault>
         requires grant { IsR grant.now }
         requires size { (1 ≤ setting.size) × (setting.size ≤ 32) }
         requires fanout { (1 ≤ setting.fanout) × (setting.fanout ≤ 32) }
@@ -285,7 +285,7 @@ impl Instance {
     }
 
     /// Makes a step of the services, and gives what happened. After an error the instance is spent.
-    pub fn turn(&mut self, step: KvsStep) -> Result<Chronicle, KeysFault>
+    pub fn turn(&mut self, step: KvsStep) -> Result<Chronicle, CoreFault>
         requires ready { self.old.spent ≡ false }
         requires can { can_step self.old.services step ≡ true }
         ensures ready { OnOk result (self.new.spent ≡ false) }
@@ -405,7 +405,7 @@ impl Instance {
 
     /// Posts what is due of the job manager: nothing has happened then; it lands in a step of the
     /// services. After an error the instance is spent.
-    pub fn post(&mut self) -> Result<(), KeysFault>
+    pub fn post(&mut self) -> Result<(), CoreFault>
         requires ready { self.old.spent ≡ false }
         requires can { can_post self.old ≡ true }
         ensures ready { OnOk result (self.new.spent ≡ false) }

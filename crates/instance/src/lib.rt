@@ -4,7 +4,7 @@
 
 // The crates below that those above reach through this one.
 pub use services::{
-    answers, fl_digest, idset, kvs_keys, kvs_rules, kvs_txn, lists, manager_rules, resource_set,
+    answers, fl_digest, idset, kvs_core, kvs_rules, kvs_txn, lists, manager_rules, resource_set,
     run_limits, tap, workload,
 };
 
@@ -15,4 +15,4 @@ mod seats;
 mod unfinished;
 
 pub use actors::Instance;
-pub use services::kvs_keys::{KeysFault, Setting};
+pub use services::kvs_core::{CoreFault, Setting};

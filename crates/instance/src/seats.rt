@@ -6,7 +6,7 @@ ghost use Rattle.services.specs.kvs_rules.Log.{is_asked};
 ghost use Rattle.services.specs.instance_rules.Log.{Instance, Log, Served, service_of};
 ghost use Rattle.services.specs.Agrees.{AgreesServices};
 ghost use Rattle.services.specs.Asks.{IsServedAsk, Keeps, MayAsk};
-ghost use Rattle.services.specs.kvs_keys.Requests.{AsksAtRest};
+ghost use Rattle.services.specs.kvs_core.Requests.{AsksAtRest};
 ghost use Rattle.services.specs.workload.Laws.{IsBuilt};
 ghost use Rattle.services.specs.kvs_txn.Staged.{most_ops};
 ghost use Rattle.services.specs.answers.Commands.{ask_of, op_of, subject_of};

@@ -2,7 +2,7 @@
 ghost use Rattle.std.specs.Prelude.{◌≡◌, ◌<◌, ◌≤◌, ◌++◌, ◌-◌, false, length, count_by, option_and_then, option_map, All, IfOk, OnOk};
 ghost use Rattle.services.specs.kvs_rules.Log.{Log};
 ghost use Rattle.services.specs.kvs_rules.Namespaces.{Setting as Service};
-ghost use Rattle.services.specs.kvs_keys.Agrees.{Agrees};
+ghost use Rattle.services.specs.kvs_core.Agrees.{Agrees};
 ghost use Rattle.services.specs.job_service.Still.{awaited};
 ghost use Rattle.instance.specs.Closings.{closings, closings_of, fence_at, is_served, left_reply, not_reached, numbers_in, open_command, unfinished_at, waiting_in, waits_in};
 ghost use Rattle.instance.specs.Agrees.{is_of};
@@ -11,7 +11,7 @@ use crate::seats::{Seat, Waiting};
 use services::answers::{Chronicle, Entry, Reply};
 use services::job_service::JobService;
 use services::job_states::State;
-use services::kvs_keys::Keys;
+use services::kvs_core::Core;
 use services::kvs_txn::By;
 use services::lists::{Bytes, ListOf};
 use services::workload::{Command, Line};
@@ -132,7 +132,7 @@ fn unfinished(
 /// Gives an actor its closing replies, if its open command didn't finish.
 fn close_actor(
     chronicle: &mut Chronicle,
-    core: &Keys,
+    core: &Core,
     jobs: &JobService,
     lines: &[Line],
     seats: &[Seat],
@@ -168,7 +168,7 @@ fn close_actor(
 /// The closing replies of each command that didn't finish, by actor, where the service is at rest.
 pub fn close_off(
     alloc: Global,
-    core: &Keys,
+    core: &Core,
     jobs: &JobService,
     lines: &[Line],
     seats: &[Seat],

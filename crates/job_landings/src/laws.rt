@@ -7,10 +7,10 @@ ghost use Rattle.job_commands.specs.Desks.{desk_of};
 ghost use Rattle.job_commands.specs.Rows.{CommandsValue};
 ghost use Rattle.job_landings.specs.Commands.{IsOfSubmit, WaitsForEvent};
 ghost use Rattle.job_landings.specs.Landings.{LandsPost, happening};
-ghost use Rattle.kvs_keys.specs.Agrees.{Agrees};
-ghost use Rattle.kvs_keys.specs.Makes.{Makes};
+ghost use Rattle.kvs_core.specs.Agrees.{Agrees};
+ghost use Rattle.kvs_core.specs.Makes.{Makes};
 ghost use Rattle.kvs_keys.specs.Posted.{posts_landed};
-ghost use Rattle.kvs_keys.specs.Value.{KeysValue};
+ghost use Rattle.kvs_core.specs.Value.{CoreValue};
 ghost use Rattle.kvs_model.specs.Store.{Store};
 ghost use Rattle.kvs_rules.specs.Answers.{IsLegalLog};
 ghost use Rattle.kvs_rules.specs.Log.{Moment as ServiceMoment};
@@ -31,7 +31,7 @@ use kvs_keys::laws::users_land_where_nothing_is_posted;
 /// follow those before it in the log of the instance: what the job manager lands is due at the
 /// store on which it works.
 pub fn what_is_posted_lands_as_it_is_due()
-    ensures { (step : KvsStep) (old new : KeysValue) (events : List KvsEvent) (inst : Instance)
+    ensures { (step : KvsStep) (old new : CoreValue) (events : List KvsEvent) (inst : Instance)
         (log : Log) (v : CommandsValue) (jobs : List StoredJob) (st : Store) (post : Post)
         → IsInstance inst → AgreesCommands v inst log
         → Agrees old inst.service (service_of log) → IsLegalLog inst.service (service_of log)

@@ -12,11 +12,11 @@ use Rattle.job_states.specs.declared.job.Change.TheVariants as change
 use Rattle.kvs_model.specs.Store.{Node, Path, Store, Value, Directory, Link, node_at}
 use Rattle.plain_store.specs.Values.{value_in}
 use Rattle.event_log.specs.Logs.{log_text}
-use Rattle.kvs_keys.specs.Posted.{newest_of}
-use Rattle.kvs_keys.specs.Seen.{primary_heard, store_at}
+use Rattle.kvs_core.specs.Posted.{newest_of}
+use Rattle.kvs_core.specs.Seen.{primary_heard, store_at}
 use Rattle.event_log.specs.declared.event.Event.{Event}
 use Rattle.manager_rules.specs.Jobs.{AreJobsOf, IsLogged, IsStored, StoredJob, ids_of}
-use Rattle.manager_rules.specs.Keys.{bytes_of, log_path, value_at}
+use Rattle.manager_rules.specs.Core.{bytes_of, log_path, value_at}
 use Rattle.manager_rules.specs.Posts.{Does, Post, Submission, Submits, begun_with, job_of, jobs_after, with_event, with_job}
 use Rattle.manager_rules.proofs.Landing.{with_event_ids}
 use Rattle.job_manager.specs.Managed.{IsManaged}

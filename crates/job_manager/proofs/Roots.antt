@@ -5,10 +5,11 @@ use Rattle.std.proofs.lemmas.Bool.{cases_lt}
 use Rattle.event_log.specs.declared.event.Event.{Event}
 use Rattle.job_rules.proofs.Among.{among_from, each_at}
 use Rattle.job_rules.specs.Fits.{AreWithin, IsGrant}
-use Rattle.kvs_keys.specs.Histories.{Extends, history_of, landings_in}
-use Rattle.kvs_keys.specs.Posted.{newest_of}
-use Rattle.kvs_keys.specs.Seen.{root_of}
-use Rattle.kvs_keys.specs.Value.{KeysValue}
+use Rattle.kvs_core.specs.Histories.{Extends, history_of}
+use Rattle.kvs_keys.specs.Histories.{landings_in}
+use Rattle.kvs_core.specs.Posted.{newest_of}
+use Rattle.kvs_core.specs.Seen.{root_of}
+use Rattle.kvs_core.specs.Value.{CoreValue}
 use Rattle.kvs_model.proofs.Histories.{after-append}
 use Rattle.kvs_model.specs.History.{after, after_groups, first_store}
 use Rattle.kvs_model.specs.Operation.{effect}
@@ -174,39 +175,39 @@ behind-so-many first (groups ∷ ls) more st new k a b =
 
 -- ---- the roots of a core, one step further
 
-module _ (grant : List Node) (old new : KeysValue) (ls : List (List Group)) (history : history_of new ≡ history_of old ++ ls) (granted : new.grant ≡ old.grant)
-    (kept : after scope.Primary (history_of old) (length (history_of old)) (first_store old.grant) ≡ Some (newest_of old))
+module _ (grant : List Node) (old new : CoreValue) (ls : List (List Group)) (history : history_of new ≡ history_of old ++ ls) (granted : new.keys.grant ≡ old.keys.grant)
+    (kept : after scope.Primary (history_of old) (length (history_of old)) (first_store old.keys.grant) ≡ Some (newest_of old))
     (roots : AreRoots grant old)
     (goes : (k : ℕ) (mid : Store) → after scope.Primary ls k (newest_of old) ≡ Some mid → IsRoot grant (newest_of new) mid) where
-  root-is : (number : ℕ) → root_of new number ≡ after scope.Primary (history_of old ++ ls) number (first_store old.grant)
-  root-is number = ap (λ h. after scope.Primary h number (first_store new.grant)) history ∙ ap (λ g. after scope.Primary (history_of old ++ ls) number (first_store g)) granted
+  root-is : (number : ℕ) → root_of new number ≡ after scope.Primary (history_of old ++ ls) number (first_store old.keys.grant)
+  root-is number = ap (λ h. after scope.Primary h number (first_store new.keys.grant)) history ∙ ap (λ g. after scope.Primary (history_of old ++ ls) number (first_store g)) granted
 
   pub roots-on : AreRoots grant new
   roots-on number st stands = elim (cases_lt (length (history_of old)) number) [
     | inl above ↦
         let split : number ≡ length (history_of old) + (number - length (history_of old)) = omega (arith, above) in
         goes (number - length (history_of old)) st
-        (behind-so-many (first_store old.grant) (history_of old) ls (newest_of old) st (number - length (history_of old)) kept
-        (subst (λ n. after scope.Primary (history_of old ++ ls) n (first_store old.grant) ≡ Some st) split (sym (root-is number) ∙ stands)))
+        (behind-so-many (first_store old.keys.grant) (history_of old) ls (newest_of old) st (number - length (history_of old)) kept
+        (subst (λ n. after scope.Primary (history_of old ++ ls) n (first_store old.keys.grant) ≡ Some st) split (sym (root-is number) ∙ stands)))
     | inr below ↦
-        let was = roots number st (sym (after-append scope.Primary (history_of old) ls number (first_store old.grant) below) ∙ sym (root-is number) ∙ stands) in
+        let was = roots number st (sym (after-append scope.Primary (history_of old) ls number (first_store old.keys.grant) below) ∙ sym (root-is number) ∙ stands) in
         record { sound = was.sound; grown = grown-on st (newest_of old) (newest_of new) was.grown (goes 0 (newest_of old) refl).grown }
   ]
 
 -- the roots stay where nothing has landed
-pub same-roots : (grant : List Node) (old new : KeysValue) → Extends old new [] → after scope.Primary (history_of old) (length (history_of old)) (first_store old.grant) ≡ Some (newest_of old)
-    → after scope.Primary (history_of new) (length (history_of new)) (first_store new.grant) ≡ Some (newest_of new) → AreRoots grant old → AreRoots grant new
+pub same-roots : (grant : List Node) (old new : CoreValue) → Extends old new [] → after scope.Primary (history_of old) (length (history_of old)) (first_store old.keys.grant) ≡ Some (newest_of old)
+    → after scope.Primary (history_of new) (length (history_of new)) (first_store new.keys.grant) ≡ Some (newest_of new) → AreRoots grant old → AreRoots grant new
 same-roots grant old new extends kept now roots number st stands =
     let history : history_of new ≡ history_of old = extends.history ∙ append-nil (history_of old) in
-    let root-same : root_of new number ≡ root_of old number = ap (λ h. after scope.Primary h number (first_store new.grant)) history ∙ ap (λ g. after scope.Primary (history_of old) number (first_store g)) extends.grant in
-    let there : Some (newest_of new) ≡ Some (newest_of old) = sym now ∙ ap (λ h. after scope.Primary h (length h) (first_store new.grant)) history ∙ ap (λ g. after scope.Primary (history_of old) (length (history_of old)) (first_store g)) extends.grant ∙ kept in
+    let root-same : root_of new number ≡ root_of old number = ap (λ h. after scope.Primary h number (first_store new.keys.grant)) history ∙ ap (λ g. after scope.Primary (history_of old) number (first_store g)) extends.grant in
+    let there : Some (newest_of new) ≡ Some (newest_of old) = sym now ∙ ap (λ h. after scope.Primary h (length h) (first_store new.keys.grant)) history ∙ ap (λ g. after scope.Primary (history_of old) (length (history_of old)) (first_store g)) extends.grant ∙ kept in
     let newest : newest_of new ≡ newest_of old = cc in
     subst (λ x. IsRoot grant x st) (sym newest) (roots number st (sym root-same ∙ stands))
 
 -- the first root alone
-pub first-roots : (grant : List Node) (v : KeysValue) → history_of v ≡ [] → newest_of v ≡ first_store v.grant → IsSoundStore grant (newest_of v) → AreRoots grant v
-first-roots grant v none newest sound number st stands = by number (sym (ap (λ h. after scope.Primary h number (first_store v.grant)) none) ∙ stands)
+pub first-roots : (grant : List Node) (v : CoreValue) → history_of v ≡ [] → newest_of v ≡ first_store v.keys.grant → IsSoundStore grant (newest_of v) → AreRoots grant v
+first-roots grant v none newest sound number st stands = by number (sym (ap (λ h. after scope.Primary h number (first_store v.keys.grant)) none) ∙ stands)
   where
-    by : (n : ℕ) → after scope.Primary [] n (first_store v.grant) ≡ Some st → IsRoot grant (newest_of v) st
-    by zero e = same-store (IsRoot grant (newest_of v)) (first_store v.grant) st e (subst (IsRoot grant (newest_of v)) newest (record { sound = sound; grown = stays-grown (newest_of v) }))
+    by : (n : ℕ) → after scope.Primary [] n (first_store v.keys.grant) ≡ Some st → IsRoot grant (newest_of v) st
+    by zero e = same-store (IsRoot grant (newest_of v)) (first_store v.keys.grant) st e (subst (IsRoot grant (newest_of v)) newest (record { sound = sound; grown = stays-grown (newest_of v) }))
     by (suc n) e = cc

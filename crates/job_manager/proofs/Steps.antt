@@ -5,10 +5,12 @@ use Rattle.job_rules.proofs.Among.{among_from}
 use Rattle.std.specs.List.{list_any}
 use Rattle.std.specs.Option.{option_map_or}
 use Rattle.job_rules.specs.Fits.{IsGrant}
-use Rattle.kvs_keys.specs.Histories.{Extends, history_of, landings_in}
-use Rattle.kvs_keys.specs.Posted.{CanPost, groups_in, newest_of, posted, posts_landed}
-use Rattle.kvs_keys.specs.Posted as core
-use Rattle.kvs_keys.specs.Value.{KeysValue}
+use Rattle.kvs_core.specs.Histories.{Extends, history_of}
+use Rattle.kvs_keys.specs.Histories.{landings_in}
+use Rattle.kvs_core.specs.Posted.{CanPost, newest_of, posted}
+use Rattle.kvs_keys.specs.Posted.{groups_in, posts_landed}
+use Rattle.kvs_keys.specs.Posted as keys
+use Rattle.kvs_core.specs.Value.{CoreValue}
 use Rattle.kvs_model.specs.History.{after, after_groups, first_store}
 use Rattle.kvs_model.specs.Store.{IsStore, Store}
 use Rattle.kvs_rules.specs.declared.events.KvsEvent.{KvsEvent}
@@ -36,7 +38,7 @@ use Rattle.job_manager.proofs.Roots.{IsBefore, along, first-roots, roots-on, sam
 
 -- ---- at the beginning
 
-pub begins : (v : KeysValue) (book : BookValue) (grant : Resources) (policy : Policy) (text : List ℕ) → v.spent ≡ false → newest_of v ≡ first_store text → history_of v ≡ [] → v.grant ≡ text → posted v ≡ [] → book ≡ record { grant = grant; policy = policy; jobs = [] } → IsKept book → IsStore (first_store text) → (spent : Bool)
+pub begins : (v : CoreValue) (book : BookValue) (grant : Resources) (policy : Policy) (text : List ℕ) → v.spent ≡ false → newest_of v ≡ first_store text → history_of v ≡ [] → v.keys.grant ≡ text → posted v ≡ [] → book ≡ record { grant = grant; policy = policy; jobs = [] } → IsKept book → IsStore (first_store text) → (spent : Bool)
     → IsManaged (record { spent = spent; core = v; book = book; posted = None; places = [] })
 begins v book grant policy text ready newest unlanded granted none is kept store spent =
     let jobs : AreJobsOf (newest_of v) book.jobs = subst (λ st. AreJobsOf st book.jobs) (sym newest) (subst (λ b. AreJobsOf (first_store text) b.jobs) (sym is) (first_jobs text)) in
@@ -53,11 +55,11 @@ begins v book grant policy text ready newest unlanded granted none is kept store
 
 -- ---- a post
 
-as-group : (o : Option By) (post : Post) → core.post_of o (txn_of post) ≡ record { txn = txn_of post; authors = option_map_or (λ by. by ∷ []) o [] }
+as-group : (o : Option By) (post : Post) → keys.post_of o (txn_of post) ≡ record { txn = txn_of post; authors = option_map_or (λ by. by ∷ []) o [] }
 as-group None post = refl
 as-group (Some by) post = refl
 
-pub group-is : (post : Post) → core.post_of (command_of post) (txn_of post) ≡ group_of post
+pub group-is : (post : Post) → keys.post_of (command_of post) (txn_of post) ≡ group_of post
 group-is (Submits x) = refl
 group-is (Does due) = as-group due.command (Does due)
 
@@ -117,14 +119,14 @@ some-landed (x ∷ xs) e h = by (list_any has (groups_in x)) refl (some-landed x
 
 -- ---- a step of the service
 
-abbrev pub IsKeptStore : KeysValue → Type 0
-IsKeptStore v = after scope.Primary (history_of v) (length (history_of v)) (first_store v.grant) ≡ Some (newest_of v)
+abbrev pub IsKeptStore : CoreValue → Type 0
+IsKeptStore v = after scope.Primary (history_of v) (length (history_of v)) (first_store v.keys.grant) ≡ Some (newest_of v)
 
-module _ (v : ManagerValue) (m : IsManaged v) (core : KeysValue) (events : List KvsEvent) (extends : Extends v.core core events) (kept : IsKeptStore v.core) (now : IsKeptStore core) (sets : IsGrant v.book.grant.nodes) where
+module _ (v : ManagerValue) (m : IsManaged v) (core : CoreValue) (events : List KvsEvent) (extends : Extends v.core core events) (kept : IsKeptStore v.core) (now : IsKeptStore core) (sets : IsGrant v.book.grant.nodes) where
   through : after scope.Primary (landings_in events) (length (landings_in events)) (newest_of v.core) ≡ Some (newest_of core)
   through =
-      after-behind (first_store v.core.grant) (history_of v.core) (landings_in events) (newest_of v.core) (newest_of core) kept
-      (subst (λ h. after scope.Primary h (length h) (first_store v.core.grant) ≡ Some (newest_of core)) extends.history
+      after-behind (first_store v.core.keys.grant) (history_of v.core) (landings_in events) (newest_of v.core) (newest_of core) kept
+      (subst (λ h. after scope.Primary h (length h) (first_store v.core.keys.grant) ≡ Some (newest_of core)) extends.history
       (subst (λ g. after scope.Primary (history_of core) (length (history_of core)) (first_store g) ≡ Some (newest_of core)) extends.grant now))
 
   stood : Stands v.book.grant v.book.jobs (newest_of v.core)
@@ -183,18 +185,18 @@ module _ (v : ManagerValue) (m : IsManaged v) (core : KeysValue) (events : List 
         }
 
 -- where nothing was posted, nothing of the manager's lands
-pub nothing : (v : ManagerValue) → IsManaged v → v.posted ≡ None → (core : KeysValue) (events : List KvsEvent) → posts_landed events ++ posted core ≡ posted v.core → list_any (λ e. list_any has (groups_in e)) events ≡ true → ⊥
+pub nothing : (v : ManagerValue) → IsManaged v → v.posted ≡ None → (core : CoreValue) (events : List KvsEvent) → posts_landed events ++ posted core ≡ posted v.core → list_any (λ e. list_any has (groups_in e)) events ≡ true → ⊥
 nothing v m free core events order some =
     let none : posted v.core ≡ [] = subst (IsOutstanding v.core v.book) free m.outstanding in
     some-landed events some (none-left (posts_landed events) (posted core) (order ∙ none))
 
 -- ---- where nothing lands
 
-module _ (v : ManagerValue) (m : IsManaged v) (core : KeysValue) (extends : Extends v.core core []) (kept : IsKeptStore v.core) (now : IsKeptStore core) where
+module _ (v : ManagerValue) (m : IsManaged v) (core : CoreValue) (extends : Extends v.core core []) (kept : IsKeptStore v.core) (now : IsKeptStore core) where
   newest-same : newest_of core ≡ newest_of v.core
   newest-same =
       let history : history_of core ≡ history_of v.core = extends.history ∙ append-nil (history_of v.core) in
-      let there : Some (newest_of core) ≡ Some (newest_of v.core) = sym now ∙ ap (λ h. after scope.Primary h (length h) (first_store core.grant)) history ∙ ap (λ g. after scope.Primary (history_of v.core) (length (history_of v.core)) (first_store g)) extends.grant ∙ kept in
+      let there : Some (newest_of core) ≡ Some (newest_of v.core) = sym now ∙ ap (λ h. after scope.Primary h (length h) (first_store core.keys.grant)) history ∙ ap (λ g. after scope.Primary (history_of v.core) (length (history_of v.core)) (first_store g)) extends.grant ∙ kept in
       cc
 
   pub kept-managed : core.spent ≡ false → (posts : Option Post) → IsOutstanding core v.book posts → (spent : Bool) → IsManaged (record { spent = spent; core = core; book = v.book; posted = posts; places = v.places })
@@ -210,6 +212,6 @@ module _ (v : ManagerValue) (m : IsManaged v) (core : KeysValue) (extends : Exte
   }
 
 -- what waits is the same
-pub waits-same : (old core : KeysValue) (book : BookValue) (o : Option Post) → posted core ≡ posted old → IsOutstanding old book o → IsOutstanding core book o
+pub waits-same : (old core : CoreValue) (book : BookValue) (o : Option Post) → posted core ≡ posted old → IsOutstanding old book o → IsOutstanding core book o
 waits-same old core book None e h = e ∙ h
 waits-same old core book (Some post) e h = (e ∙ h.0, h.1)

@@ -1,7 +1,8 @@
 -- What a post and a step of the service make of a job manager.
 use Rattle.std.specs.Prelude.{◌≡◌, ◌⊎◌, List, [], ◌∷◌, Some, None}
-use Rattle.kvs_keys.specs.Agrees.{Agrees}
-use Rattle.kvs_keys.specs.Posted.{IsNewPost, posts_landed}
+use Rattle.kvs_core.specs.Agrees.{Agrees}
+use Rattle.kvs_core.specs.Posted.{IsNewPost}
+use Rattle.kvs_keys.specs.Posted.{posts_landed}
 use Rattle.kvs_rules.specs.Log.{Log}
 use Rattle.kvs_rules.specs.Namespaces.{Setting}
 use Rattle.kvs_rules.specs.declared.events.KvsEvent.{KvsEvent}

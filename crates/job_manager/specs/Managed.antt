@@ -2,9 +2,9 @@
 -- due.
 use Rattle.std.specs.Prelude.{◌≡◌, ℕ, ◌<◌, ◌^◌, List, [], ◌∷◌, ◌++◌, Option, Some, None, false}
 use Rattle.event_log.specs.declared.event.Event.{Event}
-use Rattle.kvs_keys.specs.Posted.{newest_of, posted}
-use Rattle.kvs_keys.specs.Seen.{root_of}
-use Rattle.kvs_keys.specs.Value.{KeysValue}
+use Rattle.kvs_core.specs.Posted.{newest_of, posted}
+use Rattle.kvs_core.specs.Seen.{root_of}
+use Rattle.kvs_core.specs.Value.{CoreValue}
 use Rattle.kvs_model.specs.Store.{IsStore, Store}
 use Rattle.resource_set.specs.declared.node.Node.{Node}
 use Rattle.job_book.specs.Value.{BookValue}
@@ -26,7 +26,7 @@ pub record WasDuePost (book : BookValue) (post : Post) : Type 0 where
   pub due : IsDuePost desk post
 
 -- of the manager's the service has just this post that waits to land, and it was due
-abbrev pub IsOutstanding : KeysValue → BookValue → Option Post → Type 0
+abbrev pub IsOutstanding : CoreValue → BookValue → Option Post → Type 0
 IsOutstanding core book None = posted core ≡ []
 IsOutstanding core book (Some post) = (posted core ≡ group_of post ∷ []) × WasDuePost book post
 
@@ -42,7 +42,7 @@ pub record IsRoot (grant : List Node) (newest st : Store) : Type 0 where
   pub grown : HaveGrown st newest
 
 -- so of each root
-abbrev pub AreRoots : List Node → KeysValue → Type 0
+abbrev pub AreRoots : List Node → CoreValue → Type 0
 AreRoots grant core = (number : ℕ) (st : Store) → root_of core number ≡ Some st
     → IsRoot grant (newest_of core) st
 

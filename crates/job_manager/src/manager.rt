@@ -2,12 +2,11 @@
 ghost use Rattle.std.specs.Prelude.{◌≡◌, ◌<◌, ◌≤◌, ◌++◌, ℕ, All, None, Some, [], ◌∷◌, false, true, is_some, length, IfOk, OnErr, OnOk};
 ghost use Rattle.std.specs.List.{list_any};
 ghost use Rattle.std.specs.Option.{option_copied};
-ghost use Rattle.kvs_keys.specs.Agrees.{Agrees};
-ghost use Rattle.kvs_keys.specs.Makes.{Makes};
+ghost use Rattle.kvs_core.specs.Agrees.{Agrees};
+ghost use Rattle.kvs_core.specs.Makes.{Makes};
 ghost use Rattle.kvs_keys.specs.Posted.{groups_in};
-ghost use Rattle.kvs_keys.specs.Requests.{AsksAtRest};
-ghost use Rattle.kvs_keys.specs.Steps.{can_step, can_take};
-ghost use Rattle.kvs_requests.specs.Rows.{IsKnownAsk};
+ghost use Rattle.kvs_core.specs.Requests.{AsksAtRest, IsServedAsk};
+ghost use Rattle.kvs_core.specs.Steps.{can_step, can_take};
 ghost use Rattle.kvs_rules.specs.Answers.{IsLegalAnswer};
 ghost use Rattle.kvs_rules.specs.Log.{Asked as AskedAt, Happened, Log, is_asked};
 ghost use Rattle.kvs_model.specs.Store.{Name};
@@ -28,7 +27,7 @@ use crate::post::{Post, Submission};
 use crate::txns::{command_of, txn_of};
 use job_book::Book;
 use job_spec::accepted_texts_tell_jobspecs;
-use kvs_keys::{Held, Keys, KeysFault, Request, Setting};
+use kvs_core::{Held, Core, CoreFault, Request, Setting};
 use kvs_model::stores_stay_stores;
 use kvs_rules::{KvsAsk, KvsEvent, KvsStep};
 use kvs_space::KvsEvents;
@@ -44,7 +43,7 @@ use std::marker::Model;
 pub struct Manager {
     alloc: Global,
     spent: bool,
-    core: Keys,
+    core: Core,
     book: Book,
     /// What waits in the service to land.
     posted: Option<Post>,
@@ -118,7 +117,7 @@ impl Manager {
         setting: Setting,
         grant: &Resources,
         policy: Policy,
-    ) -> Result<Manager, KeysFault>
+    ) -> Result<Manager, CoreFault>
         requires size { (1 ≤ setting.size) × (setting.size ≤ 32) }
         requires fanout { (1 ≤ setting.fanout) × (setting.fanout ≤ 32) }
         requires grant { IsR grant.now }
@@ -131,12 +130,12 @@ impl Manager {
           jobs = [];
         }) }
         ensures agrees { IfOk result (λ v. (set : Service) → set.size ≡ setting.size
-            → set.fanout ≡ setting.fanout → set.base ≡ fresh (r_text grant.now) → AsksOwn set
-            → Agrees v.core set []) }
+            → set.fanout ≡ setting.fanout → set.hash ≡ setting.hash
+            → set.base ≡ fresh (r_text grant.now) → AsksOwn set → Agrees v.core set []) }
     {
         stores_stay_stores();
         let text = Bytes::from_vec(resource_set::print(alloc, grant)?);
-        let core = Keys::new(alloc, setting, &text)?;
+        let core = Core::new(alloc, setting, &text)?;
         let book = Book::new(alloc, grant, policy)?;
         // ids rise, and live jobs hold units of the grant
         book.keeps();
@@ -162,7 +161,7 @@ impl Manager {
     ) -> Result<(), AllocError>
         requires ready { self.old.spent ≡ false }
         requires within { broker < self.old.core.size }
-        requires known { IsKnownAsk ask }
+        requires known { IsServedAsk ask }
         ensures ready { OnOk result (self.new.spent ≡ false) }
         ensures keeps { OnOk result (Keeps self.old self.new) }
         ensures spent { OnErr result (self.new.spent ≡ true) }
@@ -209,7 +208,7 @@ impl Manager {
     }
 
     /// Lets a post wait to land, which is due.
-    fn place(&mut self, post: Post) -> Result<(), KeysFault>
+    fn place(&mut self, post: Post) -> Result<(), CoreFault>
         requires ready { self.old.spent ≡ false }
         requires free { self.old.posted ≡ None }
         requires few { length self.old.book.jobs < 2000 }
@@ -231,7 +230,7 @@ impl Manager {
     }
 
     /// Posts a submission, which is due. After an error the manager is spent.
-    pub fn submit(&mut self, x: Submission) -> Result<(), KeysFault>
+    pub fn submit(&mut self, x: Submission) -> Result<(), CoreFault>
         requires ready { self.old.spent ≡ false }
         requires free { self.old.posted ≡ None }
         requires few { length self.old.book.jobs < 2000 }
@@ -244,7 +243,7 @@ impl Manager {
     }
 
     /// Posts an event, which is due. After an error the manager is spent.
-    pub fn post_due(&mut self, due: Due) -> Result<(), KeysFault>
+    pub fn post_due(&mut self, due: Due) -> Result<(), CoreFault>
         requires ready { self.old.spent ≡ false }
         requires free { self.old.posted ≡ None }
         requires few { length self.old.book.jobs < 2000 }
@@ -258,7 +257,7 @@ impl Manager {
 
     /// Makes a step of the service, and tells what happened. The book follows a post that lands.
     /// After an error the manager is spent.
-    pub fn turn(&mut self, step: KvsStep) -> Result<KvsEvents, KeysFault>
+    pub fn turn(&mut self, step: KvsStep) -> Result<KvsEvents, CoreFault>
         requires ready { self.old.spent ≡ false }
         requires can { can_step self.old.core step ≡ true }
         ensures ready { OnOk result (self.new.spent ≡ false) }
@@ -289,7 +288,7 @@ impl Manager {
     }
 
     /// The key-value service.
-    pub fn core(&self) -> &Keys
+    pub fn core(&self) -> &Core
         ensures { result.now ≡ self.now.core }
     {
         &self.core

@@ -27,8 +27,8 @@ use Rattle.job_manager.specs.Value.{ManagerValue}
 use Rattle.job_deeds.proofs.job_rules_proofs.Among.{Among, among_from, contains_from}
 use Rattle.job_deeds.specs.job_states.declared.job.State.{State}
 use Rattle.job_deeds.specs.job_states.declared.job.State.TheVariants as state
-use Rattle.kvs_keys.specs.Posted.{newest_of}
-use Rattle.kvs_keys.specs.Seen.{primary_heard}
+use Rattle.kvs_core.specs.Posted.{newest_of}
+use Rattle.kvs_core.specs.Seen.{primary_heard}
 use Rattle.job_deeds.specs.kvs_model.Store.{Store}
 use Rattle.kvs_rules.proofs.Logs.{landed_rises}
 use Rattle.kvs_rules.specs.Answers as service_rules
@@ -38,7 +38,7 @@ use Rattle.kvs_rules.specs.Namespaces.{landed, primary, store_after}
 use Rattle.kvs_rules.specs.Sequence.{until}
 use Rattle.job_deeds.specs.manager_rules.Dependencies.{job_at as stored_at}
 use Rattle.job_deeds.specs.manager_rules.Jobs.{StoredJob, ids_of}
-use Rattle.job_deeds.specs.manager_rules.Keys.{value_at}
+use Rattle.job_deeds.specs.manager_rules.Core.{value_at}
 use Rattle.job_deeds.specs.manager_rules.Scene.{Scene}
 use Rattle.job_deeds.specs.manager_rules.Whys.{IsSaidOf, IsWhy}
 use Rattle.job_deeds.specs.manager_rules.declared.why.Why.{Why}

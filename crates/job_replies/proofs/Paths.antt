@@ -3,14 +3,14 @@ use Rattle.std.proofs.Common.{◌≡◌, ◌∙◌, ℕ, [], ◌∷◌, ◌++◌
 use Rattle.std.specs.Prelude.{codes}
 use Rattle.job_deeds.specs.kvs_model.Operation.{is_link}
 use Rattle.job_deeds.specs.kvs_model.Store.{Name, Path, Store, IsStore, node_at}
-use Rattle.job_deeds.specs.manager_rules.Keys.{job_path, value_at}
+use Rattle.job_deeds.specs.manager_rules.Core.{job_path, value_at}
 use Rattle.job_deeds.specs.store_laws.Reserved.{HasNoLink}
 use Rattle.job_commands.specs.declared.ask.Key.{Key}
 use Rattle.job_commands.specs.declared.ask.Key.TheVariants as key
 use Rattle.job_replies.specs.Jobs.{key_by}
 use Rattle.job_manager.specs.Managed.{IsManaged}
 use Rattle.job_manager.specs.Value.{ManagerValue}
-use Rattle.kvs_keys.specs.Posted.{newest_of}
+use Rattle.kvs_core.specs.Posted.{newest_of}
 use Rattle.job_deeds.specs.kvs_model.OneStore.{own_walk}
 use Rattle.job_deeds.specs.kvs_txn.declared.answers.Found.{Found}
 use Rattle.job_deeds.specs.kvs_txn.declared.answers.Query.TheVariants as query

@@ -18,16 +18,16 @@ use Rattle.job_manager.specs.Value.{ManagerValue}
 use Rattle.job_deeds.specs.job_states.declared.job.Job.{Job}
 use Rattle.job_deeds.specs.job_states.declared.job.State.{State}
 use Rattle.job_deeds.specs.job_states.declared.job.State.TheVariants as state
-use Rattle.kvs_keys.specs.Agrees.{Agrees}
-use Rattle.kvs_keys.specs.Posted.{newest_of}
-use Rattle.kvs_keys.specs.Seen.{primary_heard}
-use Rattle.kvs_keys.specs.Value.{KeysValue}
+use Rattle.kvs_core.specs.Agrees.{Agrees}
+use Rattle.kvs_core.specs.Posted.{newest_of}
+use Rattle.kvs_core.specs.Seen.{primary_heard}
+use Rattle.kvs_core.specs.Value.{CoreValue}
 use Rattle.job_deeds.specs.kvs_model.Store.{Path}
 use Rattle.kvs_rules.specs.Brokers.{heard}
 use Rattle.kvs_rules.specs.Log.{Log as Service}
 use Rattle.kvs_rules.specs.Namespaces.{Setting, landed, newest_store, primary}
 use Rattle.job_deeds.specs.manager_rules.Jobs.{StoredJob}
-use Rattle.job_deeds.specs.manager_rules.Keys.{value_at}
+use Rattle.job_deeds.specs.manager_rules.Core.{value_at}
 use Rattle.job_deeds.specs.manager_rules.declared.why.Why.{Why}
 use Rattle.job_deeds.specs.manager_rules.declared.why.Why.TheVariants as why
 use Rattle.job_replies.specs.Ready.{job_in}
@@ -131,7 +131,7 @@ abbrev pub IsTold : Labels → ManagerValue → ℕ → Row → Reply → Option
 IsTold labels manager now row given number = IsToldAt labels manager now row row.stage given number
 
 -- what a core says of its newest store, and of what rank 0 and a broker have heard of `primary`
-pub record KnowsNewest (core : KeysValue) (rank : ℕ) (inst : Instance) (log : Log) : Type 0 where
+pub record KnowsNewest (core : CoreValue) (rank : ℕ) (inst : Instance) (log : Log) : Type 0 where
   pub newest : newest_store inst.service (service_of log) primary ≡ Some (newest_of core)
   pub last : landed (service_of log) primary ≡ primary_heard core 0
   pub told : heard (service_of log) rank primary ≡ Some (primary_heard core rank)

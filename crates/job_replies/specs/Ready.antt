@@ -3,8 +3,8 @@ use Rattle.std.specs.Prelude.{ℕ, ◌-◌, ◌==◌, ◌&&◌, nat_le, List, Bo
 use Rattle.std.specs.Option.{option_map_or}
 use Rattle.job_deeds.specs.job_states.declared.job.State.{State}
 use Rattle.job_deeds.specs.job_states.declared.job.State.TheVariants as state
-use Rattle.kvs_keys.specs.Value.{KeysValue}
-use Rattle.kvs_keys.specs.Seen.{primary_heard}
+use Rattle.kvs_core.specs.Value.{CoreValue}
+use Rattle.kvs_core.specs.Seen.{primary_heard}
 use Rattle.job_deeds.specs.manager_rules.Dependencies.{job_at as stored_at}
 use Rattle.job_deeds.specs.manager_rules.Jobs.{StoredJob}
 use Rattle.job_manager.specs.Value.{ManagerValue}
@@ -85,7 +85,7 @@ is_open_ready labels jobs now issued asks =
 
 -- whether a command that the landing of this number carried out can be told: a submission where its
 -- broker has heard it
-abbrev pub is_carried_out : Labels → KeysValue → ℕ → ℕ → JobAsk → Bool
+abbrev pub is_carried_out : Labels → CoreValue → ℕ → ℕ → JobAsk → Bool
 is_carried_out labels core rank number (ask.Submit label urgency needs text) =
     is_some (job_at label labels) && nat_le number (primary_heard core rank)
 is_carried_out labels core rank number (ask.Cancel label) = true

@@ -1,6 +1,6 @@
 -- What open job commands are told.
 use Rattle.std.specs.Prelude.{◌≡◌, ℕ, Option, Some}
-use Rattle.kvs_keys.specs.Agrees.{Agrees}
+use Rattle.kvs_core.specs.Agrees.{Agrees}
 use Rattle.kvs_rules.specs.Answers as service_rules
 use Rattle.job_deeds.specs.kvs_txn.declared.txn.By.{By}
 use Rattle.answers.specs.Jobs.{job_reply_of}

@@ -2,7 +2,7 @@
 ghost use Rattle.std.specs.Prelude.{◌≡◌, ◌<◌, true, false, Contains, IfOk};
 ghost use Rattle.instance_rules.specs.Log.{Instance, Log};
 ghost use Rattle.job_commands.specs.declared.row.Row.{Row as Open};
-ghost use Rattle.kvs_keys.specs.Value.{KeysValue};
+ghost use Rattle.kvs_core.specs.Value.{CoreValue};
 ghost use Rattle.job_replies.specs.Jobs.{IsSaidOf, IsSaidOfJob, IsToldLanded, IsToldOpen, too_late};
 ghost use Rattle.job_replies.specs.Ready.{is_carried_out, is_open_ready, is_ready};
 ghost use Rattle.job_replies.specs.Told.{MayTell, Stands};
@@ -117,7 +117,7 @@ fn tell_open(
 
 /// What a command is told that the landing of this number carried out.
 fn tell_carried_out(commands: &Commands, row: &Row, number: u64) -> Told
-    requires can { (core : KeysValue) × (is_carried_out commands.now.labels core row.now.rank number
+    requires can { (core : CoreValue) × (is_carried_out commands.now.labels core row.now.rank number
         row.now.ask ≡ true) }
     ensures { IsToldLanded commands.now.labels row.now.ask number result.reply result.number }
 {

@@ -25,7 +25,7 @@ use Rattle.job_deeds.proofs.job_rules_proofs.Among.{Among, among_from, among_map
 use Rattle.job_deeds.specs.job_states.Table.{is_state}
 use Rattle.job_deeds.specs.job_states.declared.job.State.{State}
 use Rattle.job_deeds.specs.job_states.declared.job.State.TheVariants as state
-use Rattle.kvs_keys.specs.Posted.{newest_of}
+use Rattle.kvs_core.specs.Posted.{newest_of}
 use Rattle.kvs_rules.specs.Namespaces.{newest_store, primary}
 use Rattle.job_deeds.specs.job_rules.Fits.{IsUnitSet, Satisfies, SatisfiesAs}
 use Rattle.job_deeds.specs.job_spec.Sound.{IsCount, IsSpec}

@@ -18,8 +18,8 @@ use Rattle.job_commands.specs.declared.child.Child.{Child}
 use Rattle.job_manager.specs.Managed.{IsManaged}
 use Rattle.job_manager.specs.Posts.{is_posted_for}
 use Rattle.job_deeds.proofs.job_rules_proofs.Among.{among_from, among_mapped, any_at, any_from, contains_from}
-use Rattle.kvs_keys.specs.Agrees.{Agrees}
-use Rattle.kvs_keys.specs.Posted.{newest_of}
+use Rattle.kvs_core.specs.Agrees.{Agrees}
+use Rattle.kvs_core.specs.Posted.{newest_of}
 use Rattle.kvs_rules.specs.Answers.{IsLegalLog}
 use Rattle.kvs_rules.specs.Namespaces.{newest_store, primary}
 use Rattle.job_deeds.specs.manager_rules.Due.{IsEnding}

@@ -5,7 +5,7 @@ use Rattle.std.specs.List.{AllByRecursion as Each}
 use Rattle.std.specs.Option.{option_copied}
 use Rattle.answers.specs.Jobs.{job_reply_of}
 use Rattle.answers.specs.declared.chronicle.Reply.{Reply}
-use Rattle.fl_digest.specs.declared.Hash.TheVariants.{Sha1}
+use Rattle.fl_digest.specs.declared.Hash.{Hash}
 use Rattle.instance_rules.specs.Legal.{IsLegalMoment}
 use Rattle.instance_rules.specs.Log.{Instance, Log, Moment, Served, service_of}
 use Rattle.instance_rules.specs.Replies.{IsLegalReply}
@@ -32,8 +32,8 @@ use Rattle.job_deeds.proofs.job_rules_proofs.Among.{Among, all_at, all_from, amo
 use Rattle.job_deeds.specs.job_rules.Fits.{IsGrant}
 use Rattle.job_submissions.specs.Made.{AreLabelled}
 use Rattle.job_submissions.specs.declared.faults.Fault.{Fault}
-use Rattle.kvs_keys.specs.Agrees.{Agrees}
-use Rattle.kvs_keys.specs.Makes as core
+use Rattle.kvs_core.specs.Agrees.{Agrees}
+use Rattle.kvs_core.specs.Makes as core
 use Rattle.kvs_keys.specs.Posted.{LandsUsers, posts_landed}
 use Rattle.job_deeds.specs.kvs_model.Store.{Name}
 use Rattle.kvs_rules.proofs.Asking.{command_is}
@@ -248,16 +248,16 @@ module _ (v : JobServiceValue) (inst : Instance) (log : Log) (a : AgreesJobs v i
 
 -- ---- the beginning
 
-module _ (spent : Bool) (terms : Terms) (birth size fanout : ℕ) (grant : Resources) (manager : ManagerValue) (commands : CommandsValue)
+module _ (spent : Bool) (terms : Terms) (birth size fanout : ℕ) (hash : Hash) (grant : Resources) (manager : ManagerValue) (commands : CommandsValue)
     (book : manager.book ≡ record { grant = grant; policy = terms.policy; jobs = [] }) (posted : manager.posted ≡ None) (set : (inst : Instance) → AgreesCommands commands inst [])
-    (core : (s : Rattle.kvs_rules.specs.Namespaces.Setting) → s.size ≡ size → s.fanout ≡ fanout → s.base ≡ Rattle.kvs_rules.specs.Namespaces.fresh (r_text grant) → AsksOwn s → Agrees manager.core s []) where
+    (core : (s : Rattle.kvs_rules.specs.Namespaces.Setting) → s.size ≡ size → s.fanout ≡ fanout → s.hash ≡ hash → s.base ≡ Rattle.kvs_rules.specs.Namespaces.fresh (r_text grant) → AsksOwn s → Agrees manager.core s []) where
   abbrev begun : JobServiceValue
   begun = record { spent = spent; terms = terms; birth = birth; second = birth; manager = manager; commands = commands; refused = []; feeds = []; found = None; bearing = None; submitted = 0; span = 0 }
 
   -- an instance without commands
   abbrev plain : Instance
   plain = record {
-    service = record { settled = false; size = size; fanout = fanout; hash = Sha1; base = Rattle.kvs_rules.specs.Namespaces.fresh (r_text grant); asks = λ by. None };
+    service = record { settled = false; size = size; fanout = fanout; hash = hash; base = Rattle.kvs_rules.specs.Namespaces.fresh (r_text grant); asks = λ by. None };
     birth = birth;
     start = birth;
     grant = grant;
@@ -315,8 +315,8 @@ module _ (spent : Bool) (terms : Terms) (birth size fanout : ℕ) (grant : Resou
       subst (λ p. IsFoundBeside terms p commands manager.book birth birth None) (sym posted)
       (λ row c urgency named text spec needs asks is. no_row plain row c, λ due d. no_jobs d.j d.known)
 
-  pub begun_agrees : (inst : Instance) → IsServedBy inst size fanout grant birth terms → AgreesJobs begun inst []
-  begun_agrees inst of = record {
+  pub begun_agrees : (inst : Instance) → IsServedBy inst size fanout grant birth terms → inst.service.hash ≡ hash → AgreesJobs begun inst []
+  begun_agrees inst of digest = record {
     kind = record {
       valid = of.valid;
       unique = of.unique;
@@ -325,7 +325,7 @@ module _ (spent : Bool) (terms : Terms) (birth size fanout : ℕ) (grant : Resou
       birth = of.birth;
       book = record { grant = ap (λ b. b.grant) book ∙ sym of.grant; policy = ap (λ b. b.policy) book ∙ sym of.served.policy };
     };
-    core = core inst.service of.size of.fanout (of.valid.text ∙ ap (λ g. Rattle.kvs_rules.specs.Namespaces.fresh (r_text g)) of.grant) of.links;
+    core = core inst.service of.size of.fanout digest (of.valid.text ∙ ap (λ g. Rattle.kvs_rules.specs.Namespaces.fresh (r_text g)) of.grant) of.links;
     legal = tt;
     commands = set inst;
     second = of.served.built.start ∙ of.birth;

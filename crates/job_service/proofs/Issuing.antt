@@ -36,8 +36,8 @@ use Rattle.job_deeds.specs.job_spec.declared.spec.Depend.{Depend}
 use Rattle.job_submissions.specs.Faults.{Lacks, LacksSome}
 use Rattle.job_submissions.specs.Made.{AreLabelled}
 use Rattle.job_submissions.specs.declared.faults.Fault.{Fault}
-use Rattle.kvs_keys.specs.Agrees.{Agrees}
-use Rattle.kvs_keys.specs.Posted.{newest_of}
+use Rattle.kvs_core.specs.Agrees.{Agrees}
+use Rattle.kvs_core.specs.Posted.{newest_of}
 use Rattle.kvs_rules.specs.Answers.{IsLegalLog}
 use Rattle.kvs_rules.specs.Namespaces.{newest_store, primary}
 use Rattle.job_deeds.specs.kvs_txn.declared.txn.By.{By}

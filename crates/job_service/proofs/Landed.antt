@@ -22,8 +22,8 @@ use Rattle.job_manager.specs.Follows.{Lands}
 use Rattle.job_manager.specs.Posts.{command_of}
 use Rattle.job_manager.specs.Value.{ManagerValue}
 use Rattle.job_submissions.specs.Made.{AreLabelled}
-use Rattle.kvs_keys.specs.Agrees.{Agrees}
-use Rattle.kvs_keys.specs.Makes as core
+use Rattle.kvs_core.specs.Agrees.{Agrees}
+use Rattle.kvs_core.specs.Makes as core
 use Rattle.kvs_keys.specs.Posted.{groups_in, posts_landed}
 use Rattle.kvs_rules.proofs.Logs.{legal_joined}
 use Rattle.kvs_rules.specs.Answers.{IsLegalLog}

@@ -30,7 +30,7 @@ use Rattle.job_deeds.proofs.job_rules_proofs.Among.{Among, among_from, among_lef
 use Rattle.job_deeds.specs.job_states.Table.{is_state}
 use Rattle.job_deeds.specs.job_states.declared.job.State.{State}
 use Rattle.job_deeds.specs.job_states.declared.job.State.TheVariants as state
-use Rattle.kvs_keys.specs.Seen.{primary_heard}
+use Rattle.kvs_core.specs.Seen.{primary_heard}
 use Rattle.kvs_rules.proofs.Logs.{landed_push, landed_rises, own_number}
 use Rattle.kvs_rules.specs.Answers.{IsLegalLog}
 use Rattle.kvs_rules.specs.Brokers.{heard}

@@ -11,7 +11,7 @@ use Rattle.job_manager.specs.Follows.{Places}
 use Rattle.job_manager.specs.Managed.{IsManaged, IsOutstanding, WasDuePost}
 use Rattle.job_manager.specs.Posts.{command_of}
 use Rattle.job_manager.specs.Value.{ManagerValue}
-use Rattle.kvs_keys.specs.Posted.{IsNewPost, newest_of, posted}
+use Rattle.kvs_core.specs.Posted.{IsNewPost, newest_of, posted}
 use Rattle.kvs_rules.proofs.Asking.{command_is}
 use Rattle.kvs_rules.proofs.Logs.{along}
 use Rattle.kvs_rules.proofs.Stores.{any_push}

@@ -24,8 +24,8 @@ use Rattle.job_replies.specs.Ready.{is_inactive, is_ready, job_in, state_in}
 use Rattle.job_deeds.proofs.job_rules_proofs.Among.{Among, all_from, among_kept, contains_from}
 use Rattle.job_deeds.specs.job_states.declared.job.State.{State}
 use Rattle.job_deeds.specs.job_states.declared.job.State.TheVariants as state
-use Rattle.kvs_keys.specs.Posted.{newest_of, posted}
-use Rattle.kvs_keys.specs.Seen.{primary_heard, root_of}
+use Rattle.kvs_core.specs.Posted.{newest_of, posted}
+use Rattle.kvs_core.specs.Seen.{primary_heard, root_of}
 use Rattle.kvs_rules.specs.Brokers.{heard}
 use Rattle.kvs_rules.specs.Quiet.{AreAllTold}
 use Rattle.kvs_rules.specs.Namespaces.{newest_store, primary, store_after}

@@ -3,7 +3,7 @@ use Rattle.std.proofs.Common.{◌≡◌, ◌≢◌, ℕ, List, [], ◌∷◌, �
 use Rattle.std.specs.Prelude.{filter, filter_map, not, option_map, slice_index}
 use Rattle.std.specs.List.{cons_option}
 use Rattle.job_deeds.proofs.job_rules_proofs.Among.{Among, contains_from}
-use Rattle.kvs_keys.specs.Agrees.{Agrees}
+use Rattle.kvs_core.specs.Agrees.{Agrees}
 use Rattle.kvs_rules.proofs.Asking.{command_is}
 use Rattle.kvs_rules.proofs.Sequences.{latest_push}
 use Rattle.kvs_rules.specs.Answers.{IsLegalLog}

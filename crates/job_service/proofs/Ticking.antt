@@ -24,8 +24,8 @@ use Rattle.job_commands.specs.declared.row.Stage.TheVariants as stage
 use Rattle.job_manager.specs.Managed.{IsManaged}
 use Rattle.job_replies.specs.Ready.{is_ready, is_ready_at}
 use Rattle.job_deeds.proofs.job_rules_proofs.Among.{all_at, among_filter, among_from, among_kept, contains_from}
-use Rattle.kvs_keys.specs.Agrees.{Agrees}
-use Rattle.kvs_keys.specs.Posted.{newest_of}
+use Rattle.kvs_core.specs.Agrees.{Agrees}
+use Rattle.kvs_core.specs.Posted.{newest_of}
 use Rattle.kvs_rules.specs.Answers.{IsLegalLog}
 use Rattle.kvs_rules.specs.Namespaces.{newest_store, primary}
 use Rattle.job_deeds.specs.kvs_txn.declared.txn.By.{By}

@@ -14,10 +14,11 @@ use Rattle.job_manager.specs.Follows.{Follows, Lands, Stays}
 use Rattle.job_manager.specs.Managed.{IsManaged}
 use Rattle.job_manager.specs.Posts.{command_of}
 use Rattle.job_manager.specs.Value.{ManagerValue}
-use Rattle.kvs_keys.specs.Agrees.{Agrees}
-use Rattle.kvs_keys.specs.Makes as core
-use Rattle.kvs_keys.specs.Posted.{newest_of, posts_landed}
-use Rattle.kvs_keys.specs.Value.{KeysValue}
+use Rattle.kvs_core.specs.Agrees.{Agrees}
+use Rattle.kvs_core.specs.Makes as core
+use Rattle.kvs_core.specs.Posted.{newest_of}
+use Rattle.kvs_keys.specs.Posted.{posts_landed}
+use Rattle.kvs_core.specs.Value.{CoreValue}
 use Rattle.job_deeds.specs.kvs_model.Store.{Store}
 use Rattle.kvs_rules.specs.Answers.{IsLegalLog}
 use Rattle.kvs_rules.specs.Namespaces.{newest_store, primary}
@@ -41,7 +42,7 @@ use Rattle.job_service.proofs.Owing.{MadeAreDue, UnmadeAreNot, posted-due}
 
 -- what the law says of a post that lands
 abbrev pub LandAsDue : Type 0
-LandAsDue = (step : KvsStep) (old new : KeysValue) (events : List KvsEvent) (inst : Instance) (log : Log) (v : CommandsValue) (jobs : List StoredJob) (st : Store) (post : Post) → IsInstance inst → AgreesCommands v inst log
+LandAsDue = (step : KvsStep) (old new : CoreValue) (events : List KvsEvent) (inst : Instance) (log : Log) (v : CommandsValue) (jobs : List StoredJob) (st : Store) (post : Post) → IsInstance inst → AgreesCommands v inst log
     → Agrees old inst.service (service_of log) → IsLegalLog inst.service (service_of log) → newest_store inst.service (service_of log) primary ≡ Some st → AreJobsOf st jobs → core.Makes step old new events → IsDuePost (desk_of v inst log jobs) post
     → posts_landed events ≡ group_of post ∷ [] → LandsPost inst post events × EachAfter (IsLegalMoment inst) log (map happening events)
 

@@ -35,17 +35,18 @@ use Rattle.job_deeds.specs.kvs_txn.declared.txn.By.{By}
 use Rattle.job_deeds.specs.kvs_txn.declared.txn.Group.{Group}
 use Rattle.job_deeds.specs.kvs_txn.declared.txn.Scope.TheVariants.{Primary}
 use Rattle.job_deeds.specs.manager_rules.Jobs.{AreJobsOf, IsLogged, IsStored, StoredJob}
-use Rattle.job_deeds.specs.manager_rules.Keys.{log_path, value_at}
+use Rattle.job_deeds.specs.manager_rules.Core.{log_path, value_at}
 use Rattle.job_deeds.specs.manager_rules.Limits.{names_shown}
 use Rattle.job_manager.specs.Managed.{IsManaged}
 use Rattle.job_manager.specs.Places.{log_seen}
 use Rattle.job_replies.specs.Ready.{is_inactive}
 use Rattle.job_replies.specs.Told.{MayTell}
 use Rattle.job_replies.specs.declared.telling.Told.{Told}
-use Rattle.kvs_keys.specs.Agrees.{Agrees, SpaceAgrees}
-use Rattle.kvs_keys.specs.Histories.{history_of}
-use Rattle.kvs_keys.specs.Posted.{newest_of}
-use Rattle.kvs_keys.specs.Seen.{primary_heard, root_of, store_at}
+use Rattle.kvs_core.specs.Agrees.{Agrees}
+use Rattle.kvs_keys.specs.Agrees.{SpaceAgrees}
+use Rattle.kvs_core.specs.Histories.{history_of}
+use Rattle.kvs_core.specs.Posted.{newest_of}
+use Rattle.kvs_core.specs.Seen.{primary_heard, root_of, store_at}
 use Rattle.kvs_rules.proofs.Asking.{command_is}
 use Rattle.kvs_rules.proofs.Logs.{has_heard_stays}
 use Rattle.kvs_rules.proofs.Sequences.{latest_push}
@@ -442,14 +443,14 @@ module _ (v : JobServiceValue) (inst : Instance) (log : Log) (a : AgreesJobs v i
         on (Some mid) e more = let low = more mid e in omega (arith, low)
 
     landings-low : length (history_of v.manager.core) ≤ landed (service_of log) primary
-    landings-low = at v.manager.core.spaces refl a.core.names
+    landings-low = at v.manager.core.keys.spaces refl a.core.keys.names
       where
-        at : (spaces : List SpaceValue) → v.manager.core.spaces ≡ spaces → map (λ s. s.name) v.manager.core.spaces ≡ primary ∷ opened_names (service_of log) → length (history_of v.manager.core) ≤ landed (service_of log) primary
+        at : (spaces : List SpaceValue) → v.manager.core.keys.spaces ≡ spaces → map (λ s. s.name) v.manager.core.keys.spaces ≡ primary ∷ opened_names (service_of log) → length (history_of v.manager.core) ≤ landed (service_of log) primary
         at [] e names = absurd (let wrong : [] ≡ primary ∷ opened_names (service_of log) = ap (map (λ s. s.name)) (sym e) ∙ names in cc)
         at (x ∷ xs) e names =
             let heads : x.name ∷ map (λ s. s.name) xs ≡ primary ∷ opened_names (service_of log) = ap (map (λ s. s.name)) (sym e) ∙ names in
             let named : x.name ≡ primary = cc in
-            let here = subst (λ ss. SpaceAgrees inst.service (service_of log) v.manager.core.size (get_or ss 0 x)) e (a.core.spaces 0 x (subst (λ ss. 0 < length ss) (sym e) (omega arith))) in
+            let here = subst (λ ss. SpaceAgrees inst.service (service_of log) v.manager.core.keys.size (get_or ss 0 x)) e (a.core.keys.spaces 0 x (subst (λ ss. 0 < length ss) (sym e) (omega arith))) in
             let count : suc (landed (service_of log) primary) ≡ roots_of x = ap (λ n. suc (landed (service_of log) n)) (sym named) ∙ here.last in
             let mine : history_of v.manager.core ≡ x.history = ap (λ ss. option_map_or (λ s. s.history) (slice_get ss 0) []) e in
             let size : length (history_of v.manager.core) ≡ length x.history = ap length mine in
@@ -489,7 +490,7 @@ module _ (v : JobServiceValue) (inst : Instance) (log : Log) (a : AgreesJobs v i
               | inl early ↦
                   let not-later : nat_lt f.number (primary_heard v.manager.core row.rank) ≡ false = sym (ap (λ o. is_none o && nat_lt f.number (primary_heard v.manager.core row.rank)) none) ∙ early in
                   let low = ltb-false f.number (primary_heard v.manager.core row.rank) not-later in
-                  let high = few (history_of v.manager.core) f.number (first_store v.manager.core.grant) g.was.store (sym (roots f.number) ∙ g.was.standing) in
+                  let high = few (history_of v.manager.core) f.number (first_store v.manager.core.keys.grant) g.was.store (sym (roots f.number) ∙ g.was.standing) in
                   let most = landings-low in
                   let number : f.number ≡ primary_heard v.manager.core row.rank = omega (arith, low, high, most, last) in
                   let stores : Some g.was.store ≡ Some (newest_of v.manager.core) = sym g.was.standing ∙ roots f.number ∙ ap (root_of v.manager.core) number ∙ core-is in

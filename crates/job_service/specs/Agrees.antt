@@ -1,7 +1,7 @@
 -- When a job service stands where the log of an instance leaves it.
 use Rattle.std.specs.Prelude.{◌≡◌, ℕ, ◌<◌, false, IsSome, Some, None, Contains}
-use Rattle.kvs_keys.specs.Agrees.{Agrees}
-use Rattle.kvs_keys.specs.Requests.{AsksAtRest}
+use Rattle.kvs_core.specs.Agrees.{Agrees}
+use Rattle.kvs_core.specs.Requests.{AsksAtRest}
 use Rattle.kvs_rules.specs.Answers.{IsLegalLog}
 use Rattle.kvs_rules.specs.Log.{is_asked}
 use Rattle.kvs_rules.specs.OneStore.{AsksOwn}

@@ -29,6 +29,7 @@ pub use Rattle.job_replies.specs as job_replies
 pub use Rattle.job_deeds.specs.job_rules as job_rules
 pub use Rattle.job_deeds.specs.job_states as job_states
 pub use Rattle.job_submissions.specs as job_submissions
+pub use Rattle.kvs_core.specs as kvs_core
 pub use Rattle.kvs_keys.specs as kvs_keys
 pub use Rattle.job_deeds.specs.kvs_model as kvs_model
 pub use Rattle.kvs_requests.specs as kvs_requests

@@ -1,7 +1,7 @@
 -- What a step of the service makes.
 use Rattle.std.specs.Prelude.{◌++◌, List, map}
 use Rattle.std.specs.List.{AllByRecursion as Each}
-use Rattle.kvs_keys.specs.Makes.{IsOfKeys}
+use Rattle.kvs_core.specs.Makes.{IsOfStep}
 use Rattle.kvs_rules.specs.Sequence.{EachAfter}
 use Rattle.kvs_rules.specs.Steps.{AreMadeBy}
 use Rattle.kvs_rules.specs.declared.events.KvsEvent.{KvsEvent}
@@ -17,7 +17,7 @@ use Rattle.job_service.specs.Value.{JobServiceValue}
 -- them
 pub record Makes (step : KvsStep) (old new : JobServiceValue)
     (events : List KvsEvent) : Type 0 where
-  pub own : Each IsOfKeys events
+  pub own : Each IsOfStep events
   pub made : (inst : Instance) (log : Log) → AgreesJobs old inst log
       → AreMadeBy (service_of log) step events
   pub legal : (inst : Instance) (log : Log) → AgreesJobs old inst log

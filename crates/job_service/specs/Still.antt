@@ -5,7 +5,7 @@ use Rattle.job_commands.specs.declared.ask.JobAsk.TheVariants as ask
 use Rattle.job_commands.specs.Rows.{Labels}
 use Rattle.job_replies.specs.Ready.{is_inactive, state_in}
 use Rattle.job_deeds.specs.job_states.declared.job.State.{State}
-use Rattle.kvs_keys.specs.Steps.{IsStill as CoreIsStill}
+use Rattle.kvs_core.specs.Steps.{IsStill as CoreIsStill}
 use Rattle.job_deeds.specs.kvs_txn.declared.txn.By.{By}
 use Rattle.job_deeds.specs.manager_rules.Jobs.{StoredJob}
 use Rattle.job_service.specs.Children.{is_due}

@@ -21,8 +21,8 @@ use Rattle.job_manager.specs.Value.{ManagerValue}
 use Rattle.answers.specs.declared.chronicle.Reply.TheVariants as reply
 use Rattle.job_replies.specs.Ready.{is_inactive}
 use Rattle.job_replies.specs.declared.telling.Told.{Told}
-use Rattle.kvs_keys.specs.Seen.{primary_heard, store_at}
-use Rattle.kvs_keys.specs.Value.{KeysValue}
+use Rattle.kvs_core.specs.Seen.{primary_heard, store_at}
+use Rattle.kvs_core.specs.Value.{CoreValue}
 use Rattle.job_service.specs.declared.feeds.Feed.{Feed}
 
 -- ---- the feeds of commands
@@ -50,12 +50,12 @@ watched_by feeds by =
 -- ---- which can be fed
 
 -- a job that isn't over has a longer log, by a later root that the broker has heard of
-abbrev pub goes_on : KeysValue → ℕ → Feed → List ℕ → Bool
+abbrev pub goes_on : CoreValue → ℕ → Feed → List ℕ → Bool
 goes_on core rank f log = (is_none f.names && nat_lt f.number (primary_heard core rank))
     && nat_lt f.bytes (length log)
 
 -- whether a broker's store has more of a log than the watch was fed
-abbrev pub has_more : KeysValue → ℕ → Option Feed → Option (List ℕ) → Bool
+abbrev pub has_more : CoreValue → ℕ → Option Feed → Option (List ℕ) → Bool
 has_more core rank feed None = false
 has_more core rank None (Some log) = true
 has_more core rank (Some f) (Some log) = goes_on core rank f log

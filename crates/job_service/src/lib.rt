@@ -8,7 +8,7 @@ pub use fl_digest;
 pub use job_commands;
 pub use job_deeds::{idset, job_states, kvs_txn, lists, manager_rules, resource_set, tap};
 pub use job_replies;
-pub use kvs_keys;
+pub use kvs_core;
 pub use kvs_rules;
 pub use run_limits;
 pub use workload;

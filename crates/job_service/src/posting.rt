@@ -6,10 +6,10 @@ ghost use Rattle.job_manager.specs.Posts.{post_of};
 ghost use Rattle.job_service.specs.Posted.{id_posted};
 
 use job_manager::{Manager, Post};
-use kvs_keys::KeysFault;
+use kvs_core::CoreFault;
 
 /// Posts what was found to be due, and gives the id of the job that is submitted.
-pub fn post(manager: &mut Manager, found: Post) -> Result<Option<u64>, KeysFault>
+pub fn post(manager: &mut Manager, found: Post) -> Result<Option<u64>, CoreFault>
     requires ready { manager.old.spent ≡ false }
     requires free { manager.old.posted ≡ None }
     requires few { length manager.old.book.jobs < 2000 }

@@ -7,8 +7,8 @@ ghost use Rattle.instance_rules.specs.Legal.{IsLegalMoment, OfDesk};
 ghost use Rattle.job_commands.specs.Asks.{told};
 ghost use Rattle.job_replies.specs.Told.{MayTell};
 ghost use Rattle.job_deeds.specs.job_rules.Fits.{IsGrant};
-ghost use Rattle.kvs_keys.specs.Steps.{IsStill as CoreIsStill, can_step, can_take};
-ghost use Rattle.kvs_requests.specs.Rows.{IsKnownAsk};
+ghost use Rattle.kvs_core.specs.Steps.{IsStill as CoreIsStill, can_step, can_take};
+ghost use Rattle.kvs_core.specs.Requests.{IsServedAsk};
 ghost use Rattle.kvs_rules.specs.Log.{Asked as AskedAt, Happened};
 ghost use Rattle.kvs_rules.specs.Quiet.{AreAllTold};
 ghost use Rattle.kvs_rules.specs.declared.events.KvsEvent.TheVariants as event;
@@ -56,7 +56,7 @@ use job_manager::{Manager, Post};
 use job_replies::{Told, is_ready, tell};
 use job_submissions::{what_is_lacking_is_so_by_the_log, what_is_made_is_due};
 use kvs_keys::laws::users_land_where_nothing_is_posted;
-use kvs_keys::{Held, Keys, KeysFault, KvsEvents, Setting};
+use kvs_core::{Held, Core, CoreFault, KvsEvents, Setting};
 use kvs_rules::{KvsAsk, KvsStep};
 use run_limits::MOST_SUBMITS;
 use std::alloc::{AllocError, Global};
@@ -111,7 +111,7 @@ impl JobService {
         grant: &Resources,
         birth: u64,
         terms: Terms,
-    ) -> Result<JobService, KeysFault>
+    ) -> Result<JobService, CoreFault>
         requires size { (1 ≤ setting.size) × (setting.size ≤ 32) }
         requires fanout { (1 ≤ setting.fanout) × (setting.fanout ≤ 32) }
         requires grant { IsR grant.now }
@@ -122,7 +122,7 @@ impl JobService {
         ensures grant { IfOk result (λ v. IsGrant grant.now.nodes) }
         ensures agrees { IfOk result (λ v. (inst : Instance)
             → IsServedBy inst setting.size setting.fanout grant.now birth terms
-            → AgreesJobs v inst []) }
+            → inst.service.hash ≡ setting.hash → AgreesJobs v inst []) }
     {
         let manager = Manager::new(alloc, setting, grant, terms.policy)?;
         let commands = Commands::new(alloc, setting.size)?;
@@ -147,7 +147,7 @@ impl JobService {
     }
 
     /// The key-value service.
-    pub fn core(&self) -> &Keys
+    pub fn core(&self) -> &Core
         requires { self.now.spent ≡ false }
         ensures value { result.now ≡ self.now.manager.core }
         ensures ready { result.now.spent ≡ false }
@@ -169,7 +169,7 @@ impl JobService {
     ) -> Result<(), AllocError>
         requires ready { self.old.spent ≡ false }
         requires within { broker < self.old.manager.core.size }
-        requires known { IsKnownAsk ask }
+        requires known { IsServedAsk ask }
         requires may { MayAsk self.old by broker namespace ask }
         ensures ready { OnOk result (self.new.spent ≡ false) }
         ensures counts { OnOk result (KeepsCounts self.old self.new) }
@@ -205,7 +205,7 @@ impl JobService {
     /// Makes a step of the key-value service, and gives what happened. Where the post lands, its
     /// command is carried out, and what is due next is looked for. After an error the service is
     /// spent.
-    pub fn turn(&mut self, step: KvsStep) -> Result<KvsEvents, KeysFault>
+    pub fn turn(&mut self, step: KvsStep) -> Result<KvsEvents, CoreFault>
         requires ready { self.old.spent ≡ false }
         requires can { can_step self.old.manager.core step ≡ true }
         ensures ready { OnOk result (self.new.spent ≡ false) }
@@ -257,7 +257,7 @@ impl JobService {
 
     /// Posts what was found to be due, which then waits in the key-value service to land. After an
     /// error the service is spent.
-    pub fn post(&mut self) -> Result<(), KeysFault>
+    pub fn post(&mut self) -> Result<(), CoreFault>
         requires ready { self.old.spent ≡ false }
         requires can { is_some self.old.found ≡ true }
         ensures ready { OnOk result (self.new.spent ≡ false) }

@@ -14,11 +14,11 @@ use Rattle.job_service.proofs.kvs_rules_proofs.Asking.{command_is}
 use Rattle.job_service.specs.kvs_requests.Agreement.{RowAgrees as CoreRowAgrees}
 use Rattle.job_service.specs.kvs_requests.Rows.{IsKnownAsk, asks_contents, is_about_contents}
 use Rattle.job_service.specs.kvs_requests.Stages.{is_held as core_is_held}
-use Rattle.job_service.specs.kvs_keys.Agrees.{Agrees}
-use Rattle.job_service.specs.kvs_keys.Contents.{IsOfContents}
-use Rattle.job_service.specs.kvs_keys.Makes.{IsOfKeys}
-use Rattle.job_service.specs.kvs_keys.Steps.{can_take as core_can_take}
-use Rattle.job_service.specs.kvs_keys.Value.{KeysValue}
+use Rattle.job_service.specs.kvs_core.Agrees.{Agrees}
+use Rattle.job_service.specs.kvs_core.Contents.{IsOfContents}
+use Rattle.job_service.specs.kvs_core.Makes.{IsOfStep}
+use Rattle.job_service.specs.kvs_core.Steps.{can_take as core_can_take}
+use Rattle.job_service.specs.kvs_core.Value.{CoreValue}
 use Rattle.job_service.proofs.kvs_space_proofs.Finding.{and-left}
 use Rattle.kvs_content.proofs.Linking.{some-one}
 use Rattle.content_service.specs.Agrees.{AgreesService, RowAgrees}
@@ -55,7 +55,7 @@ pub asks_so : (set : Setting) (by : By) (request : Request) (b : Bool) → set.a
 asks_so set by request b made about = ap (λ o. option_map_or (λ r. is_content r.ask) o false) made ∙ about
 
 -- events of keys are none of contents
-pub keys_are_others : (set : Setting) (events : List KvsEvent) → Each IsOfKeys events → Each (IsOthers set) (map Happened events)
+pub keys_are_others : (set : Setting) (events : List KvsEvent) → Each IsOfStep events → Each (IsOthers set) (map Happened events)
 keys_are_others set [] h = tt
 keys_are_others set (event.Landed space number authors groups ∷ es) h = (tt, keys_are_others set es h.1)
 keys_are_others set (event.Denied space authors group refusal ∷ es) h = (tt, keys_are_others set es h.1)
@@ -66,7 +66,7 @@ keys_are_others set (event.Answered by number given ∷ es) h = absurd h.0
 
 -- events of contents leave the core, as each such moment does
 abbrev pub CoreStays : Type 0
-CoreStays = (v : KeysValue) (set : Setting) (log : Log) (m : Moment) → Agrees v set log → IsLegalMoment set log m → IsOfContents set m → Agrees v set (log ++ m ∷ [])
+CoreStays = (v : CoreValue) (set : Setting) (log : Log) (m : Moment) → Agrees v set log → IsLegalMoment set log m → IsOfContents set m → Agrees v set (log ++ m ∷ [])
 
 pub of_contents : (set : Setting) (e : KvsEvent) → IsContentEvent e → IsOfContents set (Happened e)
 of_contents set (event.Got broker reference) h = tt
@@ -77,7 +77,7 @@ of_contents set (event.Heard broker space number) h = absurd h
 of_contents set (event.Answered by number given) h = absurd h
 
 -- whose answer waits in the core doesn't ask of contents
-pub core_answers : (v : KeysValue) (set : Setting) (log : Log) → Agrees v set log → (by : By) → core_can_take v by ≡ true → asks_content set by ≡ false
+pub core_answers : (v : CoreValue) (set : Setting) (log : Log) → Agrees v set log → (by : By) → core_can_take v by ≡ true → asks_content set by ≡ false
 core_answers v set log a by can =
     let (row, r, on) = some-one (λ row. same_command by row.by && core_is_held row) (CoreRowAgrees a.entered set log v.spaces) v.rows a.rows can in
     let is = command_is by row.by (and-left (same_command by row.by) _ on) in

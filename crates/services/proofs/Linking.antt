@@ -2,8 +2,8 @@
 use Rattle.std.proofs.Common.{◌≡◌, ◌∙◌, ℕ, ◌<◌, ◌⊎◌, ◌||◌, Bool, true, false, refl, sym, subst}
 use Rattle.job_service.specs.kvs_rules.Brokers.{parent}
 use Rattle.job_service.specs.kvs_rules.declared.events.KvsStep.TheVariants as kvs
-use Rattle.job_service.specs.kvs_keys.Steps.{can_step as core_can_step}
-use Rattle.job_service.specs.kvs_keys.Value.{KeysValue}
+use Rattle.job_service.specs.kvs_core.Steps.{can_step as core_can_step}
+use Rattle.job_service.specs.kvs_core.Value.{CoreValue}
 use Rattle.content_service.specs.Steps.{can_step as contents_can_step}
 use Rattle.content_service.specs.Value.{ContentServiceValue}
 use Rattle.services.specs.View.{IsFit}
@@ -11,7 +11,7 @@ use Rattle.services.specs.Value.{ServicesValue}
 use Rattle.services.proofs.Links.{AreLinked, IsLink}
 
 -- what each says of its links
-abbrev pub CoreLinked : KeysValue → Type 0
+abbrev pub CoreLinked : CoreValue → Type 0
 CoreLinked v = (from to : ℕ) → core_can_step v (kvs.Deliver from to) ≡ true → (from < v.size) × ((to ≡ parent v.fanout from) ⊎ ((0 < to) × (to < v.size) × (parent v.fanout to ≡ from)))
 
 abbrev pub ContentsLinked : ContentServiceValue → Type 0

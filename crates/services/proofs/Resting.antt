@@ -6,7 +6,7 @@ use Rattle.job_service.specs.kvs_rules.Namespaces.{Setting, landed, primary}
 use Rattle.job_service.specs.kvs_rules.Quiet.{AreAllTold}
 use Rattle.job_service.specs.kvs_txn.declared.txn.By.{By}
 use Rattle.job_service.specs.kvs_requests.Rows.{asks_contents}
-use Rattle.job_service.specs.kvs_keys.Steps.{IsStill as CoreIsStill, can_step as core_can_step, can_take as core_can_take}
+use Rattle.job_service.specs.kvs_core.Steps.{IsStill as CoreIsStill, can_step as core_can_step, can_take as core_can_take}
 use Rattle.content_service.specs.Asks.{asks_content}
 use Rattle.content_service.specs.Steps.{IsStill as ContentsAreStill, can_step as contents_can_step, can_take as contents_can_take}
 use Rattle.job_service.specs.Still.{IsStill as JobsAreStill}

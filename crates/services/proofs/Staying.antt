@@ -2,8 +2,8 @@
 use Rattle.std.proofs.Common.{◌≡◌, ℕ, List, [], ◌∷◌, ◌++◌, map, Bool, false, Option, None, IsSome, refl, sym, ap, ◌∙◌, subst, append-nil, append_assoc}
 use Rattle.std.specs.List.{AllByRecursion as Each}
 use Rattle.std.proofs.lemmas.Bool.{or_from, or_parts}
-use Rattle.job_service.specs.kvs_keys.Agrees.{Agrees}
-use Rattle.job_service.specs.kvs_keys.Contents.{IsOfContents}
+use Rattle.job_service.specs.kvs_core.Agrees.{Agrees}
+use Rattle.job_service.specs.kvs_core.Contents.{IsOfContents}
 use Rattle.job_service.specs.kvs_keys.Posted.{LandsUsers}
 use Rattle.job_service.proofs.kvs_rules_proofs.Logs.{legal_joined}
 use Rattle.job_service.proofs.kvs_rules_proofs.Sequences.{latest_push}

@@ -12,7 +12,7 @@ use Rattle.job_service.specs.kvs_rules.Answers.{IsLegalAfter, IsLegalAnswer, IsL
 use Rattle.job_service.specs.kvs_rules.Log as service
 use Rattle.job_service.specs.kvs_rules.Log.{Asked, Happened, is_asked}
 use Rattle.job_service.specs.kvs_rules.Namespaces.{Request, Setting}
-use Rattle.job_service.specs.kvs_keys.Steps.{can_take as core_can_take}
+use Rattle.job_service.specs.kvs_core.Steps.{can_take as core_can_take}
 use Rattle.content_service.specs.Agrees.{AgreesService}
 use Rattle.content_service.specs.Asks.{IsOthers, is_content}
 use Rattle.content_service.specs.Makes.{Makes as ContentsMake}

@@ -10,7 +10,7 @@ use Rattle.job_service.specs.kvs_requests.Agreement.{RowAgrees as CoreRowAgrees}
 use Rattle.job_service.specs.kvs_requests.Rows.{asks_contents, is_about_contents}
 use Rattle.job_service.specs.kvs_requests.Stages.{is_held as core_is_held}
 use Rattle.job_service.proofs.kvs_space_proofs.Finding.{and-left}
-use Rattle.job_service.specs.kvs_keys.Steps.{can_take as core_can_take}
+use Rattle.job_service.specs.kvs_core.Steps.{can_take as core_can_take}
 use Rattle.kvs_content.proofs.Linking.{some-one}
 use Rattle.content_service.specs.Agrees.{RowAgrees}
 use Rattle.content_service.specs.Rows.{is_held}

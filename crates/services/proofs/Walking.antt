@@ -13,7 +13,7 @@ use Rattle.job_service.proofs.kvs_requests_proofs.Ways.{parent-le}
 use Rattle.job_service.proofs.kvs_space_proofs.Finding.{and-left, lt-is, or-left}
 use Rattle.job_service.specs.kvs_space.Space.{SpaceValue, has_news, is_behind, is_ready}
 use Rattle.job_service.specs.kvs_keys.Order.{all_steps, possible as core_possible}
-use Rattle.job_service.specs.kvs_keys.Steps.{can_step as core_can_step, has_missed, is_announced}
+use Rattle.job_service.specs.kvs_core.Steps.{can_step as core_can_step, has_missed, is_announced}
 use Rattle.job_service.specs.kvs_keys.Walk.{nth}
 use Rattle.content_service.specs.Steps.{can_step as contents_can_step}
 use Rattle.services.specs.Order.{possible}

@@ -24,6 +24,7 @@ pub use Rattle.job_service.specs.job_replies as job_replies
 pub use Rattle.job_service.specs.job_rules as job_rules
 pub use Rattle.job_service.specs as job_service
 pub use Rattle.job_service.specs.job_states as job_states
+pub use Rattle.job_service.specs.kvs_core as kvs_core
 pub use Rattle.job_service.specs.kvs_keys as kvs_keys
 pub use Rattle.job_service.specs.kvs_model as kvs_model
 pub use Rattle.job_service.specs.kvs_rules as kvs_rules

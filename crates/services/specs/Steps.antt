@@ -2,7 +2,7 @@
 use Rattle.std.specs.Prelude.{◌≡◌, ◌||◌, Bool, false}
 use Rattle.job_service.specs.kvs_txn.declared.txn.By.{By}
 use Rattle.job_service.specs.kvs_rules.declared.events.KvsStep.{KvsStep}
-use Rattle.job_service.specs.kvs_keys.Steps.{can_step as core_can_step, can_take as core_can_take}
+use Rattle.job_service.specs.kvs_core.Steps.{can_step as core_can_step, can_take as core_can_take}
 use Rattle.content_service.specs.Steps.{can_step as contents_can_step, can_take as contents_can_take}
 use Rattle.job_service.specs.Children.{is_due}
 use Rattle.job_service.specs.Feeds.{can_feed}

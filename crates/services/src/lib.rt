@@ -5,7 +5,7 @@
 // The crates below that those above reach through this one.
 pub use job_service;
 pub use job_service::{
-    answers, fl_digest, idset, job_commands, job_states, kvs_keys, kvs_rules, kvs_txn, lists,
+    answers, fl_digest, idset, job_commands, job_states, kvs_core, kvs_rules, kvs_txn, lists,
     manager_rules, resource_set, run_limits, tap, workload,
 };
 

@@ -27,8 +27,8 @@ ghost use Rattle.services.specs.Asks.{AgreesOnce, Answers, Feeds, IsServedAsk, K
 ghost use Rattle.services.specs.Makes.{Makes};
 ghost use Rattle.services.specs.Order.{possible};
 ghost use Rattle.job_service.specs.kvs_requests.Rows.{IsKnownAsk};
-ghost use Rattle.job_service.specs.kvs_keys.Seen.{primary_heard};
-ghost use Rattle.job_service.specs.kvs_keys.Steps.{can_step as core_can_step, can_take as core_can_take};
+ghost use Rattle.job_service.specs.kvs_core.Seen.{primary_heard};
+ghost use Rattle.job_service.specs.kvs_core.Steps.{can_step as core_can_step, can_take as core_can_take};
 ghost use Rattle.content_service.specs.Steps.{can_step as contents_can_step, can_take as contents_can_take};
 ghost use Rattle.services.specs.Steps.{HaveRested, IsStill, can_step, can_take};
 
@@ -39,7 +39,7 @@ use content_service::laws::others_leave_the_contents;
 use job_service::job_commands::JobAsk;
 use job_service::job_replies::Told;
 use job_service::kvs_keys::laws::content_moments_leave_the_keys;
-use job_service::kvs_keys::{Held, Keys, KeysFault, KvsEvents, Setting};
+use job_service::kvs_core::{Held, Core, CoreFault, KvsEvents, Setting};
 use job_service::kvs_rules::{KvsAnswer, KvsAsk, KvsStep};
 use job_service::kvs_txn::By;
 use job_service::lists::Bytes;
@@ -91,7 +91,7 @@ impl Services {
         grant: &Resources,
         birth: u64,
         terms: Terms,
-    ) -> Result<Services, KeysFault>
+    ) -> Result<Services, CoreFault>
         requires size { (1 ≤ setting.size) × (setting.size ≤ 32) }
         requires fanout { (1 ≤ setting.fanout) × (setting.fanout ≤ 32) }
         requires grant { IsR grant.now }
@@ -125,7 +125,7 @@ impl Services {
     }
 
     /// The key-value service, which can go on where the services can.
-    pub fn core(&self) -> &Keys
+    pub fn core(&self) -> &Core
         requires { self.now.spent ≡ false }
         ensures value { result.now ≡ self.now.jobs.manager.core }
         ensures ready { result.now.spent ≡ false }
@@ -231,7 +231,7 @@ impl Services {
     }
 
     /// Makes a step of the core.
-    fn turn_core(&mut self, step: KvsStep) -> Result<KvsEvents, KeysFault>
+    fn turn_core(&mut self, step: KvsStep) -> Result<KvsEvents, CoreFault>
         requires ready { self.old.spent ≡ false }
         requires can { core_can_step self.old.jobs.manager.core step ≡ true }
         ensures makes { IfOk result (Makes step self.old self.new) }
@@ -261,7 +261,7 @@ impl Services {
 
     /// Makes a step: the core does where it can, and else the contents do; and tells what happened.
     /// After an error the services are spent.
-    pub fn turn(&mut self, step: KvsStep) -> Result<KvsEvents, KeysFault>
+    pub fn turn(&mut self, step: KvsStep) -> Result<KvsEvents, CoreFault>
         requires ready { self.old.spent ≡ false }
         requires can { can_step self.old step ≡ true }
         ensures makes { IfOk result (Makes step self.old self.new) }
@@ -396,7 +396,7 @@ impl Services {
 
     /// Posts what was found to be due, which then waits in the key-value service to land. After an
     /// error the services are spent.
-    pub fn post(&mut self) -> Result<(), KeysFault>
+    pub fn post(&mut self) -> Result<(), CoreFault>
         requires ready { self.old.spent ≡ false }
         requires can { is_some self.old.jobs.found ≡ true }
         ensures ready { OnOk result (self.new.spent ≡ false) }

@@ -9,7 +9,7 @@ use super::{World, keep};
 use homes::{
     Home, Origin, bear_for, child_home, let_go, may_go, release, settle, tell_ends, within,
 };
-use instance::KeysFault;
+use instance::CoreFault;
 use instance::answers::{Entry, Step};
 use instance::lists::Copied;
 use std::alloc::AllocError;
@@ -25,7 +25,7 @@ impl World {
     }
 
     /// The child of a job of an instance is born, with the resources of the job as its grant.
-    pub(super) fn bear(&mut self, parent: u32, job: u64) -> Result<(), KeysFault>
+    pub(super) fn bear(&mut self, parent: u32, job: u64) -> Result<(), CoreFault>
         requires ready { self.old.spent ≡ false }
         requires can { CanMake self.old (Step.Birth parent job) }
         ensures advances { OnOk result (Advances self.old (Step.Birth parent job) self.new) }
@@ -36,7 +36,7 @@ impl World {
         let second = self.homes[0].instance.second();
         // there are at most 16 instances: this stands for the end of the count
         let Ok(count) = u32::try_from(self.homes.len() + 1) else {
-            return Err(KeysFault::NoMemory);
+            return Err(CoreFault::NoMemory);
         };
         let child = count - 1;
         let (label, grant) = bear_for(self.alloc, &mut self.homes[parent as usize].instance, job)?;

@@ -9,7 +9,7 @@ ghost use Rattle.world.specs.Steps.{CanMake, MayStart, can_answer, can_issue, of
 
 use super::{World, keep};
 use homes::{Place, enter, next_line};
-use instance::KeysFault;
+use instance::CoreFault;
 use instance::answers::{Entry, Reply, Step};
 use instance::kvs_rules::KvsStep;
 use instance::workload::{Command, Line};
@@ -81,7 +81,7 @@ impl World {
     }
 
     /// Makes a step of the service of an instance.
-    pub(super) fn serve(&mut self, number: u32, step: KvsStep) -> Result<(), KeysFault>
+    pub(super) fn serve(&mut self, number: u32, step: KvsStep) -> Result<(), CoreFault>
         requires ready { self.old.spent ≡ false }
         requires can { CanMake self.old (Step.Kvs number step) }
         ensures advances { OnOk result (Advances self.old (Step.Kvs number step) self.new) }
@@ -105,7 +105,7 @@ impl World {
     }
 
     /// Posts what is due of an instance's jobs, which enters nothing.
-    pub(super) fn post(&mut self, number: u32) -> Result<(), KeysFault>
+    pub(super) fn post(&mut self, number: u32) -> Result<(), CoreFault>
         requires ready { self.old.spent ≡ false }
         requires can { CanMake self.old (Step.Post number) }
         ensures advances { OnOk result (Advances self.old (Step.Post number) self.new) }

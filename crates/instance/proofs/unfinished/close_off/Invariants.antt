@@ -3,7 +3,7 @@ use Rattle.std.specs.Prelude.{flat_map}
 use Rattle.std.specs.List.{range_with_len}
 use Rattle.services.specs.kvs_rules.Log.{Log}
 use Rattle.services.specs.kvs_rules.Namespaces.{Setting}
-use Rattle.services.specs.kvs_keys.Agrees.{Agrees}
+use Rattle.services.specs.kvs_core.Agrees.{Agrees}
 use Rattle.services.specs.job_service.Still.{awaited}
 use Rattle.instance.specs.Closings.{closings_of, numbers_in}
 use Rattle.instance.proofs.unfinished.close_off.Given as goal

@@ -1,6 +1,6 @@
 use Rattle.std.proofs.Common.{◌≡◌, ◌∙◌, Some, ap, sym, subst}
-use Rattle.kvs_keys.specs.Agrees.{Agrees}
-use Rattle.kvs_keys.specs.Posted.{newest_of}
+use Rattle.kvs_core.specs.Agrees.{Agrees}
+use Rattle.kvs_core.specs.Posted.{newest_of}
 use Rattle.job_deeds.specs.kvs_model.Store.{Store}
 use Rattle.job_replies.proofs.Paths.{newest-text}
 use Rattle.job_replies.proofs.Reading.{no-text, text_in}

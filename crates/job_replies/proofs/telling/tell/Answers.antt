@@ -1,10 +1,10 @@
 use Rattle.std.proofs.Common.{◌≡◌, ◌<◌, ℕ, Some, sym, subst}
 use Rattle.std.proofs.lemmas.Result.{IfOk-weaker}
 use Rattle.instance_rules.specs.Log.{Instance, Log, service_of}
-use Rattle.kvs_keys.specs.Agrees.{Agrees}
-use Rattle.kvs_keys.specs.Posted.{newest_of}
-use Rattle.kvs_keys.specs.Seen.{primary_heard}
-use Rattle.kvs_keys.specs.Value.{KeysValue}
+use Rattle.kvs_core.specs.Agrees.{Agrees}
+use Rattle.kvs_core.specs.Posted.{newest_of}
+use Rattle.kvs_core.specs.Seen.{primary_heard}
+use Rattle.kvs_core.specs.Value.{CoreValue}
 use Rattle.kvs_rules.specs.Brokers.{heard}
 use Rattle.kvs_rules.specs.Log as service
 use Rattle.kvs_rules.specs.Namespaces.{Setting, landed, newest_store, primary}
@@ -13,7 +13,7 @@ use Rattle.job_replies.specs.Jobs.{IsToldAt, KnowsNewest}
 use Rattle.job_replies.proofs.telling.tell.Goals as goal
 
 -- what a core promises that stands, as the law asks for it
-knows : (core : KeysValue) (rank : ℕ) → rank < core.size →
+knows : (core : CoreValue) (rank : ℕ) → rank < core.size →
     ((set : Setting) (log : service.Log) → Agrees core set log → newest_store set log primary ≡ Some (newest_of core)) →
     ((set : Setting) (log : service.Log) → Agrees core set log → (broker : ℕ) → broker < core.size → heard log broker primary ≡ Some (primary_heard core broker)) →
     ((set : Setting) (log : service.Log) → Agrees core set log → landed log primary ≡ primary_heard core 0) →
@@ -31,7 +31,7 @@ returns-in-Waits c = record {
       let manager = c.args.manager.now in
       let row = c.args.row.now in
       let k = subst (λ core. KnowsNewest core row.rank inst log) c.core.ensures
-      (knows c.core.result.now row.rank (subst (λ (core : KeysValue). row.rank < core.size) (sym c.core.ensures) c.requires.within)
+      (knows c.core.result.now row.rank (subst (λ (core : CoreValue). row.rank < core.size) (sym c.core.ensures) c.requires.within)
       c.standing.ensures.newest c.standing.ensures.heard c.standing.ensures.last inst log (subst (λ core. Agrees core inst.service (service_of log)) (sym c.core.ensures) s.service)) in
       c.what_is_told_is_legal.ensures c.args.commands.now manager c.args.now inst log row told.reply told.number c.keeps.ensures k s known c.requires.can
       (subst (λ (at : Stage). IsToldAt c.args.commands.now.labels manager c.args.now row at told.reply told.number) (sym c.in-Waits.is) said))
@@ -45,7 +45,7 @@ returns-in-Landed c = record {
       let row = c.args.row.now in
       let told = c.tell_carried_out.result in
       let k = subst (λ core. KnowsNewest core row.rank inst log) c.core.ensures
-      (knows c.core.result.now row.rank (subst (λ (core : KeysValue). row.rank < core.size) (sym c.core.ensures) c.requires.within)
+      (knows c.core.result.now row.rank (subst (λ (core : CoreValue). row.rank < core.size) (sym c.core.ensures) c.requires.within)
       c.standing.ensures.newest c.standing.ensures.heard c.standing.ensures.last inst log (subst (λ core. Agrees core inst.service (service_of log)) (sym c.core.ensures) s.service)) in
       c.what_is_told_is_legal.ensures c.args.commands.now manager c.args.now inst log row told.reply told.number c.keeps.ensures k s known c.requires.can
       (subst (λ (at : Stage). IsToldAt c.args.commands.now.labels manager c.args.now row at told.reply told.number) (sym c.in-Landed.is) c.tell_carried_out.ensures);

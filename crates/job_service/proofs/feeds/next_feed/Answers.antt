@@ -7,7 +7,7 @@ use Rattle.job_deeds.specs.job_states.declared.job.State.{State}
 use Rattle.job_deeds.specs.manager_rules.Limits.{names_shown}
 use Rattle.job_replies.specs.Ready.{is_inactive}
 use Rattle.job_service.proofs.Reading.{seen-log}
-use Rattle.kvs_keys.specs.Seen.{primary_heard}
+use Rattle.kvs_core.specs.Seen.{primary_heard}
 use Rattle.job_service.proofs.feeds.next_feed.Goals as goal
 
 pub events_of-requires : goal.events_of-requires

@@ -1,5 +1,5 @@
 use Rattle.std.proofs.Common.{◌≡◌, ◌∙◌, ap, ap₂, sym, subst}
-use Rattle.services.specs.kvs_keys.Agrees.{Agrees}
+use Rattle.services.specs.kvs_core.Agrees.{Agrees}
 use Rattle.std.proofs.lemmas.Result.{IfOk-weaker}
 use Rattle.services.specs.answers.Chronicle.{top}
 use Rattle.services.specs.answers.Services.{setting_of, log_of}

@@ -1,8 +1,8 @@
 use Rattle.std.proofs.Common.{◌≡◌, ◌<◌, ◌∙◌, ℕ, ap, sym, subst, true, [], ◌∷◌}
 use Rattle.std.specs.Prelude.{Some}
 use Rattle.std.proofs.lemmas.Option.{slice_get-get_or}
-use Rattle.services.specs.kvs_keys.Agrees.{Agrees}
-use Rattle.services.specs.kvs_keys.Seen.{primary_heard}
+use Rattle.services.specs.kvs_core.Agrees.{Agrees}
+use Rattle.services.specs.kvs_core.Seen.{primary_heard}
 use Rattle.services.specs.kvs_rules.Brokers.{heard}
 use Rattle.services.specs.kvs_rules.Namespaces.{primary}
 use Rattle.services.specs.answers.declared.chronicle.Entry.TheVariants as entry

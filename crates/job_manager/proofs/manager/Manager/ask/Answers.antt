@@ -1,6 +1,6 @@
 use Rattle.std.proofs.Common.{◌∙◌, append-nil, ap, false, sym, subst}
-use Rattle.kvs_keys.specs.Agrees.{Agrees}
-use Rattle.kvs_keys.specs.Requests.{AsksAtRest}
+use Rattle.kvs_core.specs.Agrees.{Agrees}
+use Rattle.kvs_core.specs.Requests.{AsksAtRest}
 use Rattle.job_manager.specs.View.{value_of}
 use Rattle.job_manager.proofs.Steps.{kept-managed, waits-same}
 use Rattle.job_manager.proofs.manager.Manager.ask.Goals as goal

@@ -11,4 +11,4 @@ invariant_of-result c = λ _.
     (begins c.in_ok-core.core c.in_ok-book.book c.args.grant.now c.args.policy _ c.in_ok-core.ensures.ready c.in_ok-core.ensures.newest c.in_ok-core.ensures.unlanded c.in_ok-core.ensures.grant c.in_ok-core.ensures.posted c.in_ok-book.ensures c.keeps.ensures (c.stores_stay_stores.ensures.first _) false)
 
 pub returns-clause-agrees : goal.returns-clause-agrees
-returns-clause-agrees c = λ set size fanout base links. c.in_ok-core.ensures.agrees set size fanout (base ∙ ap fresh (sym (c.from_vec-text.ensures ∙ c.in_ok-print.ensures.canonical))) links
+returns-clause-agrees c = λ set size fanout hash base links. c.in_ok-core.ensures.agrees set size fanout hash (base ∙ ap fresh (sym (c.from_vec-text.ensures ∙ c.in_ok-print.ensures.canonical))) links

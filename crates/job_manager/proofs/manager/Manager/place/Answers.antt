@@ -1,7 +1,7 @@
 use Rattle.std.proofs.Common.{◌≡◌, ◌<◌, ◌∙◌, ◌++◌, [], ◌∷◌, false, Some, None, length, refl, ap, sym, subst}
-use Rattle.kvs_keys.specs.Agrees.{Agrees}
-use Rattle.kvs_keys.specs.Posted.{CanPost, IsNewPost, posted}
-use Rattle.kvs_keys.specs.Posted as core
+use Rattle.kvs_core.specs.Agrees.{Agrees}
+use Rattle.kvs_core.specs.Posted.{CanPost, IsNewPost, posted}
+use Rattle.kvs_keys.specs.Posted as keys
 use Rattle.job_manager.specs.Managed.{IsOutstanding, WasDuePost}
 use Rattle.job_manager.specs.Posts.{command_of, post_of}
 use Rattle.manager_rules.specs.Posts.{txn_of}
@@ -33,6 +33,6 @@ invariant_of-self-2 c = λ _.
     let e = c.in_ok-post.ensures in
     let waits = subst (λ w. w.posted ≡ None) (sym c.self.view_is) c.requires.free in
     let none : posted v.core ≡ [] = subst (IsOutstanding v.core v.book) waits m.outstanding in
-    let made = e.posted ∙ ap (λ gs. gs ++ core.post_of c.command_of.result c.in_ok-txn.txn ∷ []) none in
-    let is = made ∙ ap (λ t. core.post_of c.command_of.result t ∷ []) c.in_ok-txn.ensures ∙ ap (λ o. core.post_of o (txn_of (post_of c.args.post)) ∷ []) c.command_of.ensures ∙ ap (λ g. g ∷ []) (group-is (post_of c.args.post)) in
+    let made = e.posted ∙ ap (λ gs. gs ++ keys.post_of c.command_of.result c.in_ok-txn.txn ∷ []) none in
+    let is = made ∙ ap (λ t. keys.post_of c.command_of.result t ∷ []) c.in_ok-txn.ensures ∙ ap (λ o. keys.post_of o (txn_of (post_of c.args.post)) ∷ []) c.command_of.ensures ∙ ap (λ g. g ∷ []) (group-is (post_of c.args.post)) in
     kept-managed v m c.post.new.self e.extends c.standing.ensures.kept c.standing-2.ensures.kept e.ready (Some (post_of c.args.post)) (is, subst (λ w. WasDuePost w.book (post_of c.args.post)) (sym c.self.view_is) c.requires.due) false

@@ -1,5 +1,5 @@
 use Rattle.std.proofs.Common.{◌∙◌, ap, sym, subst}
-use Rattle.kvs_keys.specs.Agrees.{Agrees}
+use Rattle.kvs_core.specs.Agrees.{Agrees}
 use Rattle.job_manager.specs.View.{value_of}
 use Rattle.job_manager.proofs.Steps.{kept-managed, waits-same}
 use Rattle.job_manager.proofs.manager.Manager.take.Goals as goal

@@ -5,8 +5,8 @@ use Rattle.instance_rules.specs.Log.{Born, service_of}
 use Rattle.job_commands.specs.Children.{born_child}
 use Rattle.job_commands.specs.Rows.{AreMarkedBy}
 use Rattle.job_manager.specs.Posts.{post_of}
-use Rattle.kvs_keys.specs.Agrees.{Agrees}
-use Rattle.kvs_keys.specs.Posted.{newest_of}
+use Rattle.kvs_core.specs.Agrees.{Agrees}
+use Rattle.kvs_core.specs.Posted.{newest_of}
 use Rattle.kvs_rules.specs.Namespaces.{newest_store, primary}
 use Rattle.job_service.specs.Agrees.{AgreesJobs}
 use Rattle.job_service.specs.Children.{IsBearing}

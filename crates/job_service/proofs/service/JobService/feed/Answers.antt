@@ -1,8 +1,8 @@
 use Rattle.std.proofs.Common.{◌≡◌, ◌∙◌, ◌+◌, ◌<◌, ◌++◌, ℕ, [], ◌∷◌, Some, false, sym, ap, subst, arith}
 use Rattle.instance_rules.specs.Log as rules
 use Rattle.instance_rules.specs.Log.{service_of}
-use Rattle.kvs_keys.specs.Agrees.{Agrees}
-use Rattle.kvs_keys.specs.Seen.{primary_heard, root_of}
+use Rattle.kvs_core.specs.Agrees.{Agrees}
+use Rattle.kvs_core.specs.Seen.{primary_heard, root_of}
 use Rattle.kvs_rules.specs.Brokers.{heard}
 use Rattle.kvs_rules.specs.Namespaces.{primary, store_after}
 use Rattle.job_service.specs.Agrees.{AgreesJobs, IsAgreed}

@@ -1,8 +1,8 @@
 use Rattle.std.proofs.Common.{◌≡◌, ◌∙◌, ◌++◌, ◌<◌, ◌^◌, ◌+◌, ◌≤◌, [], ◌∷◌, Some, false, true, length, sym, ap, subst, arith}
 use Rattle.std.specs.List.{AllByRecursion as Each}
 use Rattle.std.specs.Prelude.{option_map}
-use Rattle.kvs_keys.specs.Agrees.{Agrees}
-use Rattle.kvs_keys.specs.Posted.{newest_of}
+use Rattle.kvs_core.specs.Agrees.{Agrees}
+use Rattle.kvs_core.specs.Posted.{newest_of}
 use Rattle.kvs_rules.specs.Namespaces.{newest_store, primary}
 use Rattle.instance_rules.specs.Desks.{is_submission}
 use Rattle.instance_rules.specs.Log.{Issued, service_of}

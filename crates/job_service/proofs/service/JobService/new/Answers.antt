@@ -18,29 +18,29 @@ invariant_of-result c = λ _.
         order = omega arith;
         soon = omega arith;
         early = c.requires.early;
-        timed = begun_timed false c.args.terms c.args.birth c.args.setting.size c.args.setting.fanout c.args.grant.now c.in_ok-manager.manager c.in_ok-commands.commands m.book m.posted c.in_ok-commands.ensures.agrees m.agrees;
+        timed = begun_timed false c.args.terms c.args.birth c.args.setting.size c.args.setting.fanout c.args.setting.hash c.args.grant.now c.in_ok-manager.manager c.in_ok-commands.commands m.book m.posted c.in_ok-commands.ensures.agrees m.agrees;
         near = omega arith;
-        sought = begun_sought false c.args.terms c.args.birth c.args.setting.size c.args.setting.fanout c.args.grant.now c.in_ok-manager.manager c.in_ok-commands.commands m.book m.posted c.in_ok-commands.ensures.agrees m.agrees;
+        sought = begun_sought false c.args.terms c.args.birth c.args.setting.size c.args.setting.fanout c.args.setting.hash c.args.grant.now c.in_ok-manager.manager c.in_ok-commands.commands m.book m.posted c.in_ok-commands.ensures.agrees m.agrees;
         posted = subst (IsNamed c.in_ok-commands.commands c.args.birth) (sym m.posted) tt;
         named = tt;
-        counted = begun_count false c.args.terms c.args.birth c.args.setting.size c.args.setting.fanout c.args.grant.now c.in_ok-manager.manager c.in_ok-commands.commands m.book m.posted c.in_ok-commands.ensures.agrees m.agrees;
+        counted = begun_count false c.args.terms c.args.birth c.args.setting.size c.args.setting.fanout c.args.setting.hash c.args.grant.now c.in_ok-manager.manager c.in_ok-commands.commands m.book m.posted c.in_ok-commands.ensures.agrees m.agrees;
         bounded = omega arith;
-        drawn = begun_drawn false c.args.terms c.args.birth c.args.setting.size c.args.setting.fanout c.args.grant.now c.in_ok-manager.manager c.in_ok-commands.commands m.book m.posted c.in_ok-commands.ensures.agrees m.agrees;
+        drawn = begun_drawn false c.args.terms c.args.birth c.args.setting.size c.args.setting.fanout c.args.setting.hash c.args.grant.now c.in_ok-manager.manager c.in_ok-commands.commands m.book m.posted c.in_ok-commands.ensures.agrees m.agrees;
         marked = c.in_ok-commands.ensures.marked c.args.birth;
-        judged = subst (AreJudged c.args.terms.limits c.in_ok-commands.commands c.in_ok-manager.manager.book.jobs) (sym c.new-3.ensures.items) (begun_judged false c.args.terms c.args.birth c.args.setting.size c.args.setting.fanout c.args.grant.now c.in_ok-manager.manager c.in_ok-commands.commands m.book m.posted c.in_ok-commands.ensures.agrees m.agrees);
-        bearing = begun_bearing false c.args.terms c.args.birth c.args.setting.size c.args.setting.fanout c.args.grant.now c.in_ok-manager.manager c.in_ok-commands.commands m.book m.posted c.in_ok-commands.ensures.agrees m.agrees;
-        agreed = subst (λ l. IsAgreed (let v : JobServiceValue = record { spent = false; terms = c.args.terms; birth = c.args.birth; second = c.args.birth; manager = c.in_ok-manager.manager; commands = c.in_ok-commands.commands; refused = l; feeds = c.new-4.result.items; found = None; bearing = None; submitted = 0; span = 0 } in v)) (sym c.new-3.ensures.items) (subst (λ l. IsAgreed (let v : JobServiceValue = record { spent = false; terms = c.args.terms; birth = c.args.birth; second = c.args.birth; manager = c.in_ok-manager.manager; commands = c.in_ok-commands.commands; refused = []; feeds = l; found = None; bearing = None; submitted = 0; span = 0 } in v)) (sym c.new-4.ensures.items) (begun_agreed false c.args.terms c.args.birth c.args.setting.size c.args.setting.fanout c.args.grant.now c.in_ok-manager.manager c.in_ok-commands.commands m.book m.posted c.in_ok-commands.ensures.agrees m.agrees
+        judged = subst (AreJudged c.args.terms.limits c.in_ok-commands.commands c.in_ok-manager.manager.book.jobs) (sym c.new-3.ensures.items) (begun_judged false c.args.terms c.args.birth c.args.setting.size c.args.setting.fanout c.args.setting.hash c.args.grant.now c.in_ok-manager.manager c.in_ok-commands.commands m.book m.posted c.in_ok-commands.ensures.agrees m.agrees);
+        bearing = begun_bearing false c.args.terms c.args.birth c.args.setting.size c.args.setting.fanout c.args.setting.hash c.args.grant.now c.in_ok-manager.manager c.in_ok-commands.commands m.book m.posted c.in_ok-commands.ensures.agrees m.agrees;
+        agreed = subst (λ l. IsAgreed (let v : JobServiceValue = record { spent = false; terms = c.args.terms; birth = c.args.birth; second = c.args.birth; manager = c.in_ok-manager.manager; commands = c.in_ok-commands.commands; refused = l; feeds = c.new-4.result.items; found = None; bearing = None; submitted = 0; span = 0 } in v)) (sym c.new-3.ensures.items) (subst (λ l. IsAgreed (let v : JobServiceValue = record { spent = false; terms = c.args.terms; birth = c.args.birth; second = c.args.birth; manager = c.in_ok-manager.manager; commands = c.in_ok-commands.commands; refused = []; feeds = l; found = None; bearing = None; submitted = 0; span = 0 } in v)) (sym c.new-4.ensures.items) (begun_agreed false c.args.terms c.args.birth c.args.setting.size c.args.setting.fanout c.args.setting.hash c.args.grant.now c.in_ok-manager.manager c.in_ok-commands.commands m.book m.posted c.in_ok-commands.ensures.agrees m.agrees
             (subst (λ b. IsGrant b.grant.nodes) (c.book.ensures ∙ m.book) c.keeps.ensures.sets)));
       };
       submits = subst (λ p. None ≡ id_posted p) (sym m.posted) refl;
     }
 
 pub returns-clause-agrees : goal.returns-clause-agrees
-returns-clause-agrees c = λ inst of.
+returns-clause-agrees c = λ inst of digest.
     let m = c.in_ok-manager.ensures in
     subst (λ l. AgreesJobs (let v : JobServiceValue = record { spent = false; terms = c.args.terms; birth = c.args.birth; second = c.args.birth; manager = c.in_ok-manager.manager; commands = c.in_ok-commands.commands; refused = l; feeds = c.new-4.result.items; found = None; bearing = None; submitted = 0; span = 0 } in v) inst []) (sym c.new-3.ensures.items)
     (subst (λ l. AgreesJobs (let v : JobServiceValue = record { spent = false; terms = c.args.terms; birth = c.args.birth; second = c.args.birth; manager = c.in_ok-manager.manager; commands = c.in_ok-commands.commands; refused = []; feeds = l; found = None; bearing = None; submitted = 0; span = 0 } in v) inst []) (sym c.new-4.ensures.items)
-    (begun_agrees false c.args.terms c.args.birth c.args.setting.size c.args.setting.fanout c.args.grant.now c.in_ok-manager.manager c.in_ok-commands.commands m.book m.posted c.in_ok-commands.ensures.agrees m.agrees inst of))
+    (begun_agrees false c.args.terms c.args.birth c.args.setting.size c.args.setting.fanout c.args.setting.hash c.args.grant.now c.in_ok-manager.manager c.in_ok-commands.commands m.book m.posted c.in_ok-commands.ensures.agrees m.agrees inst of digest))
 
 pub returns-clause-grant : goal.returns-clause-grant
 returns-clause-grant c = subst (λ b. IsGrant b.grant.nodes) (c.book.ensures ∙ c.in_ok-manager.ensures.book) c.keeps.ensures.sets

@@ -1,10 +1,10 @@
 use Rattle.std.proofs.Common.{◌≡◌, ◌∙◌, ◌<◌, ◌⊎◌, ℕ, [], Some, IsSome, sym, ap, subst}
 use Rattle.instance_rules.specs.Family.{IsLeftAdvance}
 use Rattle.instance_rules.specs.Log.{service_of}
-use Rattle.kvs_keys.specs.Agrees.{Agrees}
-use Rattle.kvs_keys.specs.Posted.{newest_of, posted}
-use Rattle.kvs_keys.specs.Seen.{primary_heard, root_of}
-use Rattle.kvs_keys.specs.Steps.{IsStill as CoreIsStill}
+use Rattle.kvs_core.specs.Agrees.{Agrees}
+use Rattle.kvs_core.specs.Posted.{newest_of, posted}
+use Rattle.kvs_core.specs.Seen.{primary_heard, root_of}
+use Rattle.kvs_core.specs.Steps.{IsStill as CoreIsStill}
 use Rattle.kvs_rules.specs.Brokers.{heard}
 use Rattle.kvs_rules.specs.Namespaces.{newest_store, primary, store_after}
 use Rattle.job_service.specs.Agrees.{AgreesJobs}

@@ -3,7 +3,7 @@ use Rattle.services.specs.View.{IsFit}
 use Rattle.std.specs.Prelude.{slice_get}
 use Rattle.job_service.specs.kvs_rules.declared.events.KvsStep.{KvsStep}
 use Rattle.job_service.specs.kvs_keys.Order.{possible as core_possible}
-use Rattle.job_service.specs.kvs_keys.Steps.{can_step as core_can_step}
+use Rattle.job_service.specs.kvs_core.Steps.{can_step as core_can_step}
 use Rattle.content_service.specs.Steps.{can_step as contents_can_step}
 use Rattle.services.proofs.Walking.{idle-can, idle-possible, some-weaker}
 use Rattle.services.proofs.services.Services.next.Goals as goal

@@ -1,7 +1,7 @@
 use Rattle.std.proofs.Common.{◌≡◌, ◌∙◌, ◌||◌, true, ap, subst}
 use Rattle.std.proofs.lemmas.Result.{IfOk-weaker}
 use Rattle.job_service.specs.kvs_keys.Order.{possible_losses as core_losses}
-use Rattle.job_service.specs.kvs_keys.Steps.{can_step as core_can_step}
+use Rattle.job_service.specs.kvs_core.Steps.{can_step as core_can_step}
 use Rattle.job_service.specs.kvs_keys.Walk.{nth}
 use Rattle.content_service.specs.Steps.{can_step as contents_can_step}
 use Rattle.services.proofs.services.Services.nth_loss.Goals as goal

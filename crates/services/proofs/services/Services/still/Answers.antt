@@ -1,9 +1,9 @@
 use Rattle.std.proofs.Common.{◌∙◌, ◌⊎◌, ◌<◌, IsSome, ap, sym, subst}
 use Rattle.job_service.specs.instance_rules.Family.{IsLeftAdvance}
 use Rattle.job_service.specs.instance_rules.Log.{service_of}
-use Rattle.job_service.specs.kvs_keys.Agrees.{Agrees}
-use Rattle.job_service.specs.kvs_keys.Seen.{primary_heard}
-use Rattle.job_service.specs.kvs_keys.Steps.{IsStill as CoreIsStill}
+use Rattle.job_service.specs.kvs_core.Agrees.{Agrees}
+use Rattle.job_service.specs.kvs_core.Seen.{primary_heard}
+use Rattle.job_service.specs.kvs_core.Steps.{IsStill as CoreIsStill}
 use Rattle.job_service.specs.Children.{is_due}
 use Rattle.job_service.specs.Still.{awaited}
 use Rattle.job_service.specs.Times.{targets_left}

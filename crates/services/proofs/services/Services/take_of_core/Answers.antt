@@ -1,5 +1,5 @@
 use Rattle.std.proofs.Common.{◌≡◌, ◌∙◌, ◌++◌, ◌∷◌, [], true, ap, sym, subst}
-use Rattle.job_service.specs.kvs_keys.Steps.{can_take as core_can_take}
+use Rattle.job_service.specs.kvs_core.Steps.{can_take as core_can_take}
 use Rattle.job_service.specs.kvs_rules.Log.{Happened}
 use Rattle.job_service.specs.kvs_rules.declared.events.KvsEvent.TheVariants as event
 use Rattle.job_service.specs.instance_rules.Log.{Served}
