@@ -18,7 +18,7 @@ use instance::lists::Bytes;
 use instance::manager_rules::Terms;
 use instance::resource_set::Resources;
 use instance::workload::{ActorList, Workload};
-use instance::{Instance, CoreFault, Setting};
+use instance::{CoreFault, Instance, Setting};
 use std::alloc::{AllocError, Global};
 
 /// The most brokers of an instance.

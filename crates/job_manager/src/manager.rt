@@ -27,7 +27,7 @@ use crate::post::{Post, Submission};
 use crate::txns::{command_of, txn_of};
 use job_book::Book;
 use job_spec::accepted_texts_tell_jobspecs;
-use kvs_core::{Held, Core, CoreFault, Request, Setting};
+use kvs_core::{Core, CoreFault, Held, Request, Setting};
 use kvs_model::stores_stay_stores;
 use kvs_rules::{KvsAsk, KvsEvent, KvsStep};
 use kvs_space::KvsEvents;

@@ -1,11 +1,6 @@
-mod Beginning
-mod Beside
-mod Links
-mod Linking
+mod Numbering
 mod Resting
-mod Staying
 mod Turning
-mod Walking
 pub mod Waiting
 -- what lies below, for the crates that stand on this one
 pub use Rattle.job_service.proofs.answers_proofs as answers_proofs

@@ -1,9 +1,8 @@
 -- What is asked of the services, and what is told.
 use Rattle.std.specs.Prelude.{◌≡◌, ℕ, [], ◌∷◌, ◌++◌, Option, Some}
 use Rattle.job_service.specs.kvs_model.Store.{Name}
-use Rattle.job_service.specs.kvs_requests.Rows.{IsKnownAsk}
+use Rattle.job_service.specs.kvs_core.Requests as core
 use Rattle.job_service.specs.kvs_rules.declared.events.KvsAsk.{KvsAsk}
-use Rattle.job_service.specs.kvs_rules.declared.events.KvsAsk.TheVariants as ask
 use Rattle.job_service.specs.kvs_rules.declared.events.KvsAnswer.{KvsAnswer}
 use Rattle.job_service.specs.kvs_rules.declared.events.KvsEvent.TheVariants as event
 use Rattle.job_service.specs.kvs_rules.Brokers.{heard}
@@ -23,13 +22,9 @@ use Rattle.job_service.specs.Times.{KeepsCounts}
 use Rattle.services.specs.Agrees.{AgreesServices}
 use Rattle.services.specs.Value.{ServicesValue}
 
--- what the services carry out: what the core does, and all that is asked of contents
+-- what the services carry out: what the core does
 abbrev pub IsServedAsk : KvsAsk → Type 0
-IsServedAsk (ask.Store bytes) = Unit {0}
-IsServedAsk (ask.Load reference) = Unit {0}
-IsServedAsk ask.Flush = Unit {0}
-IsServedAsk ask.DropClean = Unit {0}
-IsServedAsk asked = IsKnownAsk asked
+IsServedAsk asked = core.IsServedAsk asked
 
 -- as many brokers, submissions and seconds of advances as before
 pub record Keeps (old new : ServicesValue) : Type 0 where

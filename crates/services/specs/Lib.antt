@@ -6,8 +6,6 @@ pub mod Agrees
 pub mod Asks
 pub mod Makes
 pub mod View
--- what the code keeps to that end
-pub mod Walk
 -- what lies below, for the crates that stand on this one
 pub use Rattle.job_service.specs.answers as answers
 pub use Rattle.job_service.specs.child_grant as child_grant

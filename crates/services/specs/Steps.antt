@@ -1,21 +1,20 @@
 -- Which steps the services can make.
-use Rattle.std.specs.Prelude.{◌≡◌, ◌||◌, Bool, false}
+use Rattle.std.specs.Prelude.{◌≡◌, Bool, false}
 use Rattle.job_service.specs.kvs_txn.declared.txn.By.{By}
 use Rattle.job_service.specs.kvs_rules.declared.events.KvsStep.{KvsStep}
-use Rattle.job_service.specs.kvs_core.Steps.{can_step as core_can_step, can_take as core_can_take}
-use Rattle.content_service.specs.Steps.{can_step as contents_can_step, can_take as contents_can_take}
+use Rattle.job_service.specs.kvs_core.Steps as core
 use Rattle.job_service.specs.Children.{is_due}
 use Rattle.job_service.specs.Feeds.{can_feed}
 use Rattle.job_service.specs.Replies.{can_reply}
 use Rattle.services.specs.Value.{ServicesValue}
 
--- whether the core or the contents can make the step
+-- whether the core can make the step
 abbrev pub can_step : ServicesValue → KvsStep → Bool
-can_step v s = core_can_step v.jobs.manager.core s || contents_can_step v.contents s
+can_step v s = core.can_step v.jobs.manager.core s
 
 -- whether the command's answer waits to be taken
 abbrev pub can_take : ServicesValue → By → Bool
-can_take v by = core_can_take v.jobs.manager.core by || contents_can_take v.contents by
+can_take v by = core.can_take v.jobs.manager.core by
 
 -- the key-value service and the contents have come to rest: no step can be made, and no answer waits
 -- to be taken

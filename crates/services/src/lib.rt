@@ -1,5 +1,5 @@
-//! The services of one instance (Flux RFC 10, 11, 14, 16 and 21): the key-value service with the
-//! jobs over it, and the contents. They stand beside each other over one log.
+//! The services of one instance (Flux RFC 10, 11, 14, 16 and 21): its jobs over the key-value service
+//! with its contents.
 #![tactic(auto)]
 
 // The crates below that those above reach through this one.

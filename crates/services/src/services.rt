@@ -4,7 +4,6 @@ ghost use Rattle.job_service.specs.kvs_model.Store.{Name};
 ghost use Rattle.job_service.specs.kvs_rules.Namespaces.{is_live, landed, primary};
 ghost use Rattle.job_service.specs.kvs_rules.Quiet.{IsQuiet};
 ghost use Rattle.job_service.specs.kvs_rules.Brokers.{heard};
-ghost use Rattle.content_service.specs.Asks.{is_content};
 ghost use Rattle.job_service.specs.instance_rules.Desks.{is_submission};
 ghost use Rattle.job_service.specs.instance_rules.Family.{HasTarget, IsLeftAdvance, IsLeftResult, Living};
 ghost use Rattle.job_service.specs.instance_rules.Legal.{IsLegalMoment, OfDesk};
@@ -25,22 +24,15 @@ ghost use Rattle.job_service.specs.resource_set.Valid.{IsR};
 ghost use Rattle.services.specs.Agrees.{AgreesServices, IsGiven};
 ghost use Rattle.services.specs.Asks.{AgreesOnce, Answers, Feeds, IsServedAsk, Keeps, MayAsk, Tells};
 ghost use Rattle.services.specs.Makes.{Makes};
-ghost use Rattle.services.specs.Order.{possible};
-ghost use Rattle.job_service.specs.kvs_requests.Rows.{IsKnownAsk};
+ghost use Rattle.job_service.specs.kvs_keys.Walk.{nth};
+ghost use Rattle.services.specs.Order.{possible, possible_losses};
 ghost use Rattle.job_service.specs.kvs_core.Seen.{primary_heard};
-ghost use Rattle.job_service.specs.kvs_core.Steps.{can_step as core_can_step, can_take as core_can_take};
-ghost use Rattle.content_service.specs.Steps.{can_step as contents_can_step, can_take as contents_can_take};
 ghost use Rattle.services.specs.Steps.{HaveRested, IsStill, can_step, can_take};
 
-mod walk;
-
-use content_service::ContentService;
-use content_service::laws::others_leave_the_contents;
 use job_service::job_commands::JobAsk;
 use job_service::job_replies::Told;
-use job_service::kvs_keys::laws::content_moments_leave_the_keys;
-use job_service::kvs_core::{Held, Core, CoreFault, KvsEvents, Setting};
-use job_service::kvs_rules::{KvsAnswer, KvsAsk, KvsStep};
+use job_service::kvs_core::{Core, CoreFault, Held, KvsEvents, Setting};
+use job_service::kvs_rules::{KvsAsk, KvsStep};
 use job_service::kvs_txn::By;
 use job_service::lists::Bytes;
 use job_service::manager_rules::Terms;
@@ -49,15 +41,13 @@ use job_service::{Fed, JobService};
 use std::alloc::{AllocError, Global};
 use std::marker::Model;
 
-/// The services of an instance: its jobs with the core below them, and the contents. Each call goes
-/// on from whatever log both agree with.
+/// The services of an instance: its jobs with the core below them. Each call goes on from whatever
+/// log they agree with.
 #[derive(Drop)]
 pub struct Services {
     spent: bool,
     size: u32,
-    fanout: u32,
     jobs: JobService,
-    contents: ContentService,
 }
 
 impl Model for Services {
@@ -70,16 +60,6 @@ impl Model for Services {
     ghost view = { value_of };
 
     ghost invariant = { IsFitInside };
-}
-
-/// Whether what is asked is about contents.
-fn is_content(ask: &KvsAsk) -> bool
-    ensures { result ≡ is_content ask.now }
-{
-    matches!(
-        ask,
-        KvsAsk::Store { .. } | KvsAsk::Load { .. } | KvsAsk::Flush | KvsAsk::DropClean
-    )
 }
 
 impl Services {
@@ -105,13 +85,10 @@ impl Services {
             → AgreesServices v inst []) }
     {
         let jobs = JobService::new(alloc, setting, grant, birth, terms)?;
-        let contents = ContentService::new(alloc, setting.size, setting.fanout, setting.hash)?;
         Ok(Services {
             spent: false,
             size: setting.size,
-            fanout: setting.fanout,
             jobs,
-            contents,
         })
     }
 
@@ -134,54 +111,8 @@ impl Services {
         self.jobs.core()
     }
 
-    /// A command asks the core.
-    fn ask_core(
-        &mut self,
-        by: By,
-        broker: u32,
-        namespace: Bytes,
-        floor: u64,
-        ask: KvsAsk,
-    ) -> Result<(), AllocError>
-        requires ready { self.old.spent ≡ false }
-        requires within { broker < self.old.size }
-        requires known { IsKnownAsk ask }
-        requires plain { is_content ask ≡ false }
-        requires may { MayAsk self.old by broker namespace ask }
-        ensures ready { OnOk result (self.new.spent ≡ false) }
-        ensures keeps { OnOk result (Keeps self.old self.new) }
-        ensures spent { OnErr result (self.new.spent ≡ true) }
-        ensures agrees { OnOk result
-            (AgreesOnce self.old self.new by floor broker namespace ask) }
-    {
-        others_leave_the_contents();
-        self.spent = true;
-        self.jobs.ask(by, broker, namespace, floor, ask)?;
-        self.spent = false;
-        Ok(())
-    }
-
-    /// A command asks the contents.
-    fn ask_contents(&mut self, by: By, broker: u32, ask: KvsAsk) -> Result<(), AllocError>
-        requires ready { self.old.spent ≡ false }
-        requires within { broker < self.old.size }
-        requires about { is_content ask ≡ true }
-        requires may { (space : Name) × MayAsk self.old by broker space ask }
-        ensures ready { OnOk result (self.new.spent ≡ false) }
-        ensures keeps { OnOk result (Keeps self.old self.new) }
-        ensures spent { OnErr result (self.new.spent ≡ true) }
-        ensures agrees { OnOk result ((space : Name) (floor : ℕ)
-            → AgreesOnce self.old self.new by floor broker space ask) }
-    {
-        content_moments_leave_the_keys();
-        self.spent = true;
-        self.contents.request(by, broker, ask)?;
-        self.spent = false;
-        Ok(())
-    }
-
-    /// A command asks, which has asked nothing before: the contents, where it asks about them, and
-    /// else the core. After an error the services are spent.
+    /// A command asks the core, which has asked nothing before. After an error the services are
+    /// spent.
     pub fn ask(
         &mut self,
         by: By,
@@ -200,11 +131,10 @@ impl Services {
         ensures agrees { OnOk result
             (AgreesOnce self.old self.new by floor broker namespace ask) }
     {
-        if is_content(&ask) {
-            self.ask_contents(by, broker, ask)
-        } else {
-            self.ask_core(by, broker, namespace, floor, ask)
-        }
+        self.spent = true;
+        self.jobs.ask(by, broker, namespace, floor, ask)?;
+        self.spent = false;
+        Ok(())
     }
 
     /// Whether a step can be made.
@@ -212,7 +142,7 @@ impl Services {
         requires { self.now.spent ≡ false }
         ensures { result ≡ can_step self.now step }
     {
-        self.core().can(step) || self.contents.can(step)
+        self.core().can(step)
     }
 
     /// The first step that can be made: a delivery by sender and receiver, then a service by
@@ -223,54 +153,39 @@ impl Services {
         ensures some { IfSome result (λ step. can_step self.now step ≡ true) }
         ensures none { result ≡ None → (step : KvsStep) → can_step self.now step ≡ false }
     {
-        // the core finds its first step in one pass
-        if self.contents.is_idle() {
-            return self.core().next();
-        }
-        self.first_of_both()
+        self.core().next()
     }
 
-    /// Makes a step of the core.
-    fn turn_core(&mut self, step: KvsStep) -> Result<KvsEvents, CoreFault>
-        requires ready { self.old.spent ≡ false }
-        requires can { core_can_step self.old.jobs.manager.core step ≡ true }
-        ensures makes { IfOk result (Makes step self.old self.new) }
-        ensures spent { OnErr result (self.new.spent ≡ true) }
+    /// The step of this number, from 0, among those that can be made, in their order; or, where
+    /// there are no more than so many, what the number has left behind them all.
+    pub fn nth(&self, number: u64) -> Result<KvsStep, u64>
+        requires { self.now.spent ≡ false }
+        ensures value { result ≡ nth (possible self.now) number }
+        ensures can { IfOk result (λ step. can_step self.now step ≡ true) }
     {
-        others_leave_the_contents();
-        self.spent = true;
-        let events = self.jobs.turn(step)?;
-        self.spent = false;
-        Ok(events)
+        self.core().nth(number)
     }
 
-    /// Makes a step of the contents, which the core can't make.
-    fn turn_contents(&mut self, step: KvsStep) -> Result<KvsEvents, AllocError>
-        requires ready { self.old.spent ≡ false }
-        requires cannot { core_can_step self.old.jobs.manager.core step ≡ false }
-        requires can { contents_can_step self.old.contents step ≡ true }
-        ensures makes { IfOk result (Makes step self.old self.new) }
-        ensures spent { OnErr result (self.new.spent ≡ true) }
+    /// The loss of this number, from 0, among those that can be made, in their order; or, where
+    /// there are no more than so many, what the number has left behind them all.
+    pub fn nth_loss(&self, number: u64) -> Result<KvsStep, u64>
+        requires { self.now.spent ≡ false }
+        ensures value { result ≡ nth (possible_losses self.now) number }
+        ensures can { IfOk result (λ step. can_step self.now step ≡ true) }
     {
-        content_moments_leave_the_keys();
-        self.spent = true;
-        let events = self.contents.turn(step)?;
-        self.spent = false;
-        Ok(events)
+        self.core().nth_loss(number)
     }
 
-    /// Makes a step: the core does where it can, and else the contents do; and tells what happened.
-    /// After an error the services are spent.
+    /// Makes a step, and tells what happened. After an error the services are spent.
     pub fn turn(&mut self, step: KvsStep) -> Result<KvsEvents, CoreFault>
         requires ready { self.old.spent ≡ false }
         requires can { can_step self.old step ≡ true }
         ensures makes { IfOk result (Makes step self.old self.new) }
         ensures spent { OnErr result (self.new.spent ≡ true) }
     {
-        if self.core().can(step) {
-            return self.turn_core(step);
-        }
-        let events = self.turn_contents(step)?;
+        self.spent = true;
+        let events = self.jobs.turn(step)?;
+        self.spent = false;
         Ok(events)
     }
 
@@ -279,7 +194,7 @@ impl Services {
         requires { self.now.spent ≡ false }
         ensures { result ≡ can_take self.now by }
     {
-        self.core().can_take(by) || self.contents.can_take(by)
+        self.core().can_take(by)
     }
 
     /// Marks, besides those that are marked, the actors whose answer waits to be taken, each to its
@@ -294,31 +209,6 @@ impl Services {
             (record { actor = actor; command = slice_index_or commands.now actor 0 })) }
     {
         self.core().mark_held(commands, marks);
-        self.contents.mark_held(commands, marks);
-    }
-
-    /// Takes the core's answer to a command.
-    fn take_of_core(&mut self, by: By) -> Held
-        requires ready { self.old.spent ≡ false }
-        requires can { core_can_take self.old.jobs.manager.core by ≡ true }
-        ensures ready { self.new.spent ≡ false }
-        ensures keeps { Keeps self.old self.new }
-        ensures tells { Tells self.old self.new by result.number result.answer }
-    {
-        others_leave_the_contents();
-        self.jobs.take(by)
-    }
-
-    /// Takes the contents' answer to a command.
-    fn take_of_contents(&mut self, by: By) -> KvsAnswer
-        requires ready { self.old.spent ≡ false }
-        requires can { contents_can_take self.old.contents by ≡ true }
-        ensures ready { self.new.spent ≡ false }
-        ensures keeps { Keeps self.old self.new }
-        ensures tells { Tells self.old self.new by None result }
-    {
-        content_moments_leave_the_keys();
-        self.contents.take(by)
     }
 
     /// Takes the answer to a command, which its actor is then told. This takes no memory.
@@ -329,13 +219,7 @@ impl Services {
         ensures keeps { Keeps self.old self.new }
         ensures tells { Tells self.old self.new by result.number result.answer }
     {
-        if self.core().can_take(by) {
-            return self.take_of_core(by);
-        }
-        Held {
-            number: None,
-            answer: self.take_of_contents(by),
-        }
+        self.jobs.take(by)
     }
 
     /// Issues a job command at its broker. After an error the services are spent.
@@ -506,10 +390,9 @@ impl Services {
             → (by : Command) (where_ : State) → awaited self.now.jobs by ≡ Some where_
             → IsLeftResult l by where_ }
     {
-        // where none of the three can go on, what each has left is known
+        // where neither can go on, what each has left is known
         self.core().still();
         self.core().standing();
-        self.contents.still();
         self.jobs.still();
     }
 }

@@ -66,7 +66,7 @@ module _ (v : WorldValue) where
   in_kept kind.Turn before i h s c =
       let m = from_map (step.Kvs i) (turns h.instance.services) s c in
       let w = from_filter _ _ m.0 m.1 in
-      subst (λ t. is_loss t ≡ false) m.2 (kept h.instance.services.size (length h.instance.services.jobs.manager.core.spaces) i m.0 w.0)
+      subst (λ t. is_loss t ≡ false) m.2 (kept h.instance.services.size (length h.instance.services.jobs.manager.core.keys.spaces) i m.0 w.0)
   in_kept kind.Feed before i h s c = (let m = from_map step.Feed (feeds h.instance) s c in subst (λ t. is_loss t ≡ false) m.2 refl)
   in_kept kind.Reply before i h s c = (let m = from_map step.Answer (answers h.instance) s c in subst (λ t. is_loss t ≡ false) m.2 refl)
   in_kept kind.Post before i h s c = (let m = from_only v (can_post h.instance) (step.Post i) s c in subst (λ t. is_loss t ≡ false) m.1 refl)

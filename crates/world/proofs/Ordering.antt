@@ -271,7 +271,7 @@ module _ (v : WorldValue) where
         lived : (k : Kind) → Contains (steps_in v k i h) s → can_make v s ≡ true
         lived kind.Turn c =
             let m = from_map (step.Kvs i) (turns h.instance.services) s c in
-            let w = from_filter (can_step h.instance.services) (all_steps h.instance.services.size (length h.instance.services.jobs.manager.core.spaces)) m.0 m.1 in
+            let w = from_filter (can_step h.instance.services) (all_steps h.instance.services.size (length h.instance.services.jobs.manager.core.keys.spaces)) m.0 m.1 in
             subst (λ t. can_make v t ≡ true) m.2 (of_is i h (λ h. can_step h.instance.services m.0) here alive w.1)
         lived kind.Feed c =
             let m = from_map step.Feed (feeds h.instance) s c in

@@ -2,8 +2,7 @@ use Rattle.std.proofs.Common.{◌∙◌, ◌++◌, ◌∷◌, [], ap, sym, subst
 use Rattle.job_service.specs.instance_rules.Log.{Fed}
 use Rattle.services.specs.Agrees.{AgreesServices}
 use Rattle.services.specs.View.{IsFit, value_of}
-use Rattle.services.proofs.Staying.{fed_is}
-use Rattle.services.proofs.Turning.{beside, jobs-fit}
+use Rattle.services.proofs.Turning.{jobs-fit, onward}
 use Rattle.services.proofs.services.Services.feed.Goals as goal
 
 pub invariant_of-self-2 : goal.invariant_of-self-2
@@ -11,11 +10,7 @@ invariant_of-self-2 c = λ _.
     let v = value_of c.self.inside in
     let fit : IsFit v = c.self.invariant (ap (λ v. v.spent) c.self.view_is ∙ c.requires.ready) in
     let e = c.in_ok-fed.ensures in
-    let fed = c.in_ok-fed.fed in
-    let l = fit.jobs_log in
-    let f = e.feeds l.inst l.log l.agrees in
     jobs-fit v fit c.feed.new.self e.ready e.counts.size
-    (record { inst = l.inst; log = l.log ++ Fed c.args.by fed.number fed.first fed.count ∷ []; fanout = l.fanout; agrees = f.agrees })
 
 pub returns-clause-feeds : goal.returns-clause-feeds
 returns-clause-feeds c = λ inst log a₀.
@@ -25,5 +20,5 @@ returns-clause-feeds c = λ inst log a₀.
     record {
       number = f.number;
       legal = f.legal;
-      agrees = beside (value_of c.self.inside) c.feed.new.self inst log (log ++ Fed c.args.by fed.number fed.first fed.count ∷ []) (fed_is log c.args.by fed.number fed.first fed.count) a f.agrees;
+      agrees = onward (value_of c.self.inside) c.feed.new.self inst log (log ++ Fed c.args.by fed.number fed.first fed.count ∷ []) a f.agrees;
     }

@@ -2,8 +2,7 @@ use Rattle.std.proofs.Common.{◌∙◌, ◌++◌, ◌∷◌, [], ap, sym, subst
 use Rattle.job_service.specs.instance_rules.Log.{Gone}
 use Rattle.services.specs.Agrees.{AgreesServices}
 use Rattle.services.specs.View.{IsFit, value_of}
-use Rattle.services.proofs.Staying.{gone_is}
-use Rattle.services.proofs.Turning.{beside, jobs-fit, jobs-later}
+use Rattle.services.proofs.Turning.{jobs-fit, onward}
 use Rattle.services.proofs.services.Services.gone.Goals as goal
 
 pub invariant_of-self-2 : goal.invariant_of-self-2
@@ -11,7 +10,7 @@ invariant_of-self-2 c = λ _.
     let v = value_of c.self.inside in
     let fit : IsFit v = c.self.invariant (ap (λ v. v.spent) c.self.view_is ∙ c.requires.ready) in
     let e = c.in_ok-gone.ensures in
-    jobs-fit v fit c.gone.new.self e.ready e.counts.size (jobs-later v fit c.gone.new.self (λ inst log. log ++ Gone c.args.job c.args.shut ∷ []) e.agrees)
+    jobs-fit v fit c.gone.new.self e.ready e.counts.size
 
 pub returns-clause-legal : goal.returns-clause-legal
 returns-clause-legal c = λ inst log a. c.in_ok-gone.ensures.legal inst log (subst (λ v. AgreesServices v inst log) (sym c.self.view_is) a).jobs
@@ -19,4 +18,4 @@ returns-clause-legal c = λ inst log a. c.in_ok-gone.ensures.legal inst log (sub
 pub returns-clause-agrees : goal.returns-clause-agrees
 returns-clause-agrees c = λ inst log a₀.
     let a = subst (λ v. AgreesServices v inst log) (sym c.self.view_is) a₀ in
-    beside (value_of c.self.inside) c.gone.new.self inst log (log ++ Gone c.args.job c.args.shut ∷ []) (gone_is log c.args.job c.args.shut) a (c.in_ok-gone.ensures.agrees inst log a.jobs)
+    onward (value_of c.self.inside) c.gone.new.self inst log (log ++ Gone c.args.job c.args.shut ∷ []) a (c.in_ok-gone.ensures.agrees inst log a.jobs)

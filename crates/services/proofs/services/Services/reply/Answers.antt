@@ -2,8 +2,7 @@ use Rattle.std.proofs.Common.{◌∙◌, ◌++◌, ◌∷◌, [], ap, sym, subst
 use Rattle.job_service.specs.instance_rules.Log.{Replied}
 use Rattle.services.specs.Agrees.{AgreesServices}
 use Rattle.services.specs.View.{IsFit, value_of}
-use Rattle.services.proofs.Staying.{replied_is}
-use Rattle.services.proofs.Turning.{beside, jobs-fit}
+use Rattle.services.proofs.Turning.{jobs-fit, onward}
 use Rattle.services.proofs.services.Services.reply.Goals as goal
 
 pub invariant_of-self-2 : goal.invariant_of-self-2
@@ -11,10 +10,7 @@ invariant_of-self-2 c = λ _.
     let v = value_of c.self.inside in
     let fit : IsFit v = c.self.invariant (ap (λ v. v.spent) c.self.view_is ∙ c.requires.ready) in
     let e = c.in_ok-told.ensures in
-    let l = fit.jobs_log in
-    let r = e.answers l.inst l.log l.agrees in
     jobs-fit v fit c.reply.new.self e.ready e.counts.size
-    (record { inst = l.inst; log = l.log ++ Replied c.args.by r.reply c.in_ok-told.told.number ∷ []; fanout = l.fanout; agrees = r.agrees })
 
 pub returns-clause-answers : goal.returns-clause-answers
 returns-clause-answers c = λ inst log a₀.
@@ -25,5 +21,5 @@ returns-clause-answers c = λ inst log a₀.
       reply = r.reply;
       hands = r.hands;
       legal = r.legal;
-      agrees = beside (value_of c.self.inside) c.reply.new.self inst log (log ++ Replied c.args.by r.reply number ∷ []) (replied_is log c.args.by r.reply number) a r.agrees;
+      agrees = onward (value_of c.self.inside) c.reply.new.self inst log (log ++ Replied c.args.by r.reply number ∷ []) a r.agrees;
     }

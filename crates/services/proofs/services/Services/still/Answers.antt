@@ -10,7 +10,7 @@ use Rattle.job_service.specs.Times.{targets_left}
 use Rattle.services.specs.Agrees.{AgreesServices}
 use Rattle.services.specs.Steps.{HaveRested, IsStill, can_step, can_take}
 use Rattle.services.specs.View.{value_of}
-use Rattle.services.proofs.Resting.{contents_rest, core_rests, heard_last, jobs_still, open_are_cores}
+use Rattle.services.proofs.Resting.{core_rests, heard_last, jobs_still}
 use Rattle.services.proofs.services.Services.still.Goals as goal
 
 pub returns-clause-quiet : goal.returns-clause-quiet
@@ -20,7 +20,6 @@ returns-clause-quiet c = λ inst log a₀ rested₀.
     let rested = subst HaveRested (sym c.self.view_is) rested₀ in
     let here = sym (c.core.ensures.value ∙ sym (ap (λ v. v.jobs.manager.core) c.self.view_is)) in
     c.still.ensures.quiet inst.service (service_of log) (subst (λ k. Agrees k inst.service (service_of log)) here a.jobs.core) (subst CoreIsStill here (core_rests v rested))
-    (open_are_cores inst.service (service_of log) (c.still-2.ensures inst.service (service_of log) a.contents (contents_rest v rested)))
 
 pub returns-clause-heard : goal.returns-clause-heard
 returns-clause-heard c = λ inst log a₀ rested₀.
@@ -43,12 +42,12 @@ returns-clause-last c = λ inst log a₀ rested₀ broker within.
 pub returns-clause-idle : goal.returns-clause-idle
 returns-clause-idle c = λ inst log a₀ still₀.
     let a = subst (λ v. AgreesServices v inst log) (sym c.self.view_is) a₀ in
-    c.still-3.ensures.idle inst log a.jobs (jobs_still (value_of c.self.inside) (subst IsStill (sym c.self.view_is) still₀))
+    c.still-2.ensures.idle inst log a.jobs (jobs_still (value_of c.self.inside) (subst IsStill (sym c.self.view_is) still₀))
 
 pub returns-clause-advanced : goal.returns-clause-advanced
 returns-clause-advanced c = λ inst log l a₀ still₀ late.
     let a = subst (λ v. AgreesServices v inst log) (sym c.self.view_is) a₀ in
-    c.still-3.ensures.advanced inst log l a.jobs (jobs_still (value_of c.self.inside) (subst IsStill (sym c.self.view_is) still₀)) (ap (λ v. targets_left v.jobs) c.self.view_is ∙ late)
+    c.still-2.ensures.advanced inst log l a.jobs (jobs_still (value_of c.self.inside) (subst IsStill (sym c.self.view_is) still₀)) (ap (λ v. targets_left v.jobs) c.self.view_is ∙ late)
 
 pub returns-clause-free : goal.returns-clause-free
 returns-clause-free c = λ steps answers unfound unborn.
@@ -56,16 +55,16 @@ returns-clause-free c = λ steps answers unfound unborn.
       steps = λ s. ap (λ v. can_step v s) c.self.view_is ∙ steps s;
       answers = λ by. ap (λ v. can_take v by) c.self.view_is ∙ answers by;
     }) in
-    sym (ap (λ v. is_due v.jobs) c.self.view_is) ∙ c.still-3.ensures.free core (ap (λ v. v.jobs.found) c.self.view_is ∙ unfound) (ap (λ v. v.jobs.bearing) c.self.view_is ∙ unborn)
+    sym (ap (λ v. is_due v.jobs) c.self.view_is) ∙ c.still-2.ensures.free core (ap (λ v. v.jobs.found) c.self.view_is ∙ unfound) (ap (λ v. v.jobs.bearing) c.self.view_is ∙ unborn)
 
 pub returns-clause-left : goal.returns-clause-left
 returns-clause-left c = λ inst log l a₀ still₀ lives by some other waits.
     let a = subst (λ v. AgreesServices v inst log) (sym c.self.view_is) a₀ in
     subst (λ v. IsSome (awaited v.jobs by) ⊎ IsLeftAdvance l by) c.self.view_is
-    (c.still-3.ensures.left inst log l a.jobs (jobs_still (value_of c.self.inside) (subst IsStill (sym c.self.view_is) still₀)) lives (returns-clause-quiet c inst log a₀ still₀.rested).told by some other waits)
+    (c.still-2.ensures.left inst log l a.jobs (jobs_still (value_of c.self.inside) (subst IsStill (sym c.self.view_is) still₀)) lives (returns-clause-quiet c inst log a₀ still₀.rested).told by some other waits)
 
 pub returns-clause-results : goal.returns-clause-results
 returns-clause-results c = λ inst log l a₀ still₀ top by where_ is.
     let a = subst (λ v. AgreesServices v inst log) (sym c.self.view_is) a₀ in
-    c.still-3.ensures.results inst log l a.jobs top by where_ (ap (λ v. awaited v.jobs by) c.self.view_is ∙ is)
+    c.still-2.ensures.results inst log l a.jobs top by where_ (ap (λ v. awaited v.jobs by) c.self.view_is ∙ is)
     (jobs_still (value_of c.self.inside) (subst IsStill (sym c.self.view_is) still₀)) (returns-clause-quiet c inst log a₀ still₀.rested).told

@@ -3,8 +3,7 @@ use Rattle.job_service.specs.instance_rules.Log.{Ticked}
 use Rattle.services.specs.Agrees.{AgreesServices}
 use Rattle.services.specs.Asks.{Keeps}
 use Rattle.services.specs.View.{IsFit, value_of}
-use Rattle.services.proofs.Staying.{ticked_is}
-use Rattle.services.proofs.Turning.{beside, jobs-fit, jobs-later, with_jobs}
+use Rattle.services.proofs.Turning.{jobs-fit, onward, with_jobs}
 use Rattle.services.proofs.services.Services.tick.Goals as goal
 
 pub invariant_of-self-2 : goal.invariant_of-self-2
@@ -12,7 +11,7 @@ invariant_of-self-2 c = λ _.
     let v = value_of c.self.inside in
     let fit : IsFit v = c.self.invariant (ap (λ v. v.spent) c.self.view_is ∙ c.requires.ready) in
     let e = c.in_ok-tick.ensures in
-    jobs-fit v fit c.tick.new.self e.ready e.counts.size (jobs-later v fit c.tick.new.self (λ inst log. log ++ Ticked c.args.second ∷ []) e.agrees)
+    jobs-fit v fit c.tick.new.self e.ready e.counts.size
 
 pub returns-clause-keeps : goal.returns-clause-keeps
 returns-clause-keeps c =
@@ -24,4 +23,4 @@ returns-clause-legal c = λ inst log a. c.in_ok-tick.ensures.legal inst log (sub
 pub returns-clause-agrees : goal.returns-clause-agrees
 returns-clause-agrees c = λ inst log a₀.
     let a = subst (λ v. AgreesServices v inst log) (sym c.self.view_is) a₀ in
-    beside (value_of c.self.inside) c.tick.new.self inst log (log ++ Ticked c.args.second ∷ []) (ticked_is log c.args.second) a (c.in_ok-tick.ensures.agrees inst log a.jobs)
+    onward (value_of c.self.inside) c.tick.new.self inst log (log ++ Ticked c.args.second ∷ []) a (c.in_ok-tick.ensures.agrees inst log a.jobs)
