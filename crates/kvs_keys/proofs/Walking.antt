@@ -1,6 +1,6 @@
 -- A step of a walk over the steps that can be made.
-use Rattle.std.proofs.Common.{◌≡◌, ◌∙◌, ℕ, zero, suc, ◌+◌, ◌-◌, ◌<◌, ◌≤◌, List, [], ◌∷◌, ◌++◌, Bool, true, false, cond, ap, arith}
-use Rattle.std.specs.Prelude.{Ok, Err}
+use Rattle.std.proofs.Common.{◌≡◌, ◌∙◌, ℕ, zero, suc, ◌+◌, ◌-◌, ◌<◌, ◌≤◌, List, [], ◌∷◌, ◌++◌, Bool, true, false, cond, refl, ap, arith}
+use Rattle.std.specs.Prelude.{Ok, Err, Some, None, slice_get}
 use Rattle.std.specs.List.{filter, range_with_len}
 use Rattle.std.proofs.lemmas.List.Elements.{filter-append}
 use Rattle.kvs_keys.specs.Walk.{nth}
@@ -29,6 +29,15 @@ module _ {X : Type 0} where
   within [] ys number x e = cc
   within (y ∷ xs) ys zero x e = e
   within (y ∷ xs) ys (suc number) x e = within xs ys number x e
+
+  -- where there is no first item, each number is left behind all
+  pub none-first : (xs : List X) (number : ℕ) → None ≡ slice_get xs 0 → Err number ≡ nth xs number
+  none-first [] number e = refl
+  none-first (x ∷ xs) number e = cc
+
+  pub first-at : (xs : List X) (x : X) → Some x ≡ slice_get xs 0 → Ok x ≡ nth xs 0
+  first-at [] x e = cc
+  first-at (y ∷ xs) x e = cc
 
   module _ (can : X → Bool) where
     pub skipped : (x : X) (xs : List X) (number : ℕ) → can x ≡ false → nth (filter can (x ∷ xs)) number ≡ nth (filter can xs) number

@@ -7,7 +7,7 @@ use Rattle.std.proofs.lemmas.Bool.{eq-eqb, eqb-true, ltb-true}
 use Rattle.std.proofs.lemmas.Option.{slice_get_within, unwrap_or-slice_get}
 use Rattle.std.proofs.lemmas.List.Elements.{Contains-append_left, Contains-append_right, Contains-append_cases}
 use Rattle.instance.specs.kvs_keys.Order.{all_steps, losses}
-use Rattle.instance.specs.kvs_keys.Steps.{can_step as core_can_step}
+use Rattle.instance.specs.kvs_core.Steps.{can_step as core_can_step}
 use Rattle.instance.specs.kvs_keys.Walk.{nth}
 use Rattle.instance.specs.kvs_rules.declared.events.KvsStep.{KvsStep}
 use Rattle.instance.specs.services.Order.{possible as turns, possible_losses}

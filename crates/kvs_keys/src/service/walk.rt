@@ -121,9 +121,8 @@ impl Keys {
         Err(left)
     }
 
-    /// The step of this number, from 0, among those that can be made, in their order; or, where
-    /// there are no more than so many, what the number has left behind them all.
-    pub fn nth(&self, number: u64) -> Result<KvsStep, u64>
+    /// The same among all steps, by a walk over links, brokers and namespaces.
+    fn nth_of_all(&self, number: u64) -> Result<KvsStep, u64>
         requires { self.now.spent ≡ false }
         ensures value { result ≡ nth (possible self.now) number }
         ensures can { IfOk result (λ step. can_step self.now step ≡ true) }
@@ -141,6 +140,21 @@ impl Keys {
             Err(left) => left,
         };
         self.nth_along(Strand::Resyncs, 0, self.size, left)
+    }
+
+    /// The step of this number, from 0, among those that can be made, in their order; or, where
+    /// there are no more than so many, what the number has left behind them all.
+    pub fn nth(&self, number: u64) -> Result<KvsStep, u64>
+        requires { self.now.spent ≡ false }
+        ensures value { result ≡ nth (possible self.now) number }
+        ensures can { IfOk result (λ step. can_step self.now step ≡ true) }
+    {
+        // the first step is found without asking each namespace, and often there is none
+        match self.next() {
+            None => Err(number),
+            Some(step) if number == 0 => Ok(step),
+            Some(_) => self.nth_of_all(number),
+        }
     }
 
     /// The same among the losses of one kind on the links from one broker: it announces to those
