@@ -15,7 +15,7 @@ use Rattle.kvs_rules.specs.Log.{Asked, Happened, Log, Moment, is_asked}
 use Rattle.kvs_rules.specs.Namespaces.{Request, Setting}
 use Rattle.store_laws.specs.Posts.{posts_in}
 use Rattle.kvs_keys.specs.Agrees.{Agrees as KeysAgree}
-use Rattle.kvs_keys.specs.Histories.{Extends as KeysExtend, landings_in}
+use Rattle.kvs_keys.specs.Histories.{Extends as KeysExtend, history_of, landings_in}
 use Rattle.kvs_keys.specs.Makes.{IsOfKeys, Makes as KeysMake}
 use Rattle.kvs_keys.specs.Posted.{posted as keys_posted, posts_landed}
 use Rattle.kvs_keys.specs.Requests.{AsksAtRest as KeysAskAtRest}
@@ -79,7 +79,7 @@ contents_land_none (event.Answered by number given ∷ es) h = absurd h.0
 
 none_extend : (v : KeysValue) (es : List KvsEvent) → landings_in es ≡ [] → posts_landed es ≡ [] → KeysExtend v v es
 none_extend v es none posts = record {
-  history = sym (ap (λ ls. _ ++ ls) none ∙ append-nil _);
+  history = sym (ap (λ ls. history_of v ++ ls) none ∙ append-nil (history_of v));
   inside = posts ∙ sym (ap (λ ls. posts_in (flat_map (λ groups. groups) ls)) none);
   grant = refl;
   fanout = refl;
