@@ -7,9 +7,9 @@ use Rattle.std.proofs.lemmas.List.Elements.{All-cons, All-nil}
 use Rattle.json.proofs.Printed.Utf8.{are_ascii, IsUtf8-are_ascii}
 use Rattle.fluid_ids.specs.Texts.{base_16, group_text, printed}
 use Rattle.fluid_ids.specs.declared.forms.Form.TheVariants.{Dothex}
-use Rattle.kvs_txn.specs.Core.{IsComponent, IsKey}
+use Rattle.kvs_txn.specs.Keys.{IsComponent, IsKey}
 use Rattle.kvs_txn.specs.Words.{path_text}
-use Rattle.manager_rules.specs.Core.{job_path}
+use Rattle.manager_rules.specs.Keys.{job_path}
 
 -- a byte of ASCII that is no dot
 pub record IsPlain (b : ℕ) : Type 0 where

@@ -16,7 +16,7 @@ use Rattle.kvs_core.specs.Posted.{newest_of}
 use Rattle.kvs_core.specs.Seen.{primary_heard, store_at}
 use Rattle.event_log.specs.declared.event.Event.{Event}
 use Rattle.manager_rules.specs.Jobs.{AreJobsOf, IsLogged, IsStored, StoredJob, ids_of}
-use Rattle.manager_rules.specs.Core.{bytes_of, log_path, value_at}
+use Rattle.manager_rules.specs.Keys.{bytes_of, log_path, value_at}
 use Rattle.manager_rules.specs.Posts.{Does, Post, Submission, Submits, begun_with, job_of, jobs_after, with_event, with_job}
 use Rattle.manager_rules.proofs.Landing.{with_event_ids}
 use Rattle.job_manager.specs.Managed.{IsManaged}

@@ -5,7 +5,7 @@ use Rattle.kvs_core.specs.Seen.{store_at}
 use Rattle.kvs_core.specs.Value.{CoreValue}
 use Rattle.kvs_model.specs.Store.{Path}
 use Rattle.manager_rules.specs.Jobs.{StoredJob, ids_of}
-use Rattle.manager_rules.specs.Core.{log_path, value_at}
+use Rattle.manager_rules.specs.Keys.{log_path, value_at}
 
 -- jobs, by id, with where their logs stand
 abbrev pub LogPlaces : Type 0

@@ -1,8 +1,8 @@
 //! Where a store keeps a job (Flux RFC 16 and 19).
 ghost use Rattle.std.specs.Prelude.{◌≡◌, ◌∷◌, ◌++◌, ◌≤◌, List, ℕ, [], length, IfOk};
-ghost use Rattle.kvs_txn.specs.Core.{IsComponent, IsKey};
+ghost use Rattle.kvs_txn.specs.Keys.{IsComponent, IsKey};
 ghost use Rattle.kvs_txn.specs.Words.{path_text};
-ghost use Rattle.manager_rules.specs.Core.{job_path, log_path, r_path, spec_path};
+ghost use Rattle.manager_rules.specs.Keys.{job_path, log_path, r_path, spec_path};
 
 use fluid_ids::Form;
 use kvs_txn::words::keys_are_read_again;

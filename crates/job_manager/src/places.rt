@@ -2,7 +2,7 @@
 ghost use Rattle.std.specs.Prelude.{◌≡◌, ◌==◌, ℕ, [], Some, List, OnOk, if◌then◌else◌};
 ghost use Rattle.std.specs.Option.{option_copied};
 ghost use Rattle.manager_rules.specs.Jobs.{StoredJob};
-ghost use Rattle.manager_rules.specs.Core.{log_path};
+ghost use Rattle.manager_rules.specs.Keys.{log_path};
 ghost use Rattle.manager_rules.specs.Posts.{jobs_after};
 ghost use Rattle.job_manager.specs.Places.{ArePlaces, place_in};
 ghost use Rattle.job_manager.specs.Posts.{post_of};

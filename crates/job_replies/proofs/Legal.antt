@@ -38,7 +38,7 @@ use Rattle.kvs_rules.specs.Namespaces.{landed, primary, store_after}
 use Rattle.kvs_rules.specs.Sequence.{until}
 use Rattle.job_deeds.specs.manager_rules.Dependencies.{job_at as stored_at}
 use Rattle.job_deeds.specs.manager_rules.Jobs.{StoredJob, ids_of}
-use Rattle.job_deeds.specs.manager_rules.Core.{value_at}
+use Rattle.job_deeds.specs.manager_rules.Keys.{value_at}
 use Rattle.job_deeds.specs.manager_rules.Scene.{Scene}
 use Rattle.job_deeds.specs.manager_rules.Whys.{IsSaidOf, IsWhy}
 use Rattle.job_deeds.specs.manager_rules.declared.why.Why.{Why}

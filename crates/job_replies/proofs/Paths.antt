@@ -3,7 +3,7 @@ use Rattle.std.proofs.Common.{◌≡◌, ◌∙◌, ℕ, [], ◌∷◌, ◌++◌
 use Rattle.std.specs.Prelude.{codes}
 use Rattle.job_deeds.specs.kvs_model.Operation.{is_link}
 use Rattle.job_deeds.specs.kvs_model.Store.{Name, Path, Store, IsStore, node_at}
-use Rattle.job_deeds.specs.manager_rules.Core.{job_path, value_at}
+use Rattle.job_deeds.specs.manager_rules.Keys.{job_path, value_at}
 use Rattle.job_deeds.specs.store_laws.Reserved.{HasNoLink}
 use Rattle.job_commands.specs.declared.ask.Key.{Key}
 use Rattle.job_commands.specs.declared.ask.Key.TheVariants as key

@@ -10,7 +10,7 @@ use Rattle.job_deeds.specs.kvs_model.Walk.{Stop, at_end, behind_link, follow, fo
 use Rattle.job_deeds.specs.kvs_model.OneStore.{own_next, own_walk}
 use Rattle.std.specs.Option.{option_map_or}
 use Rattle.job_deeds.specs.kvs_txn.declared.words.Target.{Target}
-use Rattle.job_deeds.specs.manager_rules.Core.{bytes_of, value_at}
+use Rattle.job_deeds.specs.manager_rules.Keys.{bytes_of, value_at}
 
 -- the text that is found, if one is
 abbrev pub text_in : Found → Option (List ℕ)

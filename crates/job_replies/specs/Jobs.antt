@@ -27,7 +27,7 @@ use Rattle.kvs_rules.specs.Brokers.{heard}
 use Rattle.kvs_rules.specs.Log.{Log as Service}
 use Rattle.kvs_rules.specs.Namespaces.{Setting, landed, newest_store, primary}
 use Rattle.job_deeds.specs.manager_rules.Jobs.{StoredJob}
-use Rattle.job_deeds.specs.manager_rules.Core.{value_at}
+use Rattle.job_deeds.specs.manager_rules.Keys.{value_at}
 use Rattle.job_deeds.specs.manager_rules.declared.why.Why.{Why}
 use Rattle.job_deeds.specs.manager_rules.declared.why.Why.TheVariants as why
 use Rattle.job_replies.specs.Ready.{job_in}

@@ -10,7 +10,7 @@ use Rattle.job_deeds.specs.event_log.declared.event.Event.{Event}
 use Rattle.job_deeds.specs.job_states.Replay.{replayed}
 use Rattle.job_deeds.specs.kvs_model.Store.{Node, Store, node_at}
 use Rattle.job_deeds.specs.manager_rules.Jobs.{AreJobsOf, IsLogged, IsStored, StoredJob, ids_of}
-use Rattle.job_deeds.specs.manager_rules.Core.{bytes_of, log_path, value_at}
+use Rattle.job_deeds.specs.manager_rules.Keys.{bytes_of, log_path, value_at}
 use Rattle.job_deeds.proofs.job_rules_proofs.Among.{Among, among_from, contains_from}
 use Rattle.job_manager.specs.Managed.{IsManaged}
 use Rattle.job_manager.specs.Places.{log_seen}

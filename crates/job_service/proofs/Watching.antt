@@ -35,7 +35,7 @@ use Rattle.job_deeds.specs.kvs_txn.declared.txn.By.{By}
 use Rattle.job_deeds.specs.kvs_txn.declared.txn.Group.{Group}
 use Rattle.job_deeds.specs.kvs_txn.declared.txn.Scope.TheVariants.{Primary}
 use Rattle.job_deeds.specs.manager_rules.Jobs.{AreJobsOf, IsLogged, IsStored, StoredJob}
-use Rattle.job_deeds.specs.manager_rules.Core.{log_path, value_at}
+use Rattle.job_deeds.specs.manager_rules.Keys.{log_path, value_at}
 use Rattle.job_deeds.specs.manager_rules.Limits.{names_shown}
 use Rattle.job_manager.specs.Managed.{IsManaged}
 use Rattle.job_manager.specs.Places.{log_seen}

@@ -1,5 +1,5 @@
 use Rattle.std.proofs.Common.{◌++◌, ◌∷◌, [], ◌∙◌, ap, codes, sym}
-use Rattle.manager_rules.specs.Core.{job_path}
+use Rattle.manager_rules.specs.Keys.{job_path}
 use Rattle.job_manager.proofs.Dotted.{if-ok, key-is, text-is}
 use Rattle.job_manager.proofs.keys.key.Goals as goal
 
