@@ -1,14 +1,13 @@
 -- What a request says of the command or of the job manager that makes it.
-use Rattle.std.proofs.Common.{◌≡◌, ◌∙◌, ℕ, List, [], ◌∷◌, ◌++◌, Option, Some, false, ap, sym, subst, append-nil}
+use Rattle.std.proofs.Common.{◌≡◌, ◌∙◌, ℕ, List, ◌++◌, Option, false, ap, sym, subst, append-nil}
 use Rattle.kvs_txn.specs.declared.txn.By.{By}
 use Rattle.kvs_txn.specs.declared.txn.Group.{Group}
 use Rattle.kvs_txn.specs.declared.txn.Txn.{Txn}
 use Rattle.kvs_model.specs.Store.{Name}
 use Rattle.kvs_rules.specs.declared.events.KvsAsk.{KvsAsk}
-use Rattle.kvs_rules.specs.Log.{Asked, Log, is_asked}
+use Rattle.kvs_rules.specs.Log.{Log}
 use Rattle.kvs_rules.specs.Namespaces.{Setting}
 use Rattle.kvs_requests.specs.Rows.{IsKnownAsk}
-use Rattle.kvs_keys.specs.Posted.{post_of}
 use Rattle.kvs_keys.specs.Requests.{IsMade, posts_asked}
 use Rattle.kvs_keys.specs.declared.service.Request.{Request}
 use Rattle.kvs_keys.specs.declared.service.Request.TheVariants as request

@@ -3,7 +3,6 @@ use Rattle.std.proofs.Common.{◌≡◌, ℕ, List, [], ◌∷◌, ◌++◌, map
 use Rattle.std.specs.Prelude.{flat_map}
 use Rattle.std.specs.List.{AllByRecursion as Each}
 use Rattle.kvs_txn.specs.declared.txn.By.{By}
-use Rattle.kvs_txn.specs.declared.txn.Group.{Group}
 use Rattle.kvs_model.specs.Store.{Name}
 use Rattle.kvs_rules.specs.declared.events.KvsAnswer.{KvsAnswer}
 use Rattle.kvs_rules.specs.declared.events.KvsAsk.{KvsAsk}
