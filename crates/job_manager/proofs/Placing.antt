@@ -1,23 +1,21 @@
 -- Where the logs of jobs stand, once a job is submitted, and what a broker's store has of them.
-use Rattle.std.proofs.Common.{◌≡◌, ◌≢◌, ℕ, ◌<◌, ◌^◌, ◌==◌, ◌⊎◌, inl, inr, List, [], ◌∷◌, Bool, true, false, cond, Option, Some, None, refl, sym, ap, ◌∙◌, subst, true≢false, nat_eq}
+use Rattle.std.proofs.Common.{◌≡◌, ℕ, ◌<◌, ◌^◌, ◌==◌, ◌⊎◌, inl, inr, List, [], ◌∷◌, Bool, true, false, cond, Option, Some, None, refl, sym, ap, ◌∙◌, subst, true≢false, nat_eq}
 use Rattle.std.specs.Prelude.{Contains, IsSome, nat_lt, option_and_then, if◌then◌else◌}
 use Rattle.std.specs.List.{AllByRecursion as Each}
-use Rattle.std.specs.Map.{lookup}
 use Rattle.std.proofs.lemmas.Bool.{eqb-true, eq-eqb}
 use Rattle.indexmap.specs.IndexMap.{insert_entry}
-use Rattle.job_rules.proofs.Among.{Among, among_from, contains_from, each_at}
+use Rattle.job_rules.proofs.Among.{Among, among_from, contains_from}
 use Rattle.job_states.specs.Changes.{change_of}
 use Rattle.job_states.specs.declared.job.Change.{Change}
 use Rattle.job_states.specs.declared.job.Change.TheVariants as change
 use Rattle.kvs_model.specs.Store.{Node, Path, Store, Value, Directory, Link, node_at}
 use Rattle.plain_store.specs.Values.{value_in}
-use Rattle.event_log.specs.Logs.{log_text}
 use Rattle.kvs_core.specs.Posted.{newest_of}
 use Rattle.kvs_core.specs.Seen.{primary_heard, store_at}
 use Rattle.event_log.specs.declared.event.Event.{Event}
-use Rattle.manager_rules.specs.Jobs.{AreJobsOf, IsLogged, IsStored, StoredJob, ids_of}
+use Rattle.manager_rules.specs.Jobs.{IsLogged, IsStored, StoredJob, ids_of}
 use Rattle.manager_rules.specs.Keys.{bytes_of, log_path, value_at}
-use Rattle.manager_rules.specs.Posts.{Does, Post, Submission, Submits, begun_with, job_of, jobs_after, with_event, with_job}
+use Rattle.manager_rules.specs.Posts.{Does, Post, Submission, Submits, begun_with, job_of, jobs_after, with_job}
 use Rattle.manager_rules.proofs.Landing.{with_event_ids}
 use Rattle.job_manager.specs.Managed.{IsManaged}
 use Rattle.job_manager.specs.Places.{ArePlaces, LogPlaces, log_seen, place_in}

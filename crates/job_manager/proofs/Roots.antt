@@ -1,12 +1,11 @@
 -- Each root of `primary` is sound, and since then the logs of its jobs have only grown.
-use Rattle.std.proofs.Common.{◌≡◌, ℕ, zero, suc, ◌+◌, ◌-◌, ◌<◌, ◌≤◌, ◌^◌, ◌⊎◌, inl, inr, List, [], ◌∷◌, ◌++◌, length, Bool, true, false, Option, Some, None, Result, Ok, Err, refl, sym, ap, ◌∙◌, subst, arith, append-nil, append_assoc}
+use Rattle.std.proofs.Common.{◌≡◌, ℕ, zero, suc, ◌+◌, ◌-◌, ◌⊎◌, inl, inr, List, [], ◌∷◌, ◌++◌, length, Bool, true, false, Option, Some, None, Ok, refl, sym, ap, ◌∙◌, subst, arith, append-nil, append_assoc}
 use Rattle.std.specs.Prelude.{Contains, IfSome, option_and_then}
 use Rattle.std.proofs.lemmas.Bool.{cases_lt}
 use Rattle.event_log.specs.declared.event.Event.{Event}
 use Rattle.job_rules.proofs.Among.{among_from, each_at}
 use Rattle.job_rules.specs.Fits.{AreWithin, IsGrant}
 use Rattle.kvs_core.specs.Histories.{Extends, history_of}
-use Rattle.kvs_keys.specs.Histories.{landings_in}
 use Rattle.kvs_core.specs.Posted.{newest_of}
 use Rattle.kvs_core.specs.Seen.{root_of}
 use Rattle.kvs_core.specs.Value.{CoreValue}

@@ -1,8 +1,8 @@
-use Rattle.std.proofs.Common.{◌≡◌, ◌∙◌, ◌<◌, ◌^◌, Some, None, ap, sym, subst, arith, rules}
+use Rattle.std.proofs.Common.{◌≡◌, ◌∙◌, ◌<◌, ◌^◌, Some, None, ap, arith, rules}
 use Rattle.std.specs.Option.{option_copied}
 use Rattle.job_manager.specs.Places.{log_seen, place_in}
 use Rattle.job_manager.specs.View.{value_of}
-use Rattle.job_manager.proofs.Placing.{nothing-seen, seen-there, some-path}
+use Rattle.job_manager.proofs.Placing.{nothing-seen, seen-there}
 use Rattle.job_manager.proofs.manager.Manager.log_at.Goals as goal
 
 pub returns-in-None : goal.returns-in-None

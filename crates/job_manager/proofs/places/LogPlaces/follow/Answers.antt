@@ -1,5 +1,4 @@
-use Rattle.std.proofs.Common.{◌≡◌, ap, subst, sym}
-use Rattle.std.specs.Prelude.{OnOk}
+use Rattle.std.proofs.Common.{ap, subst, sym}
 use Rattle.job_manager.specs.Places.{ArePlaces}
 use Rattle.job_manager.specs.Posts.{post_of}
 use Rattle.manager_rules.specs.Posts.{jobs_after}
