@@ -364,7 +364,7 @@ module _ (spent : Bool) (terms : Terms) (birth size fanout : ℕ) (hash : Hash) 
       size = refl;
       fanout = refl;
       links = λ by request e. cc;
-    });
+    }) refl;
   }
 
 -- ---- labels stay
