@@ -6,7 +6,6 @@ use Rattle.job_service.specs.kvs_keys.Order.{all_steps}
 use Rattle.services.specs.Order.{possible}
 use Rattle.services.specs.Steps.{can_step}
 use Rattle.services.specs.Value.{ServicesValue}
-use Rattle.services.specs.View.{IsFit}
 
-pub same-steps : (v : ServicesValue) → IsFit v → core_possible v.jobs.manager.core ≡ possible v
-same-steps v fit = ap (λ n. filter (can_step v) (all_steps n (length v.jobs.manager.core.keys.spaces))) fit.jobs_size
+pub same-steps : (v : ServicesValue) → v.jobs.manager.core.size ≡ v.size → core_possible v.jobs.manager.core ≡ possible v
+same-steps v size = ap (λ n. filter (can_step v) (all_steps n (length v.jobs.manager.core.keys.spaces))) size
