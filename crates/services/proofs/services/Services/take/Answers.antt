@@ -1,4 +1,4 @@
-use Rattle.std.proofs.Common.{◌≡◌, ◌∙◌, ◌++◌, ◌∷◌, [], ap, refl, sym, subst}
+use Rattle.std.proofs.Common.{◌∙◌, ◌++◌, ◌∷◌, [], ap, refl, sym, subst}
 use Rattle.job_service.specs.kvs_rules.Log.{Happened}
 use Rattle.job_service.specs.kvs_rules.declared.events.KvsEvent.TheVariants as event
 use Rattle.job_service.specs.instance_rules.Log.{Served}
