@@ -3,11 +3,11 @@ use Rattle.std.proofs.Common.{◌≡◌, ◌∙◌, ℕ, ◌+◌, ◌<◌, ◌==
 use Rattle.std.specs.Prelude.{Result, not, is_some, nat_lt, option_and_then, option_map, slice_get, slice_index_or, unwrap_or, Contains, if◌then◌else◌}
 use Rattle.std.specs.List.{cons_option, enumerate_from, range_with_len}
 use Rattle.std.specs.Option.{option_map_or}
-use Rattle.std.proofs.lemmas.Bool.{eq-eqb, eqb-true, ltb-true}
+use Rattle.std.proofs.lemmas.Bool.{eq-eqb, eqb-true, ltb-true, or_left}
 use Rattle.std.proofs.lemmas.Option.{slice_get_within, unwrap_or-slice_get}
 use Rattle.std.proofs.lemmas.List.Elements.{Contains-append_left, Contains-append_right, Contains-append_cases}
 use Rattle.instance.specs.kvs_keys.Order.{all_steps, losses}
-use Rattle.instance.specs.kvs_core.Steps.{can_step as core_can_step}
+use Rattle.instance.specs.kvs_keys.Steps.{can_step as keys_can_step}
 use Rattle.instance.specs.kvs_keys.Walk.{nth}
 use Rattle.instance.specs.kvs_rules.declared.events.KvsStep.{KvsStep}
 use Rattle.instance.specs.services.Order.{possible as turns, possible_losses}
@@ -294,10 +294,9 @@ module _ (v : WorldValue) where
             subst (λ t. can_make v t ≡ true) m.1 (of_is i h (may_go v.homes) here alive m.0)
         lived kind.Loss c =
             let m = from_map (step.Kvs i) (possible_losses h.instance.services) s c in
-            let core = h.instance.services.jobs.manager.core in
-            let w = from_filter (core_can_step core) (losses core.size loss.Lost ++ (losses core.size loss.Repeated ++ losses core.size loss.Swapped)) m.0 m.1 in
-            let here_too : core_can_step core m.0 ≡ true = w.1 in
-            let can : can_step h.instance.services m.0 ≡ true = cc in
+            let keys = h.instance.services.jobs.manager.core.keys in
+            let w = from_filter (keys_can_step keys) (losses keys.size loss.Lost ++ (losses keys.size loss.Repeated ++ losses keys.size loss.Swapped)) m.0 m.1 in
+            let can : can_step h.instance.services m.0 ≡ true = or_left (keys_can_step keys m.0) _ w.1 in
             subst (λ t. can_make v t ≡ true) m.2 (of_is i h (λ h. can_step h.instance.services m.0) here alive can)
 
     made_of : (k : Kind) (s : Step) → Contains (steps_of v k) s → can_make v s ≡ true
