@@ -32,10 +32,16 @@ fn the_greatest_priority_goes_first(rt: HostRuntime) -> Result<(), Fail> {
         assert!(rt; queue.set_priority(6, priority));
         assert_eq!(rt; queue.head(), Some(6));
     }
-    // the smaller id goes first at one priority
-    for id in [8, 3, 9, 4] {
-        queue.put(id, 16)?;
-    }
+    Ok(())
+}
+
+#[test]
+fn the_smaller_id_goes_first_at_one_priority(rt: HostRuntime) -> Result<(), Fail> {
+    let mut queue = Queue::new(rt.alloc());
+    queue.put(8, 16)?;
+    queue.put(3, 16)?;
+    queue.put(9, 16)?;
+    queue.put(4, 16)?;
     for id in [3, 4, 8, 9] {
         assert_eq!(rt; queue.head(), Some(id));
         assert!(rt; queue.take(id));
