@@ -156,6 +156,7 @@ plain_stretch work c made (step.Issue actor) free h =
 plain_stretch work c made (step.Kvs instance s) free h = subst (Each IsPlain) (sym h.split) (plain_events instance h.events)
 plain_stretch work c made (step.Answer actor) free h =
     subst (Each IsPlain) (sym h.split) (each_joined IsPlain h.before (h.reply ∷ []) (each_to (plain_before work actor) h.before h.others) (plain_reply actor h.reply h.replies, tt))
+plain_stretch work c made (step.Record actor) free h = subst (Each IsPlain) (sym h.split) (tt, tt)
 plain_stretch work c made (step.Feed actor) free h = subst (Each IsPlain) (sym h.split) (tt, tt)
 plain_stretch work c made (step.Post instance) free h = subst (Each IsPlain) (sym h) tt
 plain_stretch work c made step.Close free h =

@@ -39,6 +39,7 @@ pub record IsStretchFor (set : Setup) (c : List Entry)
 abbrev pub IsRunStretch : Setup → List Entry → Step → List Entry → Type 0
 IsRunStretch set c (step.Issue actor) made = IsStretchFor set c actor (step.Issue actor) made
 IsRunStretch set c (step.Answer actor) made = IsStretchFor set c actor (step.Answer actor) made
+IsRunStretch set c (step.Record actor) made = IsStretchFor set c actor (step.Record actor) made
 IsRunStretch set c (step.Feed actor) made = IsStretchFor set c actor (step.Feed actor) made
 IsRunStretch set c (step.Kvs instance s) made = IsStretchOf set c instance (step.Kvs top s) made
 IsRunStretch set c s made = IsStretch set.work c s made
