@@ -1,5 +1,5 @@
 -- When a run can end, it is whole.
-use Rattle.std.proofs.Common.{◌≡◌, ◌≢◌, ℕ, zero, suc, ◌+◌, ◌-◌, ◌<◌, ◌≤◌, ◌==◌, ◌⊎◌, inl, inr, List, [], ◌∷◌, ◌++◌, length, Bool, true, false, ◌&&◌, ◌||◌, cond, refl, sym, ap, ◌∙◌, subst, arith, count_by, Option, Some, None, get_or, true≢false}
+use Rattle.std.proofs.Common.{◌≡◌, ◌≢◌, ℕ, zero, suc, ◌-◌, ◌<◌, ◌≤◌, ◌==◌, ◌⊎◌, inl, inr, List, [], ◌∷◌, ◌++◌, length, Bool, true, false, ◌&&◌, ◌||◌, cond, refl, sym, ap, ◌∙◌, subst, arith, count_by, Option, Some, None, get_or, true≢false}
 use Rattle.std.specs.Prelude.{slice_get, nat_lt, option_and_then, if◌then◌else◌, IsTrue, IsSome}
 use Rattle.std.specs.Str.{bytes_eq}
 use Rattle.std.specs.Option.{option_map, option_map_or, is_some}
@@ -10,13 +10,12 @@ use Rattle.services.specs.kvs_rules.declared.events.KvsAnswer.{KvsAnswer}
 use Rattle.services.specs.kvs_rules.declared.events.KvsEvent.{KvsEvent}
 use Rattle.services.specs.kvs_rules.declared.events.KvsEvent.TheVariants as event
 use Rattle.services.specs.kvs_rules.Log.{IsOpen, Log, Moment, Happened, Asked, IsPending, is_asked, is_answered, answers_now, same_command}
-use Rattle.services.specs.kvs_rules.Namespaces.{Request, is_live, landed, primary}
+use Rattle.services.specs.kvs_rules.Namespaces.{Request, is_live, landed}
 use Rattle.services.specs.kvs_model.Store.{Name}
 use Rattle.services.specs.kvs_rules.Quiet.{IsQuiet, IsShortFence}
 use Rattle.services.specs.instance_rules.Log as rules
 use Rattle.services.specs.instance_rules.Log.{Instance, Log as InstanceLog, service_of}
 use Rattle.services.specs.job_service.Replies.{can_reply}
-use Rattle.services.specs.kvs_core.Seen.{primary_heard}
 use Rattle.services.specs.Steps.{can_take}
 use Rattle.services.proofs.Waiting.{open_asks, taken_waits}
 use Rattle.services.specs.workload.declared.work.Line.{Line}
@@ -36,14 +35,14 @@ use Rattle.services.proofs.answers_proofs.Reaching.{asked_within}
 use Rattle.instance.specs.declared.seats.Seat.{Seat}
 use Rattle.instance.specs.declared.seats.Waiting.{Waiting}
 use Rattle.instance.specs.declared.seats.Waiting.TheVariants as waiting
-use Rattle.instance.specs.Seats.{is_free, replied_of, last_command, has_come, has_heard}
+use Rattle.instance.specs.Seats.{is_free, replied_of, last_command, has_come}
 use Rattle.instance.specs.Closings.{closings_at, closings_of, fence_at, fence_of, is_served, left_reply, open_command, unfinished_as, waits_in}
 use Rattle.instance.specs.Agrees.{command_of, Waits, ActorStands, IsSeat}
 use Rattle.instance.specs.Steps.{IsOver, has_answer}
 use Rattle.instance.proofs.Owning.{Own, DoesAgree}
 use Rattle.instance.proofs.Listing.{any_counted, none_counted}
 use Rattle.instance.proofs.Logs.{log_issued, log_open, served_log}
-use Rattle.instance.proofs.Looking.{heard_where_told}
+use Rattle.instance.proofs.Looking.{looks_on}
 use Rattle.instance.proofs.Leaving.{IsStuck, IsDone, IsLeft, IsServedCause, IsStuckResult, IsShortAsk, IsAboveAsk, asks_so, fence_command, wait_command, free_finished, free_unserved, in_fence, left_asks, numbers_of, seat_told, seated, states_of, unseated}
 use Rattle.instance.proofs.Results.{result_uncarried}
 use Rattle.instance.proofs.Waiting.{replied_alike, reply_waits}
@@ -171,23 +170,23 @@ module _ (v : Own) (h : DoesAgree v) where
           let replied : replied_of seat ≡ seat.issued = ap (λ x. cond (is_free x) seat.issued (seat.issued - 1)) is in
           true≢false (sym (mine.0.answered k asked (omega arith)) ∙ unanswered)
 
-      idle_so : has_come v.instance.services (last_command a seat) (has_heard v.instance.services seat) seat.waiting ≡ false
-      idle_so = ap (λ o. option_map_or (λ s. has_come v.instance.services (last_command a s) (has_heard v.instance.services s) s.waiting) o false) (sym at) ∙ idle
+      idle_so : has_come v.instance.services (last_command a seat) seat.waiting ≡ false
+      idle_so = ap (λ o. option_map_or (λ s. has_come v.instance.services (last_command a s) s.waiting) o false) (sym at) ∙ idle
 
       on : (w : Waiting) → seat.waiting ≡ w → can_take v.instance.services (command_of a k) ≡ false
       on waiting.Nothing is = absurd (free_not is)
-      on waiting.Staged is = absurd (true≢false (ap (has_come v.instance.services (last_command a seat) (has_heard v.instance.services seat)) (sym is) ∙ idle_so))
-      on waiting.TxnFull is = absurd (true≢false (ap (has_come v.instance.services (last_command a seat) (has_heard v.instance.services seat)) (sym is) ∙ idle_so))
-      on (waiting.Tell to) is = absurd (true≢false (ap (has_come v.instance.services (last_command a seat) (has_heard v.instance.services seat)) (sym is) ∙ idle_so))
-      on waiting.Using is = absurd (true≢false (ap (has_come v.instance.services (last_command a seat) (has_heard v.instance.services seat)) (sym is) ∙ idle_so))
+      on waiting.Staged is = absurd (true≢false (ap (has_come v.instance.services (last_command a seat)) (sym is) ∙ idle_so))
+      on waiting.TxnFull is = absurd (true≢false (ap (has_come v.instance.services (last_command a seat)) (sym is) ∙ idle_so))
+      on (waiting.Tell to) is = absurd (true≢false (ap (has_come v.instance.services (last_command a seat)) (sym is) ∙ idle_so))
+      on waiting.Using is = absurd (true≢false (ap (has_come v.instance.services (last_command a seat)) (sym is) ∙ idle_so))
       on waiting.Look is =
           let waits = subst (Waits v.set log a seat.issued) is mine.1.waits in
           absurd (true≢false (sym asked ∙ ap (λ n. is_asked (command_of a n) log) (last waiting.Look is refl) ∙ waits.1))
-      on waiting.Service is = ap (λ n. can_take v.instance.services (command_of a n)) (last waiting.Service is refl) ∙ ap (has_come v.instance.services (last_command a seat) (has_heard v.instance.services seat)) (sym is) ∙ idle_so
+      on waiting.Service is = ap (λ n. can_take v.instance.services (command_of a n)) (last waiting.Service is refl) ∙ ap (has_come v.instance.services (last_command a seat)) (sym is) ∙ idle_so
       on waiting.Jobs is =
           let waits = subst (Waits v.set log a seat.issued) is mine.1.waits in
           absurd (true≢false (sym asked ∙ ap (λ n. is_asked (command_of a n) log) (last waiting.Jobs is refl) ∙ waits.1))
-      on waiting.Shutdown is = absurd (true≢false (ap (has_come v.instance.services (last_command a seat) (has_heard v.instance.services seat)) (sym is) ∙ idle_so))
+      on waiting.Shutdown is = absurd (true≢false (ap (has_come v.instance.services (last_command a seat)) (sym is) ∙ idle_so))
 
   -- where nobody can be replied to, no answer waits to be taken
   pub none_taken : ((a : ℕ) → has_answer v.instance.services v.instance.seats a ≡ false) → (by : By) → can_take v.instance.services by ≡ false
@@ -260,11 +259,11 @@ module _ (v : Own) (h : DoesAgree v) where
               let above = past in
               omega arith
 
-          idle_so : has_come v.instance.services (last_command by.actor seat) (has_heard v.instance.services seat) seat.waiting ≡ false
-          idle_so = ap (λ o. option_map_or (λ s. has_come v.instance.services (last_command by.actor s) (has_heard v.instance.services s) s.waiting) o false) (sym at) ∙ idle
+          idle_so : has_come v.instance.services (last_command by.actor seat) seat.waiting ≡ false
+          idle_so = ap (λ o. option_map_or (λ s. has_come v.instance.services (last_command by.actor s) s.waiting) o false) (sym at) ∙ idle
 
-          come : (w : Waiting) → seat.waiting ≡ w → has_come v.instance.services (last_command by.actor seat) (has_heard v.instance.services seat) w ≡ false
-          come w is = ap (has_come v.instance.services (last_command by.actor seat) (has_heard v.instance.services seat)) (sym is) ∙ idle_so
+          come : (w : Waiting) → seat.waiting ≡ w → has_come v.instance.services (last_command by.actor seat) w ≡ false
+          come w is = ap (has_come v.instance.services (last_command by.actor seat)) (sym is) ∙ idle_so
 
           on : (w : Waiting) → seat.waiting ≡ w → IsLeftOpen
           on waiting.Nothing is =
@@ -320,8 +319,7 @@ module _ (v : Own) (h : DoesAgree v) where
   AreResults = (by : By) → IsSome (job_ask_at v.set.work by) → rules.IsOpen by now → IsStuckResult v by
 
   -- what is over: nobody waits but for what does not come, and no line of another actor is left
-  module _ (over : IsOver v.set.work.lines v.instance) (quiet : IsQuiet (setting_of v.set) log) (results : AreResults)
-      (told : (broker : ℕ) → broker < v.set.size → primary_heard v.instance.services.jobs.manager.core broker ≡ landed log primary) where
+  module _ (over : IsOver v.set.work.lines v.instance) (quiet : IsQuiet (setting_of v.set) log) (results : AreResults) where
     waits_short : (by : By) → is_asked by log ≡ true → is_answered by log ≡ false → (request : Request) × ((setting_of v.set).asks by ≡ Some request) × IsPending by log × (IsShortAsk (setting_of v.set) log request.namespace request.ask ⊎ IsAboveAsk log request.namespace request.ask)
     waits_short by asked unanswered =
         let (request, made) = open_asks v.instance.services inst now h.agrees by (subst (IsOpen by) (sym served) (record { asked = asked; unanswered = unanswered })) in
@@ -379,11 +377,11 @@ module _ (v : Own) (h : DoesAgree v) where
         mine : ActorStands v.set log v.chronicle a (Some seat)
         mine = subst (ActorStands v.set log v.chronicle a) at (h.actors a)
 
-        idle_so : has_come v.instance.services (last_command a seat) (has_heard v.instance.services seat) seat.waiting ≡ false
-        idle_so = ap (λ o. option_map_or (λ s. has_come v.instance.services (last_command a s) (has_heard v.instance.services s) s.waiting) o false) (sym at) ∙ over.answers a
+        idle_so : has_come v.instance.services (last_command a seat) seat.waiting ≡ false
+        idle_so = ap (λ o. option_map_or (λ s. has_come v.instance.services (last_command a s) s.waiting) o false) (sym at) ∙ over.answers a
 
-        come : (w : Waiting) → seat.waiting ≡ w → has_come v.instance.services (last_command a seat) (has_heard v.instance.services seat) w ≡ false
-        come w is = ap (has_come v.instance.services (last_command a seat) (has_heard v.instance.services seat)) (sym is) ∙ idle_so
+        come : (w : Waiting) → seat.waiting ≡ w → has_come v.instance.services (last_command a seat) w ≡ false
+        come w is = ap (has_come v.instance.services (last_command a seat)) (sym is) ∙ idle_so
 
         none : is_free seat.waiting ≡ false → count_by (replies_to by) v.chronicle ≡ 0
         none busy =
@@ -419,7 +417,7 @@ module _ (v : Own) (h : DoesAgree v) where
         on waiting.TxnFull is = absurd (true≢false (come waiting.TxnFull is))
         on (waiting.Tell to) is = absurd (true≢false (come (waiting.Tell to) is))
         on waiting.Using is = absurd (true≢false (come waiting.Using is))
-        on waiting.Look is = absurd (true≢false (sym (heard_where_told v h a seat at is (told seat.broker mine.1.inside)) ∙ come waiting.Look is))
+        on waiting.Look is = absurd (looks_on v.instance a seat at is (over.looks a))
         on waiting.Service is = inr (inl (by_service (subst (Waits v.set log a seat.issued) is mine.1.waits) is))
         on waiting.Jobs is = inr (inr (by_jobs (subst (Waits v.set log a seat.issued) is mine.1.waits) is))
         on waiting.Shutdown is = absurd (true≢false (come waiting.Shutdown is))

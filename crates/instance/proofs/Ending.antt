@@ -50,7 +50,7 @@ use Rattle.instance.proofs.Commanding.{own_length}
 use Rattle.instance.proofs.Leaving.{IsCause, IsDone, IsLeft, IsStuckFence, ends_at, in_fence, numbers_of, seat_told, states_of, told_of}
 use Rattle.services.proofs.answers_proofs.Carried.{unasked_uncarried}
 use Rattle.instance.proofs.Closing.{AreResults, left_of, past_all}
-use Rattle.instance.proofs.Stilling.{CanDoNothing, IsStillSo, advanced_so, heard_so, quiet_so, rest_so, results_so, told_so}
+use Rattle.instance.proofs.Stilling.{CanDoNothing, IsStillSo, advanced_so, heard_so, quiet_so, rest_so, results_so}
 use Rattle.instance.proofs.Families.{advanced_at_end, rests_at_end, same_living}
 use Rattle.instance.proofs.Logs.{log_closed, log_without, served_log}
 use Rattle.instance.proofs.Results.{unissued_uncarried}
@@ -152,7 +152,7 @@ module _ (v : Own) (h : DoesAgree v) (over : IsOver v.set.work.lines v.instance)
   whole = told ++ entry.Closed ∷ []
 
   rest : CanDoNothing v.instance
-  rest = record { steps = over.steps; feeds = over.feeds; answers = over.answers; due = over.due }
+  rest = record { steps = over.steps; feeds = over.feeds; answers = over.answers; looks = over.looks; due = over.due }
 
   quiet : IsQuiet (setting_of v.set) log
   quiet = quiet_so v h rest promise
@@ -161,7 +161,7 @@ module _ (v : Own) (h : DoesAgree v) (over : IsOver v.set.work.lines v.instance)
   results = results_so v h rest promise over.targets
 
   ends : (a : ℕ) → IsDone v a ⊎ IsLeft v a
-  ends a = left_of v h over quiet results (told_so v h rest promise) a
+  ends a = left_of v h over quiet results a
 
   stands : (a : ℕ) (seat : Seat) → slice_get v.instance.seats a ≡ Some seat → ActorStands v.set log v.chronicle a (Some seat)
   stands a seat at = subst (ActorStands v.set log v.chronicle a) at (h.actors a)
@@ -564,7 +564,7 @@ module _ (v : Own) (h : DoesAgree v) (over : IsOver v.set.work.lines v.instance)
     done : (seat : Seat) → slice_get v.instance.seats by.actor ≡ Some seat → IsDone v by.actor → HasOne
     done seat at d =
         let free = d.free seat at in
-        let past = past_all v h over quiet results (told_so v h rest promise) by.actor seat at free in
+        let past = past_all v h over quiet results by.actor seat at free in
         let s = stands by.actor seat at in
         let all : count_by (is_of by.actor) lines ≡ seat.issued = ap (count_by (is_of by.actor)) (sym (take_all seat.next lines past)) ∙ s.1.placed.passed in
         let replied : replied_of seat ≡ seat.issued = ap (λ b. cond b seat.issued (seat.issued - 1)) free in

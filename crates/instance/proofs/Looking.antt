@@ -1,11 +1,10 @@
 -- What a look tells: its broker has heard of it, and its actor had seen no more at the issue.
-use Rattle.std.proofs.Common.{◌≡◌, ℕ, ◌-◌, ◌<◌, ◌≤◌, true, Some, refl, sym, ap, ◌∙◌, subst, arith}
-use Rattle.std.specs.Prelude.{IsSomeAnd, slice_get}
-use Rattle.std.proofs.lemmas.Bool.{le-leb, leb-true}
-use Rattle.services.specs.kvs_core.Seen.{primary_heard}
-use Rattle.services.specs.kvs_rules.Brokers.{heard}
+use Rattle.std.proofs.Common.{◌≡◌, ℕ, ◌-◌, ◌≤◌, Option, Some, None, refl, sym, ap, ◌∙◌, subst, arith}
+use Rattle.std.specs.Prelude.{IsSomeAnd, option_and_then, slice_get, if◌then◌else◌}
+use Rattle.std.proofs.lemmas.Option.{none-some}
+use Rattle.services.specs.kvs_rules.Brokers.{HasHeard}
 use Rattle.services.specs.kvs_rules.Log.{Log}
-use Rattle.services.specs.kvs_rules.Namespaces.{landed, primary}
+use Rattle.services.specs.kvs_rules.Namespaces.{primary}
 use Rattle.services.specs.kvs_txn.declared.txn.By.{By}
 use Rattle.services.specs.answers.Chronicle.{before_issue, issues, top}
 use Rattle.services.specs.answers.Commands.{broker_of}
@@ -13,12 +12,16 @@ use Rattle.services.specs.answers.Floors.{floor}
 use Rattle.services.specs.answers.Legal.{SeesRoot}
 use Rattle.services.specs.answers.Services.{log_of}
 use Rattle.services.proofs.answers_proofs.Carried.{until_begins}
-use Rattle.services.proofs.answers_proofs.Floors.{floor_rises, floors_within, look_about}
+use Rattle.services.proofs.answers_proofs.Floors.{floor_rises, look_about}
+use Rattle.instance.specs.declared.seats.OpenLook.{OpenLook}
 use Rattle.instance.specs.declared.seats.Seat.{Seat}
+use Rattle.instance.specs.declared.seats.Waiting.{Waiting}
 use Rattle.instance.specs.declared.seats.Waiting.TheVariants as waiting
 use Rattle.instance.specs.Agrees.{ActorStands, Waits, command_of}
 use Rattle.instance.specs.Floors.{floor_in}
-use Rattle.instance.specs.Seats.{has_heard}
+use Rattle.instance.specs.Seats.{is_look, look_in}
+use Rattle.instance.specs.Steps.{look_of}
+use Rattle.instance.specs.Value.{InstanceValue}
 use Rattle.instance.proofs.Owning.{Own, DoesAgree}
 
 module _ (v : Own) (h : DoesAgree v) (a : ℕ) (seat : Seat) (sits : slice_get v.instance.seats a ≡ Some seat) (looks : seat.waiting ≡ waiting.Look) where
@@ -40,25 +43,32 @@ module _ (v : Own) (h : DoesAgree v) (a : ℕ) (seat : Seat) (sits : slice_get v
   seen : floor v.set.work v.chronicle a primary ≡ floor_in seat.floors seat.subject
   seen = mine.1.floored primary ∙ ap (floor_in seat.floors) (sym about)
 
-  pub sees_root : has_heard v.instance.services seat ≡ true
-      → ((broker : ℕ) → broker < v.instance.services.jobs.manager.core.size → heard log broker primary ≡ Some (primary_heard v.instance.services.jobs.manager.core broker))
-      → SeesRoot v.set v.chronicle by (primary_heard v.instance.services.jobs.manager.core seat.broker)
-  sees_root known hears =
-      let most = leb-true (floor_in seat.floors seat.subject) (primary_heard v.instance.services.jobs.manager.core seat.broker) known in
+  pub sees_root : (number : ℕ) → floor_in seat.floors seat.subject ≤ number → HasHeard log (broker_of v.set.work a) primary number → SeesRoot v.set v.chronicle by number
+  sees_root number least known =
       let begins = until_begins (issues by) v.chronicle in
       let rises : floor v.set.work (before_issue by v.chronicle) a primary ≤ floor v.set.work v.chronicle a primary =
       subst (λ d. floor v.set.work (before_issue by v.chronicle) a primary ≤ floor v.set.work d a primary) (sym begins.split) (floor_rises v.set.work (before_issue by v.chronicle) begins.rest primary a) in
       let now = seen in
-      let here = hears seat.broker (subst (λ n. seat.broker < n) h.agrees.jobs.core.size mine.1.inside) in
-      record {
-        asked = waits.2;
-        fresh = omega (arith, rises, now, most);
-        known = subst (λ o. IsSomeAnd o (λ n. primary_heard v.instance.services.jobs.manager.core seat.broker ≤ n)) (sym (ap (λ b. heard log b primary) (sym mine.1.home) ∙ here)) (omega arith);
-      }
+      record { asked = waits.2; fresh = omega (arith, rises, now, least); known = known }
 
-  -- where its broker has heard all that has landed, it can be told
-  pub heard_where_told : primary_heard v.instance.services.jobs.manager.core seat.broker ≡ landed log primary → has_heard v.instance.services seat ≡ true
-  heard_where_told told =
-      let within = floors_within v.set primary v.chronicle h.legal a in
-      let is = seen in
-      le-leb (floor_in seat.floors seat.subject) (primary_heard v.instance.services.jobs.manager.core seat.broker) (omega (arith, within, is, told))
+-- an actor with an open look has a seat
+pub look_within : (v : InstanceValue) (a : ℕ) (P : OpenLook → Type 0) → IsSomeAnd (look_of v a) P
+    → (seat : Seat) × (slice_get v.seats a ≡ Some seat) × (seat.waiting ≡ waiting.Look) × P (record { broker = seat.broker; need = floor_in seat.floors seat.subject })
+look_within v a P open_ = on (slice_get v.seats a) refl open_
+  where
+    looks_so : (seat : Seat) (w : Waiting) → IsSomeAnd (if is_look w then Some (record { broker = seat.broker; need = floor_in seat.floors seat.subject }) else None) P
+        → (w ≡ waiting.Look) × P (record { broker = seat.broker; need = floor_in seat.floors seat.subject })
+    looks_so seat waiting.Look t = (refl, t)
+    looks_so seat _ t = absurd t
+
+    on : (o : Option Seat) → slice_get v.seats a ≡ o → IsSomeAnd (option_and_then look_in o) P
+        → (seat : Seat) × (slice_get v.seats a ≡ Some seat) × (seat.waiting ≡ waiting.Look) × P (record { broker = seat.broker; need = floor_in seat.floors seat.subject })
+    on None e t = absurd t
+    on (Some seat) e t = let is = looks_so seat seat.waiting t in (seat, e, is.0, is.1)
+
+-- one whose actor looks has an open look
+pub looks_on : (v : InstanceValue) (a : ℕ) (seat : Seat) → slice_get v.seats a ≡ Some seat → seat.waiting ≡ waiting.Look → look_of v a ≡ None → ⊥
+looks_on v a seat sits looks none =
+    let look : OpenLook = record { broker = seat.broker; need = floor_in seat.floors seat.subject } in
+    let here : look_of v a ≡ Some look = ap (option_and_then look_in) sits ∙ ap (λ w. if is_look w then Some look else None) looks in
+    none-some look (sym none ∙ here)

@@ -13,7 +13,7 @@ use Rattle.services.specs.answers.Services.{log_of}
 use Rattle.instance.specs.declared.seats.Seat.{Seat}
 use Rattle.instance.specs.Agrees.{ActorStands, AreLinesOf}
 use Rattle.instance.specs.Order.{answers, is_next_line, issue_of, issues}
-use Rattle.instance.specs.Seats.{has_come, has_heard, is_free, last_command}
+use Rattle.instance.specs.Seats.{has_come, is_free, last_command}
 use Rattle.instance.specs.Steps.{can_answer, can_issue, has_answer, has_issue, next_of}
 use Rattle.instance.specs.Value.{InstanceValue}
 
@@ -80,7 +80,7 @@ module _ (v : InstanceValue) where
       sym (first_passed (can_answer v) actor 0 (length v.seats) (omega arith) (omega arith) can first)
     where
       seated : (o : Option Seat) → slice_get v.seats actor ≡ o → actor < length v.seats
-      seated None e = absurd (true≢false (sym can ∙ ap (λ o. option_map_or (λ seat. has_come v.services (last_command actor seat) (has_heard v.services seat) seat.waiting) o false) e))
+      seated None e = absurd (true≢false (sym can ∙ ap (λ o. option_map_or (λ seat. has_come v.services (last_command actor seat) seat.waiting) o false) e))
       seated (Some seat) e = slice_get_within v.seats actor seat e
 
   pub answer-none : ((actor : ℕ) → can_answer v actor ≡ false) → None ≡ slice_get (answers v) 0

@@ -1,5 +1,5 @@
 -- What a reply leaves of a world.
-use Rattle.std.proofs.Common.{◌≡◌, ◌≢◌, ℕ, ◌+◌, ◌-◌, ◌<◌, ◌==◌, inl, inr, max, List, [], ◌∷◌, ◌++◌, length, Bool, true, false, ◌&&◌, ◌||◌, cond, refl, sym, ap, ap₂, ◌∙◌, subst, arith, map, append-nil, append_assoc, Option, Some, None, is_some, eq-eqb, ne_eqb, true≢false, set, get_or}
+use Rattle.std.proofs.Common.{◌≡◌, ◌≢◌, ℕ, ◌+◌, ◌-◌, ◌<◌, ◌≤◌, ◌==◌, inl, inr, max, List, [], ◌∷◌, ◌++◌, length, Bool, true, false, ◌&&◌, ◌||◌, cond, refl, sym, ap, ap₂, ◌∙◌, subst, arith, map, append-nil, append_assoc, Option, Some, None, is_some, eq-eqb, ne_eqb, true≢false, set, get_or}
 use Rattle.std.specs.Prelude.{IsSome, slice_get, nat_lt}
 use Rattle.std.specs.Option.{option_map, option_map_or}
 use Rattle.std.specs.List.{cons_option}
@@ -13,8 +13,7 @@ use Rattle.services.specs.kvs_txn.declared.txn.By.{By}
 use Rattle.services.specs.kvs_rules.declared.events.KvsAnswer.{KvsAnswer}
 use Rattle.services.specs.kvs_rules.declared.events.KvsAnswer.TheVariants as answer
 use Rattle.services.specs.kvs_rules.declared.events.KvsEvent.TheVariants as event
-use Rattle.services.specs.kvs_core.Seen.{primary_heard}
-use Rattle.services.specs.kvs_rules.Brokers.{heard}
+use Rattle.services.specs.kvs_rules.Brokers.{HasHeard}
 use Rattle.services.specs.kvs_rules.Namespaces.{primary}
 use Rattle.services.specs.kvs_rules.Log.{Log, Moment, Happened, is_asked, is_answered, answers_now, same_command}
 use Rattle.services.specs.kvs_model.Store.{Name}
@@ -31,15 +30,16 @@ use Rattle.services.specs.answers.declared.chronicle.Entry.{Entry}
 use Rattle.services.specs.answers.declared.chronicle.Entry.TheVariants as entry
 use Rattle.services.specs.answers.declared.chronicle.Reply.{Reply}
 use Rattle.services.specs.answers.declared.chronicle.Reply.TheVariants as reply
+use Rattle.services.specs.answers.declared.steps.Step.{Step}
 use Rattle.services.specs.answers.declared.steps.Step.TheVariants as step
 use Rattle.services.specs.answers.Chronicle.{Setup, top, issues, issues_of, is_issued, is_replied, replies_to, answer_of, uses_of}
 use Rattle.services.specs.workload.declared.work.Command.TheVariants as command
-use Rattle.services.specs.answers.Commands.{command_at, subject_at}
+use Rattle.services.specs.answers.Commands.{broker_of, command_at, subject_at}
 use Rattle.services.specs.answers.Entering.{reply_of}
 use Rattle.services.specs.answers.Floors.{floor}
 use Rattle.services.specs.answers.Jobs.{happening_of, instance_of, job_ask_at, job_reply_of, log_in, state_by}
-use Rattle.services.specs.answers.Legal.{HasReplyGrounds, IsLegal, IsLegalEntry, IsLegalIn, SeesRoot, SettlesFirst}
-use Rattle.services.specs.answers.Stretches.{ComesBeforeReply}
+use Rattle.services.specs.answers.Legal.{HasReplyGrounds, IsLegal, IsLegalEntry, IsLegalIn, SettlesFirst}
+use Rattle.services.specs.answers.Stretches.{ComesBeforeReply, IsStretch, is_seen}
 use Rattle.services.specs.answers.Services.{setting_of, log_of, moment_of}
 use Rattle.services.specs.kvs_rules.Answers.{IsLegalEvent}
 use Rattle.services.specs.answers.Whole.{is_closing, IsEarlierEntry}
@@ -52,7 +52,7 @@ use Rattle.instance.specs.Floors.{Floors, floor_in, seen_in}
 use Rattle.services.specs.answers.Floors.{number_in, roots_named}
 use Rattle.instance.proofs.Seeing.{none_seen}
 use Rattle.instance.specs.Replies.{IsGiven}
-use Rattle.instance.specs.Seats.{is_free, last_command, has_come, has_heard, raised, with_floors}
+use Rattle.instance.specs.Seats.{is_free, last_command, has_come, raised, with_floors}
 use Rattle.instance.specs.Steps.{can_answer}
 use Rattle.instance.specs.Makes.{Follows}
 use Rattle.instance.specs.Value.{InstanceValue}
@@ -110,6 +110,28 @@ goes_on answer.Flushed = refl
 goes_on (answer.Clashed reference) = refl
 goes_on answer.Dropped = refl
 
+unseen_of : (a : KvsAnswer) → is_seen (reply_of a) ≡ false
+unseen_of answer.Committed = refl
+unseen_of answer.Fenced = refl
+unseen_of (answer.Refused refusal) = refl
+unseen_of (answer.CountDiffers kept) = refl
+unseen_of (answer.Read found uses) = refl
+unseen_of (answer.NoTarget space uses) = refl
+unseen_of (answer.Root reference) = refl
+unseen_of answer.Reached = refl
+unseen_of answer.NoNamespace = refl
+unseen_of answer.Created = refl
+unseen_of answer.Exists = refl
+unseen_of answer.TooMany = refl
+unseen_of answer.Removed = refl
+unseen_of answer.IsPrimary = refl
+unseen_of (answer.Stored reference) = refl
+unseen_of (answer.Blob bytes) = refl
+unseen_of answer.NoBlob = refl
+unseen_of answer.Flushed = refl
+unseen_of (answer.Clashed reference) = refl
+unseen_of answer.Dropped = refl
+
 rests : (set : Setup) (c : List Entry) (by : By) (number : Option ℕ) (a : KvsAnswer) → IsLegalIn set c top (event.Answered by number a) → HasReplyGrounds set c by number (reply_of a)
 rests set c by number answer.Committed h = h
 rests set c by number answer.Fenced h = h
@@ -136,6 +158,7 @@ rests set c by number answer.Dropped h = h
 pub record IsOfJobs (given : Reply) (told : JobReply) : Type 0 where
   pub unanswered : answer_of given ≡ None
   pub early : is_closing given ≡ false
+  pub unseen : is_seen given ≡ false
   pub rests : (set : Setup) (c : List Entry) (by : By) (number : Option ℕ) → IsLegalReply (instance_of set) (log_in set.work c) by told number → HasReplyGrounds set c by number given
 
 none_told : {A : Type 0} (told : JobReply) → ◌≡◌ {A = Option JobReply} None (Some told) → A
@@ -145,34 +168,35 @@ same_told : (x y : JobReply) → Some x ≡ Some y → x ≡ y
 same_told x y e = cc
 
 -- where what it rests on computes
-hands_on : (given : Reply) (x told : JobReply) → answer_of given ≡ None → is_closing given ≡ false
+hands_on : (given : Reply) (x told : JobReply) → answer_of given ≡ None → is_closing given ≡ false → is_seen given ≡ false
     → ((set : Setup) (c : List Entry) (by : By) (number : Option ℕ) → IsLegalReply (instance_of set) (log_in set.work c) by x number → HasReplyGrounds set c by number given)
     → Some x ≡ Some told → IsOfJobs given told
-hands_on given x told unanswered early rests e = record {
+hands_on given x told unanswered early unseen rests e = record {
   unanswered = unanswered;
   early = early;
+  unseen = unseen;
   rests = λ set c by number h. rests set c by number (subst (λ r. IsLegalReply (instance_of set) (log_in set.work c) by r number) (sym (same_told x told e)) h);
 }
 
 pub of_jobs : (given : Reply) (told : JobReply) → job_reply_of given ≡ Some told → IsOfJobs given told
-of_jobs (reply.Submitted id) told e = hands_on (reply.Submitted id) (rules.Submitted id) told refl refl (λ set c by number h. h) e
-of_jobs (reply.BadSpec fault) told e = hands_on (reply.BadSpec fault) (rules.BadSpec fault) told refl refl (λ set c by number h. h) e
-of_jobs (reply.Checked reason) told e = hands_on (reply.Checked reason) (rules.Checked reason) told refl refl (λ set c by number h. h) e
-of_jobs reply.NoJob told e = hands_on reply.NoJob rules.NoJob told refl refl (λ set c by number h. h) e
-of_jobs reply.Raised told e = hands_on reply.Raised rules.Raised told refl refl (λ set c by number h. h) e
-of_jobs reply.Ended told e = hands_on reply.Ended rules.Ended told refl refl (λ set c by number h. h) e
-of_jobs (reply.NotWaiting where_) told e = hands_on (reply.NotWaiting where_) (rules.NotWaiting where_) told refl refl (λ set c by number h. h) e
-of_jobs (reply.StateIs where_) told e = hands_on (reply.StateIs where_) (rules.StateIs where_) told refl refl (λ set c by number h. h) e
-of_jobs (reply.Info shown) told e = hands_on (reply.Info shown) (rules.Shown shown) told refl refl (λ set c by number h. h) e
-of_jobs (reply.Jobs jobs) told e = hands_on (reply.Jobs jobs) (rules.Listed (map state_by jobs)) told refl refl (λ set c by number h. h) e
-of_jobs (reply.Busy ids) told e = hands_on (reply.Busy ids) (rules.Busy ids) told refl refl (λ set c by number h. h) e
-of_jobs (reply.Behind id) told e = hands_on (reply.Behind id) (rules.Behind id) told refl refl (λ set c by number h. h) e
-of_jobs reply.Held told e = hands_on reply.Held rules.Held told refl refl (λ set c by number h. h) e
-of_jobs reply.Ready told e = hands_on reply.Ready rules.Ready told refl refl (λ set c by number h. h) e
-of_jobs (reply.EndedWith status) told e = hands_on (reply.EndedWith status) (rules.EndedWith status) told refl refl (λ set c by number h. h) e
-of_jobs (reply.Watched shown) told e = hands_on (reply.Watched shown) (rules.Watched shown) told refl refl (λ set c by number h. h) e
-of_jobs (reply.Advanced second) told e = hands_on (reply.Advanced second) (rules.Advanced second) told refl refl (λ set c by number h. h) e
-of_jobs reply.Shut told e = hands_on reply.Shut rules.Shut told refl refl (λ set c by number h. h) e
+of_jobs (reply.Submitted id) told e = hands_on (reply.Submitted id) (rules.Submitted id) told refl refl refl (λ set c by number h. h) e
+of_jobs (reply.BadSpec fault) told e = hands_on (reply.BadSpec fault) (rules.BadSpec fault) told refl refl refl (λ set c by number h. h) e
+of_jobs (reply.Checked reason) told e = hands_on (reply.Checked reason) (rules.Checked reason) told refl refl refl (λ set c by number h. h) e
+of_jobs reply.NoJob told e = hands_on reply.NoJob rules.NoJob told refl refl refl (λ set c by number h. h) e
+of_jobs reply.Raised told e = hands_on reply.Raised rules.Raised told refl refl refl (λ set c by number h. h) e
+of_jobs reply.Ended told e = hands_on reply.Ended rules.Ended told refl refl refl (λ set c by number h. h) e
+of_jobs (reply.NotWaiting where_) told e = hands_on (reply.NotWaiting where_) (rules.NotWaiting where_) told refl refl refl (λ set c by number h. h) e
+of_jobs (reply.StateIs where_) told e = hands_on (reply.StateIs where_) (rules.StateIs where_) told refl refl refl (λ set c by number h. h) e
+of_jobs (reply.Info shown) told e = hands_on (reply.Info shown) (rules.Shown shown) told refl refl refl (λ set c by number h. h) e
+of_jobs (reply.Jobs jobs) told e = hands_on (reply.Jobs jobs) (rules.Listed (map state_by jobs)) told refl refl refl (λ set c by number h. h) e
+of_jobs (reply.Busy ids) told e = hands_on (reply.Busy ids) (rules.Busy ids) told refl refl refl (λ set c by number h. h) e
+of_jobs (reply.Behind id) told e = hands_on (reply.Behind id) (rules.Behind id) told refl refl refl (λ set c by number h. h) e
+of_jobs reply.Held told e = hands_on reply.Held rules.Held told refl refl refl (λ set c by number h. h) e
+of_jobs reply.Ready told e = hands_on reply.Ready rules.Ready told refl refl refl (λ set c by number h. h) e
+of_jobs (reply.EndedWith status) told e = hands_on (reply.EndedWith status) (rules.EndedWith status) told refl refl refl (λ set c by number h. h) e
+of_jobs (reply.Watched shown) told e = hands_on (reply.Watched shown) (rules.Watched shown) told refl refl refl (λ set c by number h. h) e
+of_jobs (reply.Advanced second) told e = hands_on (reply.Advanced second) (rules.Advanced second) told refl refl refl (λ set c by number h. h) e
+of_jobs reply.Shut told e = hands_on reply.Shut rules.Shut told refl refl refl (λ set c by number h. h) e
 of_jobs _ told e = none_told told e
 
 pub same_self : (by : By) → same_command by by ≡ true
@@ -231,19 +255,18 @@ module _ (set : Setup) (c : List Entry) (old : ServicesValue) (agree : AgreesSer
   last false true e = refl
   last false false e = absurd (true≢false (sym e))
 
-  there : (services : ServicesValue) (heard_so : ℕ) (w : Waiting) (given : Reply) (number : Option ℕ) → (w ≡ waiting.Look → SeesRoot set c spoken heard_so) →
-      Waits set (log_of set.work top c) a issued w → IsGiven old services spoken heard_so w given number → Stays services given number
-  there services heard_so waiting.Nothing given number sees waits h = absurd h
-  there services heard_so waiting.Staged given number sees waits h =
+  there : (services : ServicesValue) (w : Waiting) (given : Reply) (number : Option ℕ) →
+      Waits set (log_of set.work top c) a issued w → IsGiven old services spoken w given number → Stays services given number
+  there services waiting.Nothing given number waits h = absurd h
+  there services waiting.Staged given number waits h =
       at_once services given reply.Staged number None h refl refl refl ((begun, unreplied), refl, waits.2) waits.1
-  there services heard_so waiting.TxnFull given number sees waits h =
+  there services waiting.TxnFull given number waits h =
       at_once services given reply.TxnFull number None h refl refl refl ((begun, unreplied), refl, waits.2) waits.1
-  there services heard_so (waiting.Tell to) given number sees waits h = absurd h
-  there services heard_so waiting.Using given number sees waits h =
+  there services (waiting.Tell to) given number waits h = absurd h
+  there services waiting.Using given number waits h =
       at_once services given reply.Using number None h refl refl refl ((begun, unreplied), refl, waits.2) waits.1
-  there services heard_so waiting.Look given number sees waits h =
-      at_once services given reply.Seen number (Some heard_so) h refl refl refl ((begun, unreplied), sees refl) waits.1
-  there services heard_so waiting.Service given number sees waits h =
+  there services waiting.Look given number waits h = absurd h
+  there services waiting.Service given number waits h =
       let m : Moment = Happened (event.Answered spoken number h.answer) in
       let legal = (h.tells.legal (instance_of set) (log_in set.work c) agree).0 in
       subst (λ g. Stays services g number) (sym h.handed) (record {
@@ -258,7 +281,7 @@ module _ (set : Setup) (c : List Entry) (old : ServicesValue) (agree : AgreesSer
           told = λ _. list_any-append (answers_now spoken) (log_of set.work top c) (m ∷ []) ∙ last (is_answered spoken (log_of set.work top c)) (answers_now spoken m) (same_self spoken);
         };
       })
-  there services heard_so waiting.Jobs given number sees waits h =
+  there services waiting.Jobs given number waits h =
       let t : Answers services (instance_of set) (log_in set.work c) spoken given number = h (instance_of set) (log_in set.work c) agree in
       let of = of_jobs given t.reply t.hands in
       record {
@@ -273,7 +296,7 @@ module _ (set : Setup) (c : List Entry) (old : ServicesValue) (agree : AgreesSer
           told = λ asked. absurd (true≢false (sym asked ∙ waits.1));
         };
       }
-  there services heard_so waiting.Shutdown given number sees waits h =
+  there services waiting.Shutdown given number waits h =
       subst (λ g. Stays services g number) (sym h.0) (subst (Stays services reply.Shut) (sym h.1) (subst (λ v. Stays v reply.Shut None) (sym h.2) shut_there))
     where
       asks : IsSome (job_ask_at set.work spoken)
@@ -387,16 +410,30 @@ seat_stands v h a seat e = subst (ActorStands v.set (log_of v.set.work top v.chr
 replied_waiting : (issued : ℕ) (w : Waiting) → is_free w ≡ false → cond (is_free w) issued (issued - 1) ≡ issued - 1
 replied_waiting issued w e = ap (λ b. cond b issued (issued - 1)) e
 
-given_waits : (old core : ServicesValue) (by : By) (heard_so : ℕ) (w : Waiting) (given : Reply) (number : Option ℕ) → IsGiven old core by heard_so w given number → is_free w ≡ false
-given_waits old core by heard_so waiting.Nothing given number h = absurd h
-given_waits old core by heard_so waiting.Staged given number h = refl
-given_waits old core by heard_so waiting.TxnFull given number h = refl
-given_waits old core by heard_so (waiting.Tell to) given number h = absurd h
-given_waits old core by heard_so waiting.Using given number h = refl
-given_waits old core by heard_so waiting.Look given number h = refl
-given_waits old core by heard_so waiting.Service given number h = refl
-given_waits old core by heard_so waiting.Jobs given number h = refl
-given_waits old core by heard_so waiting.Shutdown given number h = refl
+given_waits : (old core : ServicesValue) (by : By) (w : Waiting) (given : Reply) (number : Option ℕ) → IsGiven old core by w given number → is_free w ≡ false
+given_waits old core by waiting.Nothing given number h = absurd h
+given_waits old core by waiting.Staged given number h = refl
+given_waits old core by waiting.TxnFull given number h = refl
+given_waits old core by (waiting.Tell to) given number h = absurd h
+given_waits old core by waiting.Using given number h = refl
+given_waits old core by waiting.Look given number h = absurd h
+given_waits old core by waiting.Service given number h = refl
+given_waits old core by waiting.Jobs given number h = refl
+given_waits old core by waiting.Shutdown given number h = refl
+
+-- no look is told so
+given_unseen : (old core : ServicesValue) (inst : rules.Instance) (log : rules.Log) → AgreesServices old inst log → (by : By) (w : Waiting) (given : Reply) (number : Option ℕ) → IsGiven old core by w given number → is_seen given ≡ false
+given_unseen old core inst log agrees by waiting.Nothing given number h = absurd h
+given_unseen old core inst log agrees by waiting.Staged given number h = ap is_seen h.0
+given_unseen old core inst log agrees by waiting.TxnFull given number h = ap is_seen h.0
+given_unseen old core inst log agrees by (waiting.Tell to) given number h = absurd h
+given_unseen old core inst log agrees by waiting.Using given number h = ap is_seen h.0
+given_unseen old core inst log agrees by waiting.Look given number h = absurd h
+given_unseen old core inst log agrees by waiting.Service given number h = ap is_seen h.handed ∙ unseen_of h.answer
+given_unseen old core inst log agrees by waiting.Jobs given number h =
+    let t : Answers core inst log by given number = h inst log agrees in
+    (of_jobs given t.reply t.hands).unseen
+given_unseen old core inst log agrees by waiting.Shutdown given number h = ap is_seen h.0
 
 some_issued : (set : Setup) (log : Log) (a issued : ℕ) (w : Waiting) → is_free w ≡ false → Waits set log a issued w → 0 < issued
 some_issued set log a issued waiting.Nothing e h = absurd (true≢false e)
@@ -529,9 +566,9 @@ module _ (v : Own) (a : ℕ) (c : List Entry) (seats : List Seat) (r : IsReady v
       actors = λ b. subst (λ l. ActorStands v.set l (c ++ e ∷ []) b (slice_get (set seats a (replied_seat seat floors)) b)) (sym log_served) (actors_so b);
     }
 
-    reply_follows : (es : List Entry) → es ≡ r.before ++ e ∷ [] → Follows v.set v.chronicle (step.Answer a) (replied a seats seat services floors) es
-    reply_follows es eq = subst (Follows v.set v.chronicle (step.Answer a) (replied a seats seat services floors)) (sym eq) (record {
-      made = record { before = r.before; reply = e; split = refl; replies = refl; others = r.others };
+    reply_follows : (s : Step) → IsStretch v.set.work v.chronicle s (r.before ++ e ∷ []) → (es : List Entry) → es ≡ r.before ++ e ∷ [] → Follows v.set v.chronicle s (replied a seats seat services floors) es
+    reply_follows s made es eq = subst (Follows v.set v.chronicle s (replied a seats seat services floors)) (sym eq) (record {
+      made = made;
       legal = each_joined (IsLegalEntry v.set) v.chronicle r.before (e ∷ []) r.legal_before (subst (λ x. IsLegalEntry v.set x e) r.split legal_here, tt);
       agrees = subst (AgreesOwn (replied a seats seat services floors) v.set) whole reply_agrees;
       settled = λ told. each_joined (SettlesFirst v.set) v.chronicle r.before (e ∷ []) r.quiet (tt, tt);
@@ -540,10 +577,8 @@ module _ (v : Own) (a : ℕ) (c : List Entry) (seats : List Seat) (r : IsReady v
 -- what is known of a reply that is handed over
 pub record IsAnswering (v : Own) (a : ℕ) (seat : Seat) (services : ServicesValue) (given : Reply) (number : Option ℕ) : Type 0 where
   pub sits : slice_get v.instance.seats a ≡ Some seat
-  pub come : has_come v.instance.services (last_command a seat) (has_heard v.instance.services seat) seat.waiting ≡ true
-  pub hears : (broker : ℕ) → broker < v.instance.services.jobs.manager.core.size → heard (log_of v.set.work top v.chronicle) broker primary ≡ Some (primary_heard v.instance.services.jobs.manager.core broker)
   pub kept : KeepsCounts v.instance.services.jobs services.jobs
-  pub said : IsGiven v.instance.services services (last_command a seat) (primary_heard v.instance.services.jobs.manager.core seat.broker) seat.waiting given number
+  pub said : IsGiven v.instance.services services (last_command a seat) seat.waiting given number
 
 pub answer_follows : (v : Own) → DoesAgree v → (a : ℕ) (seat : Seat) (services : ServicesValue) (given : Reply) (number : Option ℕ) → IsAnswering v a seat services given number →
     (floors : Floors) → HasSeen seat given number floors → (es : List Entry) → es ≡ entry.Replied a (seat.issued - 1) given number ∷ [] →
@@ -551,28 +586,32 @@ pub answer_follows : (v : Own) → DoesAgree v → (a : ℕ) (seat : Seat) (serv
 unfolding ready_now
 answer_follows v h a seat services given number is floors seen es eq =
     let r = ready_now v h a in
-    let heard_so = primary_heard v.instance.services.jobs.manager.core seat.broker in
-    let busy = given_waits v.instance.services services (last_command a seat) heard_so seat.waiting given number is.said in
-    let sees = λ (looks : seat.waiting ≡ waiting.Look). sees_root v h a seat is.sits looks (ap (has_come v.instance.services (last_command a seat) (has_heard v.instance.services seat)) (sym looks) ∙ is.come) is.hears in
+    let busy = given_waits v.instance.services services (last_command a seat) seat.waiting given number is.said in
+    let unseen = given_unseen v.instance.services services (instance_of v.set) (log_in v.set.work v.chronicle) h.agrees (last_command a seat) seat.waiting given number is.said in
     reply_follows v a v.chronicle v.instance.seats r seat is.sits busy h services given number is.kept
-    (there v.set v.chronicle v.instance.services r.agrees a seat.issued (begun v a v.chronicle v.instance.seats r seat is.sits busy) (unreplied v a v.chronicle v.instance.seats r seat is.sits busy) services heard_so seat.waiting given number
-    sees (mine v a v.chronicle v.instance.seats r seat is.sits busy).1.waits is.said) floors seen es eq
+    (there v.set v.chronicle v.instance.services r.agrees a seat.issued (begun v a v.chronicle v.instance.seats r seat is.sits busy) (unreplied v a v.chronicle v.instance.seats r seat is.sits busy) services seat.waiting given number
+    (mine v a v.chronicle v.instance.seats r seat is.sits busy).1.waits is.said) floors seen
+    (step.Answer a) (record { before = []; reply = entry.Replied a (seat.issued - 1) given number; split = refl; replies = (refl, unseen); others = tt }) es eq
 
--- what has come would have come where the broker had heard more
-pub come_whatever : (services : ServicesValue) (by : By) (known : Bool) (w : Waiting) → has_come services by known w ≡ true → has_come services by true w ≡ true
-come_whatever services by known waiting.Look h = refl
-come_whatever services by known waiting.Nothing h = h
-come_whatever services by known waiting.Staged h = h
-come_whatever services by known waiting.TxnFull h = h
-come_whatever services by known (waiting.Tell to) h = h
-come_whatever services by known waiting.Using h = h
-come_whatever services by known waiting.Service h = h
-come_whatever services by known waiting.Jobs h = h
-come_whatever services by known waiting.Shutdown h = h
+-- ---- a look is recorded
+
+pub look_follows : (v : Own) (h : DoesAgree v) (a : ℕ) (seat : Seat) → slice_get v.instance.seats a ≡ Some seat → seat.waiting ≡ waiting.Look → (number : ℕ)
+    → floor_in seat.floors seat.subject ≤ number → HasHeard (log_of v.set.work top v.chronicle) (broker_of v.set.work a) primary number
+    → (floors : Floors) → HasSeen seat reply.Seen (Some number) floors → (es : List Entry) → es ≡ entry.Replied a (seat.issued - 1) reply.Seen (Some number) ∷ []
+    → Follows v.set v.chronicle (step.Record a) (replied a v.instance.seats seat v.instance.services floors) es
+unfolding ready_now
+look_follows v h a seat sits looks number least known floors seen es eq =
+    let r = ready_now v h a in
+    let busy : is_free seat.waiting ≡ false = ap is_free looks in
+    let waits = subst (Waits v.set (log_of v.set.work top v.chronicle) a seat.issued) looks (mine v a v.chronicle v.instance.seats r seat sits busy).1.waits in
+    let told = nothing_told v.set v.chronicle v.instance.services (command_of a (seat.issued - 1)) reply.Seen (Some number) refl refl refl r.agrees
+    ((begun v a v.chronicle v.instance.seats r seat sits busy, unreplied v a v.chronicle v.instance.seats r seat sits busy), sees_root v h a seat sits looks number least known) waits.1 in
+    reply_follows v a v.chronicle v.instance.seats r seat sits busy h v.instance.services reply.Seen (Some number) (record { size = refl; submitted = refl; span = refl }) told floors seen
+    (step.Record a) (record { command = seat.issued - 1; number = number; split = refl }) es eq
 
 -- what the actor at the seat of an actor that can be replied to waits for has come
-pub come_so : (v : Own) (a : ℕ) (seat : Seat) → slice_get v.instance.seats a ≡ Some seat → can_answer v.instance a ≡ true → has_come v.instance.services (last_command a seat) (has_heard v.instance.services seat) seat.waiting ≡ true
-come_so v a seat sits can = ap (λ o. option_map_or (λ s. has_come v.instance.services (last_command a s) (has_heard v.instance.services s) s.waiting) o false) (sym sits) ∙ can
+pub come_so : (v : Own) (a : ℕ) (seat : Seat) → slice_get v.instance.seats a ≡ Some seat → can_answer v.instance a ≡ true → has_come v.instance.services (last_command a seat) seat.waiting ≡ true
+come_so v a seat sits can = ap (λ o. option_map_or (λ s. has_come v.instance.services (last_command a s) s.waiting) o false) (sym sits) ∙ can
 
 -- each actor sits at a broker of the service
 pub seats_inside : (v : Own) → DoesAgree v → (k : ℕ) (d : Seat) → k < length v.instance.seats → (get_or v.instance.seats k d).broker < v.instance.services.size
@@ -741,12 +780,13 @@ module _ (v : Own) (h : DoesAgree v) (a : ℕ) (seat : Seat) (to : ℕ) (sits : 
     pub tell_follows : (es : List Entry) → es ≡ told ∷ entry.Replied a (later.issued - 1) reply.Told None ∷ [] → Follows v.set v.chronicle (step.Answer a) (replied a (raised v.instance.seats to floors) later v.instance.services later.floors) es
     unfolding ready_told
     tell_follows es eq =
-        reply_follows v a (v.chronicle ++ told ∷ []) (raised v.instance.seats to floors) ready_told later sits_on engaged_on h v.instance.services reply.Told None (record { size = refl; submitted = refl; span = refl }) told_there later.floors (λ space. none_seen later.floors space) es eq
+        reply_follows v a (v.chronicle ++ told ∷ []) (raised v.instance.seats to floors) ready_told later sits_on engaged_on h v.instance.services reply.Told None (record { size = refl; submitted = refl; span = refl }) told_there later.floors (λ space. none_seen later.floors space)
+        (step.Answer a) (record { before = told ∷ []; reply = entry.Replied a (later.issued - 1) reply.Told None; split = refl; replies = (refl, refl); others = (refl, tt) }) es eq
 
 -- an actor that can be replied to has a seat
 pub actor_within : (v : Own) (a : ℕ) → can_answer v.instance a ≡ true → a < length v.instance.seats
 actor_within v a can = on (slice_get v.instance.seats a) refl can
   where
-    on : (o : Option Seat) → slice_get v.instance.seats a ≡ o → option_map_or (λ seat. has_come v.instance.services (last_command a seat) (has_heard v.instance.services seat) seat.waiting) o false ≡ true → a < length v.instance.seats
+    on : (o : Option Seat) → slice_get v.instance.seats a ≡ o → option_map_or (λ seat. has_come v.instance.services (last_command a seat) seat.waiting) o false ≡ true → a < length v.instance.seats
     on None e t = absurd (true≢false (sym t))
     on (Some seat) e t = slice_get_within v.instance.seats a seat e

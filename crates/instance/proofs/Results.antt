@@ -3,7 +3,6 @@ use Rattle.std.proofs.Common.{◌≡◌, ◌⊎◌, inl, inr, ℕ, suc, arith, L
 use Rattle.std.specs.Prelude.{Contains, IsSome}
 use Rattle.std.specs.Option.{option_map, option_map_or}
 use Rattle.services.specs.kvs_rules.Log.{is_denied, is_landed}
-use Rattle.services.specs.kvs_rules.Sequence.{EachAfter}
 use Rattle.services.proofs.kvs_rules_proofs.Asking.{command_is}
 use Rattle.services.specs.kvs_txn.declared.txn.By.{By}
 use Rattle.services.specs.job_states.declared.job.State.{State}
@@ -32,13 +31,10 @@ use Rattle.services.specs.answers.declared.chronicle.Entry.{Entry}
 use Rattle.services.specs.answers.declared.chronicle.Entry.TheVariants as entry
 use Rattle.services.specs.answers.declared.chronicle.Reply.{Reply}
 use Rattle.services.specs.answers.declared.chronicle.Reply.TheVariants as reply
-use Rattle.services.specs.answers.declared.steps.Step.TheVariants as step
 use Rattle.services.specs.answers.Chronicle.{Setup, is_issued}
 use Rattle.services.specs.answers.Jobs.{instance_of, job_ask_at, job_reply_of, living_of, log_in}
-use Rattle.services.specs.answers.Legal.{HasReplyGrounds, IsLegalEntry, IsUncarried, SettlesFirst}
-use Rattle.services.specs.answers.Stretches.{IsStretch}
+use Rattle.services.specs.answers.Legal.{HasReplyGrounds, IsLegalEntry, IsUncarried}
 use Rattle.services.specs.answers.Whole.{HasClosingGrounds, has_ended, is_closing}
-use Rattle.services.specs.workload.declared.work.Workload.{Workload}
 use Rattle.instance.proofs.Families.{same_living}
 use Rattle.instance.proofs.Logs.{job_replied, log_issued, log_unissued, log_with, served_log}
 
@@ -95,13 +91,6 @@ module _ (set : Setup) (c : List Entry) (new : ServicesValue) (by : By) (given :
   -- the services agree with it
   pub answer_agrees : AgreesServices new (instance_of set) (log_in set.work (c ++ entry.Replied by.actor by.command given number ∷ []))
   answer_agrees = subst (AgreesServices new (instance_of set)) (sym (log_with set.work c (entry.Replied by.actor by.command given number) (Replied by a.reply number) (job_replied set.work c by given number a.reply a.hands))) a.agrees
-
--- the stretch of a reply alone
-pub reply_made : (work : Workload) (c : List Entry) (by : By) (given : Reply) (number : Option ℕ) → IsStretch work c (step.Answer by.actor) (entry.Replied by.actor by.command given number ∷ [])
-reply_made work c by given number = record { before = []; reply = entry.Replied by.actor by.command given number; split = refl; replies = refl; others = tt }
-
-pub reply_rests : (set : Setup) (c : List Entry) (by : By) (given : Reply) (number : Option ℕ) → EachAfter (SettlesFirst set) c (entry.Replied by.actor by.command given number ∷ [])
-reply_rests set c by given number = (tt, tt)
 
 -- ---- commands that no landing carried out
 

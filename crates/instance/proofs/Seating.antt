@@ -6,12 +6,12 @@ use Rattle.std.proofs.lemmas.Bool.{cases_lt, lt-ltb, ltb-true}
 use Rattle.std.proofs.lemmas.Option.{slice_get_past}
 use Rattle.services.specs.Value.{ServicesValue}
 use Rattle.instance.specs.declared.seats.Seat.{Seat}
-use Rattle.instance.specs.Seats.{is_free, last_command, has_come, has_heard}
+use Rattle.instance.specs.Seats.{is_free, last_command, has_come}
 use Rattle.instance.specs.Steps.{has_issue, has_answer}
 
 -- nobody sits past the last seat
 pub answer_past : (services : ServicesValue) (seats : List Seat) (a : ℕ) → length seats ≤ a → has_answer services seats a ≡ false
-answer_past services seats a past = ap (λ o. option_map_or (λ seat. has_come services (last_command a seat) (has_heard services seat) seat.waiting) o false) (slice_get_past seats a past)
+answer_past services seats a past = ap (λ o. option_map_or (λ seat. has_come services (last_command a seat) seat.waiting) o false) (slice_get_past seats a past)
 
 pub issue_past : (lines : ℕ) (seats : List Seat) (a : ℕ) → length seats ≤ a → has_issue lines seats a ≡ false
 issue_past lines seats a past = ap (λ o. option_map_or (λ seat. is_free seat.waiting && nat_lt seat.next lines) o false) (slice_get_past seats a past)

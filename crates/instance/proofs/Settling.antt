@@ -21,11 +21,11 @@ use Rattle.instance.specs.declared.seats.Seat.{Seat}
 use Rattle.instance.specs.declared.seats.Waiting.{Waiting}
 use Rattle.instance.specs.declared.seats.Waiting.TheVariants as waiting
 use Rattle.instance.specs.Agrees.{ActorStands, Waits, command_of}
-use Rattle.instance.specs.Seats.{has_come, has_heard, is_free, last_command, replied_of}
+use Rattle.instance.specs.Seats.{has_come, is_free, last_command, replied_of}
 use Rattle.instance.proofs.Closing.{answered_replied}
-use Rattle.instance.proofs.Stilling.{CanDoNothing, IsStillSo, quiet_so, rest_so, still_here, told_so}
+use Rattle.instance.proofs.Stilling.{CanDoNothing, IsStillSo, quiet_so, rest_so, still_here}
 use Rattle.instance.proofs.Families.{is_living}
-use Rattle.instance.proofs.Looking.{heard_where_told}
+use Rattle.instance.proofs.Looking.{looks_on}
 use Rattle.instance.proofs.Listing.{any_counted, none_counted}
 use Rattle.instance.proofs.Logs.{log_open, served_log}
 use Rattle.instance.proofs.Owning.{DoesAgree, Own}
@@ -104,10 +104,10 @@ module _ (v : Own) (h : DoesAgree v) (rest : CanDoNothing v.instance) (promise :
             let high = past in
             omega (arith, replied, counted, low, high)
 
-        come : (w : Waiting) → seat.waiting ≡ w → has_come v.instance.services (last_command by.actor seat) (has_heard v.instance.services seat) w ≡ false
+        come : (w : Waiting) → seat.waiting ≡ w → has_come v.instance.services (last_command by.actor seat) w ≡ false
         come w is =
-            ap (has_come v.instance.services (last_command by.actor seat) (has_heard v.instance.services seat)) (sym is)
-            ∙ ap (λ o. option_map_or (λ s. has_come v.instance.services (last_command by.actor s) (has_heard v.instance.services s) s.waiting) o false) (sym at) ∙ rest.answers by.actor
+            ap (has_come v.instance.services (last_command by.actor seat)) (sym is)
+            ∙ ap (λ o. option_map_or (λ s. has_come v.instance.services (last_command by.actor s) s.waiting) o false) (sym at) ∙ rest.answers by.actor
 
         on : (w : Waiting) → seat.waiting ≡ w → HasToWait (living_of v.set v.chronicle) by
         on waiting.Nothing is =
@@ -120,7 +120,7 @@ module _ (v : Own) (h : DoesAgree v) (rest : CanDoNothing v.instance) (promise :
         on waiting.TxnFull is = absurd (true≢false (come waiting.TxnFull is))
         on (waiting.Tell to) is = absurd (true≢false (come (waiting.Tell to) is))
         on waiting.Using is = absurd (true≢false (come waiting.Using is))
-        on waiting.Look is = absurd (true≢false (sym (heard_where_told v h by.actor seat at is (told_so v h rest promise seat.broker mine.1.inside)) ∙ come waiting.Look is))
+        on waiting.Look is = absurd (looks_on v.instance by.actor seat at is (rest.looks by.actor))
         on waiting.Service is =
             let w = subst (Waits v.set (log_of v.set.work top v.chronicle) by.actor seat.issued) is mine.1.waits in
             by_service (subst (λ k. is_asked (command_of by.actor k) (log_of v.set.work top v.chronicle) ≡ true) (last waiting.Service is refl) w.1)

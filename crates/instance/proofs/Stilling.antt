@@ -38,7 +38,7 @@ use Rattle.instance.specs.Seats.{is_at_jobs, is_fed_next, last_command}
 use Rattle.instance.specs.Agrees.{ActorStands, Waits, command_of}
 use Rattle.instance.specs.Family.{bearing, is_due, targets_left}
 use Rattle.instance.specs.Floors.{floor_in}
-use Rattle.instance.specs.Steps.{can_post, has_answer, has_feed}
+use Rattle.instance.specs.Steps.{can_post, has_answer, has_feed, look_of}
 use Rattle.instance.specs.Value.{InstanceValue}
 use Rattle.instance.proofs.Owning.{Own, DoesAgree}
 use Rattle.instance.proofs.Closing.{AreResults, left_open, none_taken, none_told}
@@ -56,6 +56,7 @@ pub record CanDoNothing (v : InstanceValue) : Type 0 where
   pub steps : (s : KvsStep) → can_step v.services s ≡ false
   pub feeds : (a : ℕ) → has_feed v.services v.seats a ≡ false
   pub answers : (a : ℕ) → has_answer v.services v.seats a ≡ false
+  pub looks : (a : ℕ) → look_of v a ≡ None
   pub due : is_due v ≡ false
 
 -- there the services have come to rest

@@ -1,6 +1,8 @@
 -- What a step of an instance makes.
 use Rattle.std.specs.Prelude.{◌≡◌, ℕ, Bool, IsTrue, List, [], ◌∷◌, ◌++◌}
 use Rattle.std.specs.List.{AllByRecursion as Each}
+use Rattle.services.specs.kvs_rules.Brokers.{HasHeard}
+use Rattle.services.specs.kvs_rules.Namespaces.{primary}
 use Rattle.services.specs.kvs_rules.Sequence.{EachAfter}
 use Rattle.services.specs.workload.declared.work.Line.{Line}
 use Rattle.services.specs.answers.declared.chronicle.Entry.{Entry}
@@ -9,7 +11,9 @@ use Rattle.services.specs.answers.declared.steps.Step.{Step}
 use Rattle.services.specs.answers.declared.steps.Step.TheVariants as step
 use Rattle.services.specs.resource_set.declared.node.Resources.{Resources}
 use Rattle.services.specs.answers.Chronicle.{Setup, top}
+use Rattle.services.specs.answers.Commands.{broker_of}
 use Rattle.services.specs.answers.Legal.{HasSettled, IsLegalEntry, SettlesFirst}
+use Rattle.services.specs.answers.Services.{log_of}
 use Rattle.services.specs.answers.Stretches.{IsStretch}
 use Rattle.services.specs.answers.Whole.{IsClosingEntry, IsWhole}
 use Rattle.instance.specs.Agrees.{AgreesOwn}
@@ -30,6 +34,12 @@ pub record Follows (set : Setup) (own : List Entry)
 abbrev pub Makes : InstanceValue → Step → InstanceValue → List Entry → Type 0
 Makes old s new entries = (set : Setup) (own : List Entry)
     → AgreesOwn old set own → Follows set own s new entries
+
+-- so do those of a look that is told this number, where the actor's broker has heard it
+abbrev pub Records : InstanceValue → ℕ → ℕ → InstanceValue → List Entry → Type 0
+Records old actor number new entries = (set : Setup) (own : List Entry) → AgreesOwn old set own
+    → HasHeard (log_of set.work top own) (broker_of set.work actor) primary number
+    → Follows set own (step.Record actor) new entries
 
 -- the instance is at rest, if the run is settled
 abbrev pub IssuesAtRest : Setup → InstanceValue → Type 0

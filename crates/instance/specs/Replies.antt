@@ -30,20 +30,20 @@ MayBeShut v by = (inst : Instance) (log : Log) → AgreesServices v inst log
     → inst.asks by ≡ Some Shutdown → IsOpen by log
     → AgreesServices v inst (log ++ Replied by Shut None ∷ [])
 
--- what the actor is told, who waits so, and whose broker has heard this number of `primary`
-abbrev pub IsGiven : ServicesValue → ServicesValue → By → ℕ → Waiting → Reply → Option ℕ → Type 0
-IsGiven old new by heard waiting.Nothing given number = ⊥
-IsGiven old new by heard waiting.Staged given number =
+-- what the actor is told, who waits so
+abbrev pub IsGiven : ServicesValue → ServicesValue → By → Waiting → Reply → Option ℕ → Type 0
+IsGiven old new by waiting.Nothing given number = ⊥
+IsGiven old new by waiting.Staged given number =
     (given ≡ reply.Staged) × (number ≡ None) × (new ≡ old)
-IsGiven old new by heard waiting.TxnFull given number =
+IsGiven old new by waiting.TxnFull given number =
     (given ≡ reply.TxnFull) × (number ≡ None) × (new ≡ old)
 -- one that tells another is replied to in that step
-IsGiven old new by heard (waiting.Tell to) given number = ⊥
-IsGiven old new by heard waiting.Using given number =
+IsGiven old new by (waiting.Tell to) given number = ⊥
+IsGiven old new by waiting.Using given number =
     (given ≡ reply.Using) × (number ≡ None) × (new ≡ old)
-IsGiven old new by heard waiting.Look given number =
-    (given ≡ reply.Seen) × (number ≡ Some heard) × (new ≡ old)
-IsGiven old new by heard waiting.Service given number = IsTaken old new by given number
-IsGiven old new by heard waiting.Jobs given number = IsToldOf old new by given number
-IsGiven old new by heard waiting.Shutdown given number =
+-- a look is recorded
+IsGiven old new by waiting.Look given number = ⊥
+IsGiven old new by waiting.Service given number = IsTaken old new by given number
+IsGiven old new by waiting.Jobs given number = IsToldOf old new by given number
+IsGiven old new by waiting.Shutdown given number =
     (given ≡ reply.Shut) × (number ≡ None) × (new ≡ old) × MayBeShut old by

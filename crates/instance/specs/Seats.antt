@@ -18,6 +18,7 @@ use Rattle.services.specs.workload.declared.work.Command.TheVariants as command
 use Rattle.services.specs.kvs_txn.Staged.{most_ops}
 use Rattle.services.specs.answers.Commands.{op_of, takes_staged, used_name}
 use Rattle.services.specs.answers.Jobs.{job_ask_of}
+use Rattle.instance.specs.declared.seats.OpenLook.{OpenLook}
 use Rattle.instance.specs.declared.seats.Seat.{Seat}
 use Rattle.instance.specs.declared.seats.Waiting.{Waiting}
 use Rattle.instance.specs.declared.seats.Waiting.TheVariants as waiting
@@ -110,17 +111,29 @@ abbrev pub has_heard : ServicesValue → Seat → Bool
 has_heard services seat = nat_le (floor_in seat.floors seat.subject)
     (primary_heard services.jobs.manager.core seat.broker)
 
--- whether what the actor waits for is there, where its broker has heard of what it has seen or hasn't
-abbrev pub has_come : ServicesValue → By → Bool → Waiting → Bool
-has_come services by heard waiting.Nothing = false
-has_come services by heard waiting.Staged = true
-has_come services by heard waiting.TxnFull = true
-has_come services by heard (waiting.Tell to) = true
-has_come services by heard waiting.Using = true
-has_come services by heard waiting.Look = heard
-has_come services by heard waiting.Service = can_take services by
-has_come services by heard waiting.Jobs = can_reply services.jobs by
-has_come services by heard waiting.Shutdown = true
+-- whether what the actor waits for is there; a look is recorded, and not answered
+abbrev pub has_come : ServicesValue → By → Waiting → Bool
+has_come services by waiting.Nothing = false
+has_come services by waiting.Staged = true
+has_come services by waiting.TxnFull = true
+has_come services by (waiting.Tell to) = true
+has_come services by waiting.Using = true
+has_come services by waiting.Look = false
+has_come services by waiting.Service = can_take services by
+has_come services by waiting.Jobs = can_reply services.jobs by
+has_come services by waiting.Shutdown = true
+
+-- whether the actor looks
+abbrev pub is_look : Waiting → Bool
+is_look waiting.Look = true
+is_look _ = false
+
+-- the look of the actor at this seat, if it looks: its broker, and how far the actor has seen
+abbrev pub look_in : Seat → Option OpenLook
+look_in seat = if is_look seat.waiting then Some (record {
+  broker = seat.broker;
+  need = floor_in seat.floors seat.subject;
+}) else None
 
 -- whether the actor waits for what becomes of a job, or for time
 abbrev pub is_at_jobs : Waiting → Bool

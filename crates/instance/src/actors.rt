@@ -30,6 +30,7 @@ ghost use Rattle.instance.specs.Steps.{IsAtRest, IsOver, can_answer, can_issue, 
 
 mod family;
 mod feeding;
+mod looking;
 mod walk;
 
 use crate::floors::Floors;
@@ -101,24 +102,18 @@ struct Given {
     number: Option<u64>,
 }
 
-/// What an actor is told that waits so for its command, and whose broker has heard this number of
-/// `primary`.
-fn reply_to(
-    services: &mut Services,
-    by: By,
-    heard: u64,
-    waiting: Waiting,
-) -> Result<Given, AllocError>
+/// What an actor is told that waits so for its command.
+fn reply_to(services: &mut Services, by: By, waiting: Waiting) -> Result<Given, AllocError>
     requires ready { services.old.spent ≡ false }
-    requires can { has_come services.old by true waiting ≡ true }
+    requires can { has_come services.old by waiting ≡ true }
     requires hands { is_telling waiting ≡ false }
     ensures ready { OnOk result (services.new.spent ≡ false) }
     ensures keeps { OnOk result (Keeps services.old services.new) }
-    ensures given { IfOk result (λ given. IsGiven services.old services.new by heard waiting
+    ensures given { IfOk result (λ given. IsGiven services.old services.new by waiting
         given.reply given.number) }
 {
     Ok(match waiting {
-        Waiting::Nothing | Waiting::Tell { .. } => unreachable!(),
+        Waiting::Nothing | Waiting::Tell { .. } | Waiting::Look => unreachable!(),
         Waiting::Staged => Given {
             reply: Reply::Staged,
             number: None,
@@ -130,10 +125,6 @@ fn reply_to(
         Waiting::Using => Given {
             reply: Reply::Using,
             number: None,
-        },
-        Waiting::Look => Given {
-            reply: Reply::Seen,
-            number: Some(heard),
         },
         Waiting::Shutdown => {
             shutdowns_leave_services();
@@ -309,14 +300,11 @@ impl Instance {
         ensures makes { IfOk result (Makes self.old (Step.Answer actor) self.new) }
         ensures spent { OnErr result (self.new.spent ≡ true) }
     {
-        // the root that a look tells is what its broker has heard of
-        self.core().standing();
         self.spent = true;
         let seat = &mut self.seats[actor as usize];
         let command = seat.issued.saturating_sub(1);
         let by = By { actor, command };
-        let heard = self.services.core().heard_primary(seat.broker);
-        let given = reply_to(&mut self.services, by, heard, seat.waiting)?;
+        let given = reply_to(&mut self.services, by, seat.waiting)?;
         let Given { reply, number } = given;
         seat.waiting = Waiting::Nothing;
         see(&mut seat.floors, &seat.subject, number, &reply)?;

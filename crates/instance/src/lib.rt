@@ -15,4 +15,5 @@ mod seats;
 mod unfinished;
 
 pub use actors::Instance;
+pub use seats::OpenLook;
 pub use services::kvs_core::{CoreFault, Setting};

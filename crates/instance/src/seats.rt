@@ -11,7 +11,7 @@ ghost use Rattle.services.specs.workload.Laws.{IsBuilt};
 ghost use Rattle.services.specs.kvs_txn.Staged.{most_ops};
 ghost use Rattle.services.specs.answers.Commands.{ask_of, op_of, subject_of};
 ghost use Rattle.instance.specs.declared.seats.Seat.{Seat as SeatValue};
-ghost use Rattle.instance.specs.Seats.{room_behind, with_op, waiting_after, waits_for, ops_after, space_after, seat_floor, moment_asked, AreTold, IsTheAsk, has_come, has_heard, is_at_jobs, is_fed_next, is_free};
+ghost use Rattle.instance.specs.Seats.{room_behind, with_op, waiting_after, waits_for, ops_after, space_after, seat_floor, moment_asked, AreTold, IsTheAsk, has_come, has_heard, is_at_jobs, is_fed_next, is_free, is_look, look_in};
 ghost use Rattle.instance.specs.Marks.{AreHeld};
 ghost use Rattle.instance.specs.Steps.{has_issue, has_answer, has_feed, next_of};
 
@@ -39,6 +39,14 @@ pub enum Waiting {
     Service,
     Jobs,
     Shutdown,
+}
+
+/// An open look: its actor's broker, and the least number that it may tell, which is how far the
+/// actor has seen.
+#[derive(Clone, Copy, Debug, PartialEq, Eq)]
+pub struct OpenLook {
+    pub broker: u32,
+    pub need: u64,
 }
 
 /// An actor: its broker, the places of its next and its last line in the workload, how many of its
@@ -286,20 +294,19 @@ fn has_heard(services: &Services, seat: &Seat) -> bool
     seat.floors.of(&seat.subject) <= services.core().heard_primary(seat.broker)
 }
 
-/// Whether what the actor at this seat waits for with its last command is there.
-pub fn has_come(services: &Services, by: By, seat: &Seat) -> bool
+/// Whether what an actor waits for so with its last command is there; a look is recorded, and not
+/// answered.
+pub fn has_come(services: &Services, by: By, waiting: Waiting) -> bool
     requires { services.now.spent ≡ false }
-    ensures { result
-        ≡ has_come services.now by (has_heard services.now seat.now) seat.now.waiting }
+    ensures { result ≡ has_come services.now by waiting }
 {
-    match seat.waiting {
-        Waiting::Nothing => false,
+    match waiting {
+        Waiting::Nothing | Waiting::Look => false,
         Waiting::Staged
         | Waiting::TxnFull
         | Waiting::Tell { .. }
         | Waiting::Using
         | Waiting::Shutdown => true,
-        Waiting::Look => has_heard(services, seat),
         Waiting::Service => services.can_take(by),
         Waiting::Jobs => services.jobs().can_reply(by),
     }
@@ -330,10 +337,30 @@ pub fn has_answer(services: &Services, seats: &[Seat], actor: u32) -> bool
     match seats.get(actor as usize) {
         Some(seat) => {
             let command = seat.issued.saturating_sub(1);
-            has_come(services, By { actor, command }, seat)
+            has_come(services, By { actor, command }, seat.waiting)
         }
         None => false,
     }
+}
+
+/// Whether an actor looks.
+fn is_look(waiting: Waiting) -> bool
+    ensures { result ≡ is_look waiting }
+{
+    matches!(waiting, Waiting::Look)
+}
+
+/// The look of the actor at this seat, if it looks.
+pub fn look_in(seat: &Seat) -> Option<OpenLook>
+    ensures { result ≡ look_in seat.now }
+{
+    if !is_look(seat.waiting) {
+        return None;
+    }
+    Some(OpenLook {
+        broker: seat.broker,
+        need: seat.floors.of(&seat.subject),
+    })
 }
 
 /// The last command of each actor.

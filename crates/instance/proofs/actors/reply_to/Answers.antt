@@ -2,7 +2,7 @@ use Rattle.std.proofs.Common.{rules, sym, ap, subst}
 use Rattle.instance.specs.declared.actors.Given.{Given}
 use Rattle.instance.specs.Replies.{IsGiven}
 use Rattle.instance.proofs.actors.reply_to.Goals as goal
-use Rattle.instance.proofs.actors.reply_to.Goals.{in-Staged, in-TxnFull, in-Using, in-Look, in-Shutdown, in-Service, in-Jobs+in_ok-told-in-Jobs}
+use Rattle.instance.proofs.actors.reply_to.Goals.{in-Staged, in-TxnFull, in-Using, in-Shutdown, in-Service, in-Jobs+in_ok-told-in-Jobs}
 
 pub returns-clause-given : goal.returns-clause-given
 returns-clause-given c =
@@ -13,9 +13,8 @@ returns-clause-given c =
       | in-Staged w ↦ search rules
       | in-TxnFull w ↦ search rules
       | in-Using w ↦ search rules
-      | in-Look w ↦ search rules
       | in-Shutdown w ↦
-          subst (λ waiting. IsGiven v c.match-waiting.services by c.args.heard waiting given.reply given.number) (sym w.in-Shutdown.is) (
+          subst (λ waiting. IsGiven v c.match-waiting.services by waiting given.reply given.number) (sym w.in-Shutdown.is) (
             ap (λ (g : Given). g.reply) w.result-is,
             ap (λ (g : Given). g.number) w.result-is,
             w.services-is,

@@ -22,7 +22,7 @@ returns c = record {
         results = c.still.ensures.results;
       } in
       settled_so (own_of c.args.self.now set own) agrees
-      (record { steps = rest.steps; feeds = rest.feeds; answers = rest.answers; due = rest.due })
+      (record { steps = rest.steps; feeds = rest.feeds; answers = rest.answers; looks = rest.looks; due = rest.due })
       (subst (λ v. IsStillSo (own_of v set own)) c.self.view_is promise);
   free = λ set own agrees steps answers posts unborn.
       let v = value_of c.self.inside in
