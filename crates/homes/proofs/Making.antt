@@ -1,5 +1,5 @@
 -- The entries that an instance makes in a step of its own.
-use Rattle.std.proofs.Common.{◌≡◌, ◌∙◌, ℕ, ◌+◌, ◌==◌, ◌&&◌, ◌||◌, ◌⊎◌, inl, inr, List, [], ◌∷◌, ◌++◌, Bool, true, false, Option, None, cond, count_by, map, refl, sym, ap, ap₂, subst, arith}
+use Rattle.std.proofs.Common.{◌≡◌, ◌∙◌, ℕ, ◌+◌, ◌==◌, ◌&&◌, ◌||◌, ◌⊎◌, inl, inr, List, [], ◌∷◌, ◌++◌, Bool, true, false, Option, Some, None, cond, count_by, map, refl, sym, ap, ap₂, subst, arith}
 use Rattle.std.specs.List.{AllByRecursion as Each, list_any}
 use Rattle.std.proofs.lemmas.Bool.{eq-eqb, ne_eqb}
 use Rattle.std.proofs.lemmas.List.{map-append}
@@ -16,10 +16,11 @@ use Rattle.instance.specs.answers.Chronicle.{issues_of, replies_to, top}
 use Rattle.instance.specs.answers.Commands.{broker_of}
 use Rattle.instance.specs.answers.Services.{log_of}
 use Rattle.instance.specs.answers.Entering.{entered}
-use Rattle.instance.specs.answers.Stretches.{ComesBeforeReply, IsContentAt, IsFeedStretch, IsIssueStretch, IsKvsStretch, IsReplyOf, IsReplyStretch}
+use Rattle.instance.specs.answers.Stretches.{ComesBeforeReply, IsContentAt, IsFeedStretch, IsIssueStretch, IsKvsStretch, IsLookStretch, IsReplyOf, IsReplyStretch}
 use Rattle.instance.specs.answers.declared.chronicle.Entry.{Entry}
 use Rattle.instance.specs.answers.declared.chronicle.Entry.TheVariants as entry
 use Rattle.instance.specs.answers.declared.chronicle.Reply.{Reply}
+use Rattle.instance.specs.answers.declared.chronicle.Reply.TheVariants as reply
 use Rattle.hierarchy.specs.Births.{is_at}
 use Rattle.hierarchy.specs.Families.{shuts_down}
 use Rattle.hierarchy.specs.Growing.{IsMadeIn, StartsNothing}
@@ -220,7 +221,7 @@ module _ (actors : List Actor) (label : Option (List ℕ)) (work : Workload) (ac
   quiet_all_before (e ∷ es) h = (quiet_before e h.0, quiet_all_before es h.1)
 
   each_reply : (e : Entry) → IsReplyOf actor e → (command : ℕ) × ((given : Reply) × ((number : Option ℕ) × (e ≡ entry.Replied actor command given number)))
-  each_reply (entry.Replied a k given number) h = (k, (given, (number, ap (λ a. entry.Replied a k given number) h)))
+  each_reply (entry.Replied a k given number) h = (k, (given, (number, ap (λ a. entry.Replied a k given number) h.0)))
   each_reply (entry.Issued a k) h = absurd h
   each_reply (entry.Landed i space number authors groups) h = absurd h
   each_reply (entry.Denied i space authors group refusal) h = absurd h
@@ -246,25 +247,32 @@ pub record IsReplyIn (actors : List Actor) (label : Option (List ℕ)) (actor i 
 same_number : (n : ℕ) → (n == n) ≡ true
 same_number n = eq-eqb n n refl
 
+one_reply : (actors : List Actor) (label : Option (List ℕ)) (work : Workload) (actor i : ℕ) → is_at actors label actor ≡ true → (own before : List Entry) → Each (ComesBeforeReply work actor) before
+    → (command : ℕ) (given : Reply) (number : Option ℕ) → own ≡ before ++ entry.Replied actor command given number ∷ [] → IsReplyIn actors label actor i own
+one_reply actors label work actor i home own before others command given number split =
+    let e = entry.Replied actor command given number in
+    let quiet = quiet_all_before actors label work actor home before others in
+    subst (IsReplyIn actors label actor i) (sym split) (record {
+      made = each_append (IsMadeIn actors label) before (e ∷ []) (made_quietly actors label before quiet) (home, tt);
+      unissued = count_one (issues_of actor) i before [] e (all_quiet actors label before quiet i actor).issues refl;
+      command = command;
+      replied = count_one (replies_to (by_of actor command)) i before [] e ((all_quiet actors label before quiet i actor).replies command) refl
+          ∙ ap₂ (λ a b. cond (a && b) 1 0) (same_number actor) (same_number command);
+      others = λ other ne. record {
+        issues = count_one (issues_of other) i before [] e (all_quiet actors label before quiet i other).issues refl;
+        replies = λ k. count_one (replies_to (by_of other k)) i before [] e ((all_quiet actors label before quiet i other).replies k) refl
+            ∙ ap (λ a. cond (a && (k == command)) 1 0) (ne_eqb other actor ne);
+      };
+      nothing = each_append StartsNothing before (e ∷ []) (nothing_issued actors label before quiet) (tt, tt);
+    })
+
 pub reply_stretch : (actors : List Actor) (label : Option (List ℕ)) (work : Workload) (actor i : ℕ) → is_at actors label actor ≡ true → (own : List Entry) → IsReplyStretch work actor own → IsReplyIn actors label actor i own
 reply_stretch actors label work actor i home own h =
     let it = each_reply actors label work actor home h.reply h.replies in
-    let e = entry.Replied actor it.0 it.1.0 it.1.1.0 in
-    let split : own ≡ h.before ++ e ∷ [] = h.split ∙ ap (λ x. h.before ++ x ∷ []) it.1.1.1 in
-    let quiet = quiet_all_before actors label work actor home h.before h.others in
-    subst (IsReplyIn actors label actor i) (sym split) (record {
-      made = each_append (IsMadeIn actors label) h.before (e ∷ []) (made_quietly actors label h.before quiet) (home, tt);
-      unissued = count_one (issues_of actor) i h.before [] e (all_quiet actors label h.before quiet i actor).issues refl;
-      command = it.0;
-      replied = count_one (replies_to (by_of actor it.0)) i h.before [] e ((all_quiet actors label h.before quiet i actor).replies it.0) refl
-          ∙ ap₂ (λ a b. cond (a && b) 1 0) (same_number actor) (same_number it.0);
-      others = λ other ne. record {
-        issues = count_one (issues_of other) i h.before [] e (all_quiet actors label h.before quiet i other).issues refl;
-        replies = λ k. count_one (replies_to (by_of other k)) i h.before [] e ((all_quiet actors label h.before quiet i other).replies k) refl
-            ∙ ap (λ a. cond (a && (k == it.0)) 1 0) (ne_eqb other actor ne);
-      };
-      nothing = each_append StartsNothing h.before (e ∷ []) (nothing_issued actors label h.before quiet) (tt, tt);
-    })
+    one_reply actors label work actor i home own h.before h.others it.0 it.1.0 it.1.1.0 (h.split ∙ ap (λ x. h.before ++ x ∷ []) it.1.1.1)
+
+pub look_stretch : (actors : List Actor) (label : Option (List ℕ)) (work : Workload) (actor i : ℕ) → is_at actors label actor ≡ true → (own : List Entry) → IsLookStretch actor own → IsReplyIn actors label actor i own
+look_stretch actors label work actor i home own h = one_reply actors label work actor i home own [] tt h.command reply.Seen (Some h.number) h.split
 
 -- ---- an issue
 
