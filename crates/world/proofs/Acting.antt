@@ -1,8 +1,11 @@
 -- What an actor does whose instance lives.
 use Rattle.std.proofs.Common.{◌≡◌, ◌∙◌, ℕ, ◌+◌, ◌-◌, ◌≤◌, List, [], ◌∷◌, ◌++◌, Bool, true, false, Option, Some, None, cond, count_by, length, map, refl, sym, ap, subst, arith}
 use Rattle.std.specs.Prelude.{option_map, slice_get, slice_set}
+use Rattle.instance.specs.kvs_rules.Brokers.{HasHeard}
 use Rattle.instance.specs.kvs_rules.Log.{Log}
+use Rattle.instance.specs.kvs_rules.Namespaces.{primary}
 use Rattle.instance.specs.answers.Chronicle.{Setup, issues_of, replies_to, top}
+use Rattle.instance.specs.answers.Commands.{broker_of}
 use Rattle.instance.specs.answers.Services.{log_of}
 use Rattle.instance.specs.answers.declared.chronicle.Entry.{Entry}
 use Rattle.instance.specs.answers.declared.steps.Step.{Step}
@@ -13,7 +16,7 @@ use Rattle.hierarchy.specs.Grows.{GrowsByOwn}
 use Rattle.hierarchy.specs.Own.{own_of, setup_in}
 use Rattle.hierarchy.specs.Stretches.{IsRunStretch, entered_in}
 use Rattle.instance.specs.Agrees.{ActorStands, Stands}
-use Rattle.instance.specs.Makes.{Follows, Makes}
+use Rattle.instance.specs.Makes.{Follows, Makes, Records}
 use Rattle.instance.specs.Seats.{is_free, replied_of}
 use Rattle.instance.specs.Value.{InstanceValue}
 use Rattle.instance.specs.declared.seats.Seat.{Seat}
@@ -24,7 +27,7 @@ use Rattle.world.specs.Value.{WorldValue}
 use Rattle.homes.specs.declared.homes.Home.{Home}
 use Rattle.homes.specs.declared.homes.Place.{Place}
 use Rattle.world.proofs.Left.{at_home}
-use Rattle.homes.proofs.Making.{IsReplyIn, reply_stretch}
+use Rattle.homes.proofs.Making.{IsReplyIn, look_stretch, reply_stretch}
 use Rattle.homes.proofs.Placing.{by_of, counts_joined, home_stays, place_replied, places_behind}
 use Rattle.world.proofs.Running.{grown, home_agrees, home_born, home_lives}
 use Rattle.world.proofs.Serving.{homes_with, own_advances, own_sound}
@@ -69,6 +72,30 @@ module _ (v : WorldValue) (sound : IsSound v) (runs : v.closed ≡ false) (actor
           few true n = omega arith
           few false n = omega arith
 
+  abbrev pub told_at : Place
+  told_at = record { home = p.home; next = p.next; issued = p.issued; waits = false }
+
+  -- ---- a step in which the actor gets one reply
+
+  module _ (s : Step) (new : InstanceValue) (own : List Entry) (ready : new.spent ≡ false) (follows : Follows (setup_in v.set v.chronicle i) (own_of v.set v.chronicle i) s new own)
+      (reply_in : IsReplyIn v.set.work.actors (label_of v.chronicle i) actor i own) (stretch : IsRunStretch v.set v.chronicle s (map (entered_in i) own))
+      (c : List Entry) (steps : List Step) (ends : List ℕ) (ec : c ≡ v.chronicle ++ map (entered_in i) own) (es : steps ≡ v.steps ++ s ∷ []) (ee : ends ≡ v.ends ++ length c ∷ []) where
+    grows : GrowsByOwn v.set v.chronicle i own
+    grows = grown v sound runs i h here living s new own follows reply_in.made
+
+    places : ArePlaces v.set (v.chronicle ++ map (entered_in i) own) (slice_set v.places actor told_at)
+    places = places_behind v.set v.chronicle (map (entered_in i) own) grows.so.numbered grows.so.births v.places (sound.runs runs).places actor p told_at standing reply_in.others
+        (seat_place own grows new reply_in.unissued reply_in.command reply_in.replied (setup_in v.set v.chronicle i)
+        (log_of (setup_in v.set v.chronicle i).work top (own_of v.set v.chronicle i ++ own)) (slice_get new.seats actor) (follows.agrees.actors actor))
+
+    replied_sound : IsSound (stepped v c steps ends (homes_with v.homes i h new) (slice_set v.places actor told_at))
+    replied_sound = own_sound v sound runs i h here living new own ready c steps ends ec s s follows reply_in.made reply_in.nothing stretch es ee
+        (slice_set v.places actor told_at) places
+
+    replied_advances : Advances v s (stepped v c steps ends (homes_with v.homes i h new) (slice_set v.places actor told_at))
+    replied_advances = own_advances v sound runs i h here living new own ready c steps ends ec s s follows reply_in.made reply_in.nothing stretch es ee
+        (slice_set v.places actor told_at)
+
   -- ---- a reply
 
   module _ (new : InstanceValue) (own : List Entry) (ready : new.spent ≡ false) (makes : Makes h.instance (step.Answer actor) new own)
@@ -82,21 +109,28 @@ module _ (v : WorldValue) (sound : IsSound v) (runs : v.closed ≡ false) (actor
     stretch : IsRunStretch v.set v.chronicle (step.Answer actor) (map (entered_in i) own)
     stretch = record { home = i; is = home_here; stretch = record { born = home_born v sound runs i h here; own = own; entered = refl; allowed = follows.made } }
 
-    grows : GrowsByOwn v.set v.chronicle i own
-    grows = grown v sound runs i h here living (step.Answer actor) new own follows reply_in.made
-
-    abbrev pub told_at : Place
-    told_at = record { home = p.home; next = p.next; issued = p.issued; waits = false }
-
-    places : ArePlaces v.set (v.chronicle ++ map (entered_in i) own) (slice_set v.places actor told_at)
-    places = places_behind v.set v.chronicle (map (entered_in i) own) grows.so.numbered grows.so.births v.places (sound.runs runs).places actor p told_at standing reply_in.others
-        (seat_place own grows new reply_in.unissued reply_in.command reply_in.replied (setup_in v.set v.chronicle i)
-        (log_of (setup_in v.set v.chronicle i).work top (own_of v.set v.chronicle i ++ own)) (slice_get new.seats actor) (follows.agrees.actors actor))
-
     pub reply_sound : IsSound (stepped v c steps ends (homes_with v.homes i h new) (slice_set v.places actor told_at))
-    reply_sound = own_sound v sound runs i h here living new own ready c steps ends ec (step.Answer actor) (step.Answer actor) follows reply_in.made reply_in.nothing stretch es ee
-        (slice_set v.places actor told_at) places
+    reply_sound = replied_sound (step.Answer actor) new own ready follows reply_in stretch c steps ends ec es ee
 
     pub reply_advances : Advances v (step.Answer actor) (stepped v c steps ends (homes_with v.homes i h new) (slice_set v.places actor told_at))
-    reply_advances = own_advances v sound runs i h here living new own ready c steps ends ec (step.Answer actor) (step.Answer actor) follows reply_in.made reply_in.nothing stretch es ee
-        (slice_set v.places actor told_at)
+    reply_advances = replied_advances (step.Answer actor) new own ready follows reply_in stretch c steps ends ec es ee
+
+  -- ---- a look
+
+  module _ (number : ℕ) (known : HasHeard (log_of (setup_in v.set v.chronicle i).work top (own_of v.set v.chronicle i)) (broker_of (setup_in v.set v.chronicle i).work actor) primary number)
+      (new : InstanceValue) (own : List Entry) (ready : new.spent ≡ false) (makes : Records h.instance actor number new own)
+      (c : List Entry) (steps : List Step) (ends : List ℕ) (ec : c ≡ v.chronicle ++ map (entered_in i) own) (es : steps ≡ v.steps ++ step.Record actor ∷ []) (ee : ends ≡ v.ends ++ length c ∷ []) where
+    records : Follows (setup_in v.set v.chronicle i) (own_of v.set v.chronicle i) (step.Record actor) new own
+    records = makes (setup_in v.set v.chronicle i) (own_of v.set v.chronicle i) (home_agrees v sound runs i h here living) known
+
+    look_in : IsReplyIn v.set.work.actors (label_of v.chronicle i) actor i own
+    look_in = look_stretch v.set.work.actors (label_of v.chronicle i) (setup_in v.set v.chronicle i).work actor i home_here own records.made
+
+    looked : IsRunStretch v.set v.chronicle (step.Record actor) (map (entered_in i) own)
+    looked = record { home = i; is = home_here; stretch = record { born = home_born v sound runs i h here; own = own; entered = refl; allowed = records.made } }
+
+    pub look_sound : IsSound (stepped v c steps ends (homes_with v.homes i h new) (slice_set v.places actor told_at))
+    look_sound = replied_sound (step.Record actor) new own ready records look_in looked c steps ends ec es ee
+
+    pub look_advances : Advances v (step.Record actor) (stepped v c steps ends (homes_with v.homes i h new) (slice_set v.places actor told_at))
+    look_advances = replied_advances (step.Record actor) new own ready records look_in looked c steps ends ec es ee

@@ -1,6 +1,6 @@
 -- The step of a number can be made.
-use Rattle.std.proofs.Common.{◌≡◌, ◌∙◌, ℕ, List, [], ◌++◌, false, true, get_or, refl, sym, ap, append_assoc, arith, subst}
-use Rattle.std.specs.Prelude.{Contains, IfOk, Result, Ok, Err}
+use Rattle.std.proofs.Common.{◌≡◌, ◌∙◌, ℕ, List, [], ◌∷◌, ◌++◌, false, None, true, get_or, refl, sym, ap, append_assoc, arith, subst}
+use Rattle.std.specs.Prelude.{Contains, IfOk, Result, Ok, Err, slice_get}
 use Rattle.std.proofs.lemmas.List.{nil_from_length}
 use Rattle.std.proofs.lemmas.Option.{slice_get-get_or}
 use Rattle.instance.specs.kvs_keys.Walk.{nth}
@@ -9,11 +9,12 @@ use Rattle.instance.specs.answers.declared.steps.Step.TheVariants as step
 use Rattle.instance.specs.answers.Chronicle.{Setup}
 use Rattle.homes.specs.Homes.{ListTurns}
 use Rattle.world.specs.Choice.{behind, is_settled}
-use Rattle.world.specs.Order.{before_end, steps_of}
+use Rattle.world.specs.Looks.{has_look}
+use Rattle.world.specs.Order.{before_end, by_instances, steps_of}
 use Rattle.world.specs.Sound.{IsRunning, IsSound}
 use Rattle.world.specs.Steps.{CanMake, can_make}
 use Rattle.world.specs.Value.{WorldValue}
-use Rattle.world.specs.Walks.{by_instances, by_the_run}
+use Rattle.world.specs.Walks.{by_the_run}
 use Rattle.world.specs.declared.order.Order.{Order}
 use Rattle.world.specs.declared.order.Order.TheVariants as order
 use Rattle.world.specs.declared.run.drawing.Kind.TheVariants as kind
@@ -43,6 +44,7 @@ now_made v runs (step.Issue actor) can = (runs, can)
 now_made v runs (step.Kvs i s) can = (runs, can)
 now_made v runs (step.Feed actor) can = (runs, can)
 now_made v runs (step.Answer actor) can = (runs, can)
+now_made v runs (step.Record actor) can = cc
 now_made v runs (step.Post i) can = (runs, can)
 now_made v runs step.Tick can = (runs, can)
 now_made v runs (step.Birth i job) can = (runs, can)
@@ -58,8 +60,13 @@ module _ (v : WorldValue) (runs : v.closed ≡ false) (running : IsRunning v) wh
   all_made number (Err left) e = tt
 
   -- the end comes where the list is empty
-  pub closes : ListTurns v.homes → before_end v ≡ [] → CanMake v step.Close
-  closes listed none = (runs, over v (own_lines v running) listed none)
+  pub closes : ListTurns v.homes → before_end v ≡ [] → has_look v ≡ false → CanMake v step.Close
+  closes listed none quiet = (runs, over v (own_lines v running) listed none quiet)
+
+-- where nothing has the number 0 nothing is first
+pub none_there : (xs : List Step) (left : ℕ) → nth xs 0 ≡ Err left → slice_get xs 0 ≡ None
+none_there [] left e = refl
+none_there (s ∷ more) left e = cc
 
 pub none_listed : (v : WorldValue) (left : ℕ) → nth (before_end v) 0 ≡ Err left → before_end v ≡ []
 none_listed v left e = nil_from_length (before_end v) (let all = lengthy (before_end v) 0 left e in omega (arith, all))
@@ -68,6 +75,7 @@ none_listed v left e = nil_from_length (before_end v) (let all = lengthy (before
 pub behind_settled : (s : Step) (o : Order) → is_settled (behind s o) ≡ is_settled o
 behind_settled s order.Settled = refl
 behind_settled s (order.Shuffled draws word losses) = refl
+behind_settled s (order.Lanes count) = refl
 
 -- nothing that holds between the steps reads the order
 pub reordered : (v : WorldValue) (s : Setup) (o : Order) → s ≡ v.set → IsSound v → IsSound (record v { set = s; order = o })

@@ -160,7 +160,7 @@ module _ (v : WorldValue) (sound : IsSound v) (runs : v.closed ≡ false) (actor
         born = home_born v sound runs i h here;
         own = told ∷ [];
         entered = refl;
-        allowed = record { before = []; reply = told; split = refl; replies = refl; others = tt };
+        allowed = record { before = []; reply = told; split = refl; replies = (refl, refl); others = tt };
       };
     }
 

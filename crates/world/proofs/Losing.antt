@@ -18,7 +18,7 @@ use Rattle.homes.specs.Times.{may_go}
 use Rattle.homes.specs.declared.homes.Home.{Home}
 use Rattle.homes.proofs.Members.{split, from_filter, from_flat_map, from_map, nobody}
 use Rattle.world.specs.Choice.{MayLose, is_loss, losses_left}
-use Rattle.world.specs.Order.{all_before_end, before_end, issues, left_in, losses, only_if, or_close, possible_steps, steps_in, steps_left, steps_of}
+use Rattle.world.specs.Order.{all_before_end, before_end, issues, left_in, losses, only_if, or_close, free_steps, steps_in, steps_left, steps_of}
 use Rattle.world.specs.Sound.{IsRunning}
 use Rattle.world.specs.Steps.{CanMake, can_tick}
 use Rattle.world.specs.Value.{WorldValue}
@@ -134,17 +134,17 @@ module _ (v : WorldValue) where
       by (s ∷ more) e = cc
 
   module _ (runs : v.closed ≡ false) where
-    going : possible_steps v ≡ or_close (all_before_end v)
+    going : free_steps v ≡ or_close (all_before_end v)
     going = ap (λ b. if b then [] else or_close (all_before_end v)) runs
 
-    pub first_of : (s : Step) → nth (before_end v) 0 ≡ Ok s → Some s ≡ slice_get (possible_steps v) 0
+    pub first_of : (s : Step) → nth (before_end v) 0 ≡ Ok s → Some s ≡ slice_get (free_steps v) 0
     first_of s e = by (before_end v) refl e
       where
-        by : (l : List Step) → before_end v ≡ l → nth l 0 ≡ Ok s → Some s ≡ slice_get (possible_steps v) 0
+        by : (l : List Step) → before_end v ≡ l → nth l 0 ≡ Ok s → Some s ≡ slice_get (free_steps v) 0
         by [] is f = cc
         by (t ∷ more) is f =
             let same : t ≡ s = cc in
             sym (ap (λ l. slice_get l 0) going ∙ ap (λ l. slice_get (or_close (l ++ losses v)) 0) is ∙ ap Some same)
 
-    pub close_first : before_end v ≡ [] → losses v ≡ [] → Some step.Close ≡ slice_get (possible_steps v) 0
+    pub close_first : before_end v ≡ [] → losses v ≡ [] → Some step.Close ≡ slice_get (free_steps v) 0
     close_first none unlosing = sym (ap (λ l. slice_get l 0) going ∙ ap₂ (λ l m. slice_get (or_close (l ++ m)) 0) none unlosing)

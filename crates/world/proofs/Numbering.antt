@@ -7,7 +7,7 @@ use Rattle.std.proofs.lemmas.Bool.Decides.{nat_tests}
 use Rattle.instance.specs.kvs_keys.Walk.{nth}
 use Rattle.instance.specs.answers.declared.steps.Step.{Step}
 use Rattle.instance.specs.answers.declared.steps.Step.TheVariants as step
-use Rattle.world.specs.Order.{all_before_end, or_close, possible_steps}
+use Rattle.world.specs.Order.{all_before_end, or_close, free_steps}
 use Rattle.world.specs.Value.{WorldValue}
 
 module _ {X Y : Type 0} (f : X → Y) where
@@ -39,14 +39,14 @@ module _ {X : Type 0} where
   got (y ∷ xs) (suc number) x e = got xs number x e
 
 -- where something can be made, the end can't
-pub going-on : (v : WorldValue) → v.closed ≡ false → 0 < length (all_before_end v) → possible_steps v ≡ all_before_end v
+pub going-on : (v : WorldValue) → v.closed ≡ false → 0 < length (all_before_end v) → free_steps v ≡ all_before_end v
 going-on v runs some = ap (λ b. if b then [] else or_close (all_before_end v)) runs ∙ on (all_before_end v) some
   where
     on : (steps : List Step) → 0 < length steps → or_close steps ≡ steps
     on [] some = absurd (omega arith)
     on (s ∷ steps) some = refl
 
-pub closing-now : (v : WorldValue) → v.closed ≡ false → length (all_before_end v) ≡ 0 → possible_steps v ≡ step.Close ∷ []
+pub closing-now : (v : WorldValue) → v.closed ≡ false → length (all_before_end v) ≡ 0 → free_steps v ≡ step.Close ∷ []
 closing-now v runs none = ap (λ b. if b then [] else or_close (all_before_end v)) runs ∙ on (all_before_end v) none
   where
     on : (steps : List Step) → length steps ≡ 0 → or_close steps ≡ step.Close ∷ []
@@ -73,7 +73,7 @@ reduced word count small some = elim (le_or_gt count (2 ^ 64 - 1)) [
 
 -- the one step that a drawn number chooses
 pub chosen-by : (v : WorldValue) (word number : ℕ) (s : Step) → v.closed ≡ false → word < 2 ^ 32 → 0 < length (all_before_end v) → number ≡ word % min (length (all_before_end v)) (2 ^ 64 - 1) →
-    nth (all_before_end v) number ≡ Ok s → Some s ≡ slice_get (possible_steps v) (word % length (possible_steps v))
+    nth (all_before_end v) number ≡ Ok s → Some s ≡ slice_get (free_steps v) (word % length (free_steps v))
 chosen-by v word number s runs small some same e =
     sym (ap (λ xs. slice_get xs (word % length xs)) (going-on v runs some)
     ∙ ap (slice_get (all_before_end v)) (sym (same ∙ reduced word (length (all_before_end v)) small some))

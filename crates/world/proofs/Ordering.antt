@@ -18,7 +18,7 @@ use Rattle.instance.specs.answers.declared.steps.Step.{Step}
 use Rattle.instance.specs.answers.declared.steps.Step.TheVariants as step
 use Rattle.instance.specs.Family.{bearing, may_end}
 use Rattle.instance.specs.Order.{answers, feeds}
-use Rattle.instance.specs.Seats.{has_come, has_heard, is_at_jobs, is_fed_next, is_free, last_command}
+use Rattle.instance.specs.Seats.{has_come, is_at_jobs, is_fed_next, is_free, last_command}
 use Rattle.instance.specs.Steps.{can_answer as instance_can_answer, can_feed as instance_can_feed, can_post}
 use Rattle.instance.specs.Value.{InstanceValue}
 use Rattle.instance.specs.declared.seats.Seat.{Seat}
@@ -27,6 +27,7 @@ use Rattle.instance.specs.declared.seats.Waiting.TheVariants as waiting
 use Rattle.instance.specs.kvs_txn.declared.txn.By.{By}
 use Rattle.instance.specs.services.Value.{ServicesValue}
 use Rattle.homes.specs.Homes.{ListTurns, if_living, living_at}
+use Rattle.world.specs.Looks.{has_look}
 use Rattle.world.specs.Order.{before_end, is_next, issue_at, issues, left_in, only_if, steps_at, steps_in, steps_left, steps_of, waits_in}
 use Rattle.homes.specs.Times.{at_home, may_go}
 use Rattle.world.specs.Steps.{IsOver, can_answer, can_feed, can_issue, can_make, can_tick, is_job, of_home}
@@ -76,9 +77,9 @@ go_at homes h o parent origin here alive =
 abbrev pub is_busy : InstanceValue → ℕ → Bool
 is_busy v actor = option_map_or (λ seat. not (is_free seat.waiting)) (slice_get v.seats actor) false
 
-come_busy : (services : ServicesValue) (by : By) (heard : Bool) (w : Waiting) → has_come services by heard w ≡ true → not (is_free w) ≡ true
-come_busy services by heard waiting.Nothing e = cc
-come_busy services by heard _ e = refl
+come_busy : (services : ServicesValue) (by : By) (w : Waiting) → has_come services by w ≡ true → not (is_free w) ≡ true
+come_busy services by waiting.Nothing e = cc
+come_busy services by _ e = refl
 
 jobs_busy : (w : Waiting) → is_at_jobs w ≡ true → not (is_free w) ≡ true
 jobs_busy waiting.Nothing e = cc
@@ -87,8 +88,8 @@ jobs_busy _ e = refl
 -- one that can be replied to does, and one that can be fed
 pub answered_busy : (v : InstanceValue) (actor : ℕ) → instance_can_answer v actor ≡ true → is_busy v actor ≡ true
 answered_busy v actor can =
-    let seat = says_some (λ (seat : Seat). has_come v.services (last_command actor seat) (has_heard v.services seat) seat.waiting) (slice_get v.seats actor) can in
-    ap (λ o. option_map_or (λ (s : Seat). not (is_free s.waiting)) o false) seat.1 ∙ come_busy v.services (last_command actor seat.0) (has_heard v.services seat.0) seat.0.waiting seat.2
+    let seat = says_some (λ (seat : Seat). has_come v.services (last_command actor seat) seat.waiting) (slice_get v.seats actor) can in
+    ap (λ o. option_map_or (λ (s : Seat). not (is_free s.waiting)) o false) seat.1 ∙ come_busy v.services (last_command actor seat.0) seat.0.waiting seat.2
 
 pub fed_busy : (v : InstanceValue) (actor : ℕ) → instance_can_feed v actor ≡ true → is_busy v actor ≡ true
 fed_busy v actor can =
@@ -322,6 +323,9 @@ module _ (v : WorldValue) where
         by None f = cc
         by (Some line) f = on line (is_next v at line.actor) refl f
 
+    pub issue_able : (actor : ℕ) → Contains (issues v) actor → can_issue v actor ≡ true
+    issue_able actor c = (let w = from_filter_map (issue_at v) (range_with_len 0 (length v.set.work.lines)) actor c in issue_made w.0 actor w.2)
+
     made_timed : (s : Step) → Contains timed s → can_make v s ≡ true
     made_timed s c = elim (Contains-append_cases (only_if (can_tick v) step.Tick) issued s c) [
       | inl d ↦ (let m = from_only (can_tick v) step.Tick s d in subst (λ t. can_make v t ≡ true) m.1 m.0)
@@ -354,7 +358,7 @@ module _ (v : WorldValue) where
 
   listed_answer : (actor i : ℕ) (h : Home) → slice_get v.homes i ≡ Some h → h.gone ≡ false → instance_can_answer h.instance actor ≡ true → Contains (before_end v) (step.Answer actor)
   listed_answer actor i h here alive can =
-      let seat = says_some (λ (seat : Seat). has_come h.instance.services (last_command actor seat) (has_heard h.instance.services seat) seat.waiting) (slice_get h.instance.seats actor) can in
+      let seat = says_some (λ (seat : Seat). has_come h.instance.services (last_command actor seat) seat.waiting) (slice_get h.instance.seats actor) can in
       let below = slice_get_within h.instance.seats actor seat.0 seat.1 in
       in_living kind.Reply tt i h (step.Answer actor) here alive (in_map step.Answer (answers h.instance) actor
       (in_filter (instance_can_answer h.instance) (range_with_len 0 (length h.instance.seats)) actor can (in_range 0 (length h.instance.seats) actor (omega arith) (omega (arith, below)))))
@@ -366,8 +370,8 @@ module _ (v : WorldValue) where
       in_living kind.Feed tt i h (step.Feed actor) here alive (in_map step.Feed (feeds h.instance) actor
       (in_filter (instance_can_feed h.instance) (range_with_len 0 (length h.instance.seats)) actor can (in_range 0 (length h.instance.seats) actor (omega arith) (omega (arith, below)))))
 
-  listed_issue : AreOwnLines v → (actor : ℕ) → can_issue v actor ≡ true → Contains (before_end v) (step.Issue actor)
-  listed_issue own actor can =
+  pub issue_listed : AreOwnLines v → (actor : ℕ) → can_issue v actor ≡ true → Contains (issues v) actor
+  issue_listed own actor can =
       let p = says_some (λ (p : Place). is_some p.home && (not p.waits && nat_lt p.next (length v.set.work.lines))) (slice_get v.places actor) can in
       let below = ltb-true p.0.next (length v.set.work.lines) (both (not p.0.waits) (nat_lt p.0.next (length v.set.work.lines)) (both (is_some p.0.home) (not p.0.waits && nat_lt p.0.next (length v.set.work.lines)) p.2).1).1 in
       let line = item_at v.set.work.lines p.0.next below in
@@ -376,8 +380,11 @@ module _ (v : WorldValue) where
       ∙ ap (λ o. option_map_or (λ (q : Place). q.next == p.0.next) o false) p.1 ∙ eq-eqb p.0.next p.0.next refl in
       let at : issue_at v p.0.next ≡ Some actor = ap (option_and_then (λ (line : Line). if is_next v p.0.next line.actor then Some line.actor else None)) line.1
       ∙ ap (λ a. if is_next v p.0.next a then Some a else None) is ∙ ap (λ b. if b then Some actor else None) next in
-      in_timed (step.Issue actor) (Contains-append_right (only_if (can_tick v) step.Tick) issued (step.Issue actor) (in_map step.Issue (issues v) actor
-      (in_filter_map (issue_at v) (range_with_len 0 (length v.set.work.lines)) p.0.next actor (in_range 0 (length v.set.work.lines) p.0.next (omega arith) (omega (arith, below))) at)))
+      in_filter_map (issue_at v) (range_with_len 0 (length v.set.work.lines)) p.0.next actor (in_range 0 (length v.set.work.lines) p.0.next (omega arith) (omega (arith, below))) at
+
+  listed_issue : AreOwnLines v → (actor : ℕ) → can_issue v actor ≡ true → Contains (before_end v) (step.Issue actor)
+  listed_issue own actor can =
+      in_timed (step.Issue actor) (Contains-append_right (only_if (can_tick v) step.Tick) issued (step.Issue actor) (in_map step.Issue (issues v) actor (issue_listed own actor can)))
 
   -- what can be made is listed, if it isn't a step of a service
   pub listed : AreOwnLines v → (s : Step) → IsNoTurn s → can_make v s ≡ true → Contains (before_end v) s
@@ -413,12 +420,13 @@ module _ (v : WorldValue) where
   listed own (step.End i) other can =
       let h = is_of i (may_go v.homes) can in
       in_living kind.End tt i h.0 (step.End i) h.1 h.2 (in_only (may_go v.homes h.0) (step.End i) h.3)
+  listed own (step.Record actor) other can = cc
   listed own step.Tick other can = in_timed step.Tick (Contains-append_left (only_if (can_tick v) step.Tick) issued step.Tick (in_only (can_tick v) step.Tick can))
   listed own step.Close other can = cc
 
   -- where nothing is listed nothing can be made
-  pub over : AreOwnLines v → ListTurns v.homes → before_end v ≡ [] → IsOver v
-  over own turns_listed none s = by (can_make v s) refl
+  pub over : AreOwnLines v → ListTurns v.homes → before_end v ≡ [] → has_look v ≡ false → IsOver v
+  over own turns_listed none quiet = (λ s. by s (can_make v s) refl, quiet)
     where
       served : (i : ℕ) (s : KvsStep) → can_make v (step.Kvs i s) ≡ true → ⊥
       served i s can =
@@ -436,15 +444,16 @@ module _ (v : WorldValue) where
       never (step.Kvs i s) can = served i s can
       never (step.Feed actor) can = some (before_end v) (step.Feed actor) (listed own (step.Feed actor) tt can) none
       never (step.Answer actor) can = some (before_end v) (step.Answer actor) (listed own (step.Answer actor) tt can) none
+      never (step.Record actor) can = cc
       never (step.Post i) can = some (before_end v) (step.Post i) (listed own (step.Post i) tt can) none
       never (step.Birth i job) can = some (before_end v) (step.Birth i job) (listed own (step.Birth i job) tt can) none
       never (step.End i) can = some (before_end v) (step.End i) (listed own (step.End i) tt can) none
       never step.Tick can = some (before_end v) step.Tick (listed own step.Tick tt can) none
       never step.Close can = cc
 
-      by : (b : Bool) → can_make v s ≡ b → can_make v s ≡ false
-      by true is = absurd (never s is)
-      by false is = is
+      by : (s : Step) (b : Bool) → can_make v s ≡ b → can_make v s ≡ false
+      by s true is = absurd (never s is)
+      by s false is = is
 
   -- where nothing can be made nothing is listed
   pub emptied : AreSeated v → IsOver v → before_end v ≡ []
@@ -452,11 +461,11 @@ module _ (v : WorldValue) where
     where
       by : (l : List Step) → before_end v ≡ l → before_end v ≡ []
       by [] is = is
-      by (s ∷ more) is = absurd (true≢false (sym (possible seated s (subst (λ l. Contains l s) (sym is) (first s more))) ∙ over s))
+      by (s ∷ more) is = absurd (true≢false (sym (possible seated s (subst (λ l. Contains l s) (sym is) (first s more))) ∙ over.0 s))
 
   -- the end can be made exactly where no step has the number 0
-  pub close_so : AreSeated v → AreOwnLines v → ListTurns v.homes → (r : Result Step ℕ) → r ≡ nth (before_end v) 0 → (is_err r ≡ true → IsOver v) × (IsOver v → is_err r ≡ true)
-  close_so seated own turns_listed r is = (λ e. over own turns_listed (none_left (before_end v) (sym (ap is_err is) ∙ e)), λ o. ap is_err (is ∙ ap (λ l. nth l 0) (emptied seated o)))
+  pub close_so : AreSeated v → AreOwnLines v → ListTurns v.homes → has_look v ≡ false → (r : Result Step ℕ) → r ≡ nth (before_end v) 0 → (is_err r ≡ true → IsOver v) × (IsOver v → is_err r ≡ true)
+  close_so seated own turns_listed quiet r is = (λ e. over own turns_listed (none_left (before_end v) (sym (ap is_err is) ∙ e)) quiet, λ o. ap is_err (is ∙ ap (λ l. nth l 0) (emptied seated o)))
     where
       none_left : (l : List Step) → is_err (nth l 0) ≡ true → l ≡ []
       none_left [] e = refl

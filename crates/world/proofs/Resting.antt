@@ -19,7 +19,7 @@ use Rattle.hierarchy.proofs.Numbering.{born_exactly}
 use Rattle.hierarchy.proofs.Resting.{all_rest}
 use Rattle.instance.specs.Family.{OfOwn, bearing, is_due, is_end_due, may_end}
 use Rattle.instance.specs.Order.{answers, feeds}
-use Rattle.instance.specs.Seats.{has_come, has_heard, is_fed_next, last_command}
+use Rattle.instance.specs.Seats.{has_come, is_fed_next, last_command}
 use Rattle.instance.specs.Steps.{IsAtRest, IsStart, can_answer, can_feed, can_post}
 use Rattle.instance.specs.Value.{InstanceValue}
 use Rattle.instance.specs.declared.seats.Seat.{Seat}
@@ -30,12 +30,12 @@ use Rattle.instance.specs.kvs_keys.Walk.{nth}
 use Rattle.instance.specs.manager_rules.Times.{IsEndDue}
 use Rattle.instance.specs.services.Order.{possible, possible_losses}
 use Rattle.homes.specs.Homes.{ListTurns}
-use Rattle.world.specs.Order.{left_in, only_if, steps_at, steps_in, steps_left, steps_of, waits_in}
+use Rattle.world.specs.Looks.{has_look}
+use Rattle.world.specs.Order.{by_instances, kinds, left_in, only_if, steps_at, steps_in, steps_left, steps_of, waits_in}
 use Rattle.world.specs.Sound.{IsSound}
 use Rattle.homes.specs.Times.{may_go}
 use Rattle.homes.specs.Tells.{EachLiving, TellsEndIn, TellsRest}
 use Rattle.world.specs.Value.{WorldValue}
-use Rattle.world.specs.Walks.{by_instances, kinds}
 use Rattle.homes.specs.declared.homes.Home.{Home}
 use Rattle.homes.specs.declared.homes.Origin.{Origin}
 use Rattle.homes.specs.declared.homes.Place.{Place}
@@ -43,6 +43,7 @@ use Rattle.world.specs.declared.run.drawing.Kind.{Kind}
 use Rattle.world.specs.declared.run.drawing.Kind.TheVariants as kind
 use Rattle.homes.proofs.Members.{in_enumerated, in_range}
 use Rattle.world.proofs.Answered.{still_waits}
+use Rattle.world.proofs.Lookers.{no_looks}
 use Rattle.world.proofs.Ordering.{says_some}
 use Rattle.world.proofs.Running.{home_agrees}
 use Rattle.homes.proofs.Standing.{item_at}
@@ -116,6 +117,15 @@ module _ (v : WorldValue) where
       let n = among_flat (steps_at v m.0) (enumerate_from 0 v.homes) t m.2 in
       at_plain m.0 n.0.0 n.0.1 t n.0.1.gone n.2 issue
 
+  pub first_plain : (s : Step) → nth (by_instances v) 0 ≡ Ok s → IsStart s → ⊥
+  first_plain s e issue = by (by_instances v) refl e
+    where
+      by : (steps : List Step) → by_instances v ≡ steps → nth steps 0 ≡ Ok s → ⊥
+      by [] is f = cc
+      by (t ∷ more) is f =
+          let same : t ≡ s = cc in
+          all_plain t (subst (Among t) (sym is) (inl refl)) (subst IsStart (sym same) issue)
+
   -- so where the first step issues a command they have none
   pub nothing_else : (rest : List Step) (s : Step) → IsStart s → nth (by_instances v ++ rest) 0 ≡ Ok s → by_instances v ≡ []
   nothing_else rest s issue e = by (by_instances v) refl
@@ -166,7 +176,7 @@ module _ (v : WorldValue) where
           by : (b : Bool) → can_answer h.instance actor ≡ b → can_answer h.instance actor ≡ false
           by false is = is
           by true is =
-              let seat = says_some (λ (seat : Seat). has_come h.instance.services (last_command actor seat) (has_heard h.instance.services seat) seat.waiting) (slice_get h.instance.seats actor) is in
+              let seat = says_some (λ (seat : Seat). has_come h.instance.services (last_command actor seat) seat.waiting) (slice_get h.instance.seats actor) is in
               let low = slice_get_within h.instance.seats actor seat.0 seat.1 in
               let there = among_kept (can_answer h.instance) (range_with_len 0 (length h.instance.seats)) actor
               (among_from (range_with_len 0 (length h.instance.seats)) actor (in_range 0 (length h.instance.seats) actor (omega arith) (omega (arith, low)))) is in
@@ -256,19 +266,20 @@ module _ (v : WorldValue) (sound : IsSound v) (runs : v.closed ≡ false) where
       true≢false (sym may_now ∙ stays k x.0 x.1 x.2)
 
   -- where no instance can make a step, each that lives is at rest
-  pub each_rests : ListTurns v.homes → EachLiving TellsRest v.homes → by_instances v ≡ [] → EachLiving (λ h. IsAtRest h.instance) v.homes
-  each_rests listed rest none i h e living = record {
+  pub each_rests : ListTurns v.homes → EachLiving TellsRest v.homes → by_instances v ≡ [] → has_look v ≡ false → EachLiving (λ h. IsAtRest h.instance) v.homes
+  each_rests listed rest none quiet i h e living = record {
     steps = listed i h e (no_turn v none i h e living);
     feeds = no_feed v none i h e living;
     answers = no_answer v none i h e living;
+    looks = no_looks v sound runs quiet i h e living;
     due = (rest i h e living).free (setup_in v.set v.chronicle i) (own_of v.set v.chronicle i) (home_agrees v sound runs i h e living)
         (listed i h e (no_turn v none i h e living)) (no_answer v none i h e living) (no_post v none i h e living) (no_birth v none i h e living);
   }
 
   -- the run has come to rest where no instance can make a step
-  pub rested : ListTurns v.homes → EachLiving TellsRest v.homes → EachLiving (TellsEndIn v.homes) v.homes → by_instances v ≡ [] → HasRunRest v.set v.chronicle
-  rested listed rest goes none = all_rest v.set v.chronicle (sound.runs runs).on
-      (λ i alive. let h = living_home i alive in (rest i h.0 h.1 h.2).rests (setup_in v.set v.chronicle i) (own_of v.set v.chronicle i) (home_agrees v sound runs i h.0 h.1 h.2) (each_rests listed rest none i h.0 h.1 h.2))
+  pub rested : ListTurns v.homes → EachLiving TellsRest v.homes → EachLiving (TellsEndIn v.homes) v.homes → by_instances v ≡ [] → has_look v ≡ false → HasRunRest v.set v.chronicle
+  rested listed rest goes none quiet = all_rest v.set v.chronicle (sound.runs runs).on
+      (λ i alive. let h = living_home i alive in (rest i h.0 h.1 h.2).rests (setup_in v.set v.chronicle i) (own_of v.set v.chronicle i) (home_agrees v sound runs i h.0 h.1 h.2) (each_rests listed rest none quiet i h.0 h.1 h.2))
       answered
       (no_end free (no_going v none) goes)
     where

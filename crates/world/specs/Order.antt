@@ -1,5 +1,5 @@
 -- The steps that a world can make, in the order in which it makes them.
-use Rattle.std.specs.Prelude.{◌==◌, ◌&&◌, ℕ, nat_lt, List, [], ◌∷◌, ◌++◌, Bool, false, Option, Some, None, filter_map, flat_map, length, map, option_and_then, option_map, slice_get, if◌then◌else◌}
+use Rattle.std.specs.Prelude.{◌==◌, ◌%◌, ◌&&◌, ℕ, max, nat_lt, List, [], ◌∷◌, ◌++◌, Bool, false, Option, Some, None, filter_map, flat_map, length, map, option_and_then, option_map, slice_get, if◌then◌else◌}
 use Rattle.std.specs.List.{cons_option, enumerate_from, filter, range_with_len}
 use Rattle.std.specs.Option.{option_map_or}
 use Rattle.instance.specs.services.Order.{possible, possible_losses}
@@ -9,11 +9,14 @@ use Rattle.instance.specs.Family.{bearing}
 use Rattle.instance.specs.Order.{answers, feeds}
 use Rattle.instance.specs.Steps.{can_post}
 use Rattle.homes.specs.Times.{may_go}
-use Rattle.world.specs.Choice.{losses_left}
+use Rattle.world.specs.Choice.{chosen, losses_left}
+use Rattle.world.specs.Looks.{has_look}
 use Rattle.world.specs.Steps.{can_issue, can_tick}
 use Rattle.world.specs.Value.{WorldValue}
 use Rattle.homes.specs.declared.homes.Home.{Home}
 use Rattle.homes.specs.declared.homes.Place.{Place}
+use Rattle.world.specs.declared.order.Order.{Order}
+use Rattle.world.specs.declared.order.Order.TheVariants as order
 use Rattle.world.specs.declared.run.drawing.Kind.{Kind}
 use Rattle.world.specs.declared.run.drawing.Kind.TheVariants as kind
 
@@ -96,6 +99,56 @@ abbrev pub or_close : List Step → List Step
 or_close [] = step.Close ∷ []
 or_close (s ∷ more) = s ∷ more
 
--- the steps that can be made, in order
+-- the steps that can be made where no look is open, in order
+abbrev pub free_steps : WorldValue → List Step
+free_steps v = if v.closed then [] else or_close (all_before_end v)
+
+-- the kinds of steps that instances have but for losses, in their order
+abbrev pub kinds : List Kind
+kinds = kind.Turn ∷ kind.Feed ∷ kind.Reply ∷ kind.Post ∷ kind.Birth ∷ kind.End ∷ []
+
+-- the steps of these kinds
+abbrev pub by_instances : WorldValue → List Step
+by_instances v = flat_map (steps_of v) kinds
+
+-- the next step of a run in one lane: while a look is open nothing is begun, and the others come in
+-- their order
+abbrev pub next_step : WorldValue → Option Step
+next_step v = if has_look v then slice_get (by_instances v) 0 else chosen v.order (free_steps v)
+
+-- the steps among which it is
 abbrev pub possible_steps : WorldValue → List Step
-possible_steps v = if v.closed then [] else or_close (all_before_end v)
+possible_steps v = if has_look v then by_instances v else free_steps v
+
+-- ---- in lanes
+
+-- whether an actor is one of this lane's, among so many
+abbrev pub is_own : ℕ → ℕ → ℕ → Bool
+is_own count lane actor = actor % count == lane % count
+
+-- the issues of a lane's actors, by line
+abbrev pub own_issues : WorldValue → ℕ → ℕ → List ℕ
+own_issues v count lane = filter (is_own count lane) (issues v)
+
+-- the end, where nothing is left
+abbrev pub end_behind : List Step → List Step
+end_behind [] = step.Close ∷ []
+end_behind (s ∷ more) = []
+
+-- what any lane may make behind the steps of instances: a tick or the end, but while a look is open
+abbrev pub last_steps : WorldValue → List Step
+last_steps v = if has_look v then []
+    else only_if (can_tick v) step.Tick ++ end_behind (before_end v)
+
+-- what a lane may make, of so many: first the issues of its own actors
+abbrev pub lane_steps : WorldValue → ℕ → ℕ → List Step
+lane_steps v count lane =
+    map step.Issue (own_issues v count lane) ++ (by_instances v ++ last_steps v)
+
+-- the steps that a lane may make
+abbrev pub possible_by : Order → WorldValue → ℕ → List Step
+possible_by (order.Lanes count) v lane = lane_steps v (max count 1) lane
+possible_by _ v lane = possible_steps v
+
+abbrev pub possible_in : WorldValue → ℕ → List Step
+possible_in v lane = if v.closed then [] else possible_by v.order v lane

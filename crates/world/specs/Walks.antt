@@ -1,23 +1,14 @@
 -- The steps that can be made, as a walk goes over them.
-use Rattle.std.specs.Prelude.{ℕ, List, [], ◌∷◌, ◌++◌, flat_map, map, slice_get}
+use Rattle.std.specs.Prelude.{ℕ, List, [], ◌++◌, map, slice_get}
 use Rattle.std.specs.Option.{option_map_or}
 use Rattle.instance.specs.answers.declared.steps.Step.{Step}
 use Rattle.instance.specs.answers.declared.steps.Step.TheVariants as step
-use Rattle.world.specs.Order.{issues, only_if, steps_of}
+use Rattle.world.specs.Order.{issues, only_if}
 use Rattle.world.specs.Steps.{can_tick}
 use Rattle.world.specs.Value.{WorldValue}
 use Rattle.homes.specs.declared.homes.Place.{Place}
-use Rattle.world.specs.declared.run.drawing.Kind.{Kind}
-use Rattle.world.specs.declared.run.drawing.Kind.TheVariants as kind
 
--- the kinds of steps that instances have, in their order
-abbrev pub kinds : List Kind
-kinds = kind.Turn ∷ kind.Feed ∷ kind.Reply ∷ kind.Post ∷ kind.Birth ∷ kind.End ∷ []
-
--- the steps of these kinds, and what comes behind them
-abbrev pub by_instances : WorldValue → List Step
-by_instances v = flat_map (steps_of v) kinds
-
+-- what comes behind the steps of instances
 abbrev pub by_the_run : WorldValue → List Step
 by_the_run v = only_if (can_tick v) step.Tick ++ map step.Issue (issues v)
 

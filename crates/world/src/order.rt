@@ -1,6 +1,6 @@
 //! The order in which the steps of a run are made.
 ghost use Rattle.std.specs.Prelude.{◌≡◌};
-ghost use Rattle.world.specs.Choice.{behind, is_loss, losses_left, order_of};
+ghost use Rattle.world.specs.Choice.{behind, is_in_lanes, is_loss, joined, lanes_of, losses_left, order_of};
 
 use instance::answers::Step;
 use instance::kvs_rules::KvsStep;
@@ -14,6 +14,9 @@ pub enum Schedule {
     /// One that is drawn, by the words that the seed begins; at most so many of the steps lose,
     /// repeat or swap an announcement between brokers.
     Shuffled { seed: u64, losses: u32 },
+    /// The first that a lane may make, of so many lanes: each first issues the commands of its own
+    /// actors, those whose number modulo the lanes is its own. Every other step may be made by any.
+    Lanes(u32),
 }
 
 /// How the next step is chosen: the first, or the one that the drawn word says, with the words
@@ -25,6 +28,9 @@ pub enum Order {
         draws: Draws,
         word: u32,
         losses: u32,
+    },
+    Lanes {
+        count: u32,
     },
 }
 
@@ -48,6 +54,7 @@ impl Order {
     {
         match how {
             Schedule::Settled => Order::Settled,
+            Schedule::Lanes(count) => Order::Lanes { count },
             Schedule::Shuffled { seed, losses } => {
                 let mut draws = Draws::new(seed);
                 let word = draws.word();
@@ -65,8 +72,34 @@ impl Order {
         ensures { result ≡ losses_left self.now }
     {
         match self {
-            Order::Settled => 0,
+            Order::Settled | Order::Lanes { .. } => 0,
             Order::Shuffled { losses, .. } => *losses,
+        }
+    }
+
+    /// Whether the steps are made in lanes.
+    pub fn is_in_lanes(&self) -> bool
+        ensures { result ≡ is_in_lanes self }
+    {
+        matches!(self, Order::Lanes { .. })
+    }
+
+    /// How many lanes there are.
+    pub fn lanes(&self) -> u32
+        ensures { result ≡ lanes_of self }
+    {
+        match self {
+            Order::Settled | Order::Shuffled { .. } => 1,
+            Order::Lanes { count } => (*count).max(1),
+        }
+    }
+
+    /// Makes one lane of all.
+    pub fn join(&mut self)
+        ensures { self.new ≡ joined self.old }
+    {
+        if let Order::Lanes { count } = self {
+            *count = 1;
         }
     }
 

@@ -1,5 +1,5 @@
 //! The steps that can be made, by number.
-ghost use Rattle.std.specs.Prelude.{◌≡◌, ◌≤◌, ◌<◌, ◌↔◌, ◌&&◌, ◌==◌, ◌^◌, ◌-◌, ◌%◌, ℕ, [], false, true, length, map, min, slice_get, IfOk, IfSome, None, Some};
+ghost use Rattle.std.specs.Prelude.{◌≡◌, ¬◌, ◌≤◌, ◌<◌, ◌↔◌, ◌&&◌, ◌==◌, ◌^◌, ◌-◌, ◌%◌, ℕ, [], false, true, length, map, min, slice_get, IfOk, IfSome, IsTrue, None, Some};
 ghost use Rattle.std.specs.List.{cons_option};
 ghost use Rattle.std.specs.Option.{option_map_or};
 ghost use Rattle.hierarchy.specs.Legal.{HasRunRest};
@@ -7,9 +7,10 @@ ghost use Rattle.instance.specs.Steps.{IsStart};
 ghost use Rattle.instance.specs.kvs_keys.Walk.{nth};
 ghost use Rattle.homes.specs.Homes.{living_at};
 ghost use Rattle.world.specs.Choice.{MayLose};
-ghost use Rattle.world.specs.Order.{all_before_end, before_end, issues, left_in, losses, possible_steps, steps_at, steps_in, steps_of};
-ghost use Rattle.world.specs.Steps.{CanMake, MayStart, can_issue};
-ghost use Rattle.world.specs.Walks.{by_instances, by_the_run, next_at};
+ghost use Rattle.world.specs.Looks.{has_look};
+ghost use Rattle.world.specs.Order.{all_before_end, before_end, by_instances, issues, left_in, losses, free_steps, steps_at, steps_in, steps_of};
+ghost use Rattle.world.specs.Steps.{CanMake, IsOver, MayStart, can_issue};
+ghost use Rattle.world.specs.Walks.{by_the_run, next_at};
 ghost use Rattle.homes.specs.declared.homes.Home.{Home as HomeValue};
 
 use super::World;
@@ -273,11 +274,42 @@ impl World {
         }
     }
 
-    /// The first step in the fixed order of a settled run.
+    /// Whether nothing can happen but the end.
+    pub(super) fn is_over(&self) -> bool
+        requires ready { self.now.spent ≡ false }
+        requires runs { self.now.closed ≡ false }
+        ensures { IsTrue result ↔ IsOver self.now }
+    {
+        if self.has_look() {
+            return false;
+        }
+        turns_are_listed(&self.homes);
+        self.nth(0).is_err()
+    }
+
+    /// The first step in the fixed order that an instance can make.
+    pub(super) fn first_of_all(&self) -> Option<Step>
+        requires ready { self.now.spent ≡ false }
+        requires runs { self.now.closed ≡ false }
+        ensures first { result ≡ slice_get (by_instances self.now) 0 }
+        ensures some { IfSome result (λ step. CanMake self.now step) }
+        ensures may { IfSome result (MayLose self.now.order) }
+        ensures goes_on { IfSome result (λ step. ¬ IsStart step) }
+    {
+        // what holds of the world is known where it is looked at
+        let _ = &self.alloc;
+        match self.nth_of_all(0) {
+            Ok(step) => Some(step),
+            Err(_) => None,
+        }
+    }
+
+    /// The first step in the fixed order of a settled run in which no look is open.
     pub(super) fn first(&self) -> Option<Step>
         requires ready { self.now.spent ≡ false }
         requires settled { self.now.order ≡ Order.Settled }
-        ensures first { result ≡ slice_get (possible_steps self.now) 0 }
+        requires free { has_look self.now ≡ false }
+        ensures first { result ≡ slice_get (free_steps self.now) 0 }
         ensures some { IfSome result (λ step. CanMake self.now step) }
         ensures may { IfSome result (MayLose self.now.order) }
         ensures none { (result ≡ None) ↔ (self.now.closed ≡ true) }
@@ -311,12 +343,13 @@ impl World {
         }
     }
 
-    /// The step that a word chooses: of those that can be made, the one whose number is the word
-    /// modulo their count.
+    /// The step that a word chooses where no look is open: of those that can be made, the one whose
+    /// number is the word modulo their count.
     pub(super) fn drawn(&self, word: u32) -> Option<Step>
-        requires { self.now.spent ≡ false }
+        requires ready { self.now.spent ≡ false }
+        requires free { has_look self.now ≡ false }
         ensures value { result
-            ≡ slice_get (possible_steps self.now) (word % length (possible_steps self.now)) }
+            ≡ slice_get (free_steps self.now) (word % length (free_steps self.now)) }
         ensures some { IfSome result (λ step. CanMake self.now step) }
         ensures may { IfSome result (MayLose self.now.order) }
         ensures none { (result ≡ None) ↔ (self.now.closed ≡ true) }

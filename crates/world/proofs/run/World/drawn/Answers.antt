@@ -3,6 +3,7 @@ use Rattle.std.specs.Prelude.{min}
 use Rattle.std.proofs.lemmas.List.{nil_from_length}
 use Rattle.instance.specs.answers.declared.steps.Step.TheVariants as step
 use Rattle.homes.specs.Homes.{AreReady, ListTurns}
+use Rattle.world.specs.Looks.{has_look}
 use Rattle.world.specs.Order.{all_before_end}
 use Rattle.world.specs.Steps.{CanMake}
 use Rattle.world.specs.View.{value_of}
@@ -14,16 +15,16 @@ use Rattle.world.proofs.run.World.drawn.Goals as goal
 
 pub turns_are_listed-requires : goal.turns_are_listed-requires
 turns_are_listed-requires c =
-    let h = c.self.invariant (ap (λ v. v.spent) c.self.view_is ∙ c.requires) in
+    let h = c.self.invariant (ap (λ v. v.spent) c.self.view_is ∙ c.requires.ready) in
     subst AreReady (sym c.deref.ensures.value) (all_ready (value_of c.self.inside) (h.runs c.if-self.false))
 
 pub returns-then-count-eq0-clause-some : goal.returns-then-count-eq0-clause-some
 returns-then-count-eq0-clause-some c =
     let v = value_of c.self.inside in
-    let h = c.self.invariant (ap (λ v. v.spent) c.self.view_is ∙ c.requires) in
+    let h = c.self.invariant (ap (λ v. v.spent) c.self.view_is ∙ c.requires.ready) in
     let same = ap (λ v. length (all_before_end v)) c.self.view_is in
     let none = none_before v (nil_from_length (all_before_end v) (omega (arith, same, c.count-count.ensures, c.if-count-eq0.true))) in
-    subst (λ w. CanMake w step.Close) c.self.view_is (closes v c.if-self.false (h.runs c.if-self.false) (subst ListTurns c.deref.ensures.value c.turns_are_listed.ensures) none)
+    subst (λ w. CanMake w step.Close) c.self.view_is (closes v c.if-self.false (h.runs c.if-self.false) (subst ListTurns c.deref.ensures.value c.turns_are_listed.ensures) none (ap has_look c.self.view_is ∙ c.requires.free))
 
 pub returns-in-Ok-clause-value : goal.returns-in-Ok-clause-value
 returns-in-Ok-clause-value c =

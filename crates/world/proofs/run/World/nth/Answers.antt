@@ -2,9 +2,9 @@ use Rattle.std.proofs.Common.{◌≡◌, ◌∙◌, ap, sym, subst}
 use Rattle.std.specs.Prelude.{Ok}
 use Rattle.instance.specs.kvs_keys.Walk.{nth}
 use Rattle.instance.proofs.kvs_keys_proofs.Walking.{behind, within}
-use Rattle.world.specs.Order.{before_end}
+use Rattle.world.specs.Order.{before_end, by_instances}
 use Rattle.world.specs.Sound.{IsRunning}
-use Rattle.world.specs.Walks.{by_instances, by_the_run}
+use Rattle.world.specs.Walks.{by_the_run}
 use Rattle.world.proofs.Choosing.{all_made, both_parts, made_at}
 use Rattle.world.proofs.run.World.nth.Goals.{After-nth_of_all, After-nth_of_run, In-Ok}
 use Rattle.world.proofs.run.World.nth.Goals as goal

@@ -1,7 +1,6 @@
 use Rattle.std.proofs.Common.{◌∙◌, ◌<◌, arith, get_or, length, sym}
 use Rattle.std.proofs.lemmas.List.{get_or_default}
-use Rattle.world.specs.Order.{steps_of}
-use Rattle.world.specs.Walks.{kinds}
+use Rattle.world.specs.Order.{kinds, steps_of}
 use Rattle.world.specs.declared.run.drawing.Kind.TheVariants as kind
 use Rattle.homes.proofs.Walking.{walk_here, walk_more}
 use Rattle.world.proofs.run.World.nth_of_all.Goals as goal

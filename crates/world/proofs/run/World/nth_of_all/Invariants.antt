@@ -1,8 +1,7 @@
 use Rattle.std.proofs.Common.{◌≡◌, drop}
 use Rattle.std.specs.Prelude.{flat_map}
 use Rattle.instance.specs.kvs_keys.Walk.{nth}
-use Rattle.world.specs.Order.{steps_of}
-use Rattle.world.specs.Walks.{by_instances, kinds}
+use Rattle.world.specs.Order.{by_instances, kinds, steps_of}
 use Rattle.world.proofs.run.World.nth_of_all.Given as goal
 
 abbrev pub invariant-loop-kind : goal.invariant-loop-kind
