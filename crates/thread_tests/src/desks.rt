@@ -182,7 +182,7 @@ impl Gate for Both {
 }
 
 // A thread for each lane but 0. The lanes without one are this thread's own, beside lane 0.
-fn work_all<'x, M: Machine + Drop + Send, G: Gate + Sync, R: Threads + Wait + Sync>(
+pub fn work_all<'x, M: Machine + Drop + Send, G: Gate + Sync, R: Threads + Wait + Sync>(
     rt: &'x R,
     lock: &'x Mutex<Held<M>>,
     gate: &'x G,

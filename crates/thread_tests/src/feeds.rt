@@ -115,6 +115,41 @@ fn a_note_carries_what_was_seen(rt: HostRuntime) -> Result<(), Fail> {
     Ok(())
 }
 
+// Two brokers with a pass at the second: looks at its number and at the next, and the herald meets
+// what was seen.
+fn looks_at_the_second<N: FeedName>(alloc: Global, blank: Blank) -> Result<([Told; 2], u64), Fail>
+    requires { (blank.table ≡ N.table) × (blank.brokers ≡ 2) }
+{
+    let Opened {
+        feed,
+        mut heralds,
+        mut passes,
+    } = blank.open::<N>(alloc)?;
+    let mut herald = heralds.pop().ok_or("a herald")?;
+    let mut pass = passes.pop().ok_or("a pass")?;
+    herald.raise(&feed, 1);
+    let seen = pass.look(&feed, 1);
+    let late = pass.look(&feed, 2);
+    let met = herald.meet(&feed, pass.note(&feed));
+    Ok(([answer_of(seen), answer_of(late)], met))
+}
+
+#[test]
+fn a_herald_meets_what_its_pass_saw(rt: HostRuntime) -> Result<(), Fail> {
+    let blank = Blank::new(rt.alloc(), 2, &[1])?;
+    let ([seen, late], met) = looks_at_the_second::<Brand>(rt.alloc(), blank)?;
+    assert_eq!(rt;
+        seen,
+        Told::Seen {
+            broker: 1,
+            number: 1
+        }
+    );
+    assert_eq!(rt; late, Told::Behind { have: 1, need: 2 });
+    assert_eq!(rt; met, 1);
+    Ok(())
+}
+
 // Opens a feed with a pass at every second place.
 fn count_of_seats<N: FeedName>(alloc: Global, blank: Blank) -> Result<(usize, usize), Fail>
     requires { blank.table ≡ N.table }

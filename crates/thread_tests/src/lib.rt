@@ -5,3 +5,5 @@
 mod desks;
 #[cfg(test)]
 mod feeds;
+#[cfg(test)]
+mod lanes;

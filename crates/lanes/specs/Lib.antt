@@ -1,0 +1,3 @@
+-- what the calls promise
+pub mod Looks
+pub mod Runs

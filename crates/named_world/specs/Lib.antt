@@ -1,0 +1,3 @@
+-- what the calls promise
+pub mod Value
+pub mod Words
