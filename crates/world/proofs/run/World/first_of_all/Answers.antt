@@ -1,7 +1,7 @@
 use Rattle.std.proofs.Common.{◌≡◌, ◌∙◌, ap, sym, subst, inl, refl, true≢false}
 use Rattle.std.specs.Prelude.{Ok, Some}
-use Rattle.instance.specs.kvs_core.Walk.{nth}
-use Rattle.instance.proofs.kvs_core_proofs.Walking.{within}
+use Rattle.instance.specs.kvs_keys.Walk.{nth}
+use Rattle.instance.proofs.kvs_keys_proofs.Walking.{within}
 use Rattle.world.specs.Order.{before_end, by_instances}
 use Rattle.world.specs.Sound.{IsRunning}
 use Rattle.world.specs.Walks.{by_the_run}
