@@ -36,6 +36,7 @@ generated_options = record {
   hash = Sha1;
   shuffle = None;
   losses = 0;
+  workers = 1;
   journal = false;
   backfill = false;
 }

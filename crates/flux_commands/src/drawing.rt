@@ -32,6 +32,7 @@ pub const DRAWN_OPTIONS: Options = Options {
     hash: Hash::Sha1,
     shuffle: None,
     losses: 0,
+    workers: 1,
     journal: false,
     backfill: false,
 };

@@ -5,8 +5,8 @@ use Rattle.clap.specs.Walk.{Text}
 use Rattle.fl_digest.specs.declared.Hash.{Hash}
 use Rattle.run_options.specs.Matches.{field, given_by}
 use Rattle.run_options.specs.declared.given.Given.{Given}
-use Rattle.run_options.specs.Given.{brokers_of, hash_of, losses_of, number_of, with_backfill, with_journal, with_value}
-use Rattle.run_options.proofs.Walks.{Name, by_size, by_fanout, by_hash, by_shuffle, by_losses, Flag, by_journal, by_backfill, dashed, every, flag_text, not_every, same_name, text}
+use Rattle.run_options.specs.Given.{brokers_of, hash_of, losses_of, number_of, with_backfill, with_journal, with_value, workers_of}
+use Rattle.run_options.proofs.Walks.{Name, by_size, by_fanout, by_hash, by_shuffle, by_losses, by_workers, Flag, by_journal, by_backfill, dashed, every, flag_text, not_every, same_name, text}
 
 pub nothing_then : {X Y : Type 0} (o : Option X) → option_and_then {U = Y} (λ x. None) o ≡ None
 nothing_then None = refl
@@ -41,6 +41,7 @@ fits by_fanout t = is_some (field brokers_of t)
 fits by_hash t = is_some (field hash_of t)
 fits by_shuffle t = is_some (field number_of t)
 fits by_losses t = is_some (field losses_of t)
+fits by_workers t = is_some (field workers_of t)
 
 absent_fits : (n : Name) → fits n None ≡ true
 absent_fits by_size = refl
@@ -53,12 +54,13 @@ values t j = record {
   hash = option_and_then hash_of (t by_hash);
   shuffle = option_and_then number_of (t by_shuffle);
   losses = option_and_then losses_of (t by_losses);
+  workers = option_and_then workers_of (t by_workers);
   journal = j by_journal;
   backfill = j by_backfill;
 }
 
 abbrev pub given_of : Texts → Flags → Option Given
-given_of t j = given_by (t by_size) (t by_fanout) (t by_hash) (t by_shuffle) (t by_losses) (j by_journal) (j by_backfill)
+given_of t j = given_by (t by_size) (t by_fanout) (t by_hash) (t by_shuffle) (t by_losses) (t by_workers) (j by_journal) (j by_backfill)
 
 pub same_given : (t u : Texts) (j k : Flags) → ((n : Name) → t n ≡ u n) → ((f : Flag) → j f ≡ k f) → given_of t j ≡ given_of u k
 same_given t u j k texts flags = λ i. given_of (λ n. texts n i) (λ f. flags f i)
@@ -97,6 +99,8 @@ value_new by_shuffle v t j none = ap (λ a. with_value (record (values t j) { sh
     ∙ one_more (λ (x : Option ℕ). record (values t j) { shuffle = x }) (number_of v)
 value_new by_losses v t j none = ap (λ a. with_value (record (values t j) { losses = option_and_then losses_of a }) (dashed by_losses) v) none
     ∙ one_more (λ (x : Option ℕ). record (values t j) { losses = x }) (losses_of v)
+value_new by_workers v t j none = ap (λ a. with_value (record (values t j) { workers = option_and_then workers_of a }) (dashed by_workers) v) none
+    ∙ one_more (λ (x : Option ℕ). record (values t j) { workers = x }) (workers_of v)
 
 -- a text that fits leaves it to the others whether all fit
 put_fits : (n : Name) (v : Text) (t : Texts) → t n ≡ None → fits n (Some v) ≡ true → (m : Name) → fits m (put n v t m) ≡ fits m (t m)
@@ -140,6 +144,8 @@ value_again by_shuffle v w t j some fit = ap (λ a. with_value (record (values t
     ∙ no_more (number_of w) (λ (x : ℕ). record (values t j) { shuffle = Some x }) (number_of v) fit
 value_again by_losses v w t j some fit = ap (λ a. with_value (record (values t j) { losses = option_and_then losses_of a }) (dashed by_losses) v) some
     ∙ no_more (losses_of w) (λ (x : ℕ). record (values t j) { losses = Some x }) (losses_of v) fit
+value_again by_workers v w t j some fit = ap (λ a. with_value (record (values t j) { workers = option_and_then workers_of a }) (dashed by_workers) v) some
+    ∙ no_more (workers_of w) (λ (x : ℕ). record (values t j) { workers = Some x }) (workers_of v) fit
 
 pub given_again : (n : Name) (v w : Text) (t : Texts) (j : Flags) → t n ≡ Some w
     → option_and_then (λ g. with_value g (dashed n) v) (given_of t j) ≡ None

@@ -6,12 +6,12 @@ use Rattle.std.proofs.lemmas.Slice.Eq.{bytes_eq-Decides}
 use Rattle.std.proofs.lemmas.Bool.Decides.{nat_tests}
 use Rattle.run_options.specs.declared.given.Given.{Given}
 use Rattle.workload.specs.Words.{number_value}
-use Rattle.run_options.specs.Given.{as_brokers, as_losses, most_digits, number_of, with_backfill, with_fanout, with_journal, with_losses, with_shuffle, with_size, with_value}
+use Rattle.run_options.specs.Given.{as_brokers, as_losses, as_workers, most_digits, number_of, with_backfill, with_fanout, with_journal, with_losses, with_shuffle, with_size, with_value, with_workers}
 use Rattle.run_options.specs.Words.{is_flag, wants_value, with_word, with_words}
 use Rattle.run_options.proofs.Sets.{with_flag}
 use Rattle.run_options.proofs.Steps.{alone, paired, unpaired}
 use Rattle.run_options.proofs.Strays.{IsUnknown, HasHyphen, before_more}
-use Rattle.run_options.proofs.Walks.{Name, by_size, by_fanout, by_hash, by_shuffle, by_losses, Flag, by_journal, by_backfill, Passes, dashed, flag_dashed, passes}
+use Rattle.run_options.proofs.Walks.{Name, by_size, by_fanout, by_hash, by_shuffle, by_losses, by_workers, Flag, by_journal, by_backfill, Passes, dashed, flag_dashed, passes}
 
 abbrev Text : Type 0
 Text = List ℕ
@@ -19,7 +19,7 @@ Text = List ℕ
 -- ---- a word that the reference refuses
 
 pub no_value : (g : Given) (name value : Text) → ((n : Name) → bytes_eq name (dashed n) ≡ false) → with_value g name value ≡ None
-no_value g name value other = rw (other by_size, other by_fanout, other by_hash, other by_shuffle, other by_losses) refl
+no_value g name value other = rw (other by_size, other by_fanout, other by_hash, other by_shuffle, other by_losses, other by_workers) refl
 
 pub record IsStray (word : Text) : Type 0 where
   pub unknown : IsUnknown word
@@ -180,6 +180,7 @@ hyphen_value by_fanout g rest = ap (λ o. option_and_then (with_fanout g) (optio
 hyphen_value by_hash g rest = refl
 hyphen_value by_shuffle g rest = ap (option_and_then (with_shuffle g)) (hyphen_number rest)
 hyphen_value by_losses g rest = ap (λ o. option_and_then (with_losses g) (option_and_then as_losses o)) (hyphen_number rest)
+hyphen_value by_workers g rest = ap (λ o. option_and_then (with_workers g) (option_and_then as_workers o)) (hyphen_number rest)
 
 pub hyphen_refused : (n : Name) (g : Given) (word : Text) → HasHyphen word → with_value g (dashed n) word ≡ None
 hyphen_refused n g word h = ap (with_value g (dashed n)) h.1 ∙ hyphen_value n g h.0

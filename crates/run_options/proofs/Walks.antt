@@ -14,6 +14,7 @@ pub data Name : Type 0 where
   by_hash : Name
   by_shuffle : Name
   by_losses : Name
+  by_workers : Name
 
 abbrev pub text : Name → Text
 text by_size = codes "size"
@@ -21,10 +22,11 @@ text by_fanout = codes "fanout"
 text by_hash = codes "hash"
 text by_shuffle = codes "shuffle"
 text by_losses = codes "losses"
+text by_workers = codes "workers"
 
 -- all of them, as they stand in the command
 abbrev pub all_names : List Name
-all_names = by_size ∷ by_fanout ∷ by_hash ∷ by_shuffle ∷ by_losses ∷ []
+all_names = by_size ∷ by_fanout ∷ by_hash ∷ by_shuffle ∷ by_losses ∷ by_workers ∷ []
 
 abbrev pub dashed : Name → Text
 dashed n = 45 ∷ 45 ∷ text n
@@ -36,6 +38,7 @@ same_name by_fanout by_fanout e = refl
 same_name by_hash by_hash e = refl
 same_name by_shuffle by_shuffle e = refl
 same_name by_losses by_losses e = refl
+same_name by_workers by_workers e = refl
 same_name _ _ e = absurd (true≢false (sym e))
 
 -- ---- a test of each
@@ -44,7 +47,7 @@ abbrev pub both : Bool → Bool → Bool
 both a b = a && b
 
 abbrev pub every : (Name → Bool) → Bool
-every p = both (p by_size) (both (p by_fanout) (both (p by_hash) (both (p by_shuffle) (p by_losses))))
+every p = both (p by_size) (both (p by_fanout) (both (p by_hash) (both (p by_shuffle) (both (p by_losses) (p by_workers)))))
 
 not_first : (a b : Bool) → a ≡ false → both a b ≡ false
 not_first a b e = ap (λ x. both x b) e
@@ -58,14 +61,15 @@ not_every p by_size e = not_first _ _ e
 not_every p by_fanout e = not_later (p by_size) _ (not_first _ _ e)
 not_every p by_hash e = not_later (p by_size) _ (not_later (p by_fanout) _ (not_first _ _ e))
 not_every p by_shuffle e = not_later (p by_size) _ (not_later (p by_fanout) _ (not_later (p by_hash) _ (not_first _ _ e)))
-not_every p by_losses e = not_later (p by_size) _ (not_later (p by_fanout) _ (not_later (p by_hash) _ (not_later (p by_shuffle) _ e)))
+not_every p by_losses e = not_later (p by_size) _ (not_later (p by_fanout) _ (not_later (p by_hash) _ (not_later (p by_shuffle) _ (not_first _ _ e))))
+not_every p by_workers e = not_later (p by_size) _ (not_later (p by_fanout) _ (not_later (p by_hash) _ (not_later (p by_shuffle) _ (not_later (p by_losses) _ e))))
 
 -- one passes, or none
 abbrev pub Passes : (Name → Bool) → Type 0
 Passes p = ((n : Name) × (p n ≡ true)) ⊎ ((n : Name) → p n ≡ false)
 
 pub passes : (p : Name → Bool) → Passes p
-passes p = at by_size (λ size. at by_fanout (λ fanout. at by_hash (λ hash. at by_shuffle (λ shuffle. at by_losses (λ losses. inr (none size fanout hash shuffle losses))))))
+passes p = at by_size (λ size. at by_fanout (λ fanout. at by_hash (λ hash. at by_shuffle (λ shuffle. at by_losses (λ losses. at by_workers (λ workers. inr (none size fanout hash shuffle losses workers)))))))
   where
     at : (n : Name) → (p n ≡ false → Passes p) → Passes p
     at n next = go (p n) refl
@@ -74,12 +78,13 @@ passes p = at by_size (λ size. at by_fanout (λ fanout. at by_hash (λ hash. at
         go true e = inl (n, e)
         go false e = next e
 
-    none : p by_size ≡ false → p by_fanout ≡ false → p by_hash ≡ false → p by_shuffle ≡ false → p by_losses ≡ false → (n : Name) → p n ≡ false
-    none size fanout hash shuffle losses by_size = size
-    none size fanout hash shuffle losses by_fanout = fanout
-    none size fanout hash shuffle losses by_hash = hash
-    none size fanout hash shuffle losses by_shuffle = shuffle
-    none size fanout hash shuffle losses by_losses = losses
+    none : p by_size ≡ false → p by_fanout ≡ false → p by_hash ≡ false → p by_shuffle ≡ false → p by_losses ≡ false → p by_workers ≡ false → (n : Name) → p n ≡ false
+    none size fanout hash shuffle losses workers by_size = size
+    none size fanout hash shuffle losses workers by_fanout = fanout
+    none size fanout hash shuffle losses workers by_hash = hash
+    none size fanout hash shuffle losses workers by_shuffle = shuffle
+    none size fanout hash shuffle losses workers by_losses = losses
+    none size fanout hash shuffle losses workers by_workers = workers
 
 -- ---- the options without a value
 

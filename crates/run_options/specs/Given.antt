@@ -32,6 +32,14 @@ as_losses n = if nat_le n 10000 then Some n else None
 abbrev pub losses_of : List ℕ → Option ℕ
 losses_of text = option_and_then as_losses (number_of text)
 
+-- a number of workers: 1 to 16
+abbrev pub as_workers : ℕ → Option ℕ
+as_workers n = if nat_le 1 n && nat_le n 16 then Some n else None
+
+-- the number of workers that a text writes
+abbrev pub workers_of : List ℕ → Option ℕ
+workers_of text = option_and_then as_workers (number_of text)
+
 -- the hash that a text names
 abbrev pub hash_of : List ℕ → Option Hash
 hash_of text = if bytes_eq text (codes "sha1") then Some Sha1
@@ -46,6 +54,7 @@ nothing = record {
   hash = None;
   shuffle = None;
   losses = None;
+  workers = None;
   journal = false;
   backfill = false;
 }
@@ -66,6 +75,9 @@ with_shuffle g seed = if is_some g.shuffle then None else Some (record g { shuff
 abbrev pub with_losses : Given → ℕ → Option Given
 with_losses g n = if is_some g.losses then None else Some (record g { losses = Some n })
 
+abbrev pub with_workers : Given → ℕ → Option Given
+with_workers g n = if is_some g.workers then None else Some (record g { workers = Some n })
+
 abbrev pub with_journal : Given → Option Given
 with_journal g = if g.journal then None else Some (record g { journal = true })
 
@@ -81,10 +93,12 @@ with_value g name value = if bytes_eq name (codes "--size")
     else if bytes_eq name (codes "--shuffle")
     then option_and_then (with_shuffle g) (number_of value)
     else if bytes_eq name (codes "--losses") then option_and_then (with_losses g) (losses_of value)
+    else if bytes_eq name (codes "--workers")
+    then option_and_then (with_workers g) (workers_of value)
     else None
 
--- the options: four brokers, two below one, SHA-1, no drawn order, no losses, no journal and no
--- backfill where the words say nothing else
+-- the options: four brokers, two below one, SHA-1, no drawn order, no losses, one worker, no journal
+-- and no backfill where the words say nothing else
 abbrev pub options_from : Given → Options
 options_from g = record {
   size = unwrap_or g.size 4;
@@ -92,6 +106,7 @@ options_from g = record {
   hash = unwrap_or g.hash Sha1;
   shuffle = g.shuffle;
   losses = unwrap_or g.losses 0;
+  workers = unwrap_or g.workers 1;
   journal = g.journal;
   backfill = g.backfill;
 }
@@ -104,15 +119,21 @@ IsBrokers n = (1 ≤ n) × (n ≤ 32)
 abbrev pub AreLosses : ℕ → Type 0
 AreLosses n = n ≤ 10000
 
--- the numbers of brokers and of losses that are given
+-- a number of workers: 1 to 16
+abbrev pub AreWorkers : ℕ → Type 0
+AreWorkers n = (1 ≤ n) × (n ≤ 16)
+
+-- the numbers of brokers, of losses and of workers that are given
 pub record IsWithin (g : Given) : Type 0 where
   pub size : IfSome g.size IsBrokers
   pub fanout : IfSome g.fanout IsBrokers
   pub losses : IfSome g.losses AreLosses
+  pub workers : IfSome g.workers AreWorkers
 
 -- an instance has 1 to 32 brokers, and so many stand below one; at most 10,000 announcements are
--- lost, repeated or swapped
+-- lost, repeated or swapped; 1 to 16 workers make the steps
 pub record AreWithin (o : Options) : Type 0 where
   pub size : IsBrokers o.size
   pub fanout : IsBrokers o.fanout
   pub losses : AreLosses o.losses
+  pub workers : AreWorkers o.workers

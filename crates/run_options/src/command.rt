@@ -2,10 +2,10 @@
 ghost use Rattle.std.specs.Prelude.{◌≡◌, ◌≢◌, IfOk, IfSome, codes, false, map, string_bytes};
 ghost use Rattle.clap.specs.Words.{app_of, first_value, found_of, kind_of, one_text, rule_of};
 ghost use Rattle.run_options.specs.Command.{bare, flag, run_app, valued, IsParse};
-ghost use Rattle.run_options.specs.Given.{brokers_of, hash_of, losses_of, number_of, AreLosses, IsBrokers, IsWithin};
+ghost use Rattle.run_options.specs.Given.{brokers_of, hash_of, losses_of, number_of, workers_of, AreLosses, AreWorkers, IsBrokers, IsWithin};
 ghost use Rattle.run_options.specs.Matches.{field, given_in, IsFlag};
 
-use crate::given::{Given, brokers, hash, losses, number_of};
+use crate::given::{Given, brokers, hash, losses, number_of, workers};
 use clap::error::ErrorKind;
 use clap::{Arg, ArgAction, ArgMatches, Command, Error};
 use fl_digest::Hash;
@@ -46,6 +46,7 @@ fn command<'a>(alloc: Global) -> Result<Command<'a>, AllocError>
     let run = run.arg(valued(alloc, "hash"))?;
     let run = run.arg(valued(alloc, "shuffle"))?;
     let run = run.arg(valued(alloc, "losses"))?;
+    let run = run.arg(valued(alloc, "workers"))?;
     let run = run.arg(flag(alloc, "journal"))?;
     let run = run.arg(flag(alloc, "backfill"))?;
     Ok(run)
@@ -115,6 +116,18 @@ fn losses_in(matches: &ArgMatches<'_>) -> Option<Option<u32>>
     }
 }
 
+/// The number of workers that `--workers` gives, if it stands there.
+fn workers_in(matches: &ArgMatches<'_>) -> Option<Option<u32>>
+    ensures value { result ≡ field workers_of
+        (first_value (found_of matches.now) (codes "workers")) }
+    ensures within { IfSome result (λ given. IfSome given AreWorkers) }
+{
+    match matches.get_str("workers") {
+        Some(text) => Some(Some(workers(text)?)),
+        None => Some(None),
+    }
+}
+
 /// What the matches give, if each value is one of its option's.
 pub fn given_in(matches: &ArgMatches<'_>) -> Option<Given>
     requires journal { IsFlag (one_text (found_of matches.now) (codes "journal")) }
@@ -127,12 +140,14 @@ pub fn given_in(matches: &ArgMatches<'_>) -> Option<Given>
     let hash = hash_in(matches)?;
     let shuffle = seed_in(matches)?;
     let losses = losses_in(matches)?;
+    let workers = workers_in(matches)?;
     Some(Given {
         size,
         fanout,
         hash,
         shuffle,
         losses,
+        workers,
         journal: matches.get_flag("journal"),
         backfill: matches.get_flag("backfill"),
     })

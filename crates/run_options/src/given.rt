@@ -1,6 +1,6 @@
 //! What words gave.
 ghost use Rattle.std.specs.Prelude.{◌≡◌, IfSome};
-ghost use Rattle.run_options.specs.Given.{brokers_of, hash_of, losses_of, number_of, options_from, AreWithin, AreLosses, IsBrokers, IsWithin};
+ghost use Rattle.run_options.specs.Given.{brokers_of, hash_of, losses_of, number_of, options_from, workers_of, AreLosses, AreWithin, AreWorkers, IsBrokers, IsWithin};
 
 use crate::Options;
 use fl_digest::Hash;
@@ -12,6 +12,9 @@ const MOST_DIGITS: usize = 20;
 /// The most losses of a run.
 const MOST_LOSSES: u64 = 10_000;
 
+/// The most workers of a run.
+const MOST_WORKERS: u64 = 16;
+
 /// The options that words gave.
 #[derive(Clone, Copy)]
 pub struct Given {
@@ -20,6 +23,7 @@ pub struct Given {
     pub hash: Option<Hash>,
     pub shuffle: Option<u64>,
     pub losses: Option<u32>,
+    pub workers: Option<u32>,
     pub journal: bool,
     pub backfill: bool,
 }
@@ -60,6 +64,19 @@ pub fn losses(text: &str) -> Option<u32>
     }
 }
 
+/// A number of workers, 1 to 16.
+pub fn workers(text: &str) -> Option<u32>
+    ensures value { result ≡ workers_of text.now }
+    ensures within { IfSome result AreWorkers }
+{
+    let number = number_of(text)?;
+    if 1 <= number && number <= MOST_WORKERS {
+        Some(number as u32)
+    } else {
+        None
+    }
+}
+
 /// The hash of this name.
 pub fn hash(text: &str) -> Option<Hash>
     ensures { result ≡ hash_of text.now }
@@ -83,6 +100,7 @@ impl Given {
             hash: self.hash.unwrap_or(Hash::Sha1),
             shuffle: self.shuffle,
             losses: self.losses.unwrap_or(0),
+            workers: self.workers.unwrap_or(1),
             journal: self.journal,
             backfill: self.backfill,
         }

@@ -33,6 +33,8 @@ pub struct Options {
     /// How many announcements of roots between brokers may be lost, repeated or swapped, where the
     /// order is drawn: 0 to 10,000.
     pub losses: u32,
+    /// How many workers make the run's steps: 1 to 16. Several draw no order.
+    pub workers: u32,
     /// Whether the journal is printed behind the answers.
     pub journal: bool,
     /// Whether a job may run before the first in the queue, where that one isn't delayed.

@@ -11,6 +11,7 @@ const DEFAULT: Options = Options {
     hash: Hash::Sha1,
     shuffle: None,
     losses: 0,
+    workers: 1,
     journal: false,
     backfill: false,
 };
@@ -22,7 +23,7 @@ struct Case {
 }
 
 /// Words that spell options.
-const CASES: [Case; 28] = [
+const CASES: [Case; 32] = [
     Case {
         words: &[],
         options: DEFAULT,
@@ -147,6 +148,7 @@ const CASES: [Case; 28] = [
             hash: Hash::Sha256,
             shuffle: None,
             losses: 0,
+            workers: 1,
             journal: true,
             backfill: false,
         },
@@ -285,7 +287,15 @@ const REFUSED: [&[&str]; 92] = [
     &["--siz", "4"],
     &["size", "4"],
     &["--SIZE", "4"],
-    &["--workers", "1"],
+    &["--workers", "0"],
+    &["--workers", "17"],
+    &["--workers"],
+    &["--workers="],
+    &["--workers", "4294967297"],
+    &["--workers", "two"],
+    &["--workers", "2", "--workers=2"],
+    &["--workers", "--size", "4"],
+    &["--worker", "2"],
     &["help"],
     &[""],
     &["=4"],

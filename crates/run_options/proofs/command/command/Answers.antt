@@ -11,5 +11,6 @@ returns c =
     let hash = c.in_ok-run-3.ensures.shape c.valued-3.ensures.own ∙ ap₂ with_rule fanout c.valued-3.ensures.rule in
     let shuffle = c.in_ok-run-4.ensures.shape c.valued-4.ensures.own ∙ ap₂ with_rule hash c.valued-4.ensures.rule in
     let losses = c.in_ok-run-5.ensures.shape c.valued-5.ensures.own ∙ ap₂ with_rule shuffle c.valued-5.ensures.rule in
-    let journal = c.in_ok-run-6.ensures.shape c.flag.ensures.own ∙ ap₂ with_rule losses c.flag.ensures.rule in
-    c.in_ok-run-7.ensures.shape c.flag-2.ensures.own ∙ ap₂ with_rule journal c.flag-2.ensures.rule
+    let workers = c.in_ok-run-6.ensures.shape c.valued-6.ensures.own ∙ ap₂ with_rule losses c.valued-6.ensures.rule in
+    let journal = c.in_ok-run-7.ensures.shape c.flag.ensures.own ∙ ap₂ with_rule workers c.flag.ensures.rule in
+    c.in_ok-run-8.ensures.shape c.flag-2.ensures.own ∙ ap₂ with_rule journal c.flag-2.ensures.rule
