@@ -1,5 +1,5 @@
 -- What a run promises.
-use Rattle.std.specs.Prelude.{ℕ, ◌≤◌, List, Option, Some, None, Bool, count_by, not, is_some, if◌then◌else◌}
+use Rattle.std.specs.Prelude.{ℕ, ◌≤◌, List, Option, Some, None, Bool, ◌&&◌, count_by, not, is_some, nat_le, nat_lt, if◌then◌else◌}
 use Rattle.run_options.specs.declared.Options.{Options}
 use Rattle.world.specs.workload.declared.work.Workload.{Workload}
 use Rattle.world.specs.answers.Chronicle.{Setup}
@@ -17,9 +17,9 @@ use Rattle.world.specs.manager_rules.declared.policy.Policy.TheVariants.{Easy}
 use Rattle.world.specs.manager_rules.declared.terms.Terms.{Terms}
 
 -- a run makes every step that can be made before the next command is issued, unless its words ask
--- for a drawn order
+-- for a drawn order or several workers
 abbrev pub is_settled : Options → Bool
-is_settled o = not (is_some o.shuffle)
+is_settled o = not (is_some o.shuffle) && nat_le o.workers 1
 
 -- the terms on which a run serves its jobs: with `--backfill` jobs may pass the first in the queue
 abbrev pub terms_of : Terms → Options → Terms
@@ -41,16 +41,20 @@ setup_of terms o work = record {
   work = work;
 }
 
--- the order in which a run makes its steps, and how many of them may be losses
-abbrev pub schedule_of : Options → Schedule
-schedule_of o = by o.shuffle
+-- the order in which one worker makes a run's steps, and how many of them may be losses
+abbrev pub order_alone : Options → Schedule
+order_alone o = by o.shuffle
   where
     by : Option ℕ → Schedule
     by None = schedule.Settled
     by (Some seed) = schedule.Shuffled seed o.losses
 
--- the chronicle of the workload keeps what a run promises; it is legal and whole, settled where no
--- drawn order is asked for, the text prints it, and the steps made tell the whole of it; no more of
+-- the order in which a run makes its steps: several workers draw none
+abbrev pub schedule_of : Options → Schedule
+schedule_of o = if nat_lt 1 o.workers then schedule.Lanes o.workers else order_alone o
+
+-- the chronicle of the workload keeps what a run promises; it is legal and whole, settled where
+-- neither a drawn order nor several workers are asked for, the text prints it, and the steps made tell the whole of it; no more of
 -- them lose, repeat or swap an announcement than the options allow
 pub record IsRunOf (terms : Terms) (o : Options) (work : Workload)
     (run : Run) (text : List ℕ) : Type 0 where

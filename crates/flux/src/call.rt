@@ -18,14 +18,18 @@ use flux_commands::{
     tell,
 };
 use flux_tools::is_tool;
-use outside::{Sink, Source};
+use outside::{Gate, Sink, Source};
 use run_options::Options;
 use std::alloc::Global;
+use std::sync::Wait;
+use std::thread::Threads;
 use world::manager_rules::Terms;
 
 /// Runs the workload that the source spells, and writes its answers.
-fn run_workload<S: Source, K: Sink>(
+fn run_workload<S: Source, K: Sink, G: Gate + Sync, R: Threads + Wait + Sync>(
+    rt: &R,
     alloc: Global,
+    gate: &G,
     terms: Terms,
     options: Options,
     source: &mut S,
@@ -54,7 +58,7 @@ fn run_workload<S: Source, K: Sink>(
         Ok(work) => work,
         Err(fault) => return Run::without_steps(alloc, fault),
     };
-    let Ok(Played { text, ended }) = play(alloc, terms, options, work) else {
+    let Ok(Played { text, ended }) = play(rt, alloc, gate, terms, options, work) else {
         return Run::without_steps(alloc, Fault::Memory);
     };
     let fault = tell(sink, &text);
@@ -68,7 +72,14 @@ fn run_workload<S: Source, K: Sink>(
 }
 
 /// Runs the workload that is drawn, and writes the summary of its run.
-fn run_drawn<K: Sink>(alloc: Global, terms: Terms, generation: Generation, sink: &mut K) -> Run
+fn run_drawn<K: Sink, G: Gate + Sync, R: Threads + Wait + Sync>(
+    rt: &R,
+    alloc: Global,
+    gate: &G,
+    terms: Terms,
+    generation: Generation,
+    sink: &mut K,
+) -> Run
     requires count { generation.count ≤ most_commands }
     ensures status { result.status ≡ status_of result.fault }
     ensures unrefused { IsUnrefused result.status }
@@ -82,7 +93,7 @@ fn run_drawn<K: Sink>(alloc: Global, terms: Terms, generation: Generation, sink:
     let Ok(work) = drawn_work(alloc, generation) else {
         return Run::without_steps(alloc, Fault::Memory);
     };
-    let Ok(Played { text, ended: left }) = play_drawn(alloc, terms, work) else {
+    let Ok(Played { text, ended: left }) = play_drawn(rt, alloc, gate, terms, work) else {
         return Run::without_steps(alloc, Fault::Memory);
     };
     let fault = tell(sink, &text);
@@ -98,7 +109,9 @@ fn run_drawn<K: Sink>(alloc: Global, terms: Terms, generation: Generation, sink:
 /// Carries out the command of the words. `run` reads a workload from the source, runs it in an
 /// instance as its options say, and writes its answers to the sink: one line for each command, in
 /// the workload's order, and with `--journal` the chronicle behind a line `--`. Each command is
-/// issued once nothing else can be made, or, with `--shuffle`, the next step is drawn. `gen` runs
+/// issued once nothing else can be made, or, with `--shuffle`, the next step is drawn, or, with
+/// several `--workers`, each issues the commands of its own actors, in a thread of its own where
+/// one can be started, and passes the gate before each of its turns. `gen` runs
 /// a workload that a seed draws as `run --size 7` does, and writes the summary of its run. A tool
 /// writes one line: `idset`, `hostlist` and `fluid` of the text in the words, `R` and `replay` of
 /// the text that the source has. The whole output is made before the first byte is written. Jobs
@@ -108,16 +121,18 @@ fn run_drawn<K: Sink>(alloc: Global, terms: Terms, generation: Generation, sink:
 /// refused; 2 where the words are no command's, and then nothing was read; 3 where the source
 /// failed; 4 for want of memory, which the words of a run may meet before they are known; 5 where
 /// the sink failed.
-pub fn flux<S: Source, K: Sink>(
+pub fn flux<S: Source, K: Sink, G: Gate + Sync, R: Threads + Wait + Sync>(
+    rt: &R,
     alloc: Global,
     words: &[String],
     source: &mut S,
     sink: &mut K,
+    gate: &G,
     terms: Terms,
 ) -> Run
     ensures status { result.status ≡ status_of result.fault }
     // the headline: what was written prints the one chronicle, which is legal and whole, and
-    // settled where the words ask for no shuffle, or is the summary of such a chronicle, or the
+    // settled where the words ask for neither a shuffle nor several workers, or is the summary of such a chronicle, or the
     // line of a tool
     ensures true_run { result.status ≡ 0 → (text : List ℕ)
         × IsOutput terms
@@ -165,10 +180,10 @@ pub fn flux<S: Source, K: Sink>(
         return Run::without_steps(alloc, Fault::Memory);
     };
     if let Some(options) = options {
-        return run_workload(alloc, terms, options, source, sink);
+        return run_workload(rt, alloc, gate, terms, options, source, sink);
     }
     if let Some(generation) = generation_of(words) {
-        return run_drawn(alloc, terms, generation, sink);
+        return run_drawn(rt, alloc, gate, terms, generation, sink);
     }
     if is_tool(words) {
         return run_tool(alloc, words, source, sink);

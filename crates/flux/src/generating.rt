@@ -12,7 +12,10 @@ ghost use Rattle.flux.specs.Runs.{setup_of};
 
 use crate::playing::{Played, play};
 use flux_commands::DRAWN_OPTIONS;
+use outside::Gate;
 use std::alloc::{AllocError, Global};
+use std::sync::Wait;
+use std::thread::Threads;
 use summaries::summary;
 use world::hierarchy::a_whole_run_is_legal_in_all;
 use world::hierarchy::grown::births_are_numbered;
@@ -37,7 +40,13 @@ fn first_grant(alloc: Global, size: u32, work: &Workload) -> Result<Bytes, Alloc
 }
 
 /// Runs a workload that was drawn to its end. Its text is the run's summary.
-pub fn play_drawn(alloc: Global, terms: Terms, work: Workload) -> Result<Played, CoreFault>
+pub fn play_drawn<G: Gate + Sync, R: Threads + Wait + Sync>(
+    rt: &R,
+    alloc: Global,
+    gate: &G,
+    terms: Terms,
+    work: Workload,
+) -> Result<Played, CoreFault>
     requires within { IsWithin 7 work }
     requires built { All (λ line. IsBuilt line.command) work.lines }
     requires labels { HasOwnLabels work.lines }
@@ -58,7 +67,7 @@ pub fn play_drawn(alloc: Global, terms: Terms, work: Workload) -> Result<Played,
     births_are_numbered();
     a_whole_run_is_legal_in_all();
     let grant = first_grant(alloc, DRAWN_OPTIONS.size, &work)?;
-    let Played { text, ended } = play(alloc, terms, DRAWN_OPTIONS, work)?;
+    let Played { text, ended } = play(rt, alloc, gate, terms, DRAWN_OPTIONS, work)?;
     let text = summary(alloc, &grant, DRAWN_OPTIONS.hash, &text, &ended.chronicle)?;
     Ok(Played { text, ended })
 }

@@ -1,19 +1,20 @@
 //! A run of a workload, to its end.
-ghost use Rattle.std.specs.Prelude.{◌≡◌, ◌≤◌, ◌+◌, [], count_by, false, true, All, IfOk, OnOk};
+ghost use Rattle.std.specs.Prelude.{◌≡◌, ◌≤◌, [], count_by, false, All, IfOk};
 ghost use Rattle.run_options.specs.Given.{AreWithin};
 ghost use Rattle.world.specs.workload.Laws.{HasOwnLabels, IsBuilt, IsWithin, KeepsTallies};
 ghost use Rattle.world.specs.answers.Headline.{output_text};
 ghost use Rattle.world.specs.hierarchy.Headline.{IsTrueRun};
 ghost use Rattle.world.specs.hierarchy.Laws.{AreValid};
-ghost use Rattle.world.specs.hierarchy.Legal.{IsSettledRun};
 ghost use Rattle.world.specs.hierarchy.Promises.{KeepsItsPromises};
 ghost use Rattle.world.specs.hierarchy.Stretches.{AreRunStretches};
-ghost use Rattle.world.specs.Choice.{is_loss, losses_left, order_of};
-ghost use Rattle.world.specs.declared.order.Order.TheVariants as order;
-ghost use Rattle.flux.specs.Runs.{is_settled, schedule_of, setup_of, terms_of};
+ghost use Rattle.world.specs.Choice.{is_loss, order_of};
+ghost use Rattle.flux.specs.Runs.{is_settled, order_alone, schedule_of, setup_of, terms_of};
 
+use outside::Gate;
 use run_options::Options;
 use std::alloc::{AllocError, Global};
+use std::sync::Wait;
+use std::thread::Threads;
 use world::answers::{Chronicle, print_answers, print_journal};
 use world::hierarchy::a_true_run_keeps_its_promises;
 use world::kvs_core::CoreFault;
@@ -29,10 +30,10 @@ pub struct Played {
     pub ended: Ended,
 }
 
-/// The order in which a run makes its steps: drawn where its options have a seed, with losses as
-/// they allow.
-fn schedule_of(options: Options) -> Schedule
-    ensures { result ≡ schedule_of options }
+/// The order in which one worker makes a run's steps: drawn where its options have a seed, with
+/// losses as they allow.
+fn order_alone(options: Options) -> Schedule
+    ensures { result ≡ order_alone options }
 {
     match options.shuffle {
         Some(seed) => Schedule::Shuffled {
@@ -40,6 +41,17 @@ fn schedule_of(options: Options) -> Schedule
             losses: options.losses,
         },
         None => Schedule::Settled,
+    }
+}
+
+/// The order in which a run makes its steps. Several workers draw none.
+fn schedule_of(options: Options) -> Schedule
+    ensures { result ≡ schedule_of options }
+{
+    if 1 < options.workers {
+        Schedule::Lanes(options.workers)
+    } else {
+        order_alone(options)
     }
 }
 
@@ -56,28 +68,6 @@ fn terms_of(terms: Terms, options: Options) -> Terms
     } else {
         terms
     }
-}
-
-/// Makes every step until the run has ended.
-fn make_steps(world: &mut World) -> Result<(), CoreFault>
-    requires ready { world.old.spent ≡ false }
-    requires settled { IsSettledRun world.old.set world.old.chronicle }
-    ensures ready { OnOk result (world.new.spent ≡ false) }
-    ensures set { OnOk result (world.new.set ≡ world.old.set) }
-    ensures closed { OnOk result (world.new.closed ≡ true) }
-    ensures settled { world.old.order ≡ order.Settled
-        → OnOk result (IsSettledRun world.new.set world.new.chronicle) }
-    ensures losses { OnOk result
-        (count_by is_loss world.new.steps + losses_left world.new.order
-        ≡ count_by is_loss world.old.steps + losses_left world.old.order) }
-{
-    for _ in 0..u64::MAX {
-        match world.next(0) {
-            Some(step) => world.turn(step)?,
-            None => return Ok(()),
-        }
-    }
-    Err(CoreFault::NoMemory)
 }
 
 /// The answers of a run, and its journal behind a line of two dashes where it is asked for.
@@ -120,7 +110,14 @@ fn begun(alloc: Global, terms: Terms, options: Options, work: Workload) -> Resul
 }
 
 /// Makes the run of a workload.
-fn run(alloc: Global, terms: Terms, options: Options, work: Workload) -> Result<Played, CoreFault>
+fn run<G: Gate + Sync, R: Threads + Wait + Sync>(
+    rt: &R,
+    alloc: Global,
+    gate: &G,
+    terms: Terms,
+    options: Options,
+    work: Workload,
+) -> Result<Played, CoreFault>
     requires options { AreWithin options }
     requires within { IsWithin options.size work }
     requires built { All (λ line. IsBuilt line.command) work.lines }
@@ -135,15 +132,8 @@ fn run(alloc: Global, terms: Terms, options: Options, work: Workload) -> Result<
     ensures losses { IfOk result
         (λ played. count_by is_loss played.ended.steps.items ≤ options.losses) }
 {
-    let mut world = begun(alloc, terms, options, work)?;
-    // a fault lets go of the world by a call: in place it is some six minutes of proof
-    match make_steps(&mut world) {
-        Ok(()) => (),
-        Err(fault) => {
-            drop(world);
-            return Err(fault);
-        }
-    }
+    let begun = begun(alloc, terms, options, work)?;
+    let world = lanes::run(rt, alloc, begun, gate, options.workers)?;
     // nothing is left to be made, and the steps that were made tell the whole chronicle
     world.quiet();
     world.steps();
@@ -153,6 +143,7 @@ fn run(alloc: Global, terms: Terms, options: Options, work: Workload) -> Result<
             ended: world.finish(),
         }),
         Err(fault) => {
+            // a fault lets go of the world by a call: in place it is some six minutes of proof
             drop(world);
             Err(fault.into())
         }
@@ -160,8 +151,10 @@ fn run(alloc: Global, terms: Terms, options: Options, work: Workload) -> Result<
 }
 
 /// Runs a workload to its end, and keeps what a run promises.
-pub fn play(
+pub fn play<G: Gate + Sync, R: Threads + Wait + Sync>(
+    rt: &R,
     alloc: Global,
+    gate: &G,
     terms: Terms,
     options: Options,
     work: Workload,
@@ -182,5 +175,5 @@ pub fn play(
 {
     time_stays_within();
     a_true_run_keeps_its_promises();
-    run(alloc, terms, options, work)
+    run(rt, alloc, gate, terms, options, work)
 }

@@ -7,7 +7,7 @@ ghost use Rattle.flux.specs.Terms.{every_event};
 
 use crate::call::flux;
 use flux_commands::{all_words, command_words, end, run_without_memory};
-use outside::{StdSink, StdSource};
+use outside::{OpenGate, StdSink, StdSource};
 use std::process::ExitCode;
 use world::manager_rules::Terms;
 
@@ -30,10 +30,12 @@ pub fn program(rt: &HostRuntime) -> ExitCode {
     let mut sink = StdSink::new(rt.stdout());
     let run = match all_words(rt) {
         Ok(words) => flux(
+            rt,
             alloc,
             command_words(&words),
             &mut source,
             &mut sink,
+            &OpenGate,
             program_terms(),
         ),
         Err(_) => run_without_memory(alloc),

@@ -7,7 +7,7 @@
 //! from 1 on, and `¶` stands between lines that come together. Every other line is a note.
 use flux::{flux, notice};
 use manager_rules::Terms;
-use outside::{MemSink, MemSource};
+use outside::{MemSink, MemSource, OpenGate};
 use std::alloc::{AllocError, Global};
 use std::{fs, io, str};
 
@@ -74,12 +74,21 @@ fn words_of(alloc: Global, line: &str) -> Result<Vec<String>, AllocError> {
 }
 
 /// Whether a case comes to what it says.
-fn is_so(alloc: Global, case: &Case<'_>) -> Result<bool, AllocError> {
+fn is_so(rt: &HostRuntime, case: &Case<'_>) -> Result<bool, AllocError> {
+    let alloc = rt.alloc();
     let words = words_of(alloc, case.words)?;
     let input = Vec::from_slice(alloc, case.input.as_bytes())?;
     let mut source = MemSource::new(input, 4096, Vec::new(alloc));
     let mut sink = MemSink::new(alloc, 262_144, 4096, Vec::new(alloc))?;
-    let run = flux(alloc, &words, &mut source, &mut sink, Terms::PLAIN);
+    let run = flux(
+        rt,
+        alloc,
+        &words,
+        &mut source,
+        &mut sink,
+        &OpenGate,
+        Terms::PLAIN,
+    );
     let told = notice(alloc, &run.fault)?;
     let fault = format!(in alloc; "{} {told}", run.status)?;
     Ok(fault.as_str() == case.fault && sink.taken() == case.output.as_bytes())
@@ -93,7 +102,7 @@ pub(crate) fn run_cases(rt: &HostRuntime, name: &str) -> io::Result<bool> {
     let (mut right, mut wrong) = (0u64, 0u64);
     for part in text.split("\n$").skip(1) {
         let case = read_case(rt.alloc(), part)?;
-        if is_so(rt.alloc(), &case)? {
+        if is_so(rt, &case)? {
             right = right.saturating_add(1);
         } else {
             println!(rt; "{name}:{} comes to something else", case.words)?;

@@ -10,7 +10,7 @@ mod cases;
 
 use flux::flux;
 use manager_rules::Terms;
-use outside::{MemSink, MemSource};
+use outside::{MemSink, MemSource, OpenGate};
 use std::alloc::{AllocError, Global};
 use std::process::ExitCode;
 use std::{env, fs, io};
@@ -55,30 +55,43 @@ fn run_words(alloc: Global, options: &str, seed: Option<u64>) -> Result<Vec<Stri
 
 /// What a run of an example writes, or nothing where its status isn't 0.
 fn answers_of(
-    alloc: Global,
+    rt: &HostRuntime,
     example: &Example<'_>,
     seed: Option<u64>,
 ) -> Result<Option<MemSink>, AllocError> {
+    let alloc = rt.alloc();
     let words = run_words(alloc, example.options, seed)?;
     let text = Vec::from_slice(alloc, example.workload.as_slice())?;
     let mut source = MemSource::new(text, 4096, Vec::new(alloc));
     let mut sink = MemSink::new(alloc, 65_536, 4096, Vec::new(alloc))?;
-    let run = flux(alloc, &words, &mut source, &mut sink, Terms::PLAIN);
+    let run = flux(
+        rt,
+        alloc,
+        &words,
+        &mut source,
+        &mut sink,
+        &OpenGate,
+        Terms::PLAIN,
+    );
     Ok(if run.status == 0 { Some(sink) } else { None })
 }
 
 /// Whether an example's answers are those that stand beside it, in a drawn order where there is a
 /// seed.
-fn is_as_told(alloc: Global, example: &Example<'_>, seed: Option<u64>) -> Result<bool, AllocError> {
-    let sink = answers_of(alloc, example, seed)?;
+fn is_as_told(
+    rt: &HostRuntime,
+    example: &Example<'_>,
+    seed: Option<u64>,
+) -> Result<bool, AllocError> {
+    let sink = answers_of(rt, example, seed)?;
     Ok(sink.is_some_and(|sink| sink.taken() == example.answers.as_slice()))
 }
 
 /// Whether an example's answers are those that stand beside it in each order that a seed from 1 to
 /// 20 draws.
-fn is_always_so(alloc: Global, example: &Example<'_>) -> Result<bool, AllocError> {
+fn is_always_so(rt: &HostRuntime, example: &Example<'_>) -> Result<bool, AllocError> {
     for seed in 1..21 {
-        if !is_as_told(alloc, example, Some(seed))? {
+        if !is_as_told(rt, example, Some(seed))? {
             return Ok(false);
         }
     }
@@ -93,11 +106,11 @@ fn count_answers(text: &[u8]) -> usize {
 }
 
 /// Whether each command of an example is answered in each order that a seed from 1 to 20 draws.
-fn is_answered(alloc: Global, example: &Example<'_>) -> Result<bool, AllocError> {
+fn is_answered(rt: &HostRuntime, example: &Example<'_>) -> Result<bool, AllocError> {
     let told = count_answers(&example.answers);
     let mut all = true;
     for seed in 1..21 {
-        let sink = answers_of(alloc, example, Some(seed))?;
+        let sink = answers_of(rt, example, Some(seed))?;
         let answered = sink.is_some_and(|sink| count_answers(sink.taken()) == told);
         all = all && answered;
     }
@@ -118,11 +131,11 @@ fn words_of_orders(always: bool, holds: bool) -> &'static str {
 fn run_example(rt: &HostRuntime, word: &str) -> io::Result<bool> {
     let always = word.starts_with("always ");
     let example = read_example(rt, word.strip_prefix("always ").unwrap_or(word))?;
-    let same = is_as_told(rt.alloc(), &example, None)?;
+    let same = is_as_told(rt, &example, None)?;
     let holds = if always {
-        is_always_so(rt.alloc(), &example)?
+        is_always_so(rt, &example)?
     } else {
-        is_answered(rt.alloc(), &example)?
+        is_answered(rt, &example)?
     };
     println!(rt;
         "{word}: {}, {}",

@@ -15,7 +15,7 @@ ghost use Rattle.run_picture.specs.Shown.{IsShownRun};
 use flux::{Run, flux, notice};
 use homes::hosts_of_brokers;
 use manager_rules::Terms;
-use outside::{MemSink, MemSource};
+use outside::{MemSink, MemSource, OpenGate};
 use run_options::read_options;
 use run_picture::{Picture, PictureFault, Rows, picture_of, svg, text};
 use std::alloc::{AllocError, Global};
@@ -43,10 +43,19 @@ fn run_words(alloc: Global, options: &str) -> Result<Vec<String>, AllocError> {
 }
 
 /// The run of a workload.
-fn run_of(alloc: Global, words: &[String], workload: &[u8]) -> Result<Run, AllocError> {
+fn run_of(rt: &HostRuntime, words: &[String], workload: &[u8]) -> Result<Run, AllocError> {
+    let alloc = rt.alloc();
     let mut source = MemSource::new(Vec::from_slice(alloc, workload)?, 4096, Vec::new(alloc));
     let mut sink = MemSink::new(alloc, 65_536, 4096, Vec::new(alloc))?;
-    Ok(flux(alloc, words, &mut source, &mut sink, Terms::PLAIN))
+    Ok(flux(
+        rt,
+        alloc,
+        words,
+        &mut source,
+        &mut sink,
+        &OpenGate,
+        Terms::PLAIN,
+    ))
 }
 
 /// The picture of a run of a workload, at so many brokers.
@@ -77,7 +86,7 @@ fn draw(rt: &HostRuntime, word: &str, style: Style) -> io::Result<bool> {
     let (name, options) = word.split_once(' ').unwrap_or((word, ""));
     let workload = fs::read(rt, name)?;
     let words = run_words(alloc, options)?;
-    let run = run_of(alloc, &words, &workload)?;
+    let run = run_of(rt, &words, &workload)?;
     if run.status != 0 {
         rt.eprintln(notice(alloc, &run.fault)?.as_str())?;
         return Ok(false);

@@ -1,12 +1,11 @@
 -- What is left of a world that goes on.
-use Rattle.std.specs.Prelude.{◌≡◌, ◌+◌, count_by, true, false}
+use Rattle.std.specs.Prelude.{◌≡◌, true, false}
 use Rattle.world.specs.hierarchy.Legal.{IsSettledRun}
-use Rattle.world.specs.Choice.{is_alone, is_loss, losses_left}
+use Rattle.world.specs.Choice.{is_alone}
 use Rattle.world.specs.Value.{WorldValue}
 use Rattle.world.specs.declared.order.Order.TheVariants as order
 
--- it can go on in one lane, the run is given what it was, a settled run stays settled, and the losses
--- that were made and those that are left come to the same
+-- it can go on in one lane, the run is given what it was, and a settled run stays settled
 pub record GoesOn (old new : WorldValue) : Type 0 where
   pub live : new.spent ≡ false
   pub alone : is_alone new.order ≡ true
@@ -14,5 +13,3 @@ pub record GoesOn (old new : WorldValue) : Type 0 where
   pub ordered : old.order ≡ order.Settled → new.order ≡ order.Settled
   pub settled : old.order ≡ order.Settled → IsSettledRun old.set old.chronicle
       → IsSettledRun new.set new.chronicle
-  pub losses : count_by is_loss new.steps + losses_left new.order
-      ≡ count_by is_loss old.steps + losses_left old.order

@@ -1,7 +1,7 @@
 //! A run, to its end.
-ghost use Rattle.std.specs.Prelude.{◌≡◌, ◌≤◌, ◌<◌, [], true, false, IfOk, OnOk, Some, length};
+ghost use Rattle.std.specs.Prelude.{◌≡◌, ◌≤◌, ◌<◌, [], count_by, true, false, IfOk, OnOk, Some, length};
 ghost use Rattle.world.specs.hierarchy.Legal.{IsSettledRun};
-ghost use Rattle.world.specs.Choice.{is_alone};
+ghost use Rattle.world.specs.Choice.{is_alone, is_loss, losses_left};
 ghost use Rattle.world.specs.declared.order.Order.TheVariants as order;
 ghost use Rattle.lanes.specs.Runs.{GoesOn};
 
@@ -212,6 +212,7 @@ fn run_named<N: RunName + Send + Sync, G: Gate + Sync, R: Threads + Wait + Sync>
 ) -> Result<World, AllocError>
     requires feed { blank.table ≡ N.table }
     requires run { N.run ≡ Some world.set }
+    requires losses { losses_left world.order ≡ N.losses }
     requires brokers { blank.brokers ≡ world.set.size }
     requires live { world.spent ≡ false }
     requires begins { (world.chronicle ≡ []) × (world.steps ≡ []) }
@@ -222,6 +223,7 @@ fn run_named<N: RunName + Send + Sync, G: Gate + Sync, R: Threads + Wait + Sync>
     ensures ended { IfOk result (λ w. w.closed ≡ true) }
     ensures settled { workers ≡ 1 → world.order ≡ order.Settled
         → IfOk result (λ w. IsSettledRun w.set w.chronicle) }
+    ensures losses { IfOk result (λ w. count_by is_loss w.steps ≤ N.losses) }
 {
     let Opened {
         feed,
@@ -260,6 +262,7 @@ pub fn run<G: Gate + Sync, R: Threads + Wait + Sync>(
     ensures ended { IfOk result (λ w. w.closed ≡ true) }
     ensures settled { workers ≡ 1 → world.order ≡ order.Settled
         → IfOk result (λ w. IsSettledRun w.set w.chronicle) }
+    ensures losses { IfOk result (λ w. count_by is_loss w.steps ≤ losses_left world.order) }
 {
     let size = world.size();
     let at = brokers(alloc, world.work(), size)?;

@@ -1,1 +1,2 @@
+mod Losing
 mod Words

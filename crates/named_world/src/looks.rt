@@ -4,18 +4,22 @@ ghost use Rattle.std.specs.Prelude.{◌≡◌, ◌≤◌, slice_index};
 use root_feed::{FeedName, Note, Seen};
 use std::marker::Brand;
 
-/// Names one run: its feed, and what it is given. It has no functions.
+/// Names one run: its feed, what it is given, and how many losses it may make. It has no functions.
 pub trait RunName: FeedName {
-    ghost use Rattle.std.specs.Prelude.{Option};
+    ghost use Rattle.std.specs.Prelude.{ℕ, Option};
     ghost use Rattle.world.specs.answers.Chronicle.{Setup};
 
     ghost run: { Option Setup };
+
+    ghost losses: { ℕ };
 }
 
 impl RunName for Brand {
     ghost use Rattle.std.specs.Prelude.{None};
 
     ghost run = { None };
+
+    ghost losses = { 0 };
 }
 
 /// What an actor saw without the lock, with a note of it.

@@ -9,7 +9,7 @@ ghost use Rattle.world.specs.Looks.{has_look, look_at};
 ghost use Rattle.world.specs.Order.{possible_in};
 ghost use Rattle.world.specs.Steps.{CanMake, MayStart};
 ghost use Rattle.world.specs.declared.order.Order.TheVariants as order;
-ghost use Rattle.named_world.specs.Value.{is_open};
+ghost use Rattle.named_world.specs.Value.{all_losses, is_open};
 
 use crate::heralds::{meet, raise_heard};
 use crate::looks::{Look, RunName};
@@ -20,7 +20,8 @@ use world::answers::Step;
 use world::{Looker, World};
 
 /// The world of the run that N names, with a herald for each broker of the top. Unless it is spent,
-/// the run is given what N names, and each herald's number is what its broker has heard.
+/// the run is given what N names, each herald's number is what its broker has heard, and the losses
+/// made and left are as many as N names.
 #[derive(Drop)]
 pub struct NamedWorld<'f, N: RunName> {
     world: World,
@@ -30,7 +31,7 @@ pub struct NamedWorld<'f, N: RunName> {
 
 impl<'f, N: RunName> Model for NamedWorld<'f, N> {
     ghost use Rattle.std.specs.Prelude.{◌≡◌, false, Some};
-    ghost use Rattle.named_world.specs.Value.{NamedValue};
+    ghost use Rattle.named_world.specs.Value.{NamedValue, all_losses};
     ghost use Rattle.named_world.specs.Words.{TellsHeard};
 
     ghost Value = { NamedValue };
@@ -38,7 +39,8 @@ impl<'f, N: RunName> Model for NamedWorld<'f, N> {
     ghost view = { λ w. record { world = w.world; heralds = w.heralds.items } };
 
     ghost invariant = { λ w. w.world.spent ≡ false → (N.run ≡ Some w.world.set)
-        × TellsHeard w.world.set.size w.world.chronicle w.heralds.items };
+        × TellsHeard w.world.set.size w.world.chronicle w.heralds.items
+        × (all_losses w.world ≡ N.losses) };
 }
 
 impl<'f, N: RunName> NamedWorld<'f, N> {
@@ -47,6 +49,7 @@ impl<'f, N: RunName> NamedWorld<'f, N> {
     pub fn new(world: World, feed: &'f Feed<N>, heralds: Vec<Herald<N>>) -> NamedWorld<'f, N>
         requires named { N.run ≡ Some world.set }
         requires empty { world.chronicle ≡ [] }
+        requires losses { all_losses world ≡ N.losses }
         requires heralds { heralds.items ≡ new_heralds world.set.size }
         ensures { (result.world ≡ world) × (result.heralds ≡ heralds.items) }
     {
@@ -165,7 +168,8 @@ impl<'f, N: RunName> NamedWorld<'f, N> {
 
     /// The world, which needs no name any more. It takes no memory.
     pub fn finish(self) -> World
-        ensures { result ≡ self.entry.world }
+        ensures value { result ≡ self.entry.world }
+        ensures losses { result.spent ≡ false → all_losses result ≡ N.losses }
     {
         self.world
     }
