@@ -9,6 +9,8 @@ use crate::call::flux;
 use flux_commands::{all_words, command_words, end, run_without_memory};
 use outside::{OpenGate, StdSink, StdSource};
 use std::process::ExitCode;
+use std::sync::Wait;
+use std::thread::Threads;
 use world::manager_rules::Terms;
 
 /// The terms of the program's runs: a job's priority is its urgency, at least 1, the first in the
@@ -23,14 +25,15 @@ pub fn program_terms() -> Terms
     Terms::PLAIN
 }
 
-/// Carries out the command of the program's words, and ends with the status of its run.
-pub fn program(rt: &HostRuntime) -> ExitCode {
+/// Carries out the command of the program's words, and ends with the status of its run. Its workers
+/// are threads of this handle.
+pub fn program<R: Threads + Wait + Sync>(rt: &HostRuntime, threads: &R) -> ExitCode {
     let alloc = rt.alloc();
     let mut source = StdSource::new(rt.stdin());
     let mut sink = StdSink::new(rt.stdout());
     let run = match all_words(rt) {
         Ok(words) => flux(
-            rt,
+            threads,
             alloc,
             command_words(&words),
             &mut source,

@@ -9,6 +9,8 @@ use flux::{flux, notice};
 use manager_rules::Terms;
 use outside::{MemSink, MemSource, OpenGate};
 use std::alloc::{AllocError, Global};
+use std::sync::Wait;
+use std::thread::Threads;
 use std::{fs, io, str};
 
 /// What stands behind a mark, and what is to come of it.
@@ -74,8 +76,11 @@ fn words_of(alloc: Global, line: &str) -> Result<Vec<String>, AllocError> {
 }
 
 /// Whether a case comes to what it says.
-fn is_so(rt: &HostRuntime, case: &Case<'_>) -> Result<bool, AllocError> {
-    let alloc = rt.alloc();
+fn is_so<R: Threads + Wait + Sync>(
+    rt: &R,
+    alloc: Global,
+    case: &Case<'_>,
+) -> Result<bool, AllocError> {
     let words = words_of(alloc, case.words)?;
     let input = Vec::from_slice(alloc, case.input.as_bytes())?;
     let mut source = MemSource::new(input, 4096, Vec::new(alloc));
@@ -96,13 +101,17 @@ fn is_so(rt: &HostRuntime, case: &Case<'_>) -> Result<bool, AllocError> {
 
 /// Runs the cases of a file, prints those that come to something else and how many come to what
 /// they say, and tells whether all do.
-pub(crate) fn run_cases(rt: &HostRuntime, name: &str) -> io::Result<bool> {
+pub(crate) fn run_cases<R: Threads + Wait + Sync>(
+    rt: &HostRuntime,
+    threads: &R,
+    name: &str,
+) -> io::Result<bool> {
     let bytes = fs::read(rt, name)?;
     let text = str::from_utf8(bytes.as_slice()).ok().unwrap_or("");
     let (mut right, mut wrong) = (0u64, 0u64);
     for part in text.split("\n$").skip(1) {
         let case = read_case(rt.alloc(), part)?;
-        if is_so(rt, &case)? {
+        if is_so(threads, rt.alloc(), &case)? {
             right = right.saturating_add(1);
         } else {
             println!(rt; "{name}:{} comes to something else", case.words)?;

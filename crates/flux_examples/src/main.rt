@@ -13,6 +13,8 @@ use manager_rules::Terms;
 use outside::{MemSink, MemSource, OpenGate};
 use std::alloc::{AllocError, Global};
 use std::process::ExitCode;
+use std::sync::Wait;
+use std::thread::Threads;
 use std::{env, fs, io};
 
 /// An example: the options of its run, its workload and the answers beside it.
@@ -54,12 +56,12 @@ fn run_words(alloc: Global, options: &str, seed: Option<u64>) -> Result<Vec<Stri
 }
 
 /// What a run of an example writes, or nothing where its status isn't 0.
-fn answers_of(
-    rt: &HostRuntime,
+fn answers_of<R: Threads + Wait + Sync>(
+    rt: &R,
+    alloc: Global,
     example: &Example<'_>,
     seed: Option<u64>,
 ) -> Result<Option<MemSink>, AllocError> {
-    let alloc = rt.alloc();
     let words = run_words(alloc, example.options, seed)?;
     let text = Vec::from_slice(alloc, example.workload.as_slice())?;
     let mut source = MemSource::new(text, 4096, Vec::new(alloc));
@@ -78,20 +80,25 @@ fn answers_of(
 
 /// Whether an example's answers are those that stand beside it, in a drawn order where there is a
 /// seed.
-fn is_as_told(
-    rt: &HostRuntime,
+fn is_as_told<R: Threads + Wait + Sync>(
+    rt: &R,
+    alloc: Global,
     example: &Example<'_>,
     seed: Option<u64>,
 ) -> Result<bool, AllocError> {
-    let sink = answers_of(rt, example, seed)?;
+    let sink = answers_of(rt, alloc, example, seed)?;
     Ok(sink.is_some_and(|sink| sink.taken() == example.answers.as_slice()))
 }
 
 /// Whether an example's answers are those that stand beside it in each order that a seed from 1 to
 /// 20 draws.
-fn is_always_so(rt: &HostRuntime, example: &Example<'_>) -> Result<bool, AllocError> {
+fn is_always_so<R: Threads + Wait + Sync>(
+    rt: &R,
+    alloc: Global,
+    example: &Example<'_>,
+) -> Result<bool, AllocError> {
     for seed in 1..21 {
-        if !is_as_told(rt, example, Some(seed))? {
+        if !is_as_told(rt, alloc, example, Some(seed))? {
             return Ok(false);
         }
     }
@@ -106,11 +113,15 @@ fn count_answers(text: &[u8]) -> usize {
 }
 
 /// Whether each command of an example is answered in each order that a seed from 1 to 20 draws.
-fn is_answered(rt: &HostRuntime, example: &Example<'_>) -> Result<bool, AllocError> {
+fn is_answered<R: Threads + Wait + Sync>(
+    rt: &R,
+    alloc: Global,
+    example: &Example<'_>,
+) -> Result<bool, AllocError> {
     let told = count_answers(&example.answers);
     let mut all = true;
     for seed in 1..21 {
-        let sink = answers_of(rt, example, Some(seed))?;
+        let sink = answers_of(rt, alloc, example, Some(seed))?;
         let answered = sink.is_some_and(|sink| count_answers(sink.taken()) == told);
         all = all && answered;
     }
@@ -128,14 +139,19 @@ fn words_of_orders(always: bool, holds: bool) -> &'static str {
 }
 
 /// Runs an example, prints what is said of it, and tells whether all is as it should be.
-fn run_example(rt: &HostRuntime, word: &str) -> io::Result<bool> {
+fn run_example<R: Threads + Wait + Sync>(
+    rt: &HostRuntime,
+    threads: &R,
+    word: &str,
+) -> io::Result<bool> {
+    let alloc = rt.alloc();
     let always = word.starts_with("always ");
     let example = read_example(rt, word.strip_prefix("always ").unwrap_or(word))?;
-    let same = is_as_told(rt, &example, None)?;
+    let same = is_as_told(threads, alloc, &example, None)?;
     let holds = if always {
-        is_always_so(rt, &example)?
+        is_always_so(threads, alloc, &example)?
     } else {
-        is_answered(rt, &example)?
+        is_answered(threads, alloc, &example)?
     };
     println!(rt;
         "{word}: {}, {}",
@@ -149,9 +165,9 @@ fn main(rt: HostRuntime) -> io::Result<ExitCode> {
     let mut all = true;
     for word in env::args(&rt)?.skip(1) {
         let right = if word.as_str().ends_with(".cases") {
-            cases::run_cases(&rt, word.as_str())?
+            cases::run_cases(&rt, &rt, word.as_str())?
         } else {
-            run_example(&rt, word.as_str())?
+            run_example(&rt, &rt, word.as_str())?
         };
         all = all && right;
     }

@@ -20,6 +20,8 @@ use run_options::read_options;
 use run_picture::{Picture, PictureFault, Rows, picture_of, svg, text};
 use std::alloc::{AllocError, Global};
 use std::process::ExitCode;
+use std::sync::Wait;
+use std::thread::Threads;
 use std::{env, fs, io};
 use workload::Workload;
 
@@ -43,8 +45,12 @@ fn run_words(alloc: Global, options: &str) -> Result<Vec<String>, AllocError> {
 }
 
 /// The run of a workload.
-fn run_of(rt: &HostRuntime, words: &[String], workload: &[u8]) -> Result<Run, AllocError> {
-    let alloc = rt.alloc();
+fn run_of<R: Threads + Wait + Sync>(
+    rt: &R,
+    alloc: Global,
+    words: &[String],
+    workload: &[u8],
+) -> Result<Run, AllocError> {
     let mut source = MemSource::new(Vec::from_slice(alloc, workload)?, 4096, Vec::new(alloc));
     let mut sink = MemSink::new(alloc, 65_536, 4096, Vec::new(alloc))?;
     Ok(flux(
@@ -81,12 +87,17 @@ fn drawn(
 }
 
 /// Draws the run of a workload's file with its options, and tells whether it could.
-fn draw(rt: &HostRuntime, word: &str, style: Style) -> io::Result<bool> {
+fn draw<R: Threads + Wait + Sync>(
+    rt: &HostRuntime,
+    threads: &R,
+    word: &str,
+    style: Style,
+) -> io::Result<bool> {
     let alloc = rt.alloc();
     let (name, options) = word.split_once(' ').unwrap_or((word, ""));
     let workload = fs::read(rt, name)?;
     let words = run_words(alloc, options)?;
-    let run = run_of(rt, &words, &workload)?;
+    let run = run_of(threads, alloc, &words, &workload)?;
     if run.status != 0 {
         rt.eprintln(notice(alloc, &run.fault)?.as_str())?;
         return Ok(false);
@@ -126,7 +137,7 @@ fn main(rt: HostRuntime) -> io::Result<ExitCode> {
                 if !first {
                     println!(rt; "")?;
                 }
-                all = draw(&rt, other, style)? && all;
+                all = draw(&rt, &rt, other, style)? && all;
                 first = false;
             }
         }

@@ -1,6 +1,6 @@
 //! Runs whose jobs have other priorities than their urgencies.
 use flux::flux;
-use outside::{MemSink, MemSource};
+use outside::{MemSink, MemSource, OpenGate};
 use std::test::Fail;
 use world::manager_rules::Terms;
 use world::tap::Weights;
@@ -70,7 +70,15 @@ fn weights_order_the_queue(rt: HostRuntime) -> Result<(), Fail> {
             weights: order.weights,
             ..Terms::PLAIN
         };
-        let run = flux(alloc, &words, &mut source, &mut sink, terms);
+        let run = flux(
+            &rt,
+            alloc,
+            &words,
+            &mut source,
+            &mut sink,
+            &OpenGate,
+            terms,
+        );
         assert_eq!(rt; run.status, 0);
         let told = format!(in alloc; "submitted f1\nsubmitted f2\nsubmitted f3\n{}", order.whys)?;
         assert!(rt; sink.taken() == told.as_bytes(), "{}", order.whys);

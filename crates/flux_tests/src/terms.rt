@@ -1,8 +1,10 @@
 //! Runs on terms of their own: limits of a queue, and watches of jobs.
 use flux::flux;
-use outside::{MemSink, MemSource};
+use outside::{MemSink, MemSource, OpenGate};
 use std::alloc::Global;
+use std::sync::Wait;
 use std::test::Fail;
+use std::thread::Threads;
 use world::manager_rules::{Limit, Limits, Shown, Terms};
 
 /// A job that sleeps for ten seconds, which another actor watches once its submission has landed.
@@ -21,7 +23,8 @@ const FOUR_CORES: &str =
         },\"version\":1}\na state p\n";
 
 /// Runs a workload at one broker on these terms, in a drawn order where there is a seed.
-fn run(
+fn run<R: Threads + Wait + Sync>(
+    rt: &R,
     alloc: Global,
     input: &str,
     seed: Option<u64>,
@@ -37,7 +40,7 @@ fn run(
     }
     let text = Vec::from_slice(alloc, input.as_bytes())?;
     let mut source = MemSource::new(text, 4096, Vec::new(alloc));
-    Ok(flux(alloc, &words, &mut source, sink, terms).status)
+    Ok(flux(rt, alloc, &words, &mut source, sink, &OpenGate, terms).status)
 }
 
 #[test]
@@ -53,7 +56,7 @@ fn a_limit_turns_a_job_away(rt: HostRuntime) -> Result<(), Fail> {
         ..Terms::PLAIN
     };
     let mut sink = MemSink::new(alloc, 4096, 4096, Vec::new(alloc))?;
-    assert_eq!(rt; run(alloc, FOUR_CORES, None, terms, &mut sink)?, 0);
+    assert_eq!(rt; run(&rt, alloc, FOUR_CORES, None, terms, &mut sink)?, 0);
     assert_eq!(rt; sink.taken(), b"Checked 7\nNoJob\n".as_slice());
     Ok(())
 }
@@ -85,7 +88,7 @@ fn a_watch_shows_two_events(rt: HostRuntime) -> Result<(), Fail> {
         ..Terms::PLAIN
     };
     let mut sink = MemSink::new(alloc, 4096, 4096, Vec::new(alloc))?;
-    assert_eq!(rt; run(alloc, WATCHED, None, terms, &mut sink)?, 0);
+    assert_eq!(rt; run(&rt, alloc, WATCHED, None, terms, &mut sink)?, 0);
     let told = b"watched 10 start finish\nadvanced 10\n";
     assert!(rt; sink.taken().ends_with(told.as_slice()));
     Ok(())
@@ -99,7 +102,7 @@ fn a_watch_shows_the_same_events_in_any_order(rt: HostRuntime) -> Result<(), Fai
     for seed in 1..11 {
         let mut sink = MemSink::new(alloc, 4096, 4096, Vec::new(alloc))?;
         assert_eq!(rt;
-            run(alloc, WATCHED, Some(seed), Terms::PLAIN, &mut sink)?,
+            run(&rt, alloc, WATCHED, Some(seed), Terms::PLAIN, &mut sink)?,
             0
         );
         assert!(rt; sink.taken().ends_with(told.as_slice()), "seed {seed}");
