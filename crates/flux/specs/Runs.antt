@@ -1,5 +1,5 @@
 -- What a run promises.
-use Rattle.std.specs.Prelude.{ℕ, ◌≤◌, List, Option, Some, None, Bool, ◌&&◌, count_by, not, is_some, nat_le, nat_lt, if◌then◌else◌}
+use Rattle.std.specs.Prelude.{ℕ, ◌≤◌, List, Option, Some, None, Bool, ◌&&◌, count_by, not, is_some, nat_lt, if◌then◌else◌}
 use Rattle.run_options.specs.declared.Options.{Options}
 use Rattle.world.specs.workload.declared.work.Workload.{Workload}
 use Rattle.world.specs.answers.Chronicle.{Setup}
@@ -16,10 +16,14 @@ use Rattle.flux_commands.specs.Sides.{Side}
 use Rattle.world.specs.manager_rules.declared.policy.Policy.TheVariants.{Easy}
 use Rattle.world.specs.manager_rules.declared.terms.Terms.{Terms}
 
+-- several workers make the steps
+abbrev pub has_several : Options → Bool
+has_several o = nat_lt 1 o.workers
+
 -- a run makes every step that can be made before the next command is issued, unless its words ask
 -- for a drawn order or several workers
 abbrev pub is_settled : Options → Bool
-is_settled o = not (is_some o.shuffle) && nat_le o.workers 1
+is_settled o = not (is_some o.shuffle) && not (has_several o)
 
 -- the terms on which a run serves its jobs: with `--backfill` jobs may pass the first in the queue
 abbrev pub terms_of : Terms → Options → Terms
@@ -41,17 +45,16 @@ setup_of terms o work = record {
   work = work;
 }
 
--- the order in which one worker makes a run's steps, and how many of them may be losses
-abbrev pub order_alone : Options → Schedule
-order_alone o = by o.shuffle
-  where
-    by : Option ℕ → Schedule
-    by None = schedule.Settled
-    by (Some seed) = schedule.Shuffled seed o.losses
+-- the order in which one worker makes a run's steps, and how many of them may be losses: drawn where
+-- there is a seed
+abbrev pub order_alone : ℕ → Option ℕ → Schedule
+order_alone losses None = schedule.Settled
+order_alone losses (Some seed) = schedule.Shuffled seed losses
 
 -- the order in which a run makes its steps: several workers draw none
 abbrev pub schedule_of : Options → Schedule
-schedule_of o = if nat_lt 1 o.workers then schedule.Lanes o.workers else order_alone o
+schedule_of o = if has_several o then schedule.Lanes o.workers
+    else order_alone o.losses o.shuffle
 
 -- the chronicle of the workload keeps what a run promises; it is legal and whole, settled where
 -- neither a drawn order nor several workers are asked for, the text prints it, and the steps made tell the whole of it; no more of

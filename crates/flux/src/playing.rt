@@ -33,7 +33,7 @@ pub struct Played {
 /// The order in which one worker makes a run's steps: drawn where its options have a seed, with
 /// losses as they allow.
 fn order_alone(options: Options) -> Schedule
-    ensures { result ≡ order_alone options }
+    ensures { result ≡ order_alone options.losses options.shuffle }
 {
     match options.shuffle {
         Some(seed) => Schedule::Shuffled {

@@ -9,3 +9,5 @@ mod priorities;
 mod runs;
 #[cfg(test)]
 mod terms;
+#[cfg(test)]
+mod workers;

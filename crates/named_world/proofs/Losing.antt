@@ -1,5 +1,5 @@
 -- The losses that were made, and those that may still be.
-use Rattle.std.proofs.Common.{◌≡◌, ◌∙◌, ◌+◌, ◌-◌, List, [], ◌∷◌, ◌++◌, Bool, true, false, cond, count_by, ap, ap₂, arith, refl}
+use Rattle.std.proofs.Common.{◌≡◌, ◌∙◌, ℕ, ◌+◌, ◌-◌, List, [], ◌∷◌, ◌++◌, Bool, true, false, cond, count_by, ap, ap₂, arith, refl, sym, true≢false}
 use Rattle.std.proofs.lemmas.List.Sums.{sum_by-append}
 use Rattle.world.specs.Advances.{Advances}
 use Rattle.world.specs.Choice.{MayLose, behind, is_loss, joined, losses_left}
@@ -7,6 +7,7 @@ use Rattle.world.specs.Value.{WorldValue}
 use Rattle.world.specs.declared.order.Order.{Order}
 use Rattle.world.specs.declared.order.Order.TheVariants as order
 use Rattle.world.specs.answers.declared.steps.Step.{Step}
+use Rattle.world.specs.answers.declared.steps.Step.TheVariants as step
 use Rattle.named_world.specs.Value.{all_losses}
 
 -- both come to the same behind each step
@@ -37,6 +38,10 @@ counted o s steps may = by o (is_loss s) refl may
 
 pub losses_kept : (old : WorldValue) (s : Step) (new : WorldValue) → Advances old s new → new.order ≡ behind s old.order → MayLose old.order s → all_losses new ≡ all_losses old
 losses_kept old s new advances ordered may = ap₂ (λ steps o. count_by is_loss steps + losses_left o) advances.steps ordered ∙ counted old.order s old.steps may
+
+-- a look that is recorded is no loss
+pub losses_recorded : (old : WorldValue) (actor : ℕ) (new : WorldValue) → Advances old (step.Record actor) new → new.order ≡ behind (step.Record actor) old.order → all_losses new ≡ all_losses old
+losses_recorded old actor new advances ordered = losses_kept old (step.Record actor) new advances ordered (λ lost. absurd (true≢false (sym lost)))
 
 joined_left : (o : Order) → losses_left (joined o) ≡ losses_left o
 joined_left order.Settled = refl

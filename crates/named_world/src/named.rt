@@ -103,6 +103,7 @@ impl<'f, N: RunName> NamedWorld<'f, N> {
 
     /// Makes a step, in which the herald of each broker that hears a root of `primary` raises its
     /// word. After an error it is spent.
+    #[tactic(auto, using(crate::proofs::Losing::losses_kept))]
     pub fn make(&mut self, step: Step) -> Result<(), AllocError>
         requires live { self.old.world.spent ≡ false }
         requires can { CanMake self.old.world step }
@@ -138,6 +139,7 @@ impl<'f, N: RunName> NamedWorld<'f, N> {
 
     /// Records a look that its actor has open: the herald of its broker meets the note, so that what
     /// was seen is no more than what the broker has heard. After an error it is spent.
+    #[tactic(auto, using(crate::proofs::Losing::losses_recorded))]
     pub fn record(&mut self, look: Look<N>) -> Result<(), AllocError>
         requires { is_open self.old look.actor look.seen ≡ true }
         ensures advances { OnOk result
@@ -158,6 +160,7 @@ impl<'f, N: RunName> NamedWorld<'f, N> {
     }
 
     /// Makes one lane of all. It takes no memory.
+    #[tactic(auto, using(crate::proofs::Losing::losses_joined))]
     pub fn join(&mut self)
         ensures { self.new ≡ record self.old {
           world = record self.old.world { order = joined self.old.world.order };

@@ -108,6 +108,33 @@ const CASES: [Case; 32] = [
         },
     },
     Case {
+        words: &["--workers", "1"],
+        options: DEFAULT,
+    },
+    Case {
+        words: &["--workers=16"],
+        options: Options {
+            workers: 16,
+            ..DEFAULT
+        },
+    },
+    Case {
+        words: &["--workers", "00000000000000000002"],
+        options: Options {
+            workers: 2,
+            ..DEFAULT
+        },
+    },
+    Case {
+        words: &["--shuffle=3", "--workers", "4", "--losses", "20"],
+        options: Options {
+            shuffle: Some(3),
+            losses: 20,
+            workers: 4,
+            ..DEFAULT
+        },
+    },
+    Case {
         words: &["--shuffle", "3", "--losses=20"],
         options: Options {
             shuffle: Some(3),

@@ -18,7 +18,7 @@ top_legal : (set : Setup) (c : List Entry) → lives c top ≡ true → AreOwnLe
 top_legal set c alive own = record { lives = not_gone (is_gone c top) alive; legal = own top alive }
 
 pub summary-requires : goal.summary-requires
-summary-requires c =
+summary-requires g c =
     let set = setup_of c.args.terms generated_options c.args.work in
     let run = c.in_ok-text.ensures.run in
     let chronicle = c.in_ok-text.field-0.ended.chronicle in (
@@ -29,7 +29,7 @@ summary-requires c =
     )
 
 pub returns-clause-summary : goal.returns-clause-summary
-returns-clause-summary c =
+returns-clause-summary g c =
     let set = setup_of c.args.terms generated_options c.args.work in
     let run = c.in_ok-text.ensures.run in
     let chronicle = c.in_ok-text.field-0.ended.chronicle in

@@ -17,7 +17,7 @@ of_played set settled journal law (Ok p) run valid = law p.ended.chronicle p.tex
 of_played set settled journal law (Err fault) run valid = tt
 
 pub returns-clause-promises : goal.returns-clause-promises
-returns-clause-promises c =
+returns-clause-promises g c =
     let set = setup_of c.args.terms c.args.options c.args.work in
     let settled = is_settled c.args.options in
     let journal = c.args.options.journal in
