@@ -72,6 +72,18 @@ none_below p a (suc n) none = ap (λ b. b || list_any p (range_with_len (a + 1) 
 pub one_lane : (actor : ℕ) → is_own 1 0 actor ≡ true
 one_lane actor = eq-eqb (actor % 1) (0 % 1) (omega arith)
 
+-- a run that has ended has no open look
+pub closed_quiet : (v : WorldValue) → v.closed ≡ true → has_look v ≡ false
+closed_quiet v closed = none_below (λ a. is_some (look_at v a)) 0 (length v.places)
+    (λ a low. ap (λ b. is_some (if b then None else option_and_then (λ (h : Home). option_map (looker_of a) (look_of h.instance a)) (slice_get v.homes top))) closed)
+
+-- where the only lane has none, none is open
+pub alone_quiet : (v : WorldValue) (count lane : ℕ) → count ≡ 1 → ((actor : ℕ) → actor < length v.places → is_own count lane actor ≡ true → look_at v actor ≡ None) → has_look v ≡ false
+alone_quiet v count lane one none = none_below (λ a. is_some (look_at v a)) 0 (length v.places) (λ a low. ap is_some (none a (omega (arith, low)) (own a)))
+  where
+    own : (a : ℕ) → is_own count lane a ≡ true
+    own a = ap (λ n. is_own n lane a) one ∙ eq-eqb (a % 1) (lane % 1) (omega arith)
+
 -- ---- seats
 
 -- the look of a seat, if its actor looks

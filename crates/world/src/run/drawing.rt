@@ -278,7 +278,9 @@ impl World {
     pub(super) fn is_over(&self) -> bool
         requires ready { self.now.spent ≡ false }
         requires runs { self.now.closed ≡ false }
-        ensures { IsTrue result ↔ IsOver self.now }
+        ensures exact { IsTrue result ↔ IsOver self.now }
+        ensures left { result ≡ false → has_look self.now ≡ false
+            → ¬ (before_end self.now ≡ []) }
     {
         if self.has_look() {
             return false;

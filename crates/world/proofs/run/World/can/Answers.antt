@@ -28,4 +28,4 @@ pub returns-in-Close : goal.returns-in-Close
 returns-in-Close c =
     let runs = sym (ap (λ w. w.closed) c.self.view_is) ∙ c.if-self.false in
     subst (λ s. IsTrue c.is_over.result ↔ CanMake c.args.self.now s) (sym c.in-Close.is)
-    (λ e. (runs, c.is_over.ensures.0 e), λ can. c.is_over.ensures.1 can.1)
+    (λ e. (runs, c.is_over.ensures.exact.0 e), λ can. c.is_over.ensures.exact.1 can.1)
