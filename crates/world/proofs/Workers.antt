@@ -130,6 +130,10 @@ module _ (v : WorldValue) where
     pub last_listed : (s : Step) → Contains (last_steps v) s → Contains (lane_steps v count lane) s
     last_listed s c = Contains-append_right (map step.Issue (own_issues v count lane)) (by_instances v ++ last_steps v) s (Contains-append_right (by_instances v) (last_steps v) s c)
 
+    pub any_last : (o : Option Step) → o ≡ slice_get (last_steps v) 0 → IfSome o (λ s. Contains (lane_steps v count lane) s)
+    any_last None e = tt
+    any_last (Some s) e = last_listed s (got_listed (last_steps v) 0 s (sym e))
+
     -- none of the lane's actors can be issued a command
     none_kept : (xs : List ℕ) → ((a : ℕ) → Contains xs a → can_issue v a ≡ true) → ((a : ℕ) → is_own count lane a ≡ true → can_issue v a ≡ false) → filter (is_own count lane) xs ≡ []
     none_kept [] can none = refl

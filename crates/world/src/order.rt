@@ -86,7 +86,8 @@ impl Order {
 
     /// How many lanes there are.
     pub fn lanes(&self) -> u32
-        ensures { result ≡ lanes_of self }
+        ensures value { result ≡ lanes_of self }
+        ensures some { 0 < result }
     {
         match self {
             Order::Settled | Order::Shuffled { .. } => 1,

@@ -81,6 +81,7 @@ impl World {
         requires runs { self.now.closed ≡ false }
         ensures first { result ≡ slice_get (last_steps self.now) 0 }
         ensures some { IfSome result (λ step. CanMake self.now step) }
+        ensures may { IfSome result (MayLose self.now.order) }
     {
         if self.has_look() {
             return None;

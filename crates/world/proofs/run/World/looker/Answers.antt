@@ -10,5 +10,5 @@ returns-then-self-clause-none c = λ _ _. closed_quiet c.args.self.now (sym (ap 
 pub returns-clause-none : goal.returns-clause-none
 returns-clause-none c = λ none alone.
     let v = c.args.self.now in
-    let one : c.lanes.result ≡ 1 = c.lanes.ensures ∙ ap (λ w. lanes_of w.order) c.self.view_is ∙ eqb-true (lanes_of v.order) 1 alone in
+    let one : c.lanes.result ≡ 1 = c.lanes.ensures.value ∙ ap (λ w. lanes_of w.order) c.self.view_is ∙ eqb-true (lanes_of v.order) 1 alone in
     alone_quiet v c.lanes.result c.args.lane one (c.looker_in.ensures.none none)
