@@ -1,5 +1,5 @@
 //! The order in which the steps of a run are made.
-ghost use Rattle.std.specs.Prelude.{◌≡◌};
+ghost use Rattle.std.specs.Prelude.{◌≡◌, ◌<◌};
 ghost use Rattle.world.specs.Choice.{behind, is_in_lanes, is_loss, joined, lanes_of, losses_left, order_of};
 
 use instance::answers::Step;

@@ -7,8 +7,8 @@ use Rattle.named_world.specs.Words.{AreWords}
 use Rattle.named_world.proofs.Words.{asked_so, hears_so, told_before, words_same}
 use Rattle.named_world.proofs.named.NamedWorld.record.Goals as goal
 
-pub record-requires-clause-asked : goal.record-requires-clause-asked
-record-requires-clause-asked g c =
+pub record-requires-clause-open : goal.record-requires-clause-open
+record-requires-clause-open g c =
     let w = c.self.inside.world in
     let heralds = c.self.inside.heralds.items in
     let opened : is_open (record { world = w; heralds = heralds }) c.args.look.actor c.args.look.seen ≡ true = search rules in
