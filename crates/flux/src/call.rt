@@ -132,8 +132,8 @@ pub fn flux<S: Source, K: Sink, G: Gate + Sync, R: Threads + Wait + Sync>(
 ) -> Run
     ensures status { result.status ≡ status_of result.fault }
     // the headline: what was written prints the one chronicle, which is legal and whole, and
-    // settled where the words ask for neither a shuffle nor several workers, or is the summary of such a chronicle, or the
-    // line of a tool
+    // settled where the words ask for neither a shuffle nor several workers, or is the summary of
+    // such a chronicle, or the line of a tool
     ensures true_run { result.status ≡ 0 → (text : List ℕ)
         × IsOutput terms
         (map string_bytes words.now)

@@ -70,15 +70,7 @@ fn weights_order_the_queue(rt: HostRuntime) -> Result<(), Fail> {
             weights: order.weights,
             ..Terms::PLAIN
         };
-        let run = flux(
-            &rt,
-            alloc,
-            &words,
-            &mut source,
-            &mut sink,
-            &OpenGate,
-            terms,
-        );
+        let run = flux(&rt, alloc, &words, &mut source, &mut sink, &OpenGate, terms);
         assert_eq!(rt; run.status, 0);
         let told = format!(in alloc; "submitted f1\nsubmitted f2\nsubmitted f3\n{}", order.whys)?;
         assert!(rt; sink.taken() == told.as_bytes(), "{}", order.whys);
