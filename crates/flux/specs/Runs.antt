@@ -45,8 +45,8 @@ setup_of terms o work = record {
   work = work;
 }
 
--- the order in which one worker makes a run's steps, and how many of them may be losses: drawn where
--- there is a seed
+-- the order in which one worker makes a run's steps, and how many of them may be losses: drawn
+-- where there is a seed
 abbrev pub order_alone : ℕ → Option ℕ → Schedule
 order_alone losses None = schedule.Settled
 order_alone losses (Some seed) = schedule.Shuffled seed losses
@@ -57,8 +57,8 @@ schedule_of o = if has_several o then schedule.Lanes o.workers
     else order_alone o.losses o.shuffle
 
 -- the chronicle of the workload keeps what a run promises; it is legal and whole, settled where
--- neither a drawn order nor several workers are asked for, the text prints it, and the steps made tell the whole of it; no more of
--- them lose, repeat or swap an announcement than the options allow
+-- neither a drawn order nor several workers are asked for, the text prints it, and the steps made
+-- tell the whole of it; no more of them lose, repeat or swap an announcement than the options allow
 pub record IsRunOf (terms : Terms) (o : Options) (work : Workload)
     (run : Run) (text : List ℕ) : Type 0 where
   pub promises : KeepsItsPromises (setup_of terms o work) run.chronicle

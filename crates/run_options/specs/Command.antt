@@ -20,7 +20,8 @@ bare = on_top (λ s. record s { no_binary_name = true; disable_help_flag = true 
     (new_app (codes "run"))
 
 unfoldable pub run_app : App
-run_app = with_rule (with_rule (with_rule (with_rule (with_rule (with_rule (with_rule (with_rule bare
+run_app = with_rule (with_rule (with_rule (with_rule (with_rule (with_rule (with_rule (with_rule
+    bare
     (valued (codes "size"))) (valued (codes "fanout"))) (valued (codes "hash")))
     (valued (codes "shuffle"))) (valued (codes "losses"))) (valued (codes "workers")))
     (flag (codes "journal"))) (flag (codes "backfill"))

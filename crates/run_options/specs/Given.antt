@@ -97,8 +97,8 @@ with_value g name value = if bytes_eq name (codes "--size")
     then option_and_then (with_workers g) (workers_of value)
     else None
 
--- the options: four brokers, two below one, SHA-1, no drawn order, no losses, one worker, no journal
--- and no backfill where the words say nothing else
+-- the options: four brokers, two below one, SHA-1, no drawn order, no losses, one worker, no
+-- journal and no backfill where the words say nothing else
 abbrev pub options_from : Given → Options
 options_from g = record {
   size = unwrap_or g.size 4;
