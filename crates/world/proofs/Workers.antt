@@ -1,6 +1,6 @@
 -- What the workers of a run may make.
 use Rattle.std.proofs.Common.{◌≡◌, ◌∙◌, ℕ, zero, suc, ◌%◌, ◌<◌, ◌==◌, List, [], ◌∷◌, ◌++◌, map, filter, Bool, true, false, Option, Some, None, length, refl, sym, ap, ap₂, subst, true≢false, arith}
-use Rattle.std.specs.Prelude.{¬◌, Contains, IfSome, max, slice_get, if◌then◌else◌}
+use Rattle.std.specs.Prelude.{Contains, IfSome, max, slice_get, if◌then◌else◌}
 use Rattle.std.specs.List.{range_with_len}
 use Rattle.std.proofs.lemmas.Bool.{eq-eqb, eqb-true}
 use Rattle.std.proofs.lemmas.List.Elements.{Contains-append_left, Contains-append_right}
@@ -22,9 +22,9 @@ use Rattle.world.proofs.Ordering.{AreOwnLines, AreSeated, issue_able, issue_list
 
 -- ---- steps that begin nothing
 
-pub plain_some : {P : Step → Type 0} (o : Option Step) → IfSome o (λ s. ¬ IsStart s) → IfSome o (λ s. IsStart s → P s)
-plain_some None h = tt
-plain_some (Some s) h = λ start. absurd (h start)
+pub plain_some : (P : Step → Type 0) (o : Option Step) → IfSome o (λ s. ¬ IsStart s) → IfSome o (λ s. IsStart s → P s)
+plain_some P None h = tt
+plain_some P (Some s) h = λ start. absurd (h start)
 
 pub plain_may : (v : WorldValue) (o : Option Step) → IfSome o (λ s. ¬ IsStart s) → IfSome o (λ s. MayStart v s)
 plain_may v None h = tt

@@ -79,14 +79,14 @@ impl Order {
 
     /// Whether the steps are made in lanes.
     pub fn is_in_lanes(&self) -> bool
-        ensures { result ≡ is_in_lanes self }
+        ensures { result ≡ is_in_lanes self.now }
     {
         matches!(self, Order::Lanes { .. })
     }
 
     /// How many lanes there are.
     pub fn lanes(&self) -> u32
-        ensures value { result ≡ lanes_of self }
+        ensures value { result ≡ lanes_of self.now }
         ensures some { 0 < result }
     {
         match self {

@@ -1,5 +1,5 @@
 //! The steps that can be made, by number.
-ghost use Rattle.std.specs.Prelude.{◌≡◌, ¬◌, ◌≤◌, ◌<◌, ◌↔◌, ◌&&◌, ◌==◌, ◌^◌, ◌-◌, ◌%◌, ℕ, [], false, true, length, map, min, slice_get, IfOk, IfSome, IsTrue, None, Some};
+ghost use Rattle.std.specs.Prelude.{◌≡◌, ◌≤◌, ◌<◌, ◌↔◌, ◌&&◌, ◌==◌, ◌^◌, ◌-◌, ◌%◌, ℕ, [], false, true, length, map, min, slice_get, IfOk, IfSome, IsTrue, None, Some};
 ghost use Rattle.std.specs.List.{cons_option};
 ghost use Rattle.std.specs.Option.{option_map_or};
 ghost use Rattle.hierarchy.specs.Legal.{HasRunRest};

@@ -1,5 +1,5 @@
 //! The next step of a worker.
-ghost use Rattle.std.specs.Prelude.{◌≡◌, ¬◌, ◌<◌, ◌^◌, ℕ, [], Contains, IfSome, None, false, length, slice_get, true};
+ghost use Rattle.std.specs.Prelude.{◌≡◌, ◌<◌, ◌^◌, ℕ, [], Contains, IfSome, None, false, length, slice_get, true};
 ghost use Rattle.hierarchy.specs.Legal.{HasRunRest};
 ghost use Rattle.instance.specs.Steps.{IsStart};
 ghost use Rattle.world.specs.Choice.{MayLose, is_alone, is_in_lanes, lanes_of};

@@ -79,10 +79,12 @@ impl World {
 
     /// Whether a look is open.
     pub(super) fn has_look(&self) -> bool
-        requires ready { self.now.spent ≡ false }
-        requires runs { self.now.closed ≡ false }
+        requires { self.now.spent ≡ false }
         ensures { result ≡ has_look self.now }
     {
+        if self.closed {
+            return false;
+        }
         self.looker_in(1, 0).is_some()
     }
 

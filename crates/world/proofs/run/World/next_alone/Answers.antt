@@ -12,7 +12,7 @@ pub returns-then-has_look-clause-rests : goal.returns-then-has_look-clause-rests
 returns-then-has_look-clause-rests c = plain_may c.args.self.now c.first_of_all.result c.first_of_all.ensures.goes_on
 
 pub returns-then-has_look-clause-told : goal.returns-then-has_look-clause-told
-returns-then-has_look-clause-told c = λ settled. plain_some c.first_of_all.result c.first_of_all.ensures.goes_on
+returns-then-has_look-clause-told c = λ settled. plain_some _ c.first_of_all.result c.first_of_all.ensures.goes_on
 
 pub returns-in-Settled-clause-chosen : goal.returns-in-Settled-clause-chosen
 returns-in-Settled-clause-chosen c =
