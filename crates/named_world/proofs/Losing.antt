@@ -1,6 +1,6 @@
 -- The losses that were made, and those that may still be.
 use Rattle.std.proofs.Common.{◌≡◌, ◌∙◌, ℕ, ◌+◌, ◌-◌, List, [], ◌∷◌, ◌++◌, Bool, true, false, cond, count_by, ap, ap₂, arith, refl, sym, true≢false}
-use Rattle.std.proofs.lemmas.List.Sums.{sum_by-append}
+use Rattle.std.proofs.lemmas.List.Sums.{sum_by_push}
 use Rattle.world.specs.Advances.{Advances}
 use Rattle.world.specs.Choice.{MayLose, behind, is_loss, joined, losses_left}
 use Rattle.world.specs.Value.{WorldValue}
@@ -15,24 +15,24 @@ counted : (o : Order) (s : Step) (steps : List Step) → MayLose o s
     → count_by is_loss (steps ++ s ∷ []) + losses_left (behind s o) ≡ count_by is_loss steps + losses_left o
 counted o s steps may = by o (is_loss s) refl may
   where
-    joined_so : count_by is_loss (steps ++ s ∷ []) ≡ count_by is_loss steps + count_by is_loss (s ∷ [])
-    joined_so = sum_by-append (λ x. cond (is_loss x) 1 0) steps (s ∷ [])
+    one : Bool → ℕ
+    one b = cond b 1 0
 
-    one : (b : Bool) → is_loss s ≡ b → count_by is_loss (s ∷ []) ≡ cond b 1 0
-    one b is = ap (λ x. cond x 1 0) is
+    joined_so : count_by is_loss (steps ++ s ∷ []) ≡ count_by is_loss steps + one (is_loss s)
+    joined_so = sum_by_push (λ x. one (is_loss x)) steps s
 
     by : (o : Order) (b : Bool) → is_loss s ≡ b → MayLose o s → count_by is_loss (steps ++ s ∷ []) + losses_left (behind s o) ≡ count_by is_loss steps + losses_left o
     by order.Settled true is may = absurd (let some = may is in omega (arith, some))
-    by order.Settled false is may = (let last = one false is in omega (arith, joined_so, last))
+    by order.Settled false is may = (let last : one (is_loss s) ≡ 0 = ap one is in omega (arith, joined_so, last))
     by (order.Lanes count) true is may = absurd (let some = may is in omega (arith, some))
-    by (order.Lanes count) false is may = (let last = one false is in omega (arith, joined_so, last))
+    by (order.Lanes count) false is may = (let last : one (is_loss s) ≡ 0 = ap one is in omega (arith, joined_so, last))
     by (order.Shuffled draws word losses) true is may =
-        let last = one true is in
+        let last : one (is_loss s) ≡ 1 = ap one is in
         let some = may is in
         let left : losses_left (behind s (order.Shuffled draws word losses)) ≡ losses - 1 = ap (λ b. cond b (losses - 1) losses) is in
         omega (arith, joined_so, last, some, left)
     by (order.Shuffled draws word losses) false is may =
-        let last = one false is in
+        let last : one (is_loss s) ≡ 0 = ap one is in
         let left : losses_left (behind s (order.Shuffled draws word losses)) ≡ losses = ap (λ b. cond b (losses - 1) losses) is in
         omega (arith, joined_so, last, left)
 

@@ -1,8 +1,8 @@
 //! The words of the brokers, as the chronicle grows.
-ghost use Rattle.std.specs.Prelude.{◌≡◌, ◌≤◌, ◌<◌, ◌++◌, ℕ, IfSome, Some, None, length, slice_get, slice_index, take};
+ghost use Rattle.std.specs.Prelude.{◌≡◌, ◌≤◌, ◌<◌, ℕ, Some, None, length, slice_get, slice_index, take};
 ghost use Rattle.kvs_rules.specs.Namespaces.{is_primary};
 ghost use Rattle.root_feed.specs.Values.{HeraldValue};
-ghost use Rattle.world.specs.hierarchy.Heard.{HearUpwards, heard_at, hearing};
+ghost use Rattle.world.specs.hierarchy.Heard.{HearUpwards, hearing};
 ghost use Rattle.named_world.specs.Words.{AreRaisedBy, AreSameWords, AreWords, IsAbove};
 
 use lists::Bytes;

@@ -1,5 +1,5 @@
 //! The world of a run that a name names.
-ghost use Rattle.std.specs.Prelude.{◌≡◌, ◌<◌, ◌≤◌, [], true, false, Contains, IfSome, IsTrue, ◌↔◌, None, OnErr, OnOk, Some};
+ghost use Rattle.std.specs.Prelude.{◌≡◌, ◌<◌, [], true, false, Contains, IfSome, None, OnErr, OnOk, Some};
 ghost use Rattle.root_feed.specs.Values.{new_heralds};
 ghost use Rattle.world.specs.hierarchy.Legal.{HasRunRest};
 ghost use Rattle.instance.specs.Steps.{IsStart};

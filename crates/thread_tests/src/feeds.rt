@@ -1,5 +1,5 @@
 //! The words of brokers that are read without a lock.
-ghost use Rattle.std.specs.Prelude.{◌≡◌, ◌≤◌};
+ghost use Rattle.std.specs.Prelude.{◌≡◌};
 
 use root_feed::{Blank, Feed, FeedName, Herald, Looked, Opened, Pass};
 use std::alloc::Global;

@@ -1,12 +1,11 @@
 -- Who has a look open stands in the top.
-use Rattle.std.proofs.Common.{◌≡◌, ◌∙◌, ℕ, zero, suc, ◌+◌, ◌-◌, ◌%◌, ◌<◌, ◌≤◌, ◌==◌, ◌||◌, inl, inr, List, [], ◌∷◌, Bool, true, false, not, cond, Option, Some, None, is_some, length, get_or, refl, sym, ap, subst, true≢false, arith}
-use Rattle.std.specs.Prelude.{Contains, IfSome, IsSomeAnd, is_none, option_and_then, option_map, slice_get, slice_index_or, if◌then◌else◌}
+use Rattle.std.proofs.Common.{◌≡◌, ◌∙◌, ℕ, zero, suc, ◌+◌, ◌-◌, ◌%◌, ◌<◌, ◌≤◌, ◌==◌, ◌||◌, inl, inr, List, [], Bool, true, false, not, Option, Some, None, is_some, length, get_or, refl, sym, ap, subst, true≢false, arith}
+use Rattle.std.specs.Prelude.{Contains, IsSomeAnd, is_none, option_and_then, option_map, slice_get, if◌then◌else◌}
 use Rattle.std.specs.List.{list_any, range_with_len}
 use Rattle.std.specs.Option.{option_map_or}
 use Rattle.std.proofs.lemmas.Bool.{and_parts, cases_eq, eq-eqb, eqb-true, ne_eqb}
 use Rattle.std.proofs.lemmas.List.Elements.{All-contains}
 use Rattle.std.proofs.lemmas.Option.{get_or_from_slice_get, slice_get-get_or, slice_get_within}
-use Rattle.instance.specs.kvs_txn.declared.txn.By.{By}
 use Rattle.instance.specs.kvs_rules.Brokers.{HasHeard, heard}
 use Rattle.instance.specs.kvs_rules.Log.{Log}
 use Rattle.instance.specs.kvs_rules.Namespaces.{primary}
@@ -19,7 +18,6 @@ use Rattle.instance.specs.answers.Commands.{broker_of, command_at, commands_of}
 use Rattle.instance.specs.answers.Services.{log_of}
 use Rattle.hierarchy.specs.Births.{Birth, birth_of, is_at, is_born, is_gone, label_of}
 use Rattle.hierarchy.specs.Heard.{heard_at}
-use Rattle.hierarchy.specs.Legal.{IsLegalRun}
 use Rattle.hierarchy.specs.Own.{own_of, setup_in}
 use Rattle.hierarchy.proofs.Numbering.{top_lives}
 use Rattle.hierarchy.proofs.Steps.{command_same}

@@ -1,20 +1,18 @@
 -- What the workers of a run may make.
-use Rattle.std.proofs.Common.{◌≡◌, ◌∙◌, ℕ, zero, suc, ◌%◌, ◌<◌, ◌==◌, List, [], ◌∷◌, ◌++◌, map, filter, Bool, true, false, Option, Some, None, length, refl, sym, ap, ap₂, subst, true≢false, arith}
-use Rattle.std.specs.Prelude.{Contains, IfSome, max, slice_get, if◌then◌else◌}
-use Rattle.std.specs.List.{range_with_len}
-use Rattle.std.proofs.lemmas.Bool.{eq-eqb, eqb-true}
+use Rattle.std.proofs.Common.{◌≡◌, ◌∙◌, ℕ, zero, suc, ◌%◌, ◌<◌, List, [], ◌∷◌, ◌++◌, map, filter, Bool, true, false, Option, Some, None, length, refl, sym, ap, ap₂, subst, true≢false, arith}
+use Rattle.std.specs.Prelude.{Contains, IfSome, slice_get, if◌then◌else◌}
+use Rattle.std.proofs.lemmas.Bool.{eq-eqb}
 use Rattle.std.proofs.lemmas.List.Elements.{Contains-append_left, Contains-append_right}
 use Rattle.std.proofs.lemmas.Nat.{mod_below}
 use Rattle.instance.specs.answers.declared.steps.Step.{Step}
 use Rattle.instance.specs.answers.declared.steps.Step.TheVariants as step
 use Rattle.homes.proofs.Members.{first, in_filter, in_map, later}
-use Rattle.world.specs.Choice.{chosen, is_alone, is_in_lanes, is_settled, lanes_of}
+use Rattle.world.specs.Choice.{chosen, is_in_lanes, is_settled, lanes_of}
 use Rattle.world.specs.Looks.{has_look}
-use Rattle.world.specs.Order.{before_end, by_instances, end_behind, free_steps, is_own, issue_at, issues, lane_steps, last_steps, next_step, only_if, own_issues, possible_by, possible_in, possible_steps}
+use Rattle.world.specs.Order.{before_end, by_instances, end_behind, free_steps, is_own, issues, lane_steps, last_steps, next_step, only_if, own_issues, possible_by, possible_in, possible_steps}
 use Rattle.instance.specs.Steps.{IsStart}
 use Rattle.world.specs.Steps.{MayStart, can_issue, can_tick}
 use Rattle.world.specs.Value.{WorldValue}
-use Rattle.world.specs.Walks.{by_the_run}
 use Rattle.world.specs.declared.order.Order.{Order}
 use Rattle.world.specs.declared.order.Order.TheVariants as order
 use Rattle.world.proofs.Choosing.{both_parts}

@@ -1,5 +1,5 @@
 -- The steps that can be made, as a walk goes over them.
-use Rattle.std.specs.Prelude.{ℕ, List, [], ◌++◌, map, slice_get}
+use Rattle.std.specs.Prelude.{ℕ, List, ◌++◌, map, slice_get}
 use Rattle.std.specs.Option.{option_map_or}
 use Rattle.instance.specs.answers.declared.steps.Step.{Step}
 use Rattle.instance.specs.answers.declared.steps.Step.TheVariants as step

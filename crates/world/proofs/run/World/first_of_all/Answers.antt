@@ -1,5 +1,5 @@
-use Rattle.std.proofs.Common.{◌≡◌, ◌∙◌, ap, sym, subst, inl, refl, true≢false}
-use Rattle.std.specs.Prelude.{Ok, Some}
+use Rattle.std.proofs.Common.{◌≡◌, ◌∙◌, ap, sym, subst, true≢false}
+use Rattle.std.specs.Prelude.{Ok}
 use Rattle.instance.specs.kvs_keys.Walk.{nth}
 use Rattle.instance.proofs.kvs_keys_proofs.Walking.{within}
 use Rattle.world.specs.Order.{before_end, by_instances}

@@ -1,4 +1,4 @@
-use Rattle.std.proofs.Common.{◌≡◌, ◌∙◌, ◌<◌, Some, ap, rules, subst, sym}
+use Rattle.std.proofs.Common.{◌≡◌, ◌∙◌, ◌<◌, Some, ap, rules, subst}
 use Rattle.world.specs.Looks.{look_at}
 use Rattle.world.specs.View.{value_of}
 use Rattle.world.specs.declared.run.looking.Looker.{Looker}

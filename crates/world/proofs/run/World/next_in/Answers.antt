@@ -1,4 +1,4 @@
-use Rattle.std.proofs.Common.{◌≡◌, ◌∙◌, [], Some, ap, false, refl, sym, subst, true}
+use Rattle.std.proofs.Common.{◌≡◌, ◌∙◌, [], Some, ap, refl, sym, subst, true}
 use Rattle.std.proofs.lemmas.Bool.{eqb-true}
 use Rattle.instance.specs.answers.declared.steps.Step.TheVariants as step
 use Rattle.world.specs.Choice.{is_settled, lanes_of}

@@ -1,6 +1,5 @@
-use Rattle.std.proofs.Common.{◌≡◌, ◌∙◌, ◌≤◌, ap, arith, subst, sym}
+use Rattle.std.proofs.Common.{◌∙◌, ◌≤◌, ap, arith, subst, sym}
 use Rattle.std.specs.Prelude.{IsSomeAnd}
-use Rattle.std.proofs.lemmas.Option.{slice_get_within}
 use Rattle.instance.specs.answers.Chronicle.{top}
 use Rattle.hierarchy.specs.Heard.{heard_at}
 use Rattle.world.specs.Looks.{look_at}
