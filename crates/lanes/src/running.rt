@@ -231,8 +231,9 @@ fn run_named<N: RunName + Send + Sync, G: Gate + Sync, R: Threads + Wait + Sync>
         passes,
     } = blank.open::<N>(alloc)?;
     let passes = deal(alloc, passes, workers)?;
+    let named = NamedWorld::new(world, &feed, heralds);
     let begun = Running {
-        named: NamedWorld::new(world, &feed, heralds),
+        named,
         passes,
         lanes: workers,
     };

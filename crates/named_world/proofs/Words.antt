@@ -1,6 +1,7 @@
 -- On the words of brokers.
 use Rattle.std.proofs.Common.{◌≡◌, ◌∙◌, ℕ, zero, suc, ◌+◌, ◌==◌, ◌<◌, ◌≤◌, ◌&&◌, inl, inr, List, [], ◌∷◌, ◌++◌, length, take, get_or, Bool, true, false, Option, Some, None, IfSome, unwrap_or, refl, sym, ap, ap₂, subst, true≢false}
-use Rattle.std.specs.Prelude.{◌⊎◌, IsSomeAnd, nat_le, slice_get}
+use Rattle.std.specs.Prelude.{◌⊎◌, Err, IsSomeAnd, Ok, OnOk, Result, nat_le, not, slice_get}
+use Rattle.std.specs.Result.{is_err}
 use Rattle.std.specs.Option.{option_map_or}
 use Rattle.std.proofs.lemmas.Bool.{eqb-true, leb-true}
 use Rattle.std.proofs.lemmas.List.{take_at, take_more}
@@ -10,6 +11,7 @@ use Rattle.root_feed.specs.Values.{HeraldValue, new_herald, new_heralds}
 use Rattle.world.specs.hierarchy.Heard.{HearUpwards, heard_at, heard_by}
 use Rattle.world.specs.declared.run.looking.Looker.{Looker}
 use Rattle.world.specs.answers.declared.chronicle.Entry.{Entry}
+use Rattle.named_world.specs.Value.{NamedValue, is_open}
 use Rattle.named_world.specs.Words.{AreRaisedBy, AreSameWords, AreWords}
 
 -- ---- lists
@@ -65,6 +67,11 @@ new_words size broker h is =
 
 -- ---- a step, and a look
 
+-- what holds of a call that went well
+pub went_on : {X E : Type 0} (r : Result X E) (P : Type 0) → is_err r ≡ false → OnOk r P → P
+went_on (Ok x) P well h = h
+went_on (Err e) P well h = absurd (true≢false well)
+
 -- what was told before the step
 pub told_before : (before told chron made : List Entry) → before ≡ chron → told ≡ chron ++ made → take (length before) told ≡ chron
 told_before before told chron made was is = ap₂ (λ p xs. take (length p) xs) was is ∙ take_at chron made (length chron) refl
@@ -79,6 +86,14 @@ and_right false b h = absurd (true≢false (sym h))
 and_left : (a b : Bool) → (a && b) ≡ true → a ≡ true
 and_left true b h = refl
 and_left false b h = h
+
+-- a look is open in a world that isn't spent alone
+pub open_lives : (v : NamedValue) (actor : ℕ) (seen : ℕ × ℕ) → is_open v actor seen ≡ true → v.world.spent ≡ false
+open_lives v actor seen e = by v.world.spent (and_left (not v.world.spent) _ e)
+  where
+    by : (b : Bool) → not b ≡ true → b ≡ false
+    by true h = absurd (true≢false (sym h))
+    by false h = refl
 
 -- what was seen is no more than what the broker has heard, since its herald has met the note
 pub asked_so : (chron : List Entry) (heralds : List HeraldValue) (size : ℕ) (o : Option Looker) (seen : ℕ × ℕ) (number : ℕ) (live : Bool)

@@ -83,6 +83,8 @@ impl World {
         ensures some { IfSome result (λ step. CanMake self.now step) }
         ensures may { IfSome result (MayLose self.now.order) }
     {
+        // what holds of the world is known where it is looked at
+        let _ = &self.alloc;
         if self.has_look() {
             return None;
         }
