@@ -25,6 +25,22 @@ struct Running<'f, N: RunName> {
     lanes: u32,
 }
 
+impl<'f, N: RunName> Running<'f, N> {
+    fn new(
+        named: NamedWorld<'f, N>,
+        passes: Vec<Vec<Pass<N>>>,
+        lanes: u32,
+    ) -> Running<'f, N>
+        ensures { (result.named ≡ named) × (result.lanes ≡ lanes) }
+    {
+        Running {
+            named,
+            passes,
+            lanes,
+        }
+    }
+}
+
 /// What comes back from behind locks.
 #[derive(Drop)]
 struct Left<N: RunName, M> {
@@ -232,11 +248,7 @@ fn run_named<N: RunName + Send + Sync, G: Gate + Sync, R: Threads + Wait + Sync>
     } = blank.open::<N>(alloc)?;
     let passes = deal(alloc, passes, workers)?;
     let named = NamedWorld::new(world, &feed, heralds);
-    let begun = Running {
-        named,
-        passes,
-        lanes: workers,
-    };
+    let begun = Running::new(named, passes, workers);
     let mut running = run_several(rt, alloc, begun, &feed, gate)?;
     make_all(&mut running, &feed)?;
     Ok(running.named.finish())
