@@ -3,6 +3,7 @@ ghost use Rattle.std.specs.Prelude.{◌≡◌, ◌≤◌, ◌<◌, [], count_by,
 ghost use Rattle.world.specs.hierarchy.Legal.{IsSettledRun};
 ghost use Rattle.world.specs.Choice.{is_alone, is_loss, losses_left};
 ghost use Rattle.world.specs.declared.order.Order.TheVariants as order;
+ghost use Rattle.root_feed.specs.Values.{new_heralds};
 ghost use Rattle.lanes.specs.Runs.{GoesOn};
 
 use crate::gate::{Looking, Looks};
@@ -10,7 +11,7 @@ use crate::passes::{brokers, deal, look_in_lane};
 use desk::{Finished, Held, Machine, work};
 use named_world::{Look, NamedWorld, RunName};
 use outside::Gate;
-use root_feed::{Blank, Feed, Opened, Pass};
+use root_feed::{Blank, Feed, Herald, Opened, Pass};
 use std::alloc::{AllocError, Global};
 use std::marker::Brand;
 use std::sync::{Mutex, Wait};
@@ -25,20 +26,13 @@ struct Running<'f, N: RunName> {
     lanes: u32,
 }
 
-impl<'f, N: RunName> Running<'f, N> {
-    fn new(
-        named: NamedWorld<'f, N>,
-        passes: Vec<Vec<Pass<N>>>,
-        lanes: u32,
-    ) -> Running<'f, N>
-        ensures { (result.named ≡ named) × (result.lanes ≡ lanes) }
-    {
-        Running {
-            named,
-            passes,
-            lanes,
-        }
-    }
+/// A run in which nothing has happened, before its feed is lent to it.
+#[derive(Drop)]
+struct Begun<N: RunName> {
+    world: World,
+    heralds: Vec<Herald<N>>,
+    passes: Vec<Vec<Pass<N>>>,
+    lanes: u32,
 }
 
 /// What comes back from behind locks.
@@ -217,6 +211,44 @@ fn make_all<'f, N: RunName>(
     Err(AllocError)
 }
 
+/// Runs a world over the words of its feed.
+fn run_over<'f, N: RunName + Send + Sync, G: Gate + Sync, R: Threads + Wait + Sync>(
+    rt: &R,
+    alloc: Global,
+    begun: Begun<N>,
+    feed: &'f Feed<N>,
+    gate: &G,
+) -> Result<World, AllocError>
+    requires run { N.run ≡ Some begun.world.set }
+    requires losses { losses_left begun.world.order ≡ N.losses }
+    requires heralds { begun.heralds.items ≡ new_heralds begun.world.set.size }
+    requires live { begun.world.spent ≡ false }
+    requires begins { (begun.world.chronicle ≡ []) × (begun.world.steps ≡ []) }
+    requires alone { begun.lanes ≡ 1 → is_alone begun.world.order ≡ true }
+    requires some { 0 < begun.lanes }
+    ensures live { IfOk result (λ w. w.spent ≡ false) }
+    ensures set { IfOk result (λ w. w.set ≡ begun.world.set) }
+    ensures ended { IfOk result (λ w. w.closed ≡ true) }
+    ensures settled { begun.lanes ≡ 1 → begun.world.order ≡ order.Settled
+        → IfOk result (λ w. IsSettledRun w.set w.chronicle) }
+    ensures losses { IfOk result (λ w. count_by is_loss w.steps ≤ N.losses) }
+{
+    let Begun {
+        world,
+        heralds,
+        passes,
+        lanes,
+    } = begun;
+    let running = Running {
+        named: NamedWorld::new(world, feed, heralds),
+        passes,
+        lanes,
+    };
+    let mut running = run_several(rt, alloc, running, feed, gate)?;
+    make_all(&mut running, feed)?;
+    Ok(running.named.finish())
+}
+
 /// Runs the world that N names.
 fn run_named<N: RunName + Send + Sync, G: Gate + Sync, R: Threads + Wait + Sync>(
     rt: &R,
@@ -247,11 +279,13 @@ fn run_named<N: RunName + Send + Sync, G: Gate + Sync, R: Threads + Wait + Sync>
         passes,
     } = blank.open::<N>(alloc)?;
     let passes = deal(alloc, passes, workers)?;
-    let named = NamedWorld::new(world, &feed, heralds);
-    let begun = Running::new(named, passes, workers);
-    let mut running = run_several(rt, alloc, begun, &feed, gate)?;
-    make_all(&mut running, &feed)?;
-    Ok(running.named.finish())
+    let begun = Begun {
+        world,
+        heralds,
+        passes,
+        lanes: workers,
+    };
+    run_over(rt, alloc, begun, &feed, gate)
 }
 
 /// Runs a world in which nothing has happened to its end. With one worker no thread is started and no

@@ -10,7 +10,8 @@ use std::sync::atomic::{AtomicU64, Ordering};
 use std::test::Fail;
 use std::thread;
 
-// Two actors with commands, each of whose lanes issues its own: a step is the actor's number.
+// Two actors with commands, each of whose lanes issues its own: a step is the actor's number. Steps
+// of a third one are handed in.
 #[derive(Drop)]
 struct Actors {
     made: Vec<u32>,
@@ -33,7 +34,7 @@ fn left(actors: &Actors, lane: u32) -> usize
 impl Machine for Actors {
     type Step = u32;
 
-    type Input = ();
+    type Input = u32;
 
     ghost made = { λ m. m.made.items };
 
@@ -44,7 +45,7 @@ impl Machine for Actors {
     ghost can_in_lane = { λ m lane step. (step ≡ lane)
         × (0 < (if lane == 0 then m.first else if lane == 1 then m.second else 0)) };
 
-    ghost wants = { λ _ _. false };
+    ghost wants = { λ _ input. input == 2 };
 
     ghost is_quiet = { λ m. (m.first == 0) && (m.second == 0) };
 
@@ -70,12 +71,13 @@ impl Machine for Actors {
         Ok(())
     }
 
-    fn takes(&self, _input: &()) -> bool {
-        false
+    fn takes(&self, input: &u32) -> bool {
+        *input == 2
     }
 
-    fn accept(&mut self, _input: ()) -> Result<u32, AllocError> {
-        Err(AllocError)
+    fn accept(&mut self, input: u32) -> Result<u32, AllocError> {
+        self.made.push(input)?;
+        Ok(input)
     }
 
     fn quiet(&self) -> bool {

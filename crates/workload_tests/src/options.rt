@@ -263,7 +263,7 @@ const CASES: [Case; 32] = [
 ];
 
 /// Words that spell none.
-const REFUSED: [&[&str]; 92] = [
+const REFUSED: [&[&str]; 100] = [
     &["--size", "0"],
     &["--size", "33"],
     &["--size="],

@@ -10,18 +10,18 @@ use Rattle.flux.proofs.Orders.{calm_alone, calm_order, few_left, one_lane}
 use Rattle.flux.proofs.playing.run.Goals as goal
 
 pub run-requires-clause-size : goal.run-requires-clause-size
-run-requires-clause-size g c = λ _.
+run-requires-clause-size g c = λ _ _.
     let same = ap (λ s. s.size) c.in_ok-begun.ensures.set in
     let low = c.requires.options.size.0 in
     let high = c.requires.options.size.1 in
     (omega (arith, same, low), omega (arith, same, high))
 
 pub run-requires-clause-few : goal.run-requires-clause-few
-run-requires-clause-few g c = λ _.
+run-requires-clause-few g c = λ _ _.
     subst (λ (w : Workload). length w.actors ≤ 256) (sym (ap (λ s. s.work) c.in_ok-begun.ensures.set)) c.requires.within.actors
 
 pub run-requires-clause-alone : goal.run-requires-clause-alone
-run-requires-clause-alone g c = λ _ one. ap is_alone c.in_ok-begun.ensures.order ∙ one_lane c.args.options one
+run-requires-clause-alone g c = λ _ _ one. ap is_alone c.in_ok-begun.ensures.order ∙ one_lane c.args.options one
 
 pub returns-in-Ok-clause-run : goal.returns-in-Ok-clause-run
 returns-in-Ok-clause-run g c =

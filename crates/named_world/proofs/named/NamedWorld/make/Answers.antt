@@ -18,14 +18,14 @@ raise_heard-requires-clause-words g c =
     let advances = went_on c.turn.result _ (sym c.is_err.ensures.value ∙ c.if-is_err.false) c.turn.ensures.advances in
     let same = told_before c.as_slice-before.result.now c.as_slice-told.result.now w.chronicle advances.made (c.as_slice-before.ensures ∙ c.chronicle.ensures.value)
     (c.as_slice-told.ensures ∙ c.chronicle-2.ensures.value ∙ advances.told) in
-    subst (λ xs. AreWords xs c.self.inside.heralds.items) (sym same) was.1.0.1
+    subst (λ xs. AreWords xs c.self.inside.heralds.items) (sym same) was.1.1
 
 pub raise_heard-requires-clause-hears : goal.raise_heard-requires-clause-hears
 raise_heard-requires-clause-hears g c =
     let was = c.self.invariant (ap (λ (v : NamedValue). v.world.spent) c.self.view_is ∙ c.requires.live) in
     let advances = went_on c.turn.result _ (sym c.is_err.ensures.value ∙ c.if-is_err.false) c.turn.ensures.advances in
     hears_so _ _ c.as_slice-told.result.now (length c.self.inside.heralds.items) (c.as_slice-told.ensures ∙ c.chronicle-2.ensures.value)
-    (ap (λ (s : Setup). s.size) advances.set ∙ sym was.1.0.0) c.chronicle-2.ensures.hears
+    (ap (λ (s : Setup). s.size) advances.set ∙ sym was.1.0) c.chronicle-2.ensures.hears
 
 pub invariant_of-self-2 : goal.invariant_of-self-2
 invariant_of-self-2 g c = λ _.
@@ -36,7 +36,7 @@ invariant_of-self-2 g c = λ _.
     let ordered = went_on c.turn.result _ well c.turn.ensures.order in
     let may = subst (λ (v : NamedValue). MayLose v.world.order c.args.step) (sym c.self.view_is) c.requires.may in (
       was.0 ∙ ap Some (sym advances.set),
-      (c.raise_heard.ensures.all ∙ was.1.0.0 ∙ ap (λ (s : Setup). s.size) (sym advances.set),
+      (c.raise_heard.ensures.all ∙ was.1.0 ∙ ap (λ (s : Setup). s.size) (sym advances.set),
        subst (λ xs. AreWords xs c.raise_heard.new.heralds.items) (c.as_slice-told.ensures ∙ c.chronicle-2.ensures.value) c.raise_heard.ensures.words),
-      losses_kept w c.args.step _ advances ordered may ∙ was.1.1,
+      losses_kept w c.args.step _ advances ordered may ∙ was.2,
     )

@@ -22,24 +22,24 @@ record-requires-clause-open g c =
 pub raise_heard-requires-clause-words : goal.raise_heard-requires-clause-words
 raise_heard-requires-clause-words g c =
     let w = c.self.inside.world in
-    let was = c.self.invariant (ap (λ (v : NamedValue). v.world.spent) c.self.view_is ∙ open_lives c.args.self.old c.args.look.actor c.args.look.seen c.requires) in
+    let was = c.self.invariant (ap (λ (v : NamedValue). v.world.spent) c.self.view_is ∙ open_lives c.args.self.now c.args.look.actor c.args.look.seen c.requires) in
     let same = told_before c.as_slice-before.result.now c.as_slice-told.result.now w.chronicle c.in_ok-record.ensures.advances.made (c.as_slice-before.ensures ∙ c.chronicle.ensures.value)
     (c.as_slice-told.ensures ∙ c.chronicle-2.ensures.value ∙ c.in_ok-record.ensures.advances.told) in
-    subst (λ xs. AreWords xs c.meet.new.heralds.items) (sym same) (words_same w.chronicle c.self.inside.heralds.items c.meet.new.heralds.items was.1.0.1 c.meet.ensures.same)
+    subst (λ xs. AreWords xs c.meet.new.heralds.items) (sym same) (words_same w.chronicle c.self.inside.heralds.items c.meet.new.heralds.items was.1.1 c.meet.ensures.same)
 
 pub raise_heard-requires-clause-hears : goal.raise_heard-requires-clause-hears
 raise_heard-requires-clause-hears g c =
-    let was = c.self.invariant (ap (λ (v : NamedValue). v.world.spent) c.self.view_is ∙ open_lives c.args.self.old c.args.look.actor c.args.look.seen c.requires) in
+    let was = c.self.invariant (ap (λ (v : NamedValue). v.world.spent) c.self.view_is ∙ open_lives c.args.self.now c.args.look.actor c.args.look.seen c.requires) in
     hears_so _ _ c.as_slice-told.result.now (length c.meet.new.heralds.items) (c.as_slice-told.ensures ∙ c.chronicle-2.ensures.value)
-    (ap (λ (s : Setup). s.size) c.in_ok-record.ensures.advances.set ∙ sym was.1.0.0 ∙ sym c.meet.ensures.same.all) c.chronicle-2.ensures.hears
+    (ap (λ (s : Setup). s.size) c.in_ok-record.ensures.advances.set ∙ sym was.1.0 ∙ sym c.meet.ensures.same.all) c.chronicle-2.ensures.hears
 
 pub invariant_of-self-2 : goal.invariant_of-self-2
 invariant_of-self-2 g c = λ _.
     let w = c.self.inside.world in
-    let was = c.self.invariant (ap (λ (v : NamedValue). v.world.spent) c.self.view_is ∙ open_lives c.args.self.old c.args.look.actor c.args.look.seen c.requires) in
+    let was = c.self.invariant (ap (λ (v : NamedValue). v.world.spent) c.self.view_is ∙ open_lives c.args.self.now c.args.look.actor c.args.look.seen c.requires) in
     let advances = c.in_ok-record.ensures.advances in (
       was.0 ∙ ap Some (sym advances.set),
-      (c.raise_heard.ensures.all ∙ c.meet.ensures.same.all ∙ was.1.0.0 ∙ ap (λ (s : Setup). s.size) (sym advances.set),
+      (c.raise_heard.ensures.all ∙ c.meet.ensures.same.all ∙ was.1.0 ∙ ap (λ (s : Setup). s.size) (sym advances.set),
        subst (λ xs. AreWords xs c.raise_heard.new.heralds.items) (c.as_slice-told.ensures ∙ c.chronicle-2.ensures.value) c.raise_heard.ensures.words),
-      losses_recorded w c.args.look.actor _ advances c.in_ok-record.ensures.order ∙ was.1.1,
+      losses_recorded w c.args.look.actor _ advances c.in_ok-record.ensures.order ∙ was.2,
     )

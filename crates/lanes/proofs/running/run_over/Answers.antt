@@ -1,6 +1,6 @@
 use Rattle.std.proofs.Common.{◌≡◌, arith, ap, count_by, false, rules}
 use Rattle.world.specs.Choice.{is_loss}
-use Rattle.lanes.proofs.running.run_named.Goals as goal
+use Rattle.lanes.proofs.running.run_over.Goals as goal
 
 pub new-requires-clause-losses : goal.new-requires-clause-losses
 new-requires-clause-losses g c =
