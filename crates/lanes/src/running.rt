@@ -3,6 +3,7 @@ ghost use Rattle.std.specs.Prelude.{◌≡◌, ◌≤◌, ◌<◌, [], count_by,
 ghost use Rattle.world.specs.hierarchy.Legal.{IsSettledRun};
 ghost use Rattle.world.specs.Choice.{is_alone, is_loss, losses_left};
 ghost use Rattle.world.specs.declared.order.Order.TheVariants as order;
+ghost use Rattle.named_world.specs.Value.{all_losses};
 ghost use Rattle.root_feed.specs.Values.{new_heralds};
 ghost use Rattle.lanes.specs.Runs.{GoesOn};
 
@@ -33,6 +34,16 @@ struct Begun<N: RunName> {
     heralds: Vec<Herald<N>>,
     passes: Vec<Vec<Pass<N>>>,
     lanes: u32,
+}
+
+impl<'f, N: RunName> Running<'f, N> {
+    /// The world alone.
+    fn finish(self) -> World
+        ensures value { result ≡ self.entry.named.world }
+        ensures losses { result.spent ≡ false → all_losses result ≡ N.losses }
+    {
+        self.named.finish()
+    }
 }
 
 /// What comes back from behind locks.
@@ -246,7 +257,7 @@ fn run_over<'f, N: RunName + Send + Sync, G: Gate + Sync, R: Threads + Wait + Sy
     };
     let mut running = run_several(rt, alloc, running, feed, gate)?;
     make_all(&mut running, feed)?;
-    Ok(running.named.finish())
+    Ok(running.finish())
 }
 
 /// Runs the world that N names.

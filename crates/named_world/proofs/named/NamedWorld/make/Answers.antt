@@ -36,7 +36,9 @@ invariant_of-self-2 g c = λ _.
     let ordered = went_on c.turn.result _ well c.turn.ensures.order in
     let may = subst (λ (v : NamedValue). MayLose v.world.order c.args.step) (sym c.self.view_is) c.requires.may in (
       was.0 ∙ ap Some (sym advances.set),
-      (c.raise_heard.ensures.all ∙ was.1.0 ∙ ap (λ (s : Setup). s.size) (sym advances.set),
-       subst (λ xs. AreWords xs c.raise_heard.new.heralds.items) (c.as_slice-told.ensures ∙ c.chronicle-2.ensures.value) c.raise_heard.ensures.words),
+      (
+        c.raise_heard.ensures.all ∙ was.1.0 ∙ ap (λ (s : Setup). s.size) (sym advances.set),
+        subst (λ xs. AreWords xs c.raise_heard.new.heralds.items) (c.as_slice-told.ensures ∙ c.chronicle-2.ensures.value) c.raise_heard.ensures.words,
+      ),
       losses_kept w c.args.step _ advances ordered may ∙ was.2,
     )

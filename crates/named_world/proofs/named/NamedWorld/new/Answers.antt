@@ -10,7 +10,9 @@ invariant_of-result g c = λ _.
     let size = c.args.world.set.size in
     let same = sym c.requires.heralds in (
       c.requires.named,
-      (ap length c.requires.heralds ∙ new_length size,
-       subst (λ xs. AreWords xs c.args.heralds.items) (sym c.requires.empty) (subst (λ (hs : List HeraldValue). AreWords [] hs) same (new_words size))),
+      (
+        ap length c.requires.heralds ∙ new_length size,
+        subst (λ xs. AreWords xs c.args.heralds.items) (sym c.requires.empty) (subst (λ (hs : List HeraldValue). AreWords [] hs) same (new_words size)),
+      ),
       c.requires.losses,
     )

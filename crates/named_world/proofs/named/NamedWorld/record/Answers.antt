@@ -39,7 +39,9 @@ invariant_of-self-2 g c = λ _.
     let was = c.self.invariant (ap (λ (v : NamedValue). v.world.spent) c.self.view_is ∙ open_lives c.args.self.now c.args.look.actor c.args.look.seen c.requires) in
     let advances = c.in_ok-record.ensures.advances in (
       was.0 ∙ ap Some (sym advances.set),
-      (c.raise_heard.ensures.all ∙ c.meet.ensures.same.all ∙ was.1.0 ∙ ap (λ (s : Setup). s.size) (sym advances.set),
-       subst (λ xs. AreWords xs c.raise_heard.new.heralds.items) (c.as_slice-told.ensures ∙ c.chronicle-2.ensures.value) c.raise_heard.ensures.words),
+      (
+        c.raise_heard.ensures.all ∙ c.meet.ensures.same.all ∙ was.1.0 ∙ ap (λ (s : Setup). s.size) (sym advances.set),
+        subst (λ xs. AreWords xs c.raise_heard.new.heralds.items) (c.as_slice-told.ensures ∙ c.chronicle-2.ensures.value) c.raise_heard.ensures.words,
+      ),
       losses_recorded w c.args.look.actor _ advances c.in_ok-record.ensures.order ∙ was.2,
     )
