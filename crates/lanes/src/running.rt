@@ -256,8 +256,10 @@ fn run_over<'f, N: RunName + Send + Sync, G: Gate + Sync, R: Threads + Wait + Sy
         lanes,
     };
     let mut running = run_several(rt, alloc, running, feed, gate)?;
-    make_all(&mut running, feed)?;
-    Ok(running.finish())
+    let made = make_all(&mut running, feed);
+    let world = running.finish();
+    made?;
+    Ok(world)
 }
 
 /// Runs the world that N names.

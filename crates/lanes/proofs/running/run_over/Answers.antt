@@ -10,6 +10,6 @@ new-requires-clause-losses g c =
 
 pub returns-clause-losses : goal.returns-clause-losses
 returns-clause-losses g c =
-    let live : c.finish.result.spent ≡ false = search rules in
-    let all = c.finish.ensures.losses live in
+    let live : c.finish-world.result.spent ≡ false = search rules in
+    let all = c.finish-world.ensures.losses live in
     omega (arith, all)

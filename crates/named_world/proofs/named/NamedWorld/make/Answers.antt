@@ -1,4 +1,4 @@
-use Rattle.std.proofs.Common.{◌≡◌, ◌∙◌, Some, length, sym, ap, subst}
+use Rattle.std.proofs.Common.{◌∙◌, Some, length, sym, ap, subst}
 use Rattle.world.specs.answers.Chronicle.{Setup}
 use Rattle.world.specs.Choice.{MayLose}
 use Rattle.world.specs.Steps.{MayStart}

@@ -1,6 +1,5 @@
-use Rattle.std.proofs.Common.{◌≡◌, ◌∙◌, List, [], length, ap, subst, sym}
-use Rattle.root_feed.specs.Values.{HeraldValue, new_heralds}
-use Rattle.world.specs.answers.declared.chronicle.Entry.{Entry}
+use Rattle.std.proofs.Common.{◌∙◌, List, [], length, ap, subst, sym}
+use Rattle.root_feed.specs.Values.{HeraldValue}
 use Rattle.named_world.specs.Words.{AreWords}
 use Rattle.named_world.proofs.Words.{new_length, new_words}
 use Rattle.named_world.proofs.named.NamedWorld.new.Goals as goal
